@@ -1,5 +1,6 @@
 -- What a change of a policy leaves as it was, and what every policy keeps under it.
-use Rattle.std.proofs.Common.{◌≡◌, ℕ, ◌+◌, ◌<◌, Bool, true, false, List, [], ◌∷◌, length, nat_lt, Option, None, Some, Result, Ok, Err, inl, inr, refl, sym, ap, subst, ◌∙◌, arith, length-append}
+use Rattle.std.proofs.Common.{◌≡◌, ℕ, ◌+◌, ◌<◌, Bool, true, false, List, [], ◌∷◌, length, nat_lt, Option, None, Some, Result, Ok, Err, inl, inr, refl, sym, ap}
+use Rattle.std.proofs.Common.{subst, ◌∙◌, arith, length-append}
 use Rattle.std.proofs.lemmas.List.{append-nil}
 use Rattle.std.proofs.Math.ListN.{length-set}
 use Rattle.std.proofs.lemmas.List.Quantifiers.{position-Some}
@@ -16,7 +17,8 @@ use Rattle.policy_book.specs.Facts.{IsSoundPolicy, IsSoundWorkflow}
 use Rattle.policy_book.specs.Policies.{flow_at, problem_of, with_flow}
 use Rattle.policy_book.specs.Plans.{IsWithin}
 use Rattle.policy_book.specs.Stored.{IsStored}
-use Rattle.policy_book.proofs.Keeping.{all_inserted, all_removed, pairs_of_users, sound_forbidden, sound_permitted, stored_with_flow, stored_with_pairs, stored_with_user}
+use Rattle.policy_book.proofs.Keeping.{all_inserted, all_removed, pairs_of_users, sound_forbidden, sound_permitted, stored_with_flow, stored_with_pairs}
+use Rattle.policy_book.proofs.Keeping.{stored_with_user}
 use Rattle.wf_talk.specs.declared.edit.Edit.{Edit}
 use Rattle.wf_talk.specs.declared.edit.Edit.TheVariants as edit
 use Rattle.wf_talk.specs.declared.edit.Missing.TheVariants.{Flow, Step, Relation, User, Role}
@@ -70,10 +72,12 @@ changes_keep_names p (amend.Forbid f r s) is = flow_keeps_names p f _ is.flow re
 changes_keep_names p (amend.Retire f) is = flow_keeps_names p f _ is refl
 
 -- what gives users of a policy to steps of a workflow does so after a change
-pub within_after : (p : PolicyShape) (a : Amendment) (f : ℕ) (assigned : List (Option ℕ)) → IsKnownChange p a → IsWithin (problem_of p f) assigned → IsWithin (problem_of (amended p a) f) assigned
+pub within_after : (p : PolicyShape) (a : Amendment) (f : ℕ) (assigned : List (Option ℕ)) → IsKnownChange p a → IsWithin (problem_of p f) assigned →
+    IsWithin (problem_of (amended p a) f) assigned
 within_after p a f assigned is within =
     let keeps = changes_keep_names p a is in
-    let longer : length (amended p a).roster.users ≡ length p.roster.users + length keeps.more = ap length keeps.users ∙ length-append p.roster.users keeps.more in
+    let longer : length (amended p a).roster.users ≡ length p.roster.users + length keeps.more = ap length keeps.users ∙
+    length-append p.roster.users keeps.more in
     record {
       steps = λ s u e. let below : s < length (flow_at p f).flow.steps = within.steps s u e in omega (arith, below, ap length (keeps.steps f));
       users = λ s u e. let below : u < length p.roster.users = within.users s u e in omega (arith, below, longer);
@@ -85,8 +89,10 @@ within_after p a f assigned is within =
 stored : (p : PolicyShape) → IsSoundPolicy p → IsStored p.roster p.relations (record { names = p.flow_names; limit = FLOW_LIMIT }) p.flows p.admin
 stored p sound = record { limit = refl; sound = sound }
 
-sound_with_flow : (p : PolicyShape) (f : ℕ) (w : WorkflowShape) → IsSoundPolicy p → f < length p.flows → IsSoundWorkflow (length p.roster.roles) (length p.relations) w → IsSoundPolicy (with_flow p f w)
-sound_with_flow p f w sound within new = (stored_with_flow p.roster p.relations (record { names = p.flow_names; limit = FLOW_LIMIT }) p.flows p.admin (stored p sound) f w within new).sound
+sound_with_flow : (p : PolicyShape) (f : ℕ) (w : WorkflowShape) → IsSoundPolicy p → f < length p.flows →
+    IsSoundWorkflow (length p.roster.roles) (length p.relations) w → IsSoundPolicy (with_flow p f w)
+sound_with_flow p f w sound within new =
+    (stored_with_flow p.roster p.relations (record { names = p.flow_names; limit = FLOW_LIMIT }) p.flows p.admin (stored p sound) f w within new).sound
 
 -- a test that passes, and the rest
 checked : {B F : Type 0} (b : Bool) (fault : F) (next : Result B F) (x : B) → (check b fault >>= (λ (_ : Unit {0}). next)) ≡ Ok x → (b ≡ true) × (next ≡ Ok x)
@@ -101,14 +107,44 @@ pub changes_keep_policies_sound : ChangesKeepPoliciesSound
 changes_keep_policies_sound p (amend.AddUser name) sound is fine =
     let room = lt_back _ _ (passed (nat_lt (length p.roster.users) USER_LIMIT) EditCause.Full (checked _ _ _ _ fine).1) in
     (stored_with_user p.roster p.relations (record { names = p.flow_names; limit = FLOW_LIMIT }) p.flows p.admin (stored p sound) name room).sound
-changes_keep_policies_sound p (amend.Leave u) sound is fine = record { users = sound.users; roles = sound.roles; admin = sound.admin; named = sound.named; few = sound.few; related = sound.related; flows = sound.flows }
-changes_keep_policies_sound p (amend.Enrol u r) sound is fine = record { users = sound.users; roles = sound.roles; admin = sound.admin; named = sound.named; few = sound.few; related = sound.related; flows = sound.flows }
-changes_keep_policies_sound p (amend.Dismiss u r) sound is fine = record { users = sound.users; roles = sound.roles; admin = sound.admin; named = sound.named; few = sound.few; related = sound.related; flows = sound.flows }
+changes_keep_policies_sound p (amend.Leave u) sound is fine = record {
+  users = sound.users;
+  roles = sound.roles;
+  admin = sound.admin;
+  named =
+      sound.named;
+  few = sound.few;
+  related = sound.related;
+  flows = sound.flows;
+}
+changes_keep_policies_sound p (amend.Enrol u r) sound is fine = record {
+  users = sound.users;
+  roles = sound.roles;
+  admin = sound.admin;
+  named =
+      sound.named;
+  few = sound.few;
+  related = sound.related;
+  flows = sound.flows;
+}
+changes_keep_policies_sound p (amend.Dismiss u r) sound is fine = record {
+  users = sound.users;
+  roles = sound.roles;
+  admin = sound.admin;
+  named =
+      sound.named;
+  few = sound.few;
+  related = sound.related;
+  flows = sound.flows;
+}
 changes_keep_policies_sound p (amend.Relate rho u v) sound is fine =
-    (stored_with_pairs p.roster p.relations (record { names = p.flow_names; limit = FLOW_LIMIT }) p.flows p.admin (stored p sound) rho (set.insert (pairs_of p.relations rho) (u, v))
-    (all_inserted (length p.roster.users) (pairs_of p.relations rho) u v (pairs_of_users (length p.roster.users) p.relations rho sound.related) is.first is.second)).sound
+    (stored_with_pairs p.roster p.relations (record { names = p.flow_names; limit = FLOW_LIMIT }) p.flows p.admin
+    (stored p sound) rho (set.insert (pairs_of p.relations rho) (u, v))
+    (all_inserted (length p.roster.users) (pairs_of p.relations rho) u v (pairs_of_users (length p.roster.users) p.relations rho sound.related) is.first
+    is.second)).sound
 changes_keep_policies_sound p (amend.Unrelate rho u v) sound is fine =
-    (stored_with_pairs p.roster p.relations (record { names = p.flow_names; limit = FLOW_LIMIT }) p.flows p.admin (stored p sound) rho (set.remove (pairs_of p.relations rho) (u, v))
+    (stored_with_pairs p.roster p.relations (record { names = p.flow_names; limit = FLOW_LIMIT }) p.flows p.admin
+    (stored p sound) rho (set.remove (pairs_of p.relations rho) (u, v))
     (all_removed (length p.roster.users) (pairs_of p.relations rho) u v (pairs_of_users (length p.roster.users) p.relations rho sound.related))).sound
 changes_keep_policies_sound p (amend.Permit f r s) sound is fine =
     sound_with_flow p f _ sound is.flow (sound_permitted (length p.roster.roles) (length p.relations) r s (flow_at p f) is.role (sound.flows f is.flow))
@@ -125,7 +161,8 @@ abbrev pub HoldsOf : {A F : Type 0} → (A → Type 0) → Result A F → Type 0
 HoldsOf P (Ok x) = P x
 HoldsOf P (Err fault) = Unit {0}
 
-pub then_holds : {A B F : Type 0} (P : A → Type 0) (Q : B → Type 0) (r : Result A F) (f : A → Result B F) → HoldsOf P r → ((x : A) → P x → HoldsOf Q (f x)) → HoldsOf Q (r >>= f)
+pub then_holds : {A B F : Type 0} (P : A → Type 0) (Q : B → Type 0) (r : Result A F) (f : A → Result B F) → HoldsOf P r →
+    ((x : A) → P x → HoldsOf Q (f x)) → HoldsOf Q (r >>= f)
 then_holds P Q (Ok x) f holds each = each x holds
 then_holds P Q (Err d) f holds each = tt
 
@@ -146,10 +183,12 @@ below names name fault = at_place (place_of names name) (λ i h. (position-Some 
     at_place (Some i) within = within i refl
 
 -- what is found by a name in a list
-found_in : (P : Amendment → Type 0) (n : ℕ) (names : List (List ℕ)) (name : List ℕ) (fault : EditCause) (next : ℕ → Result Amendment EditCause) → length names ≡ n →
+found_in : (P : Amendment → Type 0) (n : ℕ) (names : List (List ℕ)) (name : List ℕ) (fault : EditCause) (next : ℕ → Result Amendment EditCause) →
+    length names ≡ n →
     ((i : ℕ) → i < n → HoldsOf P (next i)) → HoldsOf P (or_fault (place_of names name) fault >>= next)
 found_in P n names name fault next same holds =
-    then_holds (λ i. i < n) P (or_fault (place_of names name) fault) next (subst (λ m. HoldsOf (λ i. i < m) (or_fault (place_of names name) fault)) same (below names name fault)) holds
+    then_holds (λ i. i < n) P (or_fault (place_of names name) fault) next
+    (subst (λ m. HoldsOf (λ i. i < m) (or_fault (place_of names name) fault)) same (below names name fault)) holds
 
 -- a user and a role, two users, and a workflow with a step and a role, by their names
 abbrev a_member : PolicyShape → List ℕ → List ℕ → (ℕ → ℕ → Amendment) → Result Amendment EditCause
@@ -165,41 +204,52 @@ a_permit p flow role step change =
     or_fault (place_of p.flow_names flow) (Unknown Flow) >>= (λ f. or_fault (place_of (flow_at p f).flow.steps step) (Unknown Step) >>= (λ s.
     or_fault (place_of p.roster.roles role) (Unknown Role) >>= (λ r. Ok (change f r s))))
 
-member_there : (p : PolicyShape) (user role : List ℕ) (change : ℕ → ℕ → Amendment) → ((u r : ℕ) → AreMember p u r → IsKnownChange p (change u r)) → HoldsOf (IsKnownChange p) (a_member p user role change)
+member_there : (p : PolicyShape) (user role : List ℕ) (change : ℕ → ℕ → Amendment) → ((u r : ℕ) → AreMember p u r → IsKnownChange p (change u r)) →
+    HoldsOf (IsKnownChange p) (a_member p user role change)
 member_there p user role change is =
     found_in (IsKnownChange p) (length p.roster.users) p.roster.users user (Unknown User) _ refl (λ u hu.
-    found_in (IsKnownChange p) (length p.roster.roles) p.roster.roles role (Unknown Role) (λ r. Ok (change u r)) refl (λ r hr. is u r (record { user = hu; role = hr })))
+    found_in (IsKnownChange p) (length p.roster.roles) p.roster.roles role (Unknown Role) (λ r. Ok (change u r)) refl
+    (λ r hr. is u r (record { user = hu; role = hr })))
 
-pair_there : (p : PolicyShape) (first second : List ℕ) (change : ℕ → ℕ → Amendment) → ((u v : ℕ) → ArePair p u v → IsKnownChange p (change u v)) → HoldsOf (IsKnownChange p) (a_pair p first second change)
+pair_there : (p : PolicyShape) (first second : List ℕ) (change : ℕ → ℕ → Amendment) → ((u v : ℕ) → ArePair p u v → IsKnownChange p (change u v)) →
+    HoldsOf (IsKnownChange p) (a_pair p first second change)
 pair_there p first second change is =
     found_in (IsKnownChange p) (length p.roster.users) p.roster.users first (Unknown User) _ refl (λ u hu.
-    found_in (IsKnownChange p) (length p.roster.users) p.roster.users second (Unknown User) (λ v. Ok (change u v)) refl (λ v hv. is u v (record { first = hu; second = hv })))
+    found_in (IsKnownChange p) (length p.roster.users) p.roster.users second (Unknown User) (λ v. Ok (change u v)) refl
+    (λ v hv. is u v (record { first = hu; second = hv })))
 
-permit_there : (p : PolicyShape) (flow role step : List ℕ) (change : ℕ → ℕ → ℕ → Amendment) → length p.flow_names ≡ length p.flows → ((f r s : ℕ) → ArePermit p f r s → IsKnownChange p (change f r s)) →
+permit_there : (p : PolicyShape) (flow role step : List ℕ) (change : ℕ → ℕ → ℕ → Amendment) → length p.flow_names ≡ length p.flows →
+    ((f r s : ℕ) → ArePermit p f r s → IsKnownChange p (change f r s)) →
     HoldsOf (IsKnownChange p) (a_permit p flow role step change)
 permit_there p flow role step change named is =
     found_in (IsKnownChange p) (length p.flows) p.flow_names flow (Unknown Flow) _ named (λ f hf.
     found_in (IsKnownChange p) (length (flow_at p f).flow.steps) (flow_at p f).flow.steps step (Unknown Step) _ refl (λ s hs.
-    found_in (IsKnownChange p) (length p.roster.roles) p.roster.roles role (Unknown Role) (λ r. Ok (change f r s)) refl (λ r hr. is f r s (record { flow = hf; role = hr; step = hs }))))
+    found_in (IsKnownChange p) (length p.roster.roles) p.roster.roles role (Unknown Role) (λ r. Ok (change f r s)) refl
+    (λ r hr. is f r s (record { flow = hf; role = hr; step = hs }))))
 
 -- the numbers that an edit finds are those of the policy
 found_there : (p : PolicyShape) (e : Edit) → length p.flow_names ≡ length p.flows → HoldsOf (IsKnownChange p) (found p e)
 found_there p (edit.AddUser user) named = tt
-found_there p (edit.Leave user) named = found_in (IsKnownChange p) (length p.roster.users) p.roster.users user (Unknown User) (λ u. Ok (amend.Leave u)) refl (λ u h. h)
+found_there p (edit.Leave user) named = found_in
+    (IsKnownChange p) (length p.roster.users) p.roster.users user (Unknown User) (λ u. Ok (amend.Leave u)) refl (λ u h. h)
 found_there p (edit.Enrol role user) named = member_there p user role amend.Enrol (λ u r is. is)
 found_there p (edit.Dismiss role user) named = member_there p user role amend.Dismiss (λ u r is. is)
 found_there p (edit.Relate first relation second) named =
-    then_holds (λ _. Unit {0}) (IsKnownChange p) (or_fault (place_of (known_names p.relations) relation) (Unknown Relation)) (λ rho. a_pair p first second (amend.Relate rho)) (always _)
+    then_holds (λ _. Unit {0}) (IsKnownChange p) (or_fault (place_of (known_names p.relations) relation) (Unknown Relation))
+    (λ rho. a_pair p first second (amend.Relate rho)) (always _)
     (λ rho _. pair_there p first second (amend.Relate rho) (λ u v is. is))
 found_there p (edit.Unrelate first relation second) named =
-    then_holds (λ _. Unit {0}) (IsKnownChange p) (or_fault (place_of (known_names p.relations) relation) (Unknown Relation)) (λ rho. a_pair p first second (amend.Unrelate rho)) (always _)
+    then_holds (λ _. Unit {0}) (IsKnownChange p) (or_fault (place_of (known_names p.relations) relation) (Unknown Relation))
+    (λ rho. a_pair p first second (amend.Unrelate rho)) (always _)
     (λ rho _. pair_there p first second (amend.Unrelate rho) (λ u v is. is))
 found_there p (edit.Permit flow role step) named = permit_there p flow role step amend.Permit named (λ f r s is. is)
 found_there p (edit.Forbid flow role step) named = permit_there p flow role step amend.Forbid named (λ f r s is. is)
-found_there p (edit.Retire flow) named = found_in (IsKnownChange p) (length p.flows) p.flow_names flow (Unknown Flow) (λ f. Ok (amend.Retire f)) named (λ f h. h)
+found_there p (edit.Retire flow) named = found_in
+    (IsKnownChange p) (length p.flows) p.flow_names flow (Unknown Flow) (λ f. Ok (amend.Retire f)) named (λ f h. h)
 
 -- a change that an edit makes names what is there, and has no fault
-pub amendment_found : (p : PolicyShape) (by : List ℕ) (e : Edit) (a : Amendment) → IsSoundPolicy p → amendment_of p by e ≡ Ok a → IsKnownChange p a × (allowed p a ≡ Ok tt)
+pub amendment_found : (p : PolicyShape) (by : List ℕ) (e : Edit) (a : Amendment) → IsSoundPolicy p → amendment_of p by e ≡ Ok a → IsKnownChange p a ×
+    (allowed p a ≡ Ok tt)
 amendment_found p by e a sound is =
     subst (HoldsOf (λ (x : Amendment). IsKnownChange p x × (allowed p x ≡ Ok tt))) is
     (then_holds (λ _. Unit {0}) _ (check (is_admin p by) EditCause.NotAdmin) _ (always _) (λ _ _.

@@ -1,5 +1,6 @@
 -- A valid plan that a change cannot hurt stays valid.
-use Rattle.std.proofs.Common.{◌≡◌, ◌≢◌, ◌==◌, ◌&&◌, ◌||◌, not, ℕ, zero, suc, ◌+◌, ◌<◌, ◌≤◌, Bool, true, false, List, [], ◌∷◌, ◌++◌, length, Option, None, Some, ◌⊎◌, inl, inr, refl, sym, ap, subst, ◌∙◌, arith, length-append}
+use Rattle.std.proofs.Common.{◌≡◌, ◌≢◌, ◌==◌, ◌&&◌, ◌||◌, not, ℕ, zero, suc, ◌+◌, ◌<◌, ◌≤◌, Bool, true, false, List, [], ◌∷◌, ◌++◌, length, Option, None, Some}
+use Rattle.std.proofs.Common.{◌⊎◌, inl, inr, refl, sym, ap, subst, ◌∙◌, arith, length-append}
 use Rattle.std.specs.Prelude.{slice_get}
 use Rattle.std.specs.List.{list_any}
 use Rattle.std.specs.Option.{option_map}
@@ -12,7 +13,8 @@ use Rattle.basics.proofs.Booleans.{and_both, and_from, differ, eq_is, eq_same, o
 use Rattle.pair_set.specs.Pairs.{Pairs, pair_cmp}
 use Rattle.pair_set.specs.PairLaws.{pair_cmp_total, pair_cmp-IsAntisymmetric}
 use Rattle.rbac_state.specs.Rosters.{has_role}
-use Rattle.user_relations.specs.Relations.{RelationKind, RelationShape, change_kind, complement, complement_of, complemented, is_related, kind_holds, kind_of, listed, listed_pairs, pairs_of, with_kind}
+use Rattle.user_relations.specs.Relations.{RelationKind, RelationShape, change_kind, complement, complement_of, complemented, is_related, kind_holds, kind_of}
+use Rattle.user_relations.specs.Relations.{listed, listed_pairs, pairs_of, with_kind}
 use Rattle.constraint_forms.specs.declared.rule.Rule.{Rule}
 use Rattle.constraint_forms.specs.declared.rule.Rule.TheVariants.{Pair, SomeOf, AllOf, SomeTo, AllTo, AtMost, AtLeast}
 use Rattle.constraint_forms.specs.Assigned.{is_member, planned}
@@ -29,7 +31,8 @@ use Rattle.admin_edits.specs.Hurting.{UnhurtPlansStayValid, gives_open, is_numbe
 -- what a plan has to keep under another policy, so that it stays valid
 pub stays : (p q : Problem) (assigned : List (Option ℕ)) (finished : List Bool) (plan : List ℕ) → q.steps ≡ p.steps → p.users ≤ q.users → q.rules ≡ p.rules →
     ((s : ℕ) → s < p.steps → is_member finished s ≡ false → p.authorised s (planned plan s) ≡ true → q.authorised s (planned plan s) ≡ true) →
-    ((k : ℕ) (rule : Rule) → slice_get p.rules k ≡ Some rule → is_satisfied p.related rule (planned plan) ≡ true → is_satisfied q.related rule (planned plan) ≡ true) →
+    ((k : ℕ) (rule : Rule) → slice_get p.rules k ≡ Some rule → is_satisfied p.related rule (planned plan) ≡ true →
+    is_satisfied q.related rule (planned plan) ≡ true) →
     IsValidPlan p assigned finished plan → IsValidPlan q assigned finished plan
 stays p q assigned finished plan steps users rules authorised related valid = record {
   whole = valid.whole ∙ sym steps;
@@ -71,7 +74,8 @@ others_keep (suc n) u v r members other is =
     not_taken (without_roles n u members) (u, n) (v, r) (λ e. other (ap (λ (x : ℕ × ℕ). x.0) e)) (others_keep n u v r members other is)
 
 -- a step that is not finished goes to another user
-goes_to_another : (finished : List Bool) (plan : List ℕ) (u s : ℕ) → gives_open finished plan u ≡ false → s < length plan → is_member finished s ≡ false → planned plan s ≢ u
+goes_to_another : (finished : List Bool) (plan : List ℕ) (u s : ℕ) → gives_open finished plan u ≡ false → s < length plan → is_member finished s ≡ false →
+    planned plan s ≢ u
 goes_to_another finished plan u s none within open_ is =
     let here : (not (is_member finished s) && (planned plan s == u)) ≡ true = and_from _ _ (ap not open_) (eq_is (planned plan s) u is) in
     differ (gives_open finished plan u) (any_below-at (length plan) s (λ t. not (is_member finished t) && (planned plan t == u)) within here) none
@@ -89,7 +93,8 @@ problem_with p w = record {
 }
 
 -- after a change of the workflow at g, that at f is the new one, or as it was
-pub flow_there : (p : PolicyShape) (g : ℕ) (w : WorkflowShape) (f : ℕ) → g < length p.flows → ((f ≡ g) × (flow_at (with_flow p g w) f ≡ w)) ⊎ (flow_at (with_flow p g w) f ≡ flow_at p f)
+pub flow_there : (p : PolicyShape) (g : ℕ) (w : WorkflowShape) (f : ℕ) → g < length p.flows → ((f ≡ g) × (flow_at (with_flow p g w) f ≡ w)) ⊎
+    (flow_at (with_flow p g w) f ≡ flow_at p f)
 flow_there p g w f within = elim (eqb_tells f g) [
   | inl same ↦ inl (same.1, subst (λ (n : ℕ). flow_at (with_flow p g w) n ≡ w) (sym same.1) (get_or-set_same p.flows g w no_workflow within))
   | inr other ↦ inr (get_or-set_other p.flows g f w no_workflow other.1)
@@ -98,13 +103,15 @@ flow_there p g w f within = elim (eqb_tells f g) [
 -- what a plan has to keep where one workflow changes
 flow_stays : (p : PolicyShape) (g : ℕ) (w : WorkflowShape) (f : ℕ) (assigned : List (Option ℕ)) (finished : List Bool) (plan : List ℕ) → g < length p.flows →
     (f ≡ g → length w.flow.steps ≡ length (flow_at p f).flow.steps) → (f ≡ g → w.rules ≡ (flow_at p f).rules) →
-    (f ≡ g → (s r : ℕ) → is_member finished s ≡ false → has_role p.roster (planned plan s) r ≡ true → set.contains (flow_at p f).flow.permits (r, s) ≡ true → set.contains w.flow.permits (r, s) ≡ true) →
+    (f ≡ g → (s r : ℕ) → is_member finished s ≡ false → has_role p.roster (planned plan s) r ≡ true →
+    set.contains (flow_at p f).flow.permits (r, s) ≡ true → set.contains w.flow.permits (r, s) ≡ true) →
     IsValidPlan (problem_of p f) assigned finished plan → IsValidPlan (problem_of (with_flow p g w) f) assigned finished plan
 flow_stays p g w f assigned finished plan within steps rules permits valid = elim (flow_there p g w f within) [
   | inr same ↦ subst (λ (x : WorkflowShape). IsValidPlan (problem_with p x) assigned finished plan) (sym same) valid
   | inl new ↦ subst (λ (x : WorkflowShape). IsValidPlan (problem_with p x) assigned finished plan) (sym new.1)
       (stays (problem_of p f) (problem_with p w) assigned finished plan (steps new.0) (omega arith) (rules new.0)
-      (λ s h open_ is. more_below (length p.roster.roles) (λ r. has_role p.roster (planned plan s) r && set.contains (flow_at p f).flow.permits (r, s)) (λ r. has_role p.roster (planned plan s) r && set.contains w.flow.permits (r, s))
+      (λ s h open_ is. more_below (length p.roster.roles) (λ r. has_role p.roster (planned plan s) r && set.contains (flow_at p f).flow.permits (r, s))
+      (λ r. has_role p.roster (planned plan s) r && set.contains w.flow.permits (r, s))
       (λ r both. let held = and_both (has_role p.roster (planned plan s) r) (set.contains (flow_at p f).flow.permits (r, s)) both in
       and_from _ _ held.0 (permits new.0 s r open_ held.0 held.1)) is)
       (λ k rule is obeyed. obeyed) valid)
@@ -112,7 +119,8 @@ flow_stays p g w f assigned finished plan within steps rules permits valid = eli
 
 -- ---- relations
 
-change_other : (rs : List RelationShape) (n m : ℕ) (kind : RelationKind) → m ≢ n → option_map (λ (r : RelationShape). r.kind) (slice_get (change_kind rs n kind) m) ≡ option_map (λ (r : RelationShape). r.kind) (slice_get rs m)
+change_other : (rs : List RelationShape) (n m : ℕ) (kind : RelationKind) → m ≢ n →
+    option_map (λ (r : RelationShape). r.kind) (slice_get (change_kind rs n kind) m) ≡ option_map (λ (r : RelationShape). r.kind) (slice_get rs m)
 change_other [] n m kind other = refl
 change_other (r ∷ rs) zero zero kind other = absurd (other refl)
 change_other (r ∷ rs) zero (suc m) kind other = refl
@@ -149,10 +157,12 @@ any_same k (m ∷ ms) a b same = ap (λ (t : Bool). (m && t) || any_from (k + 1)
 
 all_same : (k : ℕ) (group : List Bool) (a b : ℕ → Bool) → ((x : ℕ) → a x ≡ b x) → all_from k group a ≡ all_from k group b
 all_same k [] a b same = refl
-all_same k (m ∷ ms) a b same = ap (λ (t : Bool). (not m || t) && all_from (k + 1) ms a) (same k) ∙ ap (λ (t : Bool). (not m || b k) && t) (all_same (k + 1) ms a b same)
+all_same k (m ∷ ms) a b same = ap (λ (t : Bool). (not m || t) && all_from (k + 1) ms a) (same k) ∙
+    ap (λ (t : Bool). (not m || b k) && t) (all_same (k + 1) ms a b same)
 
 -- a rule rests on the relations that it reads alone
-pub satisfied_same : (a b : Relating) (rule : Rule) (f : ℕ → ℕ) → ((rho u v : ℕ) → reads rule rho ≡ true → b rho u v ≡ a rho u v) → is_satisfied b rule f ≡ is_satisfied a rule f
+pub satisfied_same : (a b : Relating) (rule : Rule) (f : ℕ → ℕ) → ((rho u v : ℕ) → reads rule rho ≡ true → b rho u v ≡ a rho u v) →
+    is_satisfied b rule f ≡ is_satisfied a rule f
 satisfied_same a b (Pair rho first second) f same = same rho (f first) (f second) (eq_same rho)
 satisfied_same a b (SomeOf rho group step) f same = any_same 0 group _ _ (λ x. same rho (f x) (f step) (eq_same rho))
 satisfied_same a b (AllOf rho group step) f same = all_same 0 group _ _ (λ x. same rho (f x) (f step) (eq_same rho))
@@ -169,9 +179,11 @@ none_passes test (r ∷ rs) (suc k) rule none is = none_passes test rs k rule (o
 -- where no rule reads a relation or its complement, a plan stays valid whatever its pairs are
 pairs_stay : (p : PolicyShape) (rho : ℕ) (kind : RelationKind) (f : ℕ) (assigned : List (Option ℕ)) (finished : List Bool) (plan : List ℕ) →
     list_any (is_over p.relations rho) (flow_at p f).rules ≡ false →
-    IsValidPlan (problem_of p f) assigned finished plan → IsValidPlan (problem_of (record p { relations = with_kind p.relations rho kind }) f) assigned finished plan
+    IsValidPlan (problem_of p f) assigned finished plan →
+    IsValidPlan (problem_of (record p { relations = with_kind p.relations rho kind }) f) assigned finished plan
 pairs_stay p rho kind f assigned finished plan none valid =
-    stays (problem_of p f) (problem_of (record p { relations = with_kind p.relations rho kind }) f) assigned finished plan refl (omega arith) refl (λ s h open_ is. is)
+    stays (problem_of p f) (problem_of (record p { relations = with_kind p.relations rho kind }) f) assigned finished plan refl (omega arith) refl
+    (λ s h open_ is. is)
     (λ k rule is obeyed.
     let apart = none_passes (is_over p.relations rho) (flow_at p f).rules k rule none is in
     let over : (own : ℕ) → reads rule own ≡ true → ((own == rho) ≡ false) × (is_number rho (complement_of p.relations own) ≡ false) =
@@ -186,14 +198,17 @@ pairs_stay p rho kind f assigned finished plan none valid =
 
 -- what a plan has to keep where memberships change
 members_stay : (p : PolicyShape) (members : Pairs) (f : ℕ) (assigned : List (Option ℕ)) (finished : List Bool) (plan : List ℕ) →
-    ((s r : ℕ) → s < length plan → is_member finished s ≡ false → has_role p.roster (planned plan s) r ≡ true → set.contains members (planned plan s, r) ≡ true) →
-    IsValidPlan (problem_of p f) assigned finished plan → IsValidPlan (problem_of (with_roster p (record p.roster { members = members })) f) assigned finished plan
+    ((s r : ℕ) → s < length plan → is_member finished s ≡ false → has_role p.roster (planned plan s) r ≡ true →
+    set.contains members (planned plan s, r) ≡ true) →
+    IsValidPlan (problem_of p f) assigned finished plan →
+    IsValidPlan (problem_of (with_roster p (record p.roster { members = members })) f) assigned finished plan
 members_stay p members f assigned finished plan keep valid =
     let q = with_roster p (record p.roster { members = members }) in
     stays (problem_of p f) (problem_of q f) assigned finished plan refl (omega arith) refl
     (λ s h open_ is.
     let within : s < length plan = omega (arith, h, valid.whole) in
-    more_below (length p.roster.roles) (λ r. has_role p.roster (planned plan s) r && set.contains (flow_at p f).flow.permits (r, s)) (λ r. set.contains members (planned plan s, r) && set.contains (flow_at p f).flow.permits (r, s))
+    more_below (length p.roster.roles) (λ r. has_role p.roster (planned plan s) r && set.contains (flow_at p f).flow.permits (r, s))
+    (λ r. set.contains members (planned plan s, r) && set.contains (flow_at p f).flow.permits (r, s))
     (λ r both. let held = and_both (has_role p.roster (planned plan s) r) (set.contains (flow_at p f).flow.permits (r, s)) both in
     and_from _ _ (keep s r within open_ held.0) held.1) is)
     (λ k rule is obeyed. obeyed) valid
@@ -201,31 +216,39 @@ members_stay p members f assigned finished plan keep valid =
 pub unhurt_plans_stay_valid : UnhurtPlansStayValid
 unhurt_plans_stay_valid p (amend.AddUser name) f assigned finished plan found unhurt valid =
     let more : length (p.roster.users ++ name ∷ []) ≡ length p.roster.users + 1 = length-append p.roster.users (name ∷ []) in
-    stays (problem_of p f) (problem_of (amended p (amend.AddUser name)) f) assigned finished plan refl (omega (arith, more)) refl (λ s h open_ is. is) (λ k rule is obeyed. obeyed) valid
+    stays (problem_of p f) (problem_of (amended p (amend.AddUser name)) f) assigned finished plan refl (omega (arith, more)) refl (λ s h open_ is. is)
+    (λ k rule is obeyed. obeyed) valid
 unhurt_plans_stay_valid p (amend.Leave u) f assigned finished plan found unhurt valid =
     members_stay p (without_roles (length p.roster.roles) u p.roster.members) f assigned finished plan
-    (λ s r within open_ held. others_keep (length p.roster.roles) u (planned plan s) r p.roster.members (goes_to_another finished plan u s unhurt within open_) held) valid
+    (λ s r within open_ held. others_keep (length p.roster.roles) u (planned plan s) r p.roster.members
+    (goes_to_another finished plan u s unhurt within open_) held) valid
 unhurt_plans_stay_valid p (amend.Enrol u r) f assigned finished plan found unhurt valid =
-    members_stay p (set.insert p.roster.members (u, r)) f assigned finished plan (λ s t within open_ held. still_in p.roster.members (u, r) (planned plan s, t) held) valid
+    members_stay p (set.insert p.roster.members (u, r)) f assigned finished plan
+    (λ s t within open_ held. still_in p.roster.members (u, r) (planned plan s, t) held) valid
 unhurt_plans_stay_valid p (amend.Dismiss u r) f assigned finished plan found unhurt valid =
     members_stay p (set.remove p.roster.members (u, r)) f assigned finished plan
-    (λ s t within open_ held. not_taken p.roster.members (u, r) (planned plan s, t) (λ e. goes_to_another finished plan u s unhurt within open_ (ap (λ (x : ℕ × ℕ). x.0) e)) held) valid
+    (λ s t within open_ held. not_taken p.roster.members (u, r) (planned plan s, t)
+    (λ e. goes_to_another finished plan u s unhurt within open_ (ap (λ (x : ℕ × ℕ). x.0) e)) held) valid
 unhurt_plans_stay_valid p (amend.Relate rho u v) f assigned finished plan found unhurt valid =
     pairs_stay p rho (listed (set.insert (pairs_of p.relations rho) (u, v))) f assigned finished plan unhurt valid
 unhurt_plans_stay_valid p (amend.Unrelate rho u v) f assigned finished plan found unhurt valid =
     pairs_stay p rho (listed (set.remove (pairs_of p.relations rho) (u, v))) f assigned finished plan unhurt valid
 unhurt_plans_stay_valid p (amend.Permit g r s) f assigned finished plan found unhurt valid =
-    flow_stays p g (record (flow_at p g) { flow = record (flow_at p g).flow { permits = set.insert (flow_at p g).flow.permits (r, s) } }) f assigned finished plan found.flow
+    flow_stays p g (record (flow_at p g) { flow = record (flow_at p g).flow { permits = set.insert (flow_at p g).flow.permits (r, s) } }) f assigned
+    finished plan found.flow
     (λ e. ap (λ (n : ℕ). length (flow_at p n).flow.steps) (sym e)) (λ e. ap (λ (n : ℕ). (flow_at p n).rules) (sym e))
-    (λ e t q open_ held permitted. still_in (flow_at p g).flow.permits (r, s) (q, t) (subst (λ (n : ℕ). set.contains (flow_at p n).flow.permits (q, t) ≡ true) e permitted)) valid
+    (λ e t q open_ held permitted. still_in
+    (flow_at p g).flow.permits (r, s) (q, t) (subst (λ (n : ℕ). set.contains (flow_at p n).flow.permits (q, t) ≡ true) e permitted)) valid
 unhurt_plans_stay_valid p (amend.Forbid g r s) f assigned finished plan found unhurt valid =
-    flow_stays p g (record (flow_at p g) { flow = record (flow_at p g).flow { permits = set.remove (flow_at p g).flow.permits (r, s) } }) f assigned finished plan found.flow
+    flow_stays p g (record (flow_at p g) { flow = record (flow_at p g).flow { permits = set.remove (flow_at p g).flow.permits (r, s) } }) f assigned
+    finished plan found.flow
     (λ e. ap (λ (n : ℕ). length (flow_at p n).flow.steps) (sym e)) (λ e. ap (λ (n : ℕ). (flow_at p n).rules) (sym e))
     (λ e t q open_ held permitted. not_taken (flow_at p g).flow.permits (r, s) (q, t)
     (λ same. let role : q ≡ r = ap (λ (x : ℕ × ℕ). x.0) same in
     let step : t ≡ s = ap (λ (x : ℕ × ℕ). x.1) same in
     let open_there : is_member finished s ≡ false = subst (λ (n : ℕ). is_member finished n ≡ false) step open_ in
-    let held_there : has_role p.roster (planned plan s) r ≡ true = subst (λ (n : ℕ). has_role p.roster (planned plan n) r ≡ true) step (subst (λ (n : ℕ). has_role p.roster (planned plan t) n ≡ true) role held) in
+    let held_there : has_role p.roster (planned plan s) r ≡ true =
+    subst (λ (n : ℕ). has_role p.roster (planned plan n) r ≡ true) step (subst (λ (n : ℕ). has_role p.roster (planned plan t) n ≡ true) role held) in
     differ _ (and_from (f == g) _ (eq_is f g e) (and_from (not (is_member finished s)) _ (ap not open_there) held_there)) unhurt)
     (subst (λ (n : ℕ). set.contains (flow_at p n).flow.permits (q, t) ≡ true) e permitted)) valid
 unhurt_plans_stay_valid p (amend.Retire g) f assigned finished plan found unhurt valid =

@@ -113,7 +113,8 @@ allowed p (amend.Dismiss u r) = do
   check (not (r == p.admin && is_last_admin p u)) LastAdmin
 allowed p (amend.Relate rho u v) = unless_fault (pair_fault (relate_fault p.relations rho u v))
 allowed p (amend.Unrelate rho u v) = unless_fault (pair_fault (unrelate_fault p.relations rho u v))
-allowed p (amend.Permit f r s) = check (not (set.contains (flow_at p f).flow.permits (r, s))) Already
+allowed p (amend.Permit f r s) =
+    check (not (set.contains (flow_at p f).flow.permits (r, s))) Already
 allowed p (amend.Forbid f r s) = check (set.contains (flow_at p f).flow.permits (r, s)) Absent
 allowed p (amend.Retire f) = check (not (flow_at p f).retired) Already
 
@@ -151,11 +152,15 @@ without_roles (suc n) u members = set.remove (without_roles n u members) (u, n)
 
 -- a policy with one change; all else stays
 abbrev pub amended : PolicyShape → Amendment → PolicyShape
-amended p (amend.AddUser name) = with_roster p (record p.roster { users = p.roster.users ++ name ∷ [] })
+amended p (amend.AddUser name) =
+    with_roster p (record p.roster { users = p.roster.users ++ name ∷ [] })
 amended p (amend.Leave u) =
-    with_roster p (record p.roster { members = without_roles (length p.roster.roles) u p.roster.members })
-amended p (amend.Enrol u r) = with_roster p (record p.roster { members = set.insert p.roster.members (u, r) })
-amended p (amend.Dismiss u r) = with_roster p (record p.roster { members = set.remove p.roster.members (u, r) })
+    with_roster p
+    (record p.roster { members = without_roles (length p.roster.roles) u p.roster.members })
+amended p (amend.Enrol u r) =
+    with_roster p (record p.roster { members = set.insert p.roster.members (u, r) })
+amended p (amend.Dismiss u r) =
+    with_roster p (record p.roster { members = set.remove p.roster.members (u, r) })
 amended p (amend.Relate rho u v) = with_pairs p rho (set.insert (pairs_of p.relations rho) (u, v))
 amended p (amend.Unrelate rho u v) = with_pairs p rho (set.remove (pairs_of p.relations rho) (u, v))
 amended p (amend.Permit f r s) = with_permits p f (set.insert (flow_at p f).flow.permits (r, s))

@@ -17,7 +17,8 @@ use Rattle.admin_edits.specs.Found.{IsKnownChange}
 
 -- a plan gives a step that is not finished to a user
 abbrev pub gives_open : List Bool → List ℕ → ℕ → Bool
-gives_open finished plan u = any_below (length plan) (λ s. not (is_member finished s) && (planned plan s == u))
+gives_open finished plan u =
+    any_below (length plan) (λ s. not (is_member finished s) && (planned plan s == u))
 
 -- there is a number, and it is this
 abbrev pub is_number : ℕ → Option ℕ → Bool
@@ -26,7 +27,8 @@ is_number n (Some m) = m == n
 
 -- a rule reads a relation or its complement
 abbrev pub is_over : List RelationShape → ℕ → Rule → Bool
-is_over relations rho rule = any_read rule (λ own. (own == rho) || is_number rho (complement_of relations own))
+is_over relations rho rule =
+    any_read rule (λ own. (own == rho) || is_number rho (complement_of relations own))
 
 -- a change may make a plan of a workflow invalid: a role is taken away from a user to whom the plan
 -- gives a step that is not finished; such a step is forbidden to a role of its user; or pairs of a
@@ -36,8 +38,10 @@ may_hurt p (amend.AddUser name) f finished plan = false
 may_hurt p (amend.Leave u) f finished plan = gives_open finished plan u
 may_hurt p (amend.Enrol u r) f finished plan = false
 may_hurt p (amend.Dismiss u r) f finished plan = gives_open finished plan u
-may_hurt p (amend.Relate rho u v) f finished plan = list_any (is_over p.relations rho) (flow_at p f).rules
-may_hurt p (amend.Unrelate rho u v) f finished plan = list_any (is_over p.relations rho) (flow_at p f).rules
+may_hurt p (amend.Relate rho u v) f finished plan =
+    list_any (is_over p.relations rho) (flow_at p f).rules
+may_hurt p (amend.Unrelate rho u v) f finished plan =
+    list_any (is_over p.relations rho) (flow_at p f).rules
 may_hurt p (amend.Permit g r s) f finished plan = false
 may_hurt p (amend.Forbid g r s) f finished plan =
     (f == g) && (not (is_member finished s) && has_role p.roster (planned plan s) r)
@@ -46,6 +50,8 @@ may_hurt p (amend.Retire g) f finished plan = false
 -- a valid plan that a change cannot hurt stays valid
 abbrev pub UnhurtPlansStayValid : Type 0
 UnhurtPlansStayValid =
-    (p : PolicyShape) (a : Amendment) (f : ℕ) (assigned : List (Option ℕ)) (finished : List Bool) (plan : List ℕ) →
+    (p : PolicyShape) (a : Amendment) (f : ℕ) (assigned : List (Option ℕ))
+    (finished : List Bool) (plan : List ℕ) →
     IsKnownChange p a → may_hurt p a f finished plan ≡ false →
-    IsValidPlan (problem_of p f) assigned finished plan → IsValidPlan (problem_of (amended p a) f) assigned finished plan
+    IsValidPlan (problem_of p f) assigned finished plan →
+    IsValidPlan (problem_of (amended p a) f) assigned finished plan

@@ -18,9 +18,11 @@ pub record KeepsNames (before after : PolicyShape) : Type 0 where
 
 -- a change whose names are found keeps all names
 abbrev pub ChangesKeepNames : Type 0
-ChangesKeepNames = (p : PolicyShape) (a : Amendment) → IsKnownChange p a → KeepsNames p (amended p a)
+ChangesKeepNames = (p : PolicyShape) (a : Amendment) → IsKnownChange p a →
+    KeepsNames p (amended p a)
 
 -- a change that has no fault keeps what every policy keeps
 abbrev pub ChangesKeepPoliciesSound : Type 0
 ChangesKeepPoliciesSound =
-    (p : PolicyShape) (a : Amendment) → IsSoundPolicy p → IsKnownChange p a → allowed p a ≡ Ok tt → IsSoundPolicy (amended p a)
+    (p : PolicyShape) (a : Amendment) → IsSoundPolicy p → IsKnownChange p a →
+    allowed p a ≡ Ok tt → IsSoundPolicy (amended p a)

@@ -16,7 +16,8 @@ use Rattle.audit_command.specs.declared.finding.Finding.TheVariants.{Legal, Faul
 use Rattle.audit_command.specs.Auditing.{AreShort, EndsAs, GoesOn, IsAudited, StopsAt}
 use Rattle.audit_command.specs.Laws.{LegalIsExact}
 
-pub next_of : (a : AuditShape) (lines : List (List ℕ)) → IsAudited a lines Legal → (es : List Entry) × (AreNext a lines es × (length a.entries + length es ≡ length a.jobs))
+pub next_of : (a : AuditShape) (lines : List (List ℕ)) → IsAudited a lines Legal → (es : List Entry) ×
+    (AreNext a lines es × (length a.entries + length es ≡ length a.jobs))
 next_of a [] h = ([], (tt, omega (arith, h)))
 next_of a (line ∷ lines) h = elim h [
   | inl stops ↦ absurd stops
@@ -36,16 +37,20 @@ legal_lines exact p rounds jobs ends lines order found =
 -- ---- what is such a text is found legal
 
 -- a line that is the text of an entry that comes next is no fault, and not too long
-not_stopped : FaultsExclude → (p : PolicyShape) (rounds : ℕ) (jobs : List Job) (ends : List ℕ) (done : List (List ℕ)) (es : List Entry) (line : List ℕ) (e : Entry) (f : Finding) →
-    AreOfSession p rounds jobs ends → AreNext (audit_of p rounds jobs ends) done es → IsNextLine (record (audit_of p rounds jobs ends) { entries = es }) line e →
+not_stopped : FaultsExclude →
+    (p : PolicyShape) (rounds : ℕ) (jobs : List Job) (ends : List ℕ) (done : List (List ℕ)) (es : List Entry) (line : List ℕ) (e : Entry) (f : Finding) →
+    AreOfSession p rounds jobs ends → AreNext (audit_of p rounds jobs ends) done es →
+    IsNextLine (record (audit_of p rounds jobs ends) { entries = es }) line e →
     line_length line ≤ TRANSCRIPT_LINE_LIMIT → ¬ StopsAt (record (audit_of p rounds jobs ends) { entries = es }) line f
 not_stopped law p rounds jobs ends done es line e Legal session so_far next short stops = stops
 not_stopped law p rounds jobs ends done es line e (Fault n kind) session so_far next short stops =
     law p rounds jobs ends done es session so_far line kind e stops.1.1 next
 not_stopped law p rounds jobs ends done es line e (TooLong n) session so_far next short stops = omega (arith, short, stops.1)
 
-found_legal : FaultsExclude → NextIsOne → (p : PolicyShape) (rounds : ℕ) (jobs : List Job) (ends : List ℕ) (done lines : List (List ℕ)) (es rest : List Entry) (f : Finding) →
-    AreOfSession p rounds jobs ends → AreNext (audit_of p rounds jobs ends) done es → AreNext (record (audit_of p rounds jobs ends) { entries = es }) lines rest → AreShort lines →
+found_legal : FaultsExclude → NextIsOne →
+    (p : PolicyShape) (rounds : ℕ) (jobs : List Job) (ends : List ℕ) (done lines : List (List ℕ)) (es rest : List Entry) (f : Finding) →
+    AreOfSession p rounds jobs ends → AreNext (audit_of p rounds jobs ends) done es →
+    AreNext (record (audit_of p rounds jobs ends) { entries = es }) lines rest → AreShort lines →
     length es + length rest ≡ length jobs → IsAudited (record (audit_of p rounds jobs ends) { entries = es }) lines f → f ≡ Legal
 found_legal law one p rounds jobs ends done [] es [] f session so_far next short size found = at_end f found
   where
@@ -62,7 +67,8 @@ found_legal law one p rounds jobs ends done (line ∷ lines) es (e ∷ rest) f s
     (omega (arith, size, length-append es (e ∷ []))) more)
   where
     by_line : StopsAt (record (audit_of p rounds jobs ends) { entries = es }) line f
-        ⊎ ((x : Entry) × (GoesOn (record (audit_of p rounds jobs ends) { entries = es }) line x × IsAudited (record (audit_of p rounds jobs ends) { entries = es ++ x ∷ [] }) lines f)) →
+        ⊎ ((x : Entry) × (GoesOn (record (audit_of p rounds jobs ends) { entries = es }) line x ×
+        IsAudited (record (audit_of p rounds jobs ends) { entries = es ++ x ∷ [] }) lines f)) →
         (IsAudited (record (audit_of p rounds jobs ends) { entries = es ++ e ∷ [] }) lines f → f ≡ Legal) → f ≡ Legal
     by_line (inl stops) later = absurd (not_stopped law p rounds jobs ends done es line e f session so_far next.0 short.0 stops)
     by_line (inr goes) later =
@@ -79,7 +85,8 @@ legal_is_exact exact law one p rounds jobs ends lines f session short found = (
 )
 
 -- so in an input of which all is told
-pub legal_input : LegalIsExact → (p : PolicyShape) (rounds : ℕ) (jobs : List Job) (ends : List ℕ) (f : Finding) (told : Option (List ℕ)) → AreOfSession p rounds jobs ends →
+pub legal_input : LegalIsExact → (p : PolicyShape) (rounds : ℕ) (jobs : List Job) (ends : List ℕ) (f : Finding) (told : Option (List ℕ)) →
+    AreOfSession p rounds jobs ends →
     IfSome told (λ input. IsAudited (audit_of p rounds jobs ends) (lines_of input) f) →
     IfSome told (λ input. AreShort (lines_of input) → (f ≡ Legal) ↔ IsTranscript p rounds jobs ends (lines_of input))
 legal_input exact p rounds jobs ends f None session found = tt

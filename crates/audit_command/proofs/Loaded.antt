@@ -10,7 +10,8 @@ use Rattle.line_reader.specs.Lines.{lines_of}
 use Rattle.transcript_audit.specs.Audits.{AuditShape, IsTranscript, audit_of}
 use Rattle.transcript_audit.specs.Laws.{AreOfSession}
 use Rattle.run_record.specs.declared.fault.RunFault.{RunFault}
-use Rattle.run_record.specs.declared.fault.RunFault.TheVariants.{Nothing, Found, Usage, Policy, Read, Write, Load, NoMemory, FileTooLong, LineTooLong, TooManyLines, BadInput, TooLarge}
+use Rattle.run_record.specs.declared.fault.RunFault.TheVariants.{Nothing, Found, Usage, Policy, Read, Write, Load, NoMemory, FileTooLong, LineTooLong}
+use Rattle.run_record.specs.declared.fault.RunFault.TheVariants.{TooManyLines, BadInput, TooLarge}
 use Rattle.wf_commands.specs.Once.{OverPolicy}
 use Rattle.wf_commands.specs.Load.{GivesPolicy, PolicyOf, IsLoadEnding}
 use Rattle.wf_commands.proofs.Loading.{answers_file}
@@ -25,28 +26,33 @@ use Rattle.audit_command.specs.Steps.{FindsAs, FindsFile, IsReadEnding}
 
 -- ---- what is found with them
 
-audits_requests : LegalIsExact → (p : PolicyShape) (o : AuditOf) (i : Input) (requests : List ℕ) (batch : Batch) (f : Finding) → JobsOf requests o.lanes (Ok batch) → AreOfSession p o.rounds batch.jobs batch.ends
+audits_requests : LegalIsExact → (p : PolicyShape) (o : AuditOf) (i : Input) (requests : List ℕ) (batch : Batch) (f : Finding) →
+    JobsOf requests o.lanes (Ok batch) → AreOfSession p o.rounds batch.jobs batch.ends
     → HasFound (audit_of p o.rounds batch.jobs batch.ends) f i.before i.after → AuditsRequests p o i requests (ending_of f) (text_of f)
 audits_requests exact p o i requests batch f gives order found =
     let same : audit_of p o.rounds batch.jobs batch.ends ≡ audit_for p o requests = rw (gives.1.0, gives.1.1) refl in
     rw (le-ltb REQUESTS_FILE_LIMIT (length requests) gives.0)
     (record {
       finding = f;
-      legal = subst (λ (a : AuditShape). IfSome i.before (λ input. AreShort (lines_of input) → (f ≡ Legal) ↔ IsTranscript a.opening a.rounds a.jobs a.batch_ends (lines_of input))) same
+      legal = subst (λ (a : AuditShape). IfSome i.before
+          (λ input. AreShort (lines_of input) → (f ≡ Legal) ↔ IsTranscript a.opening a.rounds a.jobs a.batch_ends (lines_of input))) same
           (legal_input exact p o.rounds batch.jobs batch.ends f i.before order found.whole);
       found = subst (λ (a : AuditShape). HasFound a f i.before i.after) same found;
       ends = refl;
       writes = refl;
     })
 
-audits_file : LegalIsExact → (p : PolicyShape) (o : AuditOf) (i : Input) (filed : Filed) (batch : Batch) (f : Finding) → GivesJobs filed o.lanes (Ok batch) → AreOfSession p o.rounds batch.jobs batch.ends
+audits_file : LegalIsExact → (p : PolicyShape) (o : AuditOf) (i : Input) (filed : Filed) (batch : Batch) (f : Finding) →
+    GivesJobs filed o.lanes (Ok batch) → AreOfSession p o.rounds batch.jobs batch.ends
     → HasFound (audit_of p o.rounds batch.jobs batch.ends) f i.before i.after → AuditsFile p o i filed (ending_of f) (text_of f)
 audits_file exact p o i untold batch f gives order found = (gives.0, audits_requests exact p o i gives.0 batch f gives.1 order found)
 audits_file exact p o i missing batch f gives order found = cc
 audits_file exact p o i (told file) batch f gives order found = audits_requests exact p o i file batch f gives order found
 
-pub finds_under : LegalIsExact → (p : PolicyShape) (o : AuditOf) (i : Input) (batch : Batch) (result : Result Finding RunFault) → GivesJobs o.requests o.lanes (Ok batch) → AreOfSession p o.rounds batch.jobs batch.ends
-    → IfOk result (λ f. HasFound (audit_of p o.rounds batch.jobs batch.ends) f i.before i.after) → IfErr result IsReadEnding → FindsAs (AuditsPolicy o i p) result
+pub finds_under : LegalIsExact → (p : PolicyShape) (o : AuditOf) (i : Input) (batch : Batch) (result : Result Finding RunFault) →
+    GivesJobs o.requests o.lanes (Ok batch) → AreOfSession p o.rounds batch.jobs batch.ends
+    → IfOk result (λ f. HasFound (audit_of p o.rounds batch.jobs batch.ends) f i.before i.after) → IfErr result IsReadEnding →
+    FindsAs (AuditsPolicy o i p) result
 finds_under exact p o i batch (Ok f) gives order found ending = audits_file exact p o i o.requests batch f gives order found
 finds_under exact p o i batch (Err Read) gives order found ending = tt
 finds_under exact p o i batch (Err NoMemory) gives order found ending = tt
@@ -68,7 +74,8 @@ jobs_there untold lanes batch fault gives = tt
 jobs_there missing lanes batch fault gives = cc
 jobs_there (told file) lanes batch fault gives = λ long. let short : length file ≤ REQUESTS_FILE_LIMIT = gives.0 in absurd (omega arith)
 
-requests_too_long : (p : PolicyShape) (o : AuditOf) (i : Input) (filed : Filed) → GivesJobs filed o.lanes (Err FileTooLong) → AuditsFile p o i filed FileTooLong []
+requests_too_long : (p : PolicyShape) (o : AuditOf) (i : Input) (filed : Filed) → GivesJobs filed o.lanes (Err FileTooLong) →
+    AuditsFile p o i filed FileTooLong []
 requests_too_long p o i untold gives = (gives.0, rw (lt-ltb REQUESTS_FILE_LIMIT (length gives.0) gives.1) (refl, refl))
 requests_too_long p o i missing gives = cc
 requests_too_long p o i (told file) gives = rw (lt-ltb REQUESTS_FILE_LIMIT (length file) gives) (refl, refl)
@@ -102,7 +109,8 @@ no_jobs p o i (Err e) fault is gives ending = rw is (finds_no_jobs p o i fault g
 
 -- ---- what is found over the policy file
 
-finds_over : (A : PolicyShape → RunFault → List ℕ → Type 0) (file : List ℕ) (p : PolicyShape) (f : Finding) → PolicyOf file (Ok p) → A p (ending_of f) (text_of f)
+finds_over : (A : PolicyShape → RunFault → List ℕ → Type 0) (file : List ℕ) (p : PolicyShape) (f : Finding) → PolicyOf file (Ok p) →
+    A p (ending_of f) (text_of f)
     → OverPolicy A file (ending_of f) (text_of f)
 finds_over A file p f gives h = rw (le-ltb POLICY_FILE_LIMIT (length file) gives.0, gives.1) h
 
@@ -114,7 +122,8 @@ finds_file A untold p (Err fault) gives h = answers_file A untold p (Err fault) 
 finds_file A (told file) p (Ok f) gives h = finds_over A file p f gives h
 finds_file A (told file) p (Err fault) gives h = answers_file A (told file) p (Err fault) gives (λ file read. h)
 
-finds_none : (A : PolicyShape → RunFault → List ℕ → Type 0) (file : List ℕ) (fault : RunFault) → PolicyOf file (Err fault) → IsLoadEnding fault → FindsAs (OverPolicy A file) (Err fault)
+finds_none : (A : PolicyShape → RunFault → List ℕ → Type 0) (file : List ℕ) (fault : RunFault) → PolicyOf file (Err fault) → IsLoadEnding fault →
+    FindsAs (OverPolicy A file) (Err fault)
 finds_none A file FileTooLong gives ending = rw (lt-ltb POLICY_FILE_LIMIT (length file) gives) (refl, refl)
 finds_none A file (Policy e) gives ending = rw (le-ltb POLICY_FILE_LIMIT (length file) gives.0, gives.1) (refl, refl)
 finds_none A file Load gives ending = tt
@@ -129,12 +138,14 @@ finds_none A file TooManyLines gives ending = absurd ending
 finds_none A file (BadInput e) gives ending = absurd ending
 finds_none A file TooLarge gives ending = absurd ending
 
-finds_no_policy : (A : PolicyShape → RunFault → List ℕ → Type 0) (f : Filed) (fault : RunFault) → GivesPolicy f (Err fault) → IsLoadEnding fault → FindsFile A f (Err fault)
+finds_no_policy : (A : PolicyShape → RunFault → List ℕ → Type 0) (f : Filed) (fault : RunFault) → GivesPolicy f (Err fault) → IsLoadEnding fault →
+    FindsFile A f (Err fault)
 finds_no_policy A untold fault gives ending = (gives.0, finds_none A gives.0 fault gives.1 ending)
 finds_no_policy A missing fault gives ending = cc
 finds_no_policy A (told file) fault gives ending = finds_none A file fault gives ending
 
-pub no_policy : (A : PolicyShape → RunFault → List ℕ → Type 0) (f : Filed) (result : Result Finding RunFault) (fault : RunFault) → IsErrAnd result (λ e. e ≡ fault)
+pub no_policy : (A : PolicyShape → RunFault → List ℕ → Type 0) (f : Filed) (result : Result Finding RunFault) (fault : RunFault) →
+    IsErrAnd result (λ e. e ≡ fault)
     → GivesPolicy f (Err fault) → IsLoadEnding fault → FindsFile A f result
 no_policy A f (Ok x) fault is gives ending = absurd is
 no_policy A f (Err e) fault is gives ending = rw is (finds_no_policy A f fault gives ending)

@@ -1,5 +1,6 @@
 -- How an audit goes on, line by line.
-use Rattle.std.proofs.Common.{◌≡◌, ℕ, ◌+◌, ◌<◌, ◌≤◌, Bool, true, false, List, [], ◌∷◌, ◌++◌, length, Option, None, Some, Result, Ok, Err, refl, ap, sym, subst, ◌∙◌, inl, inr, arith}
+use Rattle.std.proofs.Common.{◌≡◌, ℕ, ◌+◌, ◌<◌, ◌≤◌, Bool, true, false, List, [], ◌∷◌, ◌++◌, length, Option, None, Some, Result, Ok, Err, refl, ap, sym, subst}
+use Rattle.std.proofs.Common.{◌∙◌, inl, inr, arith}
 use Rattle.std.specs.Prelude.{IfSome}
 use Rattle.std.proofs.Common.{rules}
 use Rattle.std.proofs.lemmas.List.{append-nil, append_assoc, length-append}
@@ -58,11 +59,13 @@ audit_goes first a b before middle after r s e h read limit next is =
     let left : pending s ≡ behind_line seen = rw read.handed read.behind in
     rw (is, left) (record {
       bytes = h.bytes ++ line;
-      taken = subst (λ (xs : List ℕ). HasTaken before after xs) (ap (λ xs. h.bytes ++ xs) (sym (split_line seen)) ∙ sym (append_assoc h.bytes line (behind_line seen)))
+      taken = subst (λ (xs : List ℕ). HasTaken before after xs)
+          (ap (λ xs. h.bytes ++ xs) (sym (split_line seen)) ∙ sym (append_assoc h.bytes line (behind_line seen)))
           (taken_all before middle after h.bytes [] r seen h.taken read.seen);
       goes = λ more f audited.
           subst (λ (xs : List ℕ). IsAudited first (lines_of xs) f) (sym (append_assoc h.bytes line more))
-          (h.goes (line ++ more) f (subst (λ (ls : List (List ℕ)). IsAudited a ls f) (sym (line_before seen more ended)) (inr (e, ((fits, next_line), audited)))));
+          (h.goes (line ++ more) f
+          (subst (λ (ls : List (List ℕ)). IsAudited a ls f) (sym (line_before seen more ended)) (inr (e, ((fits, next_line), audited)))));
       count = λ more.
           let whole = ap (λ xs. length (lines_of xs)) (append_assoc h.bytes line more) in
           let one = ap length (line_before seen more ended) in
@@ -94,14 +97,16 @@ same_line seen left after false is ended some =
     ap (λ xs. first_line (seen ++ xs)) none ∙ ap first_line (append-nil seen)
 
 -- a line stops the audit
-line_stops : (first a : AuditShape) (before middle after : Option (List ℕ)) (r : ReaderShape) (seen rest : List ℕ) (f : Finding) (h : HasAudited first a before middle (pending r))
+line_stops : (first a : AuditShape) (before middle after : Option (List ℕ)) (r : ReaderShape) (seen rest : List ℕ) (f : Finding)
+    (h : HasAudited first a before middle (pending r))
     → HasSeen middle after r seen → 0 < length seen → rest ≡ behind_line seen → StopsAt a (first_line seen) f
     → (length (lines_of (h.bytes ++ first_line seen)) ≡ length a.entries + 1 → IsFar f (h.bytes ++ first_line seen) rest after)
     → ((left : List ℕ) → after ≡ Some left → StopsAt a (first_line (seen ++ left)) f) → HasFound first f before after
 line_stops first a before middle after r seen rest f h read some left stops far whole =
     let line = first_line seen in
     let one = line_one seen some in
-    let all : h.bytes ++ seen ≡ (h.bytes ++ line) ++ rest = ap (λ xs. h.bytes ++ xs) (sym (split_line seen) ∙ ap (λ xs. line ++ xs) (sym left)) ∙ sym (append_assoc h.bytes line rest) in
+    let all : h.bytes ++ seen ≡ (h.bytes ++ line) ++ rest = ap (λ xs. h.bytes ++ xs) (sym (split_line seen) ∙ ap (λ xs. line ++ xs) (sym left)) ∙
+    sym (append_assoc h.bytes line rest) in
     let taken : HasTaken before after (h.bytes ++ seen) = taken_all before middle after h.bytes [] r seen h.taken read in
     record {
       bytes = h.bytes ++ line;
@@ -113,8 +118,10 @@ line_stops first a before middle after r seen rest f h read some left stops far 
           (whole_stops first a h.bytes seen f after (λ more. h.goes more f) (λ some_left is. omega (arith, some, length-append seen some_left)) whole);
     }
 
-pub fault_found : (first a : AuditShape) (before middle after : Option (List ℕ)) (r s : ReaderShape) (n : ℕ) (kind : AuditKind) → HasAudited first a before middle (pending r)
-    → HasReadLine middle after r s → r.limit ≡ TRANSCRIPT_LINE_LIMIT → r.room ≡ PIECE → n ≡ length a.entries → HasFault a s.line kind → HasFound first (Fault n kind) before after
+pub fault_found : (first a : AuditShape) (before middle after : Option (List ℕ)) (r s : ReaderShape) (n : ℕ) (kind : AuditKind) →
+    HasAudited first a before middle (pending r)
+    → HasReadLine middle after r s → r.limit ≡ TRANSCRIPT_LINE_LIMIT → r.room ≡ PIECE → n ≡ length a.entries → HasFault a s.line kind →
+    HasFound first (Fault n kind) before after
 fault_found first a before middle after r s n kind h read limit room number fault =
     let seen = read.bytes in
     let alone = line_alone seen in
@@ -131,7 +138,8 @@ long_found first a before middle after r s n h read limit room number =
     let alone = line_alone seen in
     let long = read.long in
     let within = alone.within in
-    let size : length seen ≡ length (first_line seen) + length (behind_line seen) = ap length (sym (split_line seen)) ∙ length-append (first_line seen) (behind_line seen) in
+    let size : length seen ≡ length (first_line seen) + length (behind_line seen) = ap length (sym (split_line seen)) ∙
+    length-append (first_line seen) (behind_line seen) in
     let some : 0 < length seen = omega (arith, long, within, size) in
     line_stops first a before middle after r seen (behind_line seen) (TooLong n) h read.seen some refl
     (number, let c = alone.counted in omega (arith, long, c, limit))
@@ -179,17 +187,22 @@ end_found first a before middle after r s f h read ends =
     }
 
 -- a line that was taken goes on, or its fault is found
-pub line_taken : (first a b : AuditShape) (before middle after : Option (List ℕ)) (r s : ReaderShape) (result : Result (Option Finding) RunFault) → HasAudited first a before middle (pending r)
-    → HasReadLine middle after r s → r.limit ≡ TRANSCRIPT_LINE_LIMIT → r.room ≡ PIECE → TakesLine a b s.line result → StepsTo first b before after (pending s) result
-line_taken first a b before middle after r s (Ok None) h read limit room takes = audit_goes first a b before middle after r s takes.0 h read limit takes.1.0 takes.1.1
+pub line_taken : (first a b : AuditShape) (before middle after : Option (List ℕ)) (r s : ReaderShape) (result : Result (Option Finding) RunFault) →
+    HasAudited first a before middle (pending r)
+    → HasReadLine middle after r s → r.limit ≡ TRANSCRIPT_LINE_LIMIT → r.room ≡ PIECE → TakesLine a b s.line result →
+    StepsTo first b before after (pending s) result
+line_taken first a b before middle after r s (Ok None) h read limit room takes =
+    audit_goes first a b before middle after r s takes.0 h read limit takes.1.0 takes.1.1
 line_taken first a b before middle after r s (Ok (Some Legal)) h read limit room takes = absurd takes
-line_taken first a b before middle after r s (Ok (Some (Fault n kind))) h read limit room takes = fault_found first a before middle after r s n kind h read limit room takes.0 takes.1
+line_taken first a b before middle after r s (Ok (Some (Fault n kind))) h read limit room takes =
+    fault_found first a before middle after r s n kind h read limit room takes.0 takes.1
 line_taken first a b before middle after r s (Ok (Some (TooLong n))) h read limit room takes = absurd takes
 line_taken first a b before middle after r s (Err fault) h read limit room takes = tt
 
 -- ---- what was taken
 
-pub taken_on : (first a : AuditShape) (before middle after : Option (List ℕ)) (rest : List ℕ) → HasAudited first a before middle rest → HasTakenSome middle after → HasTakenSome before after
+pub taken_on : (first a : AuditShape) (before middle after : Option (List ℕ)) (rest : List ℕ) → HasAudited first a before middle rest →
+    HasTakenSome middle after → HasTakenSome before after
 taken_on first a before middle after rest h more = ((h.bytes ++ rest) ++ more.0, more_taken before middle after (h.bytes ++ rest) more.0 h.taken more.1)
 
 pub steps_found : (first b : AuditShape) (before after : Option (List ℕ)) (rest : List ℕ) (result : Result (Option Finding) RunFault) (f : Finding)

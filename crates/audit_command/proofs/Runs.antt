@@ -6,7 +6,8 @@ use Rattle.wf_outside.specs.Outside.{Filed, told, missing, untold, HasPart, with
 use Rattle.wf_outside.proofs.OutsideLaws.{nothing_put, nothing_taken}
 use Rattle.policy_book.specs.Shapes.{PolicyShape}
 use Rattle.run_record.specs.declared.fault.RunFault.{RunFault}
-use Rattle.run_record.specs.declared.fault.RunFault.TheVariants.{Nothing, Found, Usage, Policy, Read, Write, Load, NoMemory, FileTooLong, LineTooLong, TooManyLines, BadInput, TooLarge}
+use Rattle.run_record.specs.declared.fault.RunFault.TheVariants.{Nothing, Found, Usage, Policy, Read, Write, Load, NoMemory, FileTooLong, LineTooLong}
+use Rattle.run_record.specs.declared.fault.RunFault.TheVariants.{TooManyLines, BadInput, TooLarge}
 use Rattle.run_record.specs.Fault.{fault_in, is_before_input, CountsLoads, CountsReadsAlone, CountsWrites}
 use Rattle.run_record.specs.Report.{nothing_told}
 use Rattle.run_record.specs.Run.{Run, OverFile}
@@ -76,7 +77,8 @@ finding_quiet Legal before after wrote = tt
 finding_quiet (Fault n kind) before after wrote = tt
 finding_quiet (TooLong n) before after wrote = wrote ∙ nothing_put before
 
-finding_ends : (A : RunFault → List ℕ → Type 0) (f : Finding) (before after : Option (List ℕ)) → A (ending_of f) (text_of f) → after ≡ with_bytes before (text_of f) → Ends A before after (ending_of f)
+finding_ends : (A : RunFault → List ℕ → Type 0) (f : Finding) (before after : Option (List ℕ)) → A (ending_of f) (text_of f) →
+    after ≡ with_bytes before (text_of f) → Ends A before after (ending_of f)
 finding_ends A Legal before after h wrote = (text_of Legal, h, wrote)
 finding_ends A (Fault n kind) before after h wrote = (text_of (Fault n kind), h, wrote)
 finding_ends A (TooLong n) before after h wrote = (text_of (TooLong n), h, wrote)
@@ -94,9 +96,12 @@ late_without (told file) fault h = λ long. absurd (h long)
 
 -- what is found is told
 pub told_run : (policy requests : List ℕ) (lanes rounds : ℕ) (r : Run) (f : Finding) → r.fault ≡ ending_of f
-    → FindsFile (AuditsPolicy (record { requests = r.files requests; lanes = lanes; rounds = rounds }) (record { before = r.before.input; after = r.after.input })) (r.files policy) (Ok f)
-    → EndsTooLong POLICY_FILE_LIMIT (r.files policy) Nothing → EndsWithout (r.files requests) Nothing → r.load_faults_after ≡ r.load_faults → r.after.read_faults ≡ r.before.read_faults → r.after.write_faults ≡ r.before.write_faults
-    → HasTakenSome r.before.input r.after.input → r.after.output ≡ with_bytes r.before.output (text_of f) → r.told ≡ nothing_told → AuditsRun policy requests lanes rounds r
+    → FindsFile (AuditsPolicy (record { requests = r.files requests; lanes = lanes; rounds = rounds })
+    (record { before = r.before.input; after = r.after.input })) (r.files policy) (Ok f)
+    → EndsTooLong POLICY_FILE_LIMIT (r.files policy) Nothing → EndsWithout (r.files requests) Nothing → r.load_faults_after ≡ r.load_faults →
+    r.after.read_faults ≡ r.before.read_faults → r.after.write_faults ≡ r.before.write_faults
+    → HasTakenSome r.before.input r.after.input → r.after.output ≡ with_bytes r.before.output (text_of f) → r.told ≡ nothing_told →
+    AuditsRun policy requests lanes rounds r
 told_run policy requests lanes rounds r f is finds named without loads reads writes input wrote nothing = record {
   orderly = record {
     early = λ early. absurd (finding_late f (subst (λ (x : RunFault). is_before_input x ≡ true) is early));
@@ -105,7 +110,8 @@ told_run policy requests lanes rounds r f is finds named without loads reads wri
     writes = rw is (finding_writes f r.before.write_faults r.after.write_faults writes);
   };
   once = record {
-    answer = rw is (finding_over (AuditsPolicy (record { requests = r.files requests; lanes = lanes; rounds = rounds }) (record { before = r.before.input; after = r.after.input })) f (r.files policy) r.before.output r.after.output finds wrote);
+    answer = rw is (finding_over (AuditsPolicy (record { requests = r.files requests; lanes = lanes; rounds = rounds })
+        (record { before = r.before.input; after = r.after.input })) f (r.files policy) r.before.output r.after.output finds wrote);
     named = loaded POLICY_FILE_LIMIT (r.files policy) r.fault named;
     quiet = rw is (finding_quiet f r.before.output r.after.output wrote);
     untold = nothing;
@@ -133,14 +139,19 @@ none_over A f untold before after h same = (h.0, same)
 none_over A f missing before after h same = cc
 none_over A f (told file) before after h same = same
 
-pub untold_run : (policy requests : List ℕ) (lanes rounds : ℕ) (r : Run) (f : Finding) (fault : RunFault) → r.fault ≡ fault → FailsAs f r.before.output r.after.output fault
-    → FindsFile (AuditsPolicy (record { requests = r.files requests; lanes = lanes; rounds = rounds }) (record { before = r.before.input; after = r.after.input })) (r.files policy) (Ok f)
-    → EndsTooLong POLICY_FILE_LIMIT (r.files policy) Nothing → EndsWithout (r.files requests) Nothing → r.load_faults_after ≡ r.load_faults → r.after.read_faults ≡ r.before.read_faults
-    → CountsWrites fault r.before.write_faults r.after.write_faults → HasTakenSome r.before.input r.after.input → r.told ≡ nothing_told → AuditsRun policy requests lanes rounds r
+pub untold_run : (policy requests : List ℕ) (lanes rounds : ℕ) (r : Run) (f : Finding) (fault : RunFault) → r.fault ≡ fault →
+    FailsAs f r.before.output r.after.output fault
+    → FindsFile (AuditsPolicy (record { requests = r.files requests; lanes = lanes; rounds = rounds })
+    (record { before = r.before.input; after = r.after.input })) (r.files policy) (Ok f)
+    → EndsTooLong POLICY_FILE_LIMIT (r.files policy) Nothing → EndsWithout (r.files requests) Nothing → r.load_faults_after ≡ r.load_faults →
+    r.after.read_faults ≡ r.before.read_faults
+    → CountsWrites fault r.before.write_faults r.after.write_faults → HasTakenSome r.before.input r.after.input → r.told ≡ nothing_told →
+    AuditsRun policy requests lanes rounds r
 untold_run policy requests lanes rounds r f Write is fails finds named without loads reads writes input nothing = record {
   orderly = record { early = λ early. cc; loads = rw is loads; reads = rw is (omega (arith, reads)); writes = rw is writes };
   once = record {
-    answer = rw is (part_over (AuditsPolicy (record { requests = r.files requests; lanes = lanes; rounds = rounds }) (record { before = r.before.input; after = r.after.input })) f (r.files policy) r.before.output r.after.output finds fails);
+    answer = rw is (part_over (AuditsPolicy (record { requests = r.files requests; lanes = lanes; rounds = rounds })
+        (record { before = r.before.input; after = r.after.input })) f (r.files policy) r.before.output r.after.output finds fails);
     named = loaded POLICY_FILE_LIMIT (r.files policy) r.fault named;
     quiet = rw is tt;
     untold = nothing;
@@ -152,7 +163,8 @@ untold_run policy requests lanes rounds r f Write is fails finds named without l
 untold_run policy requests lanes rounds r f NoMemory is fails finds named without loads reads writes input nothing = record {
   orderly = record { early = λ early. cc; loads = rw is loads; reads = rw is (omega (arith, reads)); writes = rw is writes };
   once = record {
-    answer = rw is (none_over (AuditsPolicy (record { requests = r.files requests; lanes = lanes; rounds = rounds }) (record { before = r.before.input; after = r.after.input })) f (r.files policy) r.before.output r.after.output finds fails);
+    answer = rw is (none_over (AuditsPolicy (record { requests = r.files requests; lanes = lanes; rounds = rounds })
+        (record { before = r.before.input; after = r.after.input })) f (r.files policy) r.before.output r.after.output finds fails);
     named = loaded POLICY_FILE_LIMIT (r.files policy) r.fault named;
     quiet = rw is fails;
     untold = nothing;
@@ -189,7 +201,8 @@ is_refusal TooManyLines ending = absurd ending
 is_refusal (BadInput e) ending = absurd ending
 is_refusal TooLarge ending = absurd ending
 
-refused_early : (fault : RunFault) (before after : Option (List ℕ)) → IsAuditEnding fault → is_before_input fault ≡ true → ReadsAsAudit fault before after → after ≡ before
+refused_early : (fault : RunFault) (before after : Option (List ℕ)) → IsAuditEnding fault → is_before_input fault ≡ true → ReadsAsAudit fault before after →
+    after ≡ before
 refused_early Load before after ending early reads = reads
 refused_early FileTooLong before after ending early reads = reads
 refused_early (Policy e) before after ending early reads = reads
@@ -204,16 +217,20 @@ refused_early TooManyLines before after ending early reads = absurd ending
 refused_early (BadInput e) before after ending early reads = absurd ending
 refused_early TooLarge before after ending early reads = absurd ending
 
-refused_file : (A : PolicyShape → RunFault → List ℕ → Type 0) (filed : Filed) (fault : RunFault) (before after : Option (List ℕ)) → IsAuditEnding fault → FindsFile A filed (Err fault)
+refused_file : (A : PolicyShape → RunFault → List ℕ → Type 0) (filed : Filed) (fault : RunFault) (before after : Option (List ℕ)) → IsAuditEnding fault →
+    FindsFile A filed (Err fault)
     → after ≡ before → OverFile filed fault (λ file. Ends (OverPolicy A file) before after fault)
 refused_file A untold fault before after ending h same = (h.0, ends_refused (OverPolicy A h.0) before after fault (is_refusal fault ending) h.1 same)
 refused_file A missing fault before after ending h same = cc
 refused_file A (told file) fault before after ending h same = ends_refused (OverPolicy A file) before after fault (is_refusal fault ending) h same
 
 pub refused_run : (policy requests : List ℕ) (lanes rounds : ℕ) (r : Run) → IsAuditEnding r.fault
-    → FindsFile (AuditsPolicy (record { requests = r.files requests; lanes = lanes; rounds = rounds }) (record { before = r.before.input; after = r.after.input })) (r.files policy) (Err r.fault)
-    → EndsTooLong POLICY_FILE_LIMIT (r.files policy) r.fault → EndsWithout (r.files requests) r.fault → CountsLoads r.fault r.load_faults r.load_faults_after → CountsReadsAlone r.fault r.before.read_faults r.after.read_faults
-    → r.after.write_faults ≡ r.before.write_faults → ReadsAsAudit r.fault r.before.input r.after.input → r.after.output ≡ r.before.output → r.told ≡ nothing_told
+    → FindsFile (AuditsPolicy (record { requests = r.files requests; lanes = lanes; rounds = rounds })
+    (record { before = r.before.input; after = r.after.input })) (r.files policy) (Err r.fault)
+    → EndsTooLong POLICY_FILE_LIMIT (r.files policy) r.fault → EndsWithout (r.files requests) r.fault →
+    CountsLoads r.fault r.load_faults r.load_faults_after → CountsReadsAlone r.fault r.before.read_faults r.after.read_faults
+    → r.after.write_faults ≡ r.before.write_faults → ReadsAsAudit r.fault r.before.input r.after.input → r.after.output ≡ r.before.output →
+    r.told ≡ nothing_told
     → AuditsRun policy requests lanes rounds r
 refused_run policy requests lanes rounds r ending finds named without loads reads writes input output nothing = record {
   orderly = record {
@@ -223,7 +240,8 @@ refused_run policy requests lanes rounds r ending finds named without loads read
     writes = no_writes r.fault r.before.write_faults r.after.write_faults (is_refusal r.fault ending) writes;
   };
   once = record {
-    answer = refused_file (AuditsPolicy (record { requests = r.files requests; lanes = lanes; rounds = rounds }) (record { before = r.before.input; after = r.after.input })) (r.files policy) r.fault r.before.output r.after.output ending finds output;
+    answer = refused_file (AuditsPolicy (record { requests = r.files requests; lanes = lanes; rounds = rounds })
+        (record { before = r.before.input; after = r.after.input })) (r.files policy) r.fault r.before.output r.after.output ending finds output;
     named = named;
     quiet = quiet_refused r.fault r.before.output r.after.output (is_refusal r.fault ending) output;
     untold = nothing;

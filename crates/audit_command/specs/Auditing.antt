@@ -1,12 +1,14 @@
 -- What an audit finds in a transcript, line after line.
-use Rattle.std.specs.Prelude.{◌≡◌, ℕ, ◌+◌, ◌<◌, ◌≤◌, List, [], ◌∷◌, ◌++◌, length, Option, IfSome, codes, decimal}
+use Rattle.std.specs.Prelude.{◌≡◌, ℕ, ◌+◌, ◌<◌, ◌≤◌, List, [], ◌∷◌, ◌++◌, length, Option, IfSome}
+use Rattle.std.specs.Prelude.{codes, decimal}
 use Rattle.std.proofs.Common.{◌⊎◌}
 use Rattle.wf_names.specs.declared.limits.TheConstants.{TRANSCRIPT_LINE_LIMIT}
 use Rattle.wf_outside.specs.Outside.{HasTaken, IsAtEnd}
 use Rattle.wf_talk.specs.declared.entry.Entry.{Entry}
 use Rattle.line_reader.specs.Lines.{line_length, lines_of}
 use Rattle.transcript_audit.specs.declared.fault.AuditKind.{AuditKind}
-use Rattle.transcript_audit.specs.declared.fault.AuditKind.TheVariants.{Text, At, Job, Reply, Missing}
+use Rattle.transcript_audit.specs.declared.fault.AuditKind.TheVariants.{Text, At, Job, Reply}
+use Rattle.transcript_audit.specs.declared.fault.AuditKind.TheVariants.{Missing}
 use Rattle.transcript_audit.specs.Audits.{AuditShape, HasFault, IsNextLine, with_entry}
 use Rattle.run_record.specs.declared.fault.RunFault.{RunFault}
 use Rattle.run_record.specs.declared.fault.RunFault.TheVariants.{Nothing, Found, LineTooLong}
@@ -17,13 +19,15 @@ use Rattle.audit_command.specs.declared.lines.TheConstants.{PIECE}
 -- where no line is left: each job has its entry, or one is missing
 abbrev pub EndsAs : AuditShape → Finding → Type 0
 EndsAs a Legal = length a.entries ≡ length a.jobs
-EndsAs a (Fault n kind) = (kind ≡ Missing) × ((n ≡ length a.entries) × (length a.entries < length a.jobs))
+EndsAs a (Fault n kind) = (kind ≡ Missing) ×
+    ((n ≡ length a.entries) × (length a.entries < length a.jobs))
 EndsAs a (TooLong n) = ⊥
 
 -- at a line: it has a fault, or is too long
 abbrev pub StopsAt : AuditShape → List ℕ → Finding → Type 0
 StopsAt a line Legal = ⊥
-StopsAt a line (Fault n kind) = (n ≡ length a.entries) × ((line_length line ≤ TRANSCRIPT_LINE_LIMIT) × HasFault a line kind)
+StopsAt a line (Fault n kind) = (n ≡ length a.entries) ×
+    ((line_length line ≤ TRANSCRIPT_LINE_LIMIT) × HasFault a line kind)
 StopsAt a line (TooLong n) = (n ≡ length a.entries) × (TRANSCRIPT_LINE_LIMIT < line_length line)
 
 -- the line is the text of an entry that comes next, and not too long
@@ -38,7 +42,8 @@ AreShort (line ∷ lines) = (line_length line ≤ TRANSCRIPT_LINE_LIMIT) × AreS
 -- what is found in some lines
 abbrev pub IsAudited : AuditShape → List (List ℕ) → Finding → Type 0
 IsAudited a [] f = EndsAs a f
-IsAudited a (line ∷ lines) f = StopsAt a line f ⊎ ((e : Entry) × (GoesOn a line e × IsAudited (with_entry a e) lines f))
+IsAudited a (line ∷ lines) f = StopsAt a line f ⊎
+    ((e : Entry) × (GoesOn a line e × IsAudited (with_entry a e) lines f))
 
 -- how a run ends that has found this
 abbrev pub ending_of : Finding → RunFault
@@ -79,7 +84,8 @@ pub record HasSeenLong (n : ℕ) (bytes rest : List ℕ) : Type 0 where
 abbrev pub IsFar : Finding → List ℕ → List ℕ → Option (List ℕ) → Type 0
 IsFar Legal bytes rest after = (rest ≡ []) × IsAtEnd after
 IsFar (Fault n kind) bytes rest after =
-    ((kind ≡ Missing) × ((rest ≡ []) × IsAtEnd after)) ⊎ ((length (lines_of bytes) ≡ n + 1) × (length rest < PIECE))
+    ((kind ≡ Missing) × ((rest ≡ []) × IsAtEnd after)) ⊎
+    ((length (lines_of bytes) ≡ n + 1) × (length rest < PIECE))
 IsFar (TooLong n) bytes rest after = (length (lines_of bytes) ≡ n + 1) × HasSeenLong n bytes rest
 
 -- what was found in the input that a source gave: in the bytes that were looked at, and in all of

@@ -13,14 +13,18 @@ use Rattle.audit_command.specs.Auditing.{AreShort, IsAudited}
 -- job
 abbrev pub LegalIsNext : Type 0
 LegalIsNext =
-    (p : PolicyShape) (rounds : ℕ) (jobs : List Job) (batch_ends : List ℕ) (lines : List (List ℕ)) → AreShort lines →
+    (p : PolicyShape) (rounds : ℕ) (jobs : List Job) (batch_ends : List ℕ)
+    (lines : List (List ℕ)) → AreShort lines →
     IsAudited (audit_of p rounds jobs batch_ends) lines Legal
-    ↔ ((es : List Entry) × (AreNext (audit_of p rounds jobs batch_ends) lines es × (length es ≡ length jobs)))
+    ↔ ((es : List Entry) ×
+    (AreNext (audit_of p rounds jobs batch_ends) lines es × (length es ≡ length jobs)))
 
 -- what is found in lines of which none is too long is `legal` exactly where they are those of a
 -- legal history that fills the jobs
 abbrev pub LegalIsExact : Type 0
 LegalIsExact =
-    (p : PolicyShape) (rounds : ℕ) (jobs : List Job) (batch_ends : List ℕ) (lines : List (List ℕ)) (f : Finding) →
-    AreOfSession p rounds jobs batch_ends → AreShort lines → IsAudited (audit_of p rounds jobs batch_ends) lines f →
+    (p : PolicyShape) (rounds : ℕ) (jobs : List Job) (batch_ends : List ℕ)
+    (lines : List (List ℕ)) (f : Finding) →
+    AreOfSession p rounds jobs batch_ends → AreShort lines →
+    IsAudited (audit_of p rounds jobs batch_ends) lines f →
     (f ≡ Legal) ↔ IsTranscript p rounds jobs batch_ends lines

@@ -10,7 +10,8 @@ use Rattle.run_record.specs.declared.fault.RunFault.TheVariants.{Load, NoMemory,
 -- a file gives its jobs
 abbrev pub JobsOf : List ℕ → ℕ → Result Batch RunFault → Type 0
 JobsOf file lanes (Ok batch) =
-    (length file ≤ REQUESTS_FILE_LIMIT) × ((batch.jobs ≡ (jobs_of_input file true lanes).jobs) × (batch.ends ≡ (jobs_of_input file true lanes).ends))
+    (length file ≤ REQUESTS_FILE_LIMIT) × ((batch.jobs ≡ (jobs_of_input file true lanes).jobs) ×
+    (batch.ends ≡ (jobs_of_input file true lanes).ends))
 JobsOf file lanes (Err FileTooLong) = REQUESTS_FILE_LIMIT < length file
 JobsOf file lanes (Err Load) = length file ≤ REQUESTS_FILE_LIMIT
 JobsOf file lanes (Err NoMemory) = length file ≤ REQUESTS_FILE_LIMIT

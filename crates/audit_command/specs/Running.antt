@@ -1,6 +1,7 @@
 -- The command `audit`: the transcript in the input is audited for a policy file and a requests
 -- file.
-use Rattle.std.specs.Prelude.{◌≡◌, ◌↔◌, ◌<◌, ℕ, List, [], length, Option, IfSome, MatchBool, nat_lt, true}
+use Rattle.std.specs.Prelude.{◌≡◌, ◌↔◌, ◌<◌, ℕ, List, [], length, Option, IfSome, MatchBool, nat_lt}
+use Rattle.std.specs.Prelude.{true}
 use Rattle.wf_names.specs.declared.limits.TheConstants.{REQUESTS_FILE_LIMIT}
 use Rattle.wf_outside.specs.Outside.{Filed, told, missing, untold, HasTaken}
 use Rattle.policy_book.specs.Shapes.{PolicyShape}
@@ -31,7 +32,8 @@ pub record Input : Type 0 where
 -- requests, the lines before it count
 abbrev pub audit_for : PolicyShape → AuditOf → List ℕ → AuditShape
 audit_for p o requests =
-    audit_of p o.rounds (jobs_of_input requests true o.lanes).jobs (jobs_of_input requests true o.lanes).ends
+    audit_of p o.rounds (jobs_of_input requests true o.lanes).jobs
+    (jobs_of_input requests true o.lanes).ends
 
 -- the input is audited so; where no line is too long it is legal exactly where it is the text of a
 -- legal history that fills the jobs
@@ -52,7 +54,8 @@ AuditsRequests p o i requests ending text =
 -- by what is told of the file; where it is missing nothing is answered, and one of which nothing is
 -- told has some content
 abbrev pub AuditsFile : PolicyShape → AuditOf → Input → Filed → RunFault → List ℕ → Type 0
-AuditsFile p o i untold ending text = (requests : List ℕ) × AuditsRequests p o i requests ending text
+AuditsFile p o i untold ending text = (requests : List ℕ) ×
+    AuditsRequests p o i requests ending text
 AuditsFile p o i missing ending text = ⊥
 AuditsFile p o i (told requests) ending text = AuditsRequests p o i requests ending text
 

@@ -1,12 +1,14 @@
 -- Inside: the steps of an audit, and of the run of its command.
-use Rattle.std.specs.Prelude.{◌≡◌, ℕ, ◌+◌, ◌≤◌, List, [], ◌++◌, length, Option, None, Some, Result, Ok, Err}
+use Rattle.std.specs.Prelude.{◌≡◌, ℕ, ◌+◌, ◌≤◌, List, [], ◌++◌, length, Option, None, Some, Result}
+use Rattle.std.specs.Prelude.{Ok, Err}
 use Rattle.wf_outside.specs.Outside.{Filed, told, missing, untold, HasPart, HasTaken}
 use Rattle.policy_book.specs.Shapes.{PolicyShape}
 use Rattle.wf_talk.specs.declared.entry.Entry.{Entry}
 use Rattle.line_reader.specs.Lines.{lines_of}
 use Rattle.transcript_audit.specs.Audits.{AuditShape, HasFault, IsNextLine, with_entry}
 use Rattle.run_record.specs.declared.fault.RunFault.{RunFault}
-use Rattle.run_record.specs.declared.fault.RunFault.TheVariants.{Policy, Read, Write, Load, NoMemory, FileTooLong}
+use Rattle.run_record.specs.declared.fault.RunFault.TheVariants.{Policy, Read, Write, Load}
+use Rattle.run_record.specs.declared.fault.RunFault.TheVariants.{NoMemory, FileTooLong}
 use Rattle.wf_commands.specs.Answer.{AnswersAs}
 use Rattle.wf_commands.specs.Once.{OverPolicy}
 use Rattle.audit_command.specs.declared.finding.Finding.{Finding}
@@ -15,11 +17,14 @@ use Rattle.audit_command.specs.Auditing.{IsAudited, HasFound, ending_of, text_of
 
 -- of an input that had `before` left and has `after` left, the lines in some bytes are the texts of
 -- entries that come next, and what else was taken is pending
-pub record HasAudited (first a : AuditShape) (before after : Option (List ℕ)) (pending : List ℕ) : Type 0 where
+pub record HasAudited (first a : AuditShape) (before after : Option (List ℕ))
+    (pending : List ℕ) : Type 0 where
   pub bytes : List ℕ
   pub taken : HasTaken before after (bytes ++ pending)
-  pub goes : (more : List ℕ) (f : Finding) → IsAudited a (lines_of more) f → IsAudited first (lines_of (bytes ++ more)) f
-  pub count : (more : List ℕ) → length (lines_of (bytes ++ more)) ≡ length a.entries + length (lines_of more)
+  pub goes : (more : List ℕ) (f : Finding) → IsAudited a (lines_of more) f →
+      IsAudited first (lines_of (bytes ++ more)) f
+  pub count : (more : List ℕ) →
+      length (lines_of (bytes ++ more)) ≡ length a.entries + length (lines_of more)
 
 -- the source gave some bytes
 abbrev pub HasTakenSome : Option (List ℕ) → Option (List ℕ) → Type 0
@@ -34,7 +39,8 @@ TakesLine a b line (Ok (Some (TooLong n))) = ⊥
 TakesLine a b line (Err fault) = fault ≡ NoMemory
 
 -- one more line goes on, or something is found
-abbrev pub StepsTo : AuditShape → AuditShape → Option (List ℕ) → Option (List ℕ) → List ℕ → Result (Option Finding) RunFault → Type 0
+abbrev pub StepsTo : AuditShape → AuditShape → Option (List ℕ) → Option (List ℕ) → List ℕ →
+    Result (Option Finding) RunFault → Type 0
 StepsTo first b before after pending (Ok None) = HasAudited first b before after pending
 StepsTo first b before after pending (Ok (Some f)) = HasFound first f before after
 StepsTo first b before after pending (Err fault) = Unit {0}
@@ -67,7 +73,8 @@ FindsAs Answers (Ok f) = Answers (ending_of f) (text_of f)
 FindsAs Answers (Err fault) = AnswersAs Answers (Err fault)
 
 -- the same about the policy in a file, by what is told of the file
-abbrev pub FindsFile : (PolicyShape → RunFault → List ℕ → Type 0) → Filed → Result Finding RunFault → Type 0
+abbrev pub FindsFile : (PolicyShape → RunFault → List ℕ → Type 0) → Filed →
+    Result Finding RunFault → Type 0
 FindsFile Answers untold result = (file : List ℕ) × FindsAs (OverPolicy Answers file) result
 FindsFile Answers missing result = result ≡ Err Load
 FindsFile Answers (told file) result = FindsAs (OverPolicy Answers file) result

@@ -1,11 +1,14 @@
 //! Auditing the lines of the input.
-ghost use Rattle.std.specs.Prelude.{◌≡◌, ◌<◌, ◌≤◌, ◌+◌, ℕ, List, [], length, Option, None, Some, Ok, Err, IfErr, IfOk};
-ghost use Rattle.wf_names.specs.declared.limits.TheConstants.{SESSION_LINE_LIMIT, TRANSCRIPT_LINE_LIMIT};
+ghost use Rattle.std.specs.Prelude.{◌≡◌, ◌<◌, ◌≤◌, ◌+◌, ℕ, List, [], length, Option, None, Some};
+ghost use Rattle.std.specs.Prelude.{Ok, Err, IfErr, IfOk};
+ghost use Rattle.wf_names.specs.declared.limits.TheConstants.{SESSION_LINE_LIMIT};
+ghost use Rattle.wf_names.specs.declared.limits.TheConstants.{TRANSCRIPT_LINE_LIMIT};
 ghost use Rattle.line_reader.specs.Lines.{pending};
 ghost use Rattle.run_record.specs.Fault.{fault_in, CountsReadsAlone};
 ghost use Rattle.transcript_audit.specs.Audits.{AuditShape};
 ghost use Rattle.audit_command.specs.Auditing.{EndsAs, HasFound};
-ghost use Rattle.audit_command.specs.Steps.{HasAudited, HasOneMore, HasTakenSome, IsReadEnding, StepsTo, TakesLine};
+ghost use Rattle.audit_command.specs.Steps.{HasAudited, HasOneMore, HasTakenSome, IsReadEnding};
+ghost use Rattle.audit_command.specs.Steps.{StepsTo, TakesLine};
 
 use crate::finding::Finding;
 use line_reader::{LineReader, Read};

@@ -2,7 +2,8 @@
 ghost use Rattle.std.specs.Prelude.{◌≡◌, ◌<◌, ◌≤◌, ℕ, List, Ok, IfErr, IfOk, OnOk};
 ghost use Rattle.wf_names.specs.declared.limits.TheConstants.{LANE_LIMIT, POLICY_FILE_LIMIT};
 ghost use Rattle.wf_outside.specs.Outside.{with_bytes};
-ghost use Rattle.run_record.specs.Fault.{fault_in, status_of, CountsLoads, CountsReadsAlone, CountsWrites};
+ghost use Rattle.run_record.specs.Fault.{fault_in, status_of, CountsLoads, CountsReadsAlone};
+ghost use Rattle.run_record.specs.Fault.{CountsWrites};
 ghost use Rattle.run_record.specs.Run.{run_of, streams_of};
 ghost use Rattle.wf_commands.specs.Load.{EndsTooLong};
 ghost use Rattle.audit_command.specs.Auditing.{text_of};
@@ -72,7 +73,8 @@ fn find<V: Decider, F: Shelf, S: Source>(
     requires lanes { lanes ≤ LANE_LIMIT }
     ensures finds { FindsFile (AuditsPolicy
         (record { requests = F.file shelf.old requests.now; lanes = lanes; rounds = rounds })
-        (record { before = S.left source.old; after = S.left source.new })) (F.file shelf.old policy.now) result }
+        (record { before = S.left source.old; after = S.left source.new }))
+        (F.file shelf.old policy.now) result }
     ensures ending { IfErr result IsAuditEnding }
     ensures named { EndsTooLong POLICY_FILE_LIMIT (F.file shelf.old policy.now) (fault_in result) }
     ensures without { EndsWithout (F.file shelf.old requests.now) (fault_in result) }

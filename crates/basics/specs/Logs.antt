@@ -10,4 +10,5 @@ pub record LogShape (T : Type 0) : Type 0 where
 
 -- each such record is told from every other by what is kept of it
 abbrev pub log_code : {T : Type 0} → Coded T → Coded (LogShape T)
-log_code {T} c = code_by (List T × ℕ) (coded× (coded_list c) coded_ℕ) (λ l. (l.entries, l.spare)) (λ p. record { entries = p.0; spare = p.1 }) (λ _. refl)
+log_code {T} c = code_by (List T × ℕ) (coded× (coded_list c) coded_ℕ)
+    (λ l. (l.entries, l.spare)) (λ p. record { entries = p.0; spare = p.1 }) (λ _. refl)

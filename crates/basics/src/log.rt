@@ -1,5 +1,6 @@
 //! A list that only grows, with the room that is left in it.
-ghost use Rattle.std.specs.Prelude.{◌≡◌, ◌<◌, ◌≤◌, ◌+◌, [], ◌∷◌, ◌++◌, length, slice_get, Some, IfOk, IsOk, OnOk, OnErr};
+ghost use Rattle.std.specs.Prelude.{◌≡◌, ◌<◌, ◌≤◌, ◌+◌, [], ◌∷◌, ◌++◌, length, slice_get, Some};
+ghost use Rattle.std.specs.Prelude.{IfOk, IsOk, OnOk, OnErr};
 
 use crate::Same;
 use std::alloc::{AllocError, Global};
@@ -20,7 +21,8 @@ impl<T> Model for Log<T> {
 
     ghost coded = { log_code T.code };
 
-    ghost view = { λ l. record { entries = l.items.items; spare = vec_capacity l.items - vec_len l.items } };
+    ghost view = { λ l.
+        record { entries = l.items.items; spare = vec_capacity l.items - vec_len l.items } };
 }
 
 impl<T> Log<T> {

@@ -1,5 +1,6 @@
 -- How what was read goes on.
-use Rattle.std.proofs.Common.{◌≡◌, ℕ, ◌+◌, ◌-◌, ◌<◌, ◌≤◌, Bool, true, false, List, [], ◌∷◌, ◌++◌, length, map, take, drop, Option, None, Some, inl, inr, refl, sym, ◌∙◌, ap, subst, arith, append_assoc}
+use Rattle.std.proofs.Common.{◌≡◌, ℕ, ◌+◌, ◌-◌, ◌<◌, ◌≤◌, Bool, true, false, List, [], ◌∷◌, ◌++◌, length, map, take, drop, Option, None, Some, inl, inr, refl}
+use Rattle.std.proofs.Common.{sym, ◌∙◌, ap, subst, arith, append_assoc}
 use Rattle.std.specs.Prelude.{◌≢◌, is_some}
 use Rattle.std.proofs.lemmas.Grind.{common_steps}
 use Rattle.std.proofs.lemmas.List.{append-nil, length-append, take-append-drop, drop-drop, drop-take}
@@ -32,7 +33,8 @@ cut_more before after h r s more cuts none pending read =
     record {
       front = bytes ++ cuts.front;
       last = cuts.last;
-      taken = read.taken ∙ ap (λ xs. bytes_before xs after) (ap (λ xs. bytes ++ xs) pending ∙ sym (append_assoc bytes more s.pending) ∙ ap (λ xs. xs ++ s.pending) all);
+      taken = read.taken ∙
+          ap (λ xs. bytes_before xs after) (ap (λ xs. bytes ++ xs) pending ∙ sym (append_assoc bytes more s.pending) ∙ ap (λ xs. xs ++ s.pending) all);
       cut = ap (after_handing h.jobs h.batch_ends) cuts.cut ∙ sym (handed_all h.jobs h.batch_ends r.cut more) ∙ ap (λ c. cut_all c more) read.cut
           ∙ sym (cut_all-append h.first bytes more) ∙ ap (cut_all h.first) all;
       closed = read.closed;
@@ -83,7 +85,8 @@ up_read before after h r read =
     }
 
 -- and so with no more jobs
-pub up_none : (before after : Option (List ℕ)) (h : Handed) (r : ReaderShape) (none : List Job) → none ≡ [] → HasRead before after h r → IsReadUp before after (handed_more h none)
+pub up_none : (before after : Option (List ℕ)) (h : Handed) (r : ReaderShape) (none : List Job) → none ≡ [] → HasRead before after h r →
+    IsReadUp before after (handed_more h none)
 up_none before after h r none e read =
     let same : h.jobs ++ [] ≡ h.jobs = append-nil h.jobs in
     rw (e, same) (up_read before after h r read)
@@ -110,7 +113,8 @@ batch_read before after h r cut ended = record {
   closed = closed_after h.jobs r.cut.jobs h.batch_ends cut.closed;
 }
 
-batch_paused : (before after : Option (List ℕ)) (h : Handed) (r : ReaderShape) → HasCut before after h r → IsEnded r.cut → 0 < length r.cut.jobs → length r.pending < r.room
+batch_paused : (before after : Option (List ℕ)) (h : Handed) (r : ReaderShape) → HasCut before after h r → IsEnded r.cut → 0 < length r.cut.jobs →
+    length r.pending < r.room
     → HasPaused before after r.room (handed_more h r.cut.jobs)
 batch_paused before after h r cut ended some ahead =
     let one_more : length (ends_after h.batch_ends (length h.jobs) r.cut.jobs) ≡ length h.batch_ends + 1 = grind (arith, common_steps, length-append) in
@@ -127,7 +131,8 @@ batch_paused before after h r cut ended some ahead =
     }
 
 -- the input was ended, and the last batch is handed over
-finish_over : (before after : Option (List ℕ)) (ended : Bool) (h : Handed) (r : ReaderShape) (d : Cut) (read : HasRead before after h r) → d ≡ end_batch (flush ended r.cut) → IsEnded d
+finish_over : (before after : Option (List ℕ)) (ended : Bool) (h : Handed) (r : ReaderShape) (d : Cut) (read : HasRead before after h r) →
+    d ≡ end_batch (flush ended r.cut) → IsEnded d
     → jobs_from h.first read.bytes ended ≡ after_handing (h.jobs ++ d.jobs) (ends_after h.batch_ends (length h.jobs) d.jobs) (emptied d)
 unfolding jobs_from
 finish_over before after ended h r d read is closed =
@@ -135,10 +140,12 @@ finish_over before after ended h r d read is closed =
     ∙ handed_over h.jobs h.batch_ends d closed
 
 -- so are the jobs of all that was taken, where nothing is pending
-all_taken : (before after : Option (List ℕ)) (h : Handed) (r : ReaderShape) (read : HasRead before after h r) → r.pending ≡ [] → HasTaken before after read.bytes
+all_taken : (before after : Option (List ℕ)) (h : Handed) (r : ReaderShape) (read : HasRead before after h r) → r.pending ≡ [] →
+    HasTaken before after read.bytes
 all_taken before after h r read none = subst (λ xs. HasTaken before after xs) (ap (λ xs. read.bytes ++ xs) none ∙ append-nil read.bytes) read.taken
 
-all_read : (before after : Option (List ℕ)) (ended : Bool) (h : Handed) (r : ReaderShape) (d : Cut) → HasRead before after h r → d ≡ end_batch (flush ended r.cut) → IsEnded d
+all_read : (before after : Option (List ℕ)) (ended : Bool) (h : Handed) (r : ReaderShape) (d : Cut) → HasRead before after h r →
+    d ≡ end_batch (flush ended r.cut) → IsEnded d
     → r.pending ≡ [] → r.cut.stop ≡ None → (ended ≡ true → IsAtEnd after) → HasReadAll before after ended (handed_more h d.jobs)
 all_read before after ended h r d read is closed none going at_end =
     let over = finish_over before after ended h r d read is closed in
@@ -151,7 +158,8 @@ all_read before after ended h r d read is closed none going at_end =
       going = ap (λ (c : Cut). c.stop) over ∙ ap (λ (c : Cut). c.stop) is ∙ finished_stop r.cut ended ∙ going;
     }
 
-stop_read : (before after : Option (List ℕ)) (h : Handed) (r : ReaderShape) (d : Cut) (stop : Stop) → HasCut before after h r → d ≡ end_batch (flush false r.cut) → IsEnded d
+stop_read : (before after : Option (List ℕ)) (h : Handed) (r : ReaderShape) (d : Cut) (stop : Stop) → HasCut before after h r →
+    d ≡ end_batch (flush false r.cut) → IsEnded d
     → r.cut.stop ≡ Some stop → length r.pending < r.room → HasStopped before after r.room stop (handed_more h d.jobs)
 unfolding read_behind
 stop_read before after h r d stop cut is closed stops ahead =
@@ -169,15 +177,18 @@ stop_read before after h r d stop cut is closed stops ahead =
     }
 
 -- its jobs are up to an end, where nothing is pending or the cutting has stopped
-all_up : (before after : Option (List ℕ)) (ended : Bool) (h : Handed) (r : ReaderShape) (d : Cut) → HasRead before after h r → d ≡ end_batch (flush ended r.cut) → IsEnded d
+all_up : (before after : Option (List ℕ)) (ended : Bool) (h : Handed) (r : ReaderShape) (d : Cut) → HasRead before after h r →
+    d ≡ end_batch (flush ended r.cut) → IsEnded d
     → cut_all r.cut r.pending ≡ r.cut → (ended ≡ true → IsAtEnd after) → IsReadUp before after (handed_more h d.jobs)
 unfolding jobs_from
 all_up before after ended h r d read is closed rest at_end =
     let cut : cut_all h.first (read.bytes ++ r.pending) ≡ after_handing h.jobs h.batch_ends r.cut =
     cut_all-append h.first read.bytes r.pending ∙ ap (λ c. cut_all c r.pending) (sym read.cut) ∙ handed_all h.jobs h.batch_ends r.cut r.pending
     ∙ ap (after_handing h.jobs h.batch_ends) rest in
-    let over : end_batch (flush ended (cut_all h.first (read.bytes ++ r.pending))) ≡ after_handing (h.jobs ++ d.jobs) (ends_after h.batch_ends (length h.jobs) d.jobs) (emptied d) =
-    ap (λ c. end_batch (flush ended c)) cut ∙ handed_finish h.jobs h.batch_ends r.cut ended ∙ ap (after_handing h.jobs h.batch_ends) (sym is) ∙ handed_over h.jobs h.batch_ends d closed in
+    let over : end_batch (flush ended (cut_all h.first (read.bytes ++ r.pending))) ≡ after_handing (h.jobs ++ d.jobs)
+    (ends_after h.batch_ends (length h.jobs) d.jobs) (emptied d) =
+    ap (λ c. end_batch (flush ended c)) cut ∙ handed_finish h.jobs h.batch_ends r.cut ended ∙ ap (after_handing h.jobs h.batch_ends) (sym is) ∙
+    handed_over h.jobs h.batch_ends d closed in
     record {
       bytes = read.bytes ++ r.pending;
       ended = ended;
@@ -217,14 +228,16 @@ closed_reads before after h r d Failed result read pauses closes memory =
     finished before after false h r d Failed result read closes memory (ap (cut_all r.cut) pauses.1) (λ e. cc)
     (λ is closed. all_read before after false h r d read is closed pauses.1 pauses.0.going (λ e. cc))
 closed_reads before after h r d (Stopped stop) result read pauses closes memory =
-    finished before after false h r d (Stopped stop) result (read_behind before after h r read) closes memory (stopped r.cut r.pending (ap is_some pauses.0)) (λ e. cc)
+    finished before after false h r d (Stopped stop) result (read_behind before after h r read) closes memory
+    (stopped r.cut r.pending (ap is_some pauses.0)) (λ e. cc)
     (λ is closed. stop_read before after h r d stop read is closed pauses.0 pauses.2)
 
 -- the same with these jobs
 pub closed_at : (before after : Option (List ℕ)) (h : Handed) (r : ReaderShape) (d : Cut) (jobs : List Job) (room : ℕ) (paused result : Paused)
     → PausesBy before after h r paused → PausesAs r after paused → ClosesAs r.cut d paused result → result ≢ NoMemory
     → jobs ≡ d.jobs → room ≡ r.room → HasClosed before after room (handed_more h jobs) result
-closed_at before after h r d jobs room paused result read pauses closes memory same is = rw (same, is) (closed_reads before after h r d paused result read pauses closes memory)
+closed_at before after h r d jobs room paused result read pauses closes memory same is =
+    rw (same, is) (closed_reads before after h r d paused result read pauses closes memory)
 
 -- after a batch reading goes on
 pub closed_on : (before after : Option (List ℕ)) (h : Handed) (r t : ReaderShape) (jobs : List Job) (paused : Paused)
@@ -261,7 +274,8 @@ closed_batch c d Failed result closes e = elim closes [ inl done ↦ cc | inr no
 closed_batch c d (Stopped stop) result closes e = elim closes [ inl done ↦ cc | inr none ↦ cc ]
 
 -- closing counts no fault
-pub closed_counts : (c d : Cut) (paused result : Paused) (before after : ℕ) → ClosesAs c d paused result → CountsAs paused before after → CountsAs result before after
+pub closed_counts : (c d : Cut) (paused result : Paused) (before after : ℕ) → ClosesAs c d paused result → CountsAs paused before after →
+    CountsAs result before after
 closed_counts c d Batch result before after closes counts = rw closes.0 counts
 closed_counts c d NoMemory result before after closes counts = rw closes.0 counts
 closed_counts c d End result before after closes counts = elim closes [ inl done ↦ rw done.0 counts | inr none ↦ rw none.0 (omega (arith, counts)) ]

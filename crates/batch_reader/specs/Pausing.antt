@@ -31,16 +31,19 @@ PausesBy before after h r (Stopped stop) = HasCut before after h r
 PausesBy before after h r NoMemory = HasRead before after h r
 
 -- what was read by one step, after which reading pauses or goes on
-abbrev pub AdvancesTo : Option (List ℕ) → Option (List ℕ) → Handed → ReaderShape → Option Paused → Type 0
+abbrev pub AdvancesTo : Option (List ℕ) → Option (List ℕ) → Handed → ReaderShape →
+    Option Paused → Type 0
 AdvancesTo before after h r None = HasRead before after h r
 AdvancesTo before after h r (Some paused) = PausesBy before after h r paused
 
 -- where reading pauses so
 abbrev pub PausesAs : ReaderShape → Option (List ℕ) → Paused → Type 0
-PausesAs r left Batch = (r.cut.stop ≡ None) × IsEnded r.cut × (0 < length r.cut.jobs) × (length r.pending < r.room)
+PausesAs r left Batch = (r.cut.stop ≡ None) × IsEnded r.cut × (0 < length r.cut.jobs) ×
+    (length r.pending < r.room)
 PausesAs r left End = IsReady r × (r.pending ≡ []) × IsAtEnd left
 PausesAs r left Failed = IsReady r × (r.pending ≡ [])
-PausesAs r left (Stopped stop) = (r.cut.stop ≡ Some stop) × (r.cut.ends ≡ []) × (length r.pending < r.room)
+PausesAs r left (Stopped stop) = (r.cut.stop ≡ Some stop) × (r.cut.ends ≡ []) ×
+    (length r.pending < r.room)
 PausesAs r left NoMemory = Unit {0}
 
 -- how much reading still has to do at most: cut bytes, and take a piece where none is left
@@ -55,7 +58,8 @@ StepsAs r s left (Some paused) = PausesAs s left paused
 -- the input is ended, unless memory was refused
 abbrev pub FinishesAs : Cut → Cut → Bool → Paused → Paused → Type 0
 FinishesAs c d ended paused result =
-    ((result ≡ paused) × (d ≡ end_batch (flush ended c)) × IsEnded d) ⊎ ((result ≡ NoMemory) × (d ≡ c))
+    ((result ≡ paused) × (d ≡ end_batch (flush ended c)) × IsEnded d) ⊎
+    ((result ≡ NoMemory) × (d ≡ c))
 
 -- the open batch is ended where reading paused so
 abbrev pub ClosesAs : Cut → Cut → Paused → Paused → Type 0

@@ -27,7 +27,12 @@ pub record Handed : Type 0 where
 -- what is handed over, with one more batch
 abbrev pub handed_more : Handed → List Job → Handed
 handed_more h more =
-    record { first = h.first; jobs = h.jobs ++ more; batch_ends = ends_after h.batch_ends (length h.jobs) more }
+    record {
+      first = h.first;
+      jobs = h.jobs ++ more;
+      batch_ends =
+          ends_after h.batch_ends (length h.jobs) more;
+    }
 
 -- of what a source gave that had `before` left and has `after` left, all is cut but what is
 -- pending, and the rest is not handed over yet
@@ -61,7 +66,8 @@ pub record HasReadAll (before after : Option (List ℕ)) (ended : Bool) (h : Han
 
 -- all is handed over up to where the cutting stopped, which it did at the last byte that was cut;
 -- less than one piece was taken past that
-pub record HasStopped (before after : Option (List ℕ)) (room : ℕ) (stop : Stop) (h : Handed) : Type 0 where
+pub record HasStopped (before after : Option (List ℕ)) (room : ℕ) (stop : Stop) (h : Handed) :
+    Type 0 where
   pub front : List ℕ
   pub last : ℕ
   pub rest : List ℕ

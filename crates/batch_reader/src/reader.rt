@@ -59,9 +59,15 @@ impl Model for Reader {
 
     ghost Value = { ReaderShape };
 
-    ghost view = { λ r. record { cut = r.cutter; pending = drop r.at (take r.filled r.piece.items); room = length r.piece.items } };
+    ghost view = { λ r. record {
+      cut = r.cutter;
+      pending =
+          drop r.at (take r.filled r.piece.items);
+      room = length r.piece.items;
+    } };
 
-    ghost invariant = { λ r. (r.at ≤ r.filled) × (r.filled ≤ length r.piece.items) × (0 < length r.piece.items) × IsSound r.cutter };
+    ghost invariant = { λ r. (r.at ≤ r.filled) × (r.filled ≤ length r.piece.items) ×
+        (0 < length r.piece.items) × IsSound r.cutter };
 }
 
 impl Reader {
@@ -88,7 +94,8 @@ impl Reader {
         requires { IsReady self.old }
         ensures reads { (before : Option (List ℕ)) (h : Handed)
             → HasRead before (S.left source.old) h self.old →
-            ReadsTo before (S.left source.new) self.new.room (handed_more h result.jobs) result.paused }
+            ReadsTo before (S.left source.new) self.new.room (handed_more h result.jobs)
+            result.paused }
         ensures up { (before : Option (List ℕ)) (h : Handed)
             → HasRead before (S.left source.old) h self.old →
             IsReadUp before (S.left source.new) (handed_more h result.jobs) }
@@ -99,7 +106,8 @@ impl Reader {
             → HasRead before (S.left source.old) h self.old →
             HasRead before (S.left source.new) (handed_more h result.jobs) self.new }
         ensures kept { result.paused ≡ Paused.NoMemory → (before : Option (List ℕ)) (h : Handed) →
-            HasRead before (S.left source.old) h self.old → HasRead before (S.left source.new) h self.new }
+            HasRead before (S.left source.old) h self.old →
+            HasRead before (S.left source.new) h self.new }
         ensures none { result.paused ≡ Paused.NoMemory → result.jobs ≡ [] }
         ensures ready { result.paused ≡ Paused.Batch → IsReady self.new }
         ensures less { result.paused ≡ Paused.Batch

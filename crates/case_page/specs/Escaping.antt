@@ -1,5 +1,6 @@
 -- How a value is written into a page.
-use Rattle.std.specs.Prelude.{◌≡◌, ℕ, ◌==◌, ◌||◌, Bool, false, List, chars, codes, encode_utf8, flat_map, if◌then◌else◌}
+use Rattle.std.specs.Prelude.{◌≡◌, ℕ, ◌==◌, ◌||◌, Bool, false, List, chars, codes, encode_utf8}
+use Rattle.std.specs.Prelude.{flat_map, if◌then◌else◌}
 use Rattle.std.specs.List.{All}
 
 -- a character as it is written: five of them by their entities

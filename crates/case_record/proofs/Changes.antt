@@ -1,5 +1,6 @@
 -- How the cells of a case change.
-use Rattle.std.proofs.Common.{◌≡◌, ℕ, zero, suc, ◌+◌, ◌<◌, true, List, [], ◌∷◌, ◌++◌, length, map, take, drop, slice_index_or, slice_set, get_or, refl, sym, ap, subst, ◌∙◌, arith}
+use Rattle.std.proofs.Common.{◌≡◌, ℕ, zero, suc, ◌+◌, ◌<◌, true, List, [], ◌∷◌, ◌++◌, length, map, take, drop, slice_index_or, slice_set, get_or, refl, sym, ap}
+use Rattle.std.proofs.Common.{subst, ◌∙◌, arith}
 use Rattle.std.proofs.Math.Seq.{take-set-lt}
 use Rattle.std.proofs.lemmas.List.{get_or_default, get_or-take}
 use Rattle.wf_names.specs.declared.limits.TheConstants.{STEP_LIMIT}
@@ -16,7 +17,8 @@ held_within (x ∷ xs) zero h = omega arith
 held_within (x ∷ xs) (suc s) h = omega (arith, held_within xs s h)
 
 -- a change of one of the case's steps is a change of its cell
-pub kept_changed : (cells : List StepState) (steps s : ℕ) (x : StepState) → s < length (take steps cells) → IsPadded STEP_LIMIT Free cells steps → take steps (slice_set cells s x) ≡ slice_set (take steps cells) s x
+pub kept_changed : (cells : List StepState) (steps s : ℕ) (x : StepState) → s < length (take steps cells) → IsPadded STEP_LIMIT Free cells steps →
+    take steps (slice_set cells s x) ≡ slice_set (take steps cells) s x
 kept_changed cells steps s x h kept = take-set-lt steps cells s x (subst (λ n. s < n) (length-taken STEP_LIMIT Free cells steps kept) h)
 
 -- one more of a list's values written over another list

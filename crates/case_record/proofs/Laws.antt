@@ -1,5 +1,6 @@
 -- Who has which step of a case, and how that changes with a step's state.
-use Rattle.std.proofs.Common.{◌≡◌, ◌≤◌, ℕ, zero, suc, ◌-◌, ◌<◌, true, false, List, [], ◌∷◌, ◌++◌, length, map, replicate, slice_index_or, slice_set, get_or, None, Some, refl, sym, ap, ◌∙◌}
+use Rattle.std.proofs.Common.{◌≡◌, ◌≤◌, ℕ, zero, suc, ◌-◌, ◌<◌, true, false, List, [], ◌∷◌, ◌++◌, length, map, replicate, slice_index_or, slice_set, get_or}
+use Rattle.std.proofs.Common.{None, Some, refl, sym, ap, ◌∙◌}
 use Rattle.std.proofs.lemmas.List.{map-set, set-append_left, length-set, take-replicate}
 use Rattle.std.proofs.Math.Seq.{map-set_same}
 use Rattle.std.proofs.Math.ListN.{get_or-map}
@@ -47,15 +48,18 @@ pub assigned_of-set : (c : CaseShape) (s : ℕ) (x : StepState) → s < length c
 assigned_of-set c s x h = ap (map user_of) (all_steps-set c.states s x h) ∙ map-set user_of (all_steps c.states) s x
 
 -- a step changes and keeps its user
-pub assigned_of-same : (c : CaseShape) (s : ℕ) (x : StepState) → s < length c.states → user_of x ≡ user_of (state_at c s) → assigned_of (with_state c s x) ≡ assigned_of c
+pub assigned_of-same : (c : CaseShape) (s : ℕ) (x : StepState) → s < length c.states → user_of x ≡ user_of (state_at c s) →
+    assigned_of (with_state c s x) ≡ assigned_of c
 assigned_of-same c s x h same =
     ap (map user_of) (all_steps-set c.states s x h)
     ∙ map-set_same user_of (all_steps c.states) s x Free (same ∙ ap user_of (sym (all_steps-at c.states s)))
 
-pub finished_of-set : (c : CaseShape) (s : ℕ) (x : StepState) → s < length c.states → finished_of (with_state c s x) ≡ slice_set (finished_of c) s (is_finished x)
+pub finished_of-set : (c : CaseShape) (s : ℕ) (x : StepState) → s < length c.states →
+    finished_of (with_state c s x) ≡ slice_set (finished_of c) s (is_finished x)
 finished_of-set c s x h = ap (map is_finished) (all_steps-set c.states s x h) ∙ map-set is_finished (all_steps c.states) s x
 
-pub finished_of-same : (c : CaseShape) (s : ℕ) (x : StepState) → s < length c.states → is_finished x ≡ is_finished (state_at c s) → finished_of (with_state c s x) ≡ finished_of c
+pub finished_of-same : (c : CaseShape) (s : ℕ) (x : StepState) → s < length c.states → is_finished x ≡ is_finished (state_at c s) →
+    finished_of (with_state c s x) ≡ finished_of c
 finished_of-same c s x h same =
     ap (map is_finished) (all_steps-set c.states s x h)
     ∙ map-set_same is_finished (all_steps c.states) s x Free (same ∙ ap is_finished (sym (all_steps-at c.states s)))

@@ -1,5 +1,6 @@
 -- The search for a step that comes before another and is not finished.
-use Rattle.std.proofs.Common.{◌≡◌, ℕ, suc, ◌+◌, ◌<◌, Bool, true, false, not, ◌&&◌, ◌⊎◌, List, length, drop, slice_index_or, Option, Some, if◌then◌else◌, refl, sym, subst, ◌∙◌, arith, inl, inr}
+use Rattle.std.proofs.Common.{◌≡◌, ℕ, suc, ◌+◌, ◌<◌, Bool, true, false, not, ◌&&◌, ◌⊎◌, List, length, drop, slice_index_or, Option, Some, if◌then◌else◌, refl}
+use Rattle.std.proofs.Common.{sym, subst, ◌∙◌, arith, inl, inr}
 use Rattle.std.proofs.Math.Seq.{drop-cons}
 use Rattle.std.proofs.lemmas.Bool.{cases_eq}
 use Rattle.pair_set.specs.Pairs.{Pairs}

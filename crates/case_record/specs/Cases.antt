@@ -1,5 +1,6 @@
 -- Cases, as contracts see them.
-use Rattle.std.specs.Prelude.{ℕ, Bool, List, Option, map, replicate, slice_index_or, slice_set, if◌then◌else◌}
+use Rattle.std.specs.Prelude.{ℕ, Bool, List, Option, map, replicate, slice_index_or, slice_set}
+use Rattle.std.specs.Prelude.{if◌then◌else◌}
 use Rattle.std.specs.List.{list_all}
 use Rattle.wf_names.specs.States.{user_of, is_finished, is_live}
 use Rattle.wf_names.specs.declared.states.StepState.{StepState}

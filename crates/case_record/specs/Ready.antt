@@ -1,5 +1,6 @@
 -- Which steps of a case may be claimed now.
-use Rattle.std.specs.Prelude.{◌≡◌, ℕ, ◌+◌, ◌<◌, Bool, true, false, not, ◌&&◌, nat_lt, IsTrue, List, [], ◌∷◌, length, Option, None, Some, is_none, if◌then◌else◌}
+use Rattle.std.specs.Prelude.{◌≡◌, ℕ, ◌+◌, ◌<◌, Bool, true, false, not, ◌&&◌, nat_lt, IsTrue, List}
+use Rattle.std.specs.Prelude.{[], ◌∷◌, length, Option, None, Some, is_none, if◌then◌else◌}
 use Rattle.pair_set.specs.Pairs.{Pairs}
 use Rattle.workflow_schema.specs.Flows.{Precedes, is_before}
 use Rattle.wf_names.specs.States.{is_finished}
@@ -22,7 +23,8 @@ pub record IsFirstMissing (c : CaseShape) (order : Pairs) (s t : ℕ) : Type 0 w
 -- the same as a function, over steps of which the first has the number t
 abbrev pub first_missing_from : Pairs → ℕ → ℕ → List StepState → Option ℕ
 first_missing_from order s t [] = None
-first_missing_from order s t (x ∷ xs) = if is_before order t s && not (is_finished x) then Some t else first_missing_from order s (t + 1) xs
+first_missing_from order s t (x ∷ xs) = if is_before order t s &&
+    not (is_finished x) then Some t else first_missing_from order s (t + 1) xs
 
 -- the least step of a case that comes before s and is not finished
 abbrev pub first_missing : CaseShape → Pairs → ℕ → Option ℕ
@@ -36,4 +38,5 @@ is_free (Finished u) = false
 
 -- a step is ready, as a test
 abbrev pub is_ready : CaseShape → Pairs → ℕ → Bool
-is_ready c order s = nat_lt s (length c.states) && is_free (state_at c s) && is_none (first_missing c order s)
+is_ready c order s = nat_lt s (length c.states) && is_free (state_at c s) &&
+    is_none (first_missing c order s)

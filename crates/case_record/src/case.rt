@@ -1,12 +1,14 @@
 //! A case of a workflow.
-ghost use Rattle.std.specs.Prelude.{◌≡◌, ℕ, ◌<◌, ◌≤◌, ◌↔◌, true, length, slice_set, IsTrue, MatchOption};
+ghost use Rattle.std.specs.Prelude.{◌≡◌, ℕ, ◌<◌, ◌≤◌, ◌↔◌, true, length, slice_set, IsTrue};
+ghost use Rattle.std.specs.Prelude.{MatchOption};
 ghost use Rattle.wf_names.specs.declared.limits.TheConstants.{STEP_LIMIT};
 ghost use Rattle.wf_names.specs.declared.states.StepState.TheVariants.{Free, Held, Finished};
 ghost use Rattle.wf_names.specs.declared.states.Phase.TheVariants.{Live, Done, Withdrawn};
 ghost use Rattle.wf_names.specs.States.{is_held, is_finished, is_done, user_of};
 ghost use Rattle.constraint_forms.specs.Assigned.{is_member, no_steps, no_users, user_at};
 ghost use Rattle.workflow_schema.specs.Flows.{Precedes};
-ghost use Rattle.case_record.specs.Cases.{assigned_of, finished_of, fresh_case, finished_case, state_at, with_phase, with_state};
+ghost use Rattle.case_record.specs.Cases.{assigned_of, finished_of, fresh_case, finished_case};
+ghost use Rattle.case_record.specs.Cases.{state_at, with_phase, with_state};
 ghost use Rattle.case_record.specs.Ready.{first_missing, is_ready, IsFirstMissing, IsReady};
 
 use crate::order::{first_unfinished, is_free_step};
@@ -43,9 +45,22 @@ impl Model for Case {
 
     ghost invariant = { λ c. IsPadded STEP_LIMIT Free c.cells c.steps };
 
-    ghost inverse = { λ v. record { flow = v.flow; cells = all_steps v.states; steps = length v.states; phase = v.phase } };
+    ghost inverse = { λ v. record {
+      flow = v.flow;
+      cells = all_steps v.states;
+      steps =
+          length v.states;
+      phase = v.phase;
+    } };
 
-    ghost inverse_ok = { λ c h i. record { flow = c.flow; cells = padded-take STEP_LIMIT Free c.cells c.steps h i; steps = length-taken STEP_LIMIT Free c.cells c.steps h i; phase = c.phase } };
+    ghost inverse_ok = { λ c h i.
+        record {
+          flow = c.flow;
+          cells = padded-take STEP_LIMIT Free c.cells c.steps h i;
+          steps =
+              length-taken STEP_LIMIT Free c.cells c.steps h i;
+          phase = c.phase;
+        } };
 }
 
 impl Case {

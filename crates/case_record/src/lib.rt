@@ -1,4 +1,5 @@
-//! The record of one case: its workflow, where each of its steps stands, and where it stands itself.
+//! The record of one case: its workflow, where each of its steps stands, and where it stands
+//! itself.
 #![tactic(auto)]
 
 mod case;

@@ -1,5 +1,6 @@
 -- How a transcript is followed, line after line.
-use Rattle.std.proofs.Common.{◌≡◌, ℕ, ◌+◌, ◌-◌, ◌<◌, ◌≤◌, nat_lt, false, true, List, [], ◌∷◌, ◌++◌, length, take, drop, Option, None, Some, Ok, Err, refl, ap, sym, subst, ◌∙◌, inl, inr, arith}
+use Rattle.std.proofs.Common.{◌≡◌, ℕ, ◌+◌, ◌-◌, ◌<◌, ◌≤◌, nat_lt, false, true, List, [], ◌∷◌, ◌++◌, length, take, drop, Option, None, Some, Ok, Err, refl, ap}
+use Rattle.std.proofs.Common.{sym, subst, ◌∙◌, inl, inr, arith}
 use Rattle.std.proofs.lemmas.Grind.{common_steps}
 use Rattle.std.proofs.lemmas.List.{append-nil, append_assoc, drop_all, drop-drop, length-append}
 use Rattle.wf_names.specs.declared.limits.TheConstants.{TRANSCRIPT_LINE_LIMIT}
@@ -43,7 +44,8 @@ split text rest place after count r at =
     ap lines_of (sym r.is) ∙ lines_first rest r.some ∙ (λ i. (sym r.line) i ∷ lines_of (behind i))
 
 -- a line that is not too long
-fits : (rest : List ℕ) (count : ℕ) → take count rest ≡ first_line rest → nat_lt TRANSCRIPT_LINE_LIMIT (line_length rest) ≡ false → line_length (take count rest) ≤ TRANSCRIPT_LINE_LIMIT
+fits : (rest : List ℕ) (count : ℕ) → take count rest ≡ first_line rest → nat_lt TRANSCRIPT_LINE_LIMIT (line_length rest) ≡ false →
+    line_length (take count rest) ≤ TRANSCRIPT_LINE_LIMIT
 fits rest count line short =
     let alone = (line_alone rest).counted in
     let same = ap line_length line in
@@ -67,7 +69,8 @@ took first a b lines line e h same next is =
     }
 
 pub one_more : (first a b : AuditShape) (text rest : List ℕ) (place after : Place) (count : ℕ) → IsRest text rest place count
-    → nat_lt TRANSCRIPT_LINE_LIMIT (line_length rest) ≡ false → HasTakenLine a b (take count rest) (Ok tt) → after.at ≡ place.at + count → after.number ≡ place.number + 1
+    → nat_lt TRANSCRIPT_LINE_LIMIT (line_length rest) ≡ false → HasTakenLine a b (take count rest) (Ok tt) → after.at ≡ place.at + count →
+    after.number ≡ place.number + 1
     → HasFollowed first a text place → HasFollowed first b text after
 one_more first a b text rest place after count r short taken at number h =
     let line = take count rest in
@@ -87,7 +90,8 @@ one_more first a b text rest place after count r short taken at number h =
     }
 
 -- the audit stopped behind the lines that were followed, where the entries stay
-stopped : (first a b : AuditShape) (text : List ℕ) (place : Place) (n : ℕ) → HasFollowed first a text place → b.opening ≡ a.opening → b.entries ≡ a.entries → n ≡ place.number → HasStopped first b text n
+stopped : (first a b : AuditShape) (text : List ℕ) (place : Place) (n : ℕ) → HasFollowed first a text place → b.opening ≡ a.opening →
+    b.entries ≡ a.entries → n ≡ place.number → HasStopped first b text n
 stopped first a b text place n h opened entries number = record {
   front = h.front;
   rest = lines_of (drop place.at text);
@@ -97,7 +101,8 @@ stopped first a b text place n h opened entries number = record {
 }
 
 -- what is found behind the lines that were followed
-found : (first a : AuditShape) (text : List ℕ) (place : Place) (rest : List (List ℕ)) (v : Verdict) → HasFollowed first a text place → lines_of (drop place.at text) ≡ rest
+found : (first a : AuditShape) (text : List ℕ) (place : Place) (rest : List (List ℕ)) (v : Verdict) → HasFollowed first a text place →
+    lines_of (drop place.at text) ≡ rest
     → right_lines v ≡ place.number → EndsWith a rest v → IsVerdict first (lines_of text) v
 found first a text place rest v h left number ends = record {
   front = h.front;
@@ -121,13 +126,15 @@ one_wrong first a b text rest place count kind r short fault opened entries h = 
 }
 
 -- a line is too long
-pub one_long : (first a : AuditShape) (text rest : List ℕ) (place : Place) → rest ≡ drop place.at text → 0 < length rest → nat_lt TRANSCRIPT_LINE_LIMIT (line_length rest) ≡ true
+pub one_long : (first a : AuditShape) (text rest : List ℕ) (place : Place) → rest ≡ drop place.at text → 0 < length rest →
+    nat_lt TRANSCRIPT_LINE_LIMIT (line_length rest) ≡ true
     → HasFollowed first a text place → StopsTo first a text (TooLong place.number)
 one_long first a text rest place is some long h =
     let alone = (line_alone rest).counted in
     let much : TRANSCRIPT_LINE_LIMIT < line_length rest = grind (arith, common_steps) in
     record {
-      found = found first a text place (first_line rest ∷ lines_of (behind_line rest)) (TooLong place.number) h (ap lines_of (sym is) ∙ lines_first rest some) refl (omega (arith, alone, much));
+      found = found first a text place (first_line rest ∷ lines_of (behind_line rest)) (TooLong place.number) h
+          (ap lines_of (sym is) ∙ lines_first rest some) refl (omega (arith, alone, much));
       stopped = stopped first a a text place place.number h refl refl refl;
     }
 
@@ -135,7 +142,8 @@ none_left : (text : List ℕ) (at : ℕ) → length text ≤ at → lines_of (dr
 none_left text at past = ap lines_of (drop_all at text past)
 
 -- no line is left
-pub at_end : (first a : AuditShape) (text : List ℕ) (place : Place) (v : Verdict) → length text ≤ place.at → EndsAt a place.number v → HasFollowed first a text place → StopsTo first a text v
+pub at_end : (first a : AuditShape) (text : List ℕ) (place : Place) (v : Verdict) → length text ≤ place.at → EndsAt a place.number v →
+    HasFollowed first a text place → StopsTo first a text v
 at_end first a text place (Legal n) past ends h = record {
   found = found first a text place [] (Legal n) h (none_left text place.at past) ends.0 ends.1;
   stopped = stopped first a a text place n h refl refl ends.0;
@@ -153,7 +161,8 @@ few_right first b text n h =
     let whole = ap length h.lines in
     omega (arith, c, whole, length-append h.front h.rest)
 
-pub all_followed : (first a : AuditShape) (text : List ℕ) (place : Place) → length text ≤ place.at → HasFollowed first a text place → length (lines_of text) ≡ place.number
+pub all_followed : (first a : AuditShape) (text : List ℕ) (place : Place) → length text ≤ place.at → HasFollowed first a text place →
+    length (lines_of text) ≡ place.number
 all_followed first a text place past h =
     let none : lines_of (drop place.at text) ≡ [] = ap lines_of (drop_all place.at text past) in
     ap length (h.lines ∙ ap (λ ls. h.front ++ ls) none ∙ append-nil h.front) ∙ h.count
@@ -167,8 +176,10 @@ wrong_line first a b text rest place count n kind r short going taken h =
     (ap (λ (x : AuditShape). x.opening) taken.1.1) (ap (λ (x : AuditShape). x.entries) taken.1.1) h
 
 -- what came of a step
-pub stepped : (first b : AuditShape) (text : List ℕ) (place : Place) (o : Option Verdict) (v : Verdict) → o ≡ Some v → StepsTo first b text place o → StopsTo first b text v
+pub stepped : (first b : AuditShape) (text : List ℕ) (place : Place) (o : Option Verdict) (v : Verdict) → o ≡ Some v → StepsTo first b text place o →
+    StopsTo first b text v
 stepped first b text place o v is h = subst (λ x. StepsTo first b text place x) is h
 
-pub walked : (first b : AuditShape) (text : List ℕ) (place : Place) (o : Option Verdict) → o ≡ None → StepsTo first b text place o → HasFollowed first b text place
+pub walked : (first b : AuditShape) (text : List ℕ) (place : Place) (o : Option Verdict) → o ≡ None → StepsTo first b text place o →
+    HasFollowed first b text place
 walked first b text place o is h = subst (λ x. StepsTo first b text place x) is h

@@ -25,11 +25,21 @@ abbrev with_all : (s : Session) → List Entry → AuditShape
 with_all s es = record (audit_in s) { entries = es }
 
 -- where lines are the texts of entries that come next, and the first of them of these, the line behind them is that of one
-next_at : NextIsOne → (s : Session) (done front more : List (List ℕ)) (so_far es all : List Entry) (line : List ℕ) → AreOfSession s.policy s.rounds (cut_in s).jobs (cut_in s).ends
-    → AreNext (audit_in s) done so_far → AreNext (record (audit_in s) { entries = so_far }) front es → AreNext (record (audit_in s) { entries = so_far }) (front ++ line ∷ more) all
+next_at : NextIsOne → (s : Session) (done front more : List (List ℕ)) (so_far es all : List Entry) (line : List ℕ) →
+    AreOfSession s.policy s.rounds (cut_in s).jobs (cut_in s).ends
+    → AreNext (audit_in s) done so_far → AreNext (record (audit_in s) { entries = so_far }) front es →
+    AreNext (record (audit_in s) { entries = so_far }) (front ++ line ∷ more) all
     → (n : Entry) × ((ls : List (List ℕ)) × (AreNext (audit_in s) ls (so_far ++ es) × IsNextLine (record (audit_in s) { entries = so_far ++ es }) line n))
-next_at one s done [] more so_far [] (e ∷ all) line session before next whole =
-    (e, (done, (subst (λ xs. AreNext (audit_in s) done xs) (sym (append-nil so_far)) before, subst (λ xs. IsNextLine (record (audit_in s) { entries = xs }) line e) (sym (append-nil so_far)) whole.0)))
+next_at one s done [] more so_far [] (e ∷ all) line session before next whole = (
+  e,
+  (
+    done,
+    (
+      subst (λ xs. AreNext (audit_in s) done xs) (sym (append-nil so_far)) before,
+      subst (λ xs. IsNextLine (record (audit_in s) { entries = xs }) line e) (sym (append-nil so_far)) whole.0,
+    ),
+  ),
+)
 next_at one s done [] more so_far [] [] line session before next whole = absurd whole
 next_at one s done [] more so_far (x ∷ es) all line session before next whole = absurd next
 next_at one s done (l ∷ front) more so_far [] all line session before next whole = absurd next
@@ -39,8 +49,13 @@ next_at one s done (l ∷ front) more so_far (x ∷ es) (y ∷ all) line session
     let same : y ≡ x = one s.policy s.rounds (cut_in s).jobs (cut_in s).ends done so_far session before l y x whole.0 next.0 in
     let found = next_at one s (done ++ l ∷ []) front more (so_far ++ x ∷ []) es all line session (next_pushed a done so_far l x before next.0) next.1
     (subst (λ (z : Entry). AreNext (record a { entries = so_far ++ z ∷ [] }) (front ++ line ∷ more) all) same whole.1) in
-    let is : (so_far ++ x ∷ []) ++ es ≡ so_far ++ x ∷ es = append_assoc so_far (x ∷ []) es in
-    (found.0, (found.1.0, (subst (λ xs. AreNext a found.1.0 xs) is found.1.1.0, subst (λ xs. IsNextLine (record a { entries = xs }) line found.0) is found.1.1.1)))
+    let is : (so_far ++ x ∷ []) ++ es ≡ so_far ++ x ∷ es = append_assoc so_far (x ∷ []) es in (
+      found.0,
+      (
+        found.1.0,
+        (subst (λ xs. AreNext a found.1.0 xs) is found.1.1.0, subst (λ xs. IsNextLine (record a { entries = xs }) line found.0) is found.1.1.1),
+      ),
+    )
 
 -- as many entries as lines
 as_many : (a : AuditShape) (lines : List (List ℕ)) (es : List Entry) → AreNext a lines es → length es ≡ length lines
@@ -61,8 +76,10 @@ pub record Laws : Type 0 where
   pub one : NextIsOne
 
 -- where the transcript is legal, nothing is wrong
-not_wrong : Laws → (s : Session) (lines front rest : List (List ℕ)) (es all : List Entry) (v : Verdict) → AreOfSession s.policy s.rounds (cut_in s).jobs (cut_in s).ends
-    → AreShort lines → lines ≡ front ++ rest → AreNext (audit_in s) front es → EndsWith (with_all s es) rest v → AreNext (audit_in s) lines all → length all ≡ length (cut_in s).jobs
+not_wrong : Laws → (s : Session) (lines front rest : List (List ℕ)) (es all : List Entry) (v : Verdict) →
+    AreOfSession s.policy s.rounds (cut_in s).jobs (cut_in s).ends
+    → AreShort lines → lines ≡ front ++ rest → AreNext (audit_in s) front es → EndsWith (with_all s es) rest v → AreNext (audit_in s) lines all →
+    length all ≡ length (cut_in s).jobs
     → is_wrong v ≡ false
 not_wrong laws s lines front rest es all (Legal n) session short parts next ends whole size = refl
 not_wrong laws s lines front [] es all (Fault n kind) session short parts next ends whole size =
@@ -79,17 +96,20 @@ not_wrong laws s lines front (line ∷ more) es all (TooLong n) session short pa
     absurd (long_in front more line (subst AreShort parts short) ends)
 
 -- where nothing is wrong, the transcript is legal
-right_only : Laws → (s : Session) (lines front rest : List (List ℕ)) (es : List Entry) (v : Verdict) → AreOfSession s.policy s.rounds (cut_in s).jobs (cut_in s).ends
+right_only : Laws → (s : Session) (lines front rest : List (List ℕ)) (es : List Entry) (v : Verdict) →
+    AreOfSession s.policy s.rounds (cut_in s).jobs (cut_in s).ends
     → lines ≡ front ++ rest → AreNext (audit_in s) front es → EndsWith (with_all s es) rest v → is_wrong v ≡ false
     → IsTranscript s.policy s.rounds (cut_in s).jobs (cut_in s).ends lines
 right_only laws s lines front [] es (Legal n) session parts next ends none =
-    (laws.exact s.policy s.rounds (cut_in s).jobs (cut_in s).ends lines session.order).0 (es, (subst (λ ls. AreNext (audit_in s) ls es) (sym (parts ∙ append-nil front)) next, ends))
+    (laws.exact s.policy s.rounds (cut_in s).jobs (cut_in s).ends lines session.order).0
+    (es, (subst (λ ls. AreNext (audit_in s) ls es) (sym (parts ∙ append-nil front)) next, ends))
 right_only laws s lines front (line ∷ more) es (Legal n) session parts next ends none = absurd ends
 right_only laws s lines front rest es (Fault n kind) session parts next ends none = cc
 right_only laws s lines front rest es (TooLong n) session parts next ends none = cc
 
 -- nothing is wrong exactly where the transcript is legal
-pub finds : Laws → (s : Session) (v : Verdict) → AreOfSession s.policy s.rounds (cut_in s).jobs (cut_in s).ends → IsVerdict (audit_in s) (lines_of s.transcript) v → Finds s v
+pub finds : Laws → (s : Session) (v : Verdict) → AreOfSession s.policy s.rounds (cut_in s).jobs (cut_in s).ends →
+    IsVerdict (audit_in s) (lines_of s.transcript) v → Finds s v
 finds laws s v session found = record {
   found = found;
   exact = λ short. (
@@ -105,7 +125,8 @@ pub started : (s : Session) (a : AuditShape) (text : List ℕ) (place : Place) �
 started s a text place is same at number =
     subst (λ x. HasFollowed x a text place) is (begins a text place (ap (λ (x : AuditShape). x.entries) is) at number)
 
-pub stops_in : (s : Session) (b : AuditShape) (text : List ℕ) (v : Verdict) → text ≡ s.transcript → StopsTo (audit_in s) b text v → StopsTo (audit_in s) b s.transcript v
+pub stops_in : (s : Session) (b : AuditShape) (text : List ℕ) (v : Verdict) → text ≡ s.transcript → StopsTo (audit_in s) b text v →
+    StopsTo (audit_in s) b s.transcript v
 stops_in s b text v same h = subst (λ xs. StopsTo (audit_in s) b xs v) same h
 
 -- where the audit of a session stops, its entries are those of the first lines

@@ -5,12 +5,14 @@ use Rattle.policy_book.specs.Policies.{flow_at}
 use Rattle.policy_printer.specs.Documents.{name_at}
 use Rattle.case_story.specs.Telling.{retired_line}
 
-pub remark_line : (p : PolicyShape) (f : ℕ) (old one two three name : List ℕ) → (flow_at p f).retired ≡ true → one ≡ old ++ codes "# workflow " → two ≡ one ++ name
+pub remark_line : (p : PolicyShape) (f : ℕ) (old one two three name : List ℕ) → (flow_at p f).retired ≡ true → one ≡ old ++ codes "# workflow " →
+    two ≡ one ++ name
     → three ≡ two ++ codes " is retired, which a policy file cannot say\n" → name ≡ name_at p.flow_names f → three ≡ old ++ retired_line p f
 remark_line p f old one two three name is first second third named =
     let last = codes " is retired, which a policy file cannot say\n" in
     let all : three ≡ old ++ ((codes "# workflow " ++ name_at p.flow_names f) ++ last) =
-    third ∙ ap (λ xs. xs ++ last) (second ∙ ap (λ xs. xs ++ name) first ∙ ap (λ n. (old ++ codes "# workflow ") ++ n) named ∙ append_assoc old (codes "# workflow ") (name_at p.flow_names f))
+    third ∙ ap (λ xs. xs ++ last) (second ∙ ap (λ xs. xs ++ name) first ∙ ap (λ n. (old ++ codes "# workflow ") ++ n) named ∙
+    append_assoc old (codes "# workflow ") (name_at p.flow_names f))
     ∙ append_assoc old (codes "# workflow " ++ name_at p.flow_names f) last in
     subst (λ b. three ≡ old ++ (if b then (codes "# workflow " ++ name_at p.flow_names f) ++ last else [])) (sym is) all
 

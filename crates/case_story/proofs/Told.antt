@@ -1,5 +1,6 @@
 -- What is known of a transcript that was followed from its first line on.
-use Rattle.std.proofs.Common.{◌≡◌, ℕ, ◌+◌, ◌<◌, ◌≤◌, nat_lt, min, Bool, true, false, ◌||◌, List, [], ◌∷◌, ◌++◌, length, Option, None, Some, Result, Ok, Err, MatchBool, MatchOption, refl, ap, sym, subst, ◌∙◌, codes, inl, inr, arith}
+use Rattle.std.proofs.Common.{◌≡◌, ℕ, ◌+◌, ◌<◌, ◌≤◌, nat_lt, min, Bool, true, false, ◌||◌, List, [], ◌∷◌, ◌++◌, length, Option, None, Some, Result, Ok, Err}
+use Rattle.std.proofs.Common.{MatchBool, MatchOption, refl, ap, sym, subst, ◌∙◌, codes, inl, inr, arith}
 use Rattle.std.proofs.lemmas.Grind.{common_steps}
 use Rattle.basics.proofs.Booleans.{bool_cases}
 use Rattle.wf_talk.specs.declared.entry.Entry.{Entry}
@@ -20,25 +21,31 @@ use Rattle.run_record.specs.declared.fault.RunFault.TheVariants.{BadInput}
 use Rattle.run_record.specs.declared.fault.InputFault.TheVariants as input
 use Rattle.wf_commands.specs.declared.answer.Answer.{Answer}
 use Rattle.wf_commands.specs.Answer.{ending_with, AnswersAs}
-use Rattle.case_story.specs.Telling.{Finds, TellsBy, TellsEntry, TellsLog, TellsNow, TellsPage, WritesNow, WritesPolicy, first_line, has_retired, is_told, lines_to, retired_lines}
+use Rattle.case_story.specs.Telling.{Finds, TellsBy, TellsEntry, TellsLog, TellsNow, TellsPage, WritesNow, WritesPolicy, first_line, has_retired, is_told}
+use Rattle.case_story.specs.Telling.{lines_to, retired_lines}
 use Rattle.case_story.proofs.Answering.{answers_wider}
 use Rattle.case_story.specs.Writing.{PrintsAfter}
 use Rattle.case_story.proofs.Founds.{Laws, as_stopped, finds, first_entries, started, state_there, stops_in}
 use Rattle.case_story.proofs.Following.{all_followed, few_right}
 
 -- an audit that began with a session stops so
-pub stops : (s : Session) (a b : AuditShape) (text : List ℕ) (place : Place) (v : Verdict) → a ≡ audit_in s → text ≡ s.transcript → place.at ≡ 0 → place.number ≡ 0
+pub stops : (s : Session) (a b : AuditShape) (text : List ℕ) (place : Place) (v : Verdict) → a ≡ audit_in s → text ≡ s.transcript → place.at ≡ 0 →
+    place.number ≡ 0
     → ((first : AuditShape) → HasFollowed first a text place → StopsTo first b text v) → StopsTo (audit_in s) b s.transcript v
 stops s a b text place v is same at number steps = stops_in s b text v same (steps (audit_in s) (started s a text place is same at number))
 
 -- and so its verdict is that of the session
-pub told : Laws → (s : Session) (a b : AuditShape) (text : List ℕ) (place : Place) (v : Verdict) → AreOfSession s.policy s.rounds (cut_in s).jobs (cut_in s).ends
-    → a ≡ audit_in s → text ≡ s.transcript → place.at ≡ 0 → place.number ≡ 0 → ((first : AuditShape) → HasFollowed first a text place → StopsTo first b text v) → Finds s v
+pub told : Laws → (s : Session) (a b : AuditShape) (text : List ℕ) (place : Place) (v : Verdict) →
+    AreOfSession s.policy s.rounds (cut_in s).jobs (cut_in s).ends
+    → a ≡ audit_in s → text ≡ s.transcript → place.at ≡ 0 → place.number ≡ 0 →
+    ((first : AuditShape) → HasFollowed first a text place → StopsTo first b text v) → Finds s v
 told laws s a b text place v session is same at number steps = finds laws s v session (stops s a b text place v is same at number steps).found
 
 -- the policy that is printed is the one after the first entries
-pub prints : PartIsExact → (s : Session) (b : AuditShape) (n : ℕ) (p : PolicyShape) (remarks : List ℕ) (less : Bool) (document : List ℕ) → AreOfSession s.policy s.rounds (cut_in s).jobs (cut_in s).ends
-    → HasStopped (audit_in s) b s.transcript n → p ≡ (state_now b).book.policy → remarks ≡ retired_lines p (length p.flows) → less ≡ has_retired p → WritesPolicy p document
+pub prints : PartIsExact → (s : Session) (b : AuditShape) (n : ℕ) (p : PolicyShape) (remarks : List ℕ) (less : Bool) (document : List ℕ) →
+    AreOfSession s.policy s.rounds (cut_in s).jobs (cut_in s).ends
+    → HasStopped (audit_in s) b s.transcript n → p ≡ (state_now b).book.policy → remarks ≡ retired_lines p (length p.flows) → less ≡ has_retired p →
+    WritesPolicy p document
     → PrintsAfter s n remarks less document
 prints exact s b n p remarks less document session h is remarked lessened written =
     let same : p ≡ (state_of s h.taken.entries).book.policy = is ∙ ap (λ st. st.book.policy) (state_there s b n h) in
@@ -54,11 +61,14 @@ prints exact s b n p remarks less document session h is remarked lessened writte
 pub followed : (s : Session) (a b : AuditShape) (text : List ℕ) (place after : Place) → a ≡ audit_in s → text ≡ s.transcript → place.at ≡ 0 → place.number ≡ 0
     → ((first : AuditShape) → HasFollowed first a text place → HasFollowed first b text after) → HasStopped (audit_in s) b s.transcript after.number
 followed s a b text place after is same at number steps =
-    subst (λ xs. HasStopped (audit_in s) b xs after.number) same (as_stopped (audit_in s) b text after (steps (audit_in s) (started s a text place is same at number)))
+    subst (λ xs. HasStopped (audit_in s) b xs after.number) same
+    (as_stopped (audit_in s) b text after (steps (audit_in s) (started s a text place is same at number)))
 
 -- how many lines are followed, where at most so many are wanted and those behind them are followed too
-pub reached : (s : Session) (a b c : AuditShape) (text : List ℕ) (place after : Place) (most : ℕ) (v : Verdict) → a ≡ audit_in s → text ≡ s.transcript → place.at ≡ 0 → place.number ≡ 0
-    → ((first : AuditShape) → HasFollowed first a text place → HasFollowed first b text after) → ((first : AuditShape) → HasFollowed first b text after → StopsTo first c text v)
+pub reached : (s : Session) (a b c : AuditShape) (text : List ℕ) (place after : Place) (most : ℕ) (v : Verdict) → a ≡ audit_in s → text ≡ s.transcript →
+    place.at ≡ 0 → place.number ≡ 0
+    → ((first : AuditShape) → HasFollowed first a text place → HasFollowed first b text after) →
+    ((first : AuditShape) → HasFollowed first b text after → StopsTo first c text v)
     → (after.number < most → length text ≤ after.at) → after.number ≤ most → after.number ≤ right_lines v → after.number ≡ min most (right_lines v)
 reached s a b c text place after most v is same at number steps rest all within more =
     let h = steps (audit_in s) (started s a text place is same at number) in
@@ -75,11 +85,13 @@ reached s a b c text place after most v is same at number steps rest all within 
     ]
 
 -- an answer that tells a fault, and one that tells what is there
-pub wrong_told : (mark end body : List ℕ) (n : ℕ) (kind : AuditKind) (there : Bool) (answer : Answer) → answer.found ≡ true → answer.text.items ≡ first_line mark (Fault n kind) end ++ body
+pub wrong_told : (mark end body : List ℕ) (n : ℕ) (kind : AuditKind) (there : Bool) (answer : Answer) → answer.found ≡ true →
+    answer.text.items ≡ first_line mark (Fault n kind) end ++ body
     → TellsBy mark (Fault n kind) end there (ending_with answer.found) answer.text.items
 wrong_told mark end body n kind there answer found text = (ap ending_with found, (body, text))
 
-pub legal_told : (mark end body : List ℕ) (n : ℕ) (there : Bool) (answer : Answer) → there ≡ true → answer.found ≡ false → answer.text.items ≡ first_line mark (Legal n) end ++ body
+pub legal_told : (mark end body : List ℕ) (n : ℕ) (there : Bool) (answer : Answer) → there ≡ true → answer.found ≡ false →
+    answer.text.items ≡ first_line mark (Legal n) end ++ body
     → TellsBy mark (Legal n) end there (ending_with answer.found) answer.text.items
 legal_told mark end body n true answer is found text = (ap ending_with found, (body, text))
 legal_told mark end body n false answer is found text = cc
@@ -89,20 +101,35 @@ not_there mark end n true is = cc
 not_there mark end n false is = (refl, refl)
 
 -- what every command tells, as what one tells
-pub tells_log : (s : Session) (v : Verdict) (mark end : List ℕ) (there : Bool) (result : Result Answer RunFault) → Finds s v → mark ≡ [] → end ≡ codes "\n" → there ≡ true
+pub tells_log : (s : Session) (v : Verdict) (mark end : List ℕ) (there : Bool) (result : Result Answer RunFault) → Finds s v → mark ≡ [] →
+    end ≡ codes "\n" → there ≡ true
     → AnswersAs (TellsBy mark v end there) result → AnswersAs (TellsLog s) result
 tells_log s v mark end there result finds m e t h =
-    answers_wider (TellsBy mark v end there) (TellsLog s) result (λ f text told.
-    (v, (finds, subst (λ b. TellsBy [] v (codes "\n") b f text) t (subst (λ x. TellsBy [] v x there f text) e (subst (λ x. TellsBy x v end there f text) m told))))) h
+    answers_wider (TellsBy mark v end there) (TellsLog s) result (λ f text told. (
+      v,
+      (
+        finds,
+        subst (λ b. TellsBy [] v (codes "\n") b f text) t (subst (λ x. TellsBy [] v x there f text) e (subst (λ x. TellsBy x v end there f text) m told)),
+      ),
+    ))
+    h
 
-pub tells_entry : (s : Session) (at : ℕ) (v : Verdict) (mark end : List ℕ) (there : Bool) (result : Result Answer RunFault) → Finds s v → mark ≡ [] → end ≡ codes "\n" → there ≡ nat_lt at (right_lines v)
+pub tells_entry : (s : Session) (at : ℕ) (v : Verdict) (mark end : List ℕ) (there : Bool) (result : Result Answer RunFault) → Finds s v → mark ≡ [] →
+    end ≡ codes "\n" → there ≡ nat_lt at (right_lines v)
     → AnswersAs (TellsBy mark v end there) result → AnswersAs (TellsEntry at s) result
 tells_entry s at v mark end there result finds m e t h =
-    answers_wider (TellsBy mark v end there) (TellsEntry at s) result (λ f text told.
-    (v, (finds, subst (λ b. TellsBy [] v (codes "\n") b f text) t (subst (λ x. TellsBy [] v x there f text) e (subst (λ x. TellsBy x v end there f text) m told))))) h
+    answers_wider (TellsBy mark v end there) (TellsEntry at s) result (λ f text told. (
+      v,
+      (
+        finds,
+        subst (λ b. TellsBy [] v (codes "\n") b f text) t (subst (λ x. TellsBy [] v x there f text) e (subst (λ x. TellsBy x v end there f text) m told)),
+      ),
+    ))
+    h
 
 pub tells_page : (s : Session) (number : ℕ) (v : Verdict) (b : AuditShape) (mark end : List ℕ) (there : Bool) (result : Result Answer RunFault) → PartIsExact
-    → AreOfSession s.policy s.rounds (cut_in s).jobs (cut_in s).ends → Finds s v → HasStopped (audit_in s) b s.transcript (right_lines v) → mark ≡ codes "<!-- " → end ≡ codes " -->\n"
+    → AreOfSession s.policy s.rounds (cut_in s).jobs (cut_in s).ends → Finds s v → HasStopped (audit_in s) b s.transcript (right_lines v) →
+    mark ≡ codes "<!-- " → end ≡ codes " -->\n"
     → there ≡ nat_lt number (state_now b).book.ever → AnswersAs (TellsBy mark v end there) result → AnswersAs (TellsPage number s) result
 tells_page s number v b mark end there result exact session finds stopped m e t h =
     answers_wider (TellsBy mark v end there) (TellsPage number s) result (λ f text told. record {
@@ -128,9 +155,12 @@ number_told (Some at) v most number is wanted few number_is =
     let below = among at v is in
     grind (arith, common_steps)
 
-pub now_told : (s : Session) (at : Option ℕ) (v : Verdict) (most number : ℕ) (remarks : List ℕ) (less : Bool) (document : List ℕ) (answer : Answer) → Finds s v → is_told at v ≡ true
-    → MatchOption at (most ≡ 4294967295) (λ n. most ≡ min (n + 1) 4294967295) → right_lines v ≤ 4294967295 → number ≡ min most (right_lines v) → PrintsAfter s number remarks less document
-    → answer.found ≡ (is_wrong v || less) → answer.text.items ≡ first_line (codes "# ") v (codes "\n") ++ remarks ++ document → TellsNow at s (ending_with answer.found) answer.text.items
+pub now_told : (s : Session) (at : Option ℕ) (v : Verdict) (most number : ℕ) (remarks : List ℕ) (less : Bool) (document : List ℕ) (answer : Answer) →
+    Finds s v → is_told at v ≡ true
+    → MatchOption at (most ≡ 4294967295) (λ n. most ≡ min (n + 1) 4294967295) → right_lines v ≤ 4294967295 → number ≡ min most (right_lines v) →
+    PrintsAfter s number remarks less document
+    → answer.found ≡ (is_wrong v || less) → answer.text.items ≡ first_line (codes "# ") v (codes "\n") ++ remarks ++ document →
+    TellsNow at s (ending_with answer.found) answer.text.items
 now_told s at v most number remarks less document answer finds is wanted few number_is p found text =
     let there : WritesNow (lines_to at v) s v (ending_with answer.found) answer.text.items = record {
       entries = p.entries;
@@ -143,12 +173,14 @@ now_told s at v most number remarks less document answer finds is wanted few num
       v,
       (
         finds,
-        subst (λ b. MatchBool b (WritesNow (lines_to at v) s v (ending_with answer.found) answer.text.items) (TellsBy (codes "# ") v (codes "\n") false (ending_with answer.found) answer.text.items))
+        subst (λ b. MatchBool b (WritesNow (lines_to at v) s v (ending_with answer.found) answer.text.items)
+            (TellsBy (codes "# ") v (codes "\n") false (ending_with answer.found) answer.text.items))
             (sym is) there,
       ),
     )
 
-pub now_not_told : (s : Session) (at : Option ℕ) (v : Verdict) (mark end : List ℕ) (result : Result Answer RunFault) → Finds s v → is_told at v ≡ false → mark ≡ codes "# " → end ≡ codes "\n"
+pub now_not_told : (s : Session) (at : Option ℕ) (v : Verdict) (mark end : List ℕ) (result : Result Answer RunFault) → Finds s v → is_told at v ≡ false →
+    mark ≡ codes "# " → end ≡ codes "\n"
     → AnswersAs (TellsBy mark v end false) result → AnswersAs (TellsNow at s) result
 now_not_told s at v mark end result finds is m e h =
     answers_wider (TellsBy mark v end false) (TellsNow at s) result (λ f text told. (

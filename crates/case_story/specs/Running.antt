@@ -21,21 +21,26 @@ Tells (what.Now at) s fault text = TellsNow at s fault text
 Tells (what.Page number) s fault text = TellsPage number s fault text
 
 -- the files give a session that was served so
-pub record Gives (files : List ℕ → Filed) (n : Names) (lanes rounds : ℕ) (s : Session) : Type 0 where
+pub record Gives (files : List ℕ → Filed) (n : Names) (lanes rounds : ℕ) (s : Session) : Type
+    0 where
   pub gives : GivesSession files n (Ok s)
   pub on_lanes : s.lanes ≡ lanes
   pub with_rounds : s.rounds ≡ rounds
 
 -- a run ends since a file cannot be loaded, and writes nothing; or the files give a session, and it
 -- is told of it
-abbrev pub TellsRun : (List ℕ → Filed) → Names → ℕ → ℕ → (Session → RunFault → List ℕ → Type 0) → Option (List ℕ) → Option (List ℕ) → RunFault → Type 0
+abbrev pub TellsRun : (List ℕ → Filed) → Names → ℕ →
+    ℕ → (Session → RunFault → List ℕ → Type 0) → Option (List ℕ) → Option (List ℕ) → RunFault →
+    Type 0
 TellsRun files n lanes rounds Told before after fault =
     (IsLoadEnding fault × (GivesSession files n (Err fault) × (after ≡ before)))
     ⊎ ((s : Session) × (Gives files n lanes rounds s × Ends (Told s) before after fault))
 
 -- Inside: what is found before it is written
-abbrev pub FindsRun : (List ℕ → Filed) → Names → ℕ → ℕ → (Session → RunFault → List ℕ → Type 0) → Result Answer RunFault → Type 0
-FindsRun files n lanes rounds Told (Ok answer) = (s : Session) × (Gives files n lanes rounds s × AnswersAs (Told s) (Ok answer))
+abbrev pub FindsRun : (List ℕ → Filed) → Names → ℕ → ℕ →
+    (Session → RunFault → List ℕ → Type 0) → Result Answer RunFault → Type 0
+FindsRun files n lanes rounds Told (Ok answer) = (s : Session) ×
+    (Gives files n lanes rounds s × AnswersAs (Told s) (Ok answer))
 FindsRun files n lanes rounds Told (Err fault) =
     (IsLoadEnding fault × GivesSession files n (Err fault))
     ⊎ ((s : Session) × (Gives files n lanes rounds s × AnswersAs (Told s) (Err fault)))

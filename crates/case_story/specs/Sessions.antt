@@ -55,7 +55,8 @@ FailsTranscript files n fault = GivesBytes TRANSCRIPT_FILE_LIMIT (files n.transc
 abbrev pub FailsRequests : (List ℕ → Filed) → Names → RunFault → Type 0
 FailsRequests files n fault =
     GivesBytes REQUESTS_FILE_LIMIT (files n.requests) (Err fault)
-    ⊎ ((bytes : List ℕ) × (GivesBytes REQUESTS_FILE_LIMIT (files n.requests) (Ok bytes) × FailsTranscript files n fault))
+    ⊎ ((bytes : List ℕ) × (GivesBytes REQUESTS_FILE_LIMIT (files n.requests) (Ok bytes) ×
+    FailsTranscript files n fault))
 
 abbrev pub GivesSession : (List ℕ → Filed) → Names → Result Session RunFault → Type 0
 GivesSession files n (Ok s) =

@@ -1,5 +1,6 @@
 -- What every command tells of a transcript.
-use Rattle.std.specs.Prelude.{◌≡◌, ℕ, zero, suc, ◌+◌, Bool, true, false, ◌||◌, nat_lt, List, [], ◌++◌, length, Option, None, Some, Ok, MatchBool, if◌then◌else◌, codes}
+use Rattle.std.specs.Prelude.{◌≡◌, ℕ, zero, suc, ◌+◌, Bool, true, false, ◌||◌, nat_lt, List, []}
+use Rattle.std.specs.Prelude.{◌++◌, length, Option, None, Some, Ok, MatchBool, if◌then◌else◌, codes}
 use Rattle.policy_book.specs.Shapes.{PolicyShape}
 use Rattle.policy_book.specs.Policies.{any_below, flow_at}
 use Rattle.policy_reader.specs.Files.{document_in, policy_of_file}
@@ -8,7 +9,8 @@ use Rattle.policy_printer.specs.Documents.{document_of, name_at}
 use Rattle.wf_talk.specs.declared.entry.Entry.{Entry}
 use Rattle.line_reader.specs.Lines.{lines_of}
 use Rattle.run_record.specs.declared.fault.RunFault.{RunFault}
-use Rattle.run_record.specs.declared.fault.RunFault.TheVariants.{Nothing, Found, LineTooLong, BadInput}
+use Rattle.run_record.specs.declared.fault.RunFault.TheVariants.{Nothing, Found, LineTooLong}
+use Rattle.run_record.specs.declared.fault.RunFault.TheVariants.{BadInput}
 use Rattle.run_record.specs.declared.fault.InputFault.TheVariants as input
 use Rattle.wf_commands.specs.Answer.{ending_with}
 use Rattle.wf_commands.specs.Once.{Refuses}
@@ -32,7 +34,8 @@ BeginsWith mark v end text = (rest : List ℕ) × (text ≡ first_line mark v en
 abbrev pub TellsBy : List ℕ → Verdict → List ℕ → Bool → RunFault → List ℕ → Type 0
 TellsBy mark (Legal n) end true fault text = (fault ≡ Nothing) × BeginsWith mark (Legal n) end text
 TellsBy mark (Legal n) end false fault text = Refuses (BadInput input.Length) fault text
-TellsBy mark (Fault n kind) end there fault text = (fault ≡ Found) × BeginsWith mark (Fault n kind) end text
+TellsBy mark (Fault n kind) end there fault text = (fault ≡ Found) ×
+    BeginsWith mark (Fault n kind) end text
 TellsBy mark (TooLong n) end there fault text = Refuses (LineTooLong n) fault text
 
 -- the verdict of the transcript of a session
@@ -45,7 +48,8 @@ TellsLog s fault text = (v : Verdict) × (Finds s v × TellsBy [] v (codes "\n")
 
 -- `entry`: one entry, if more lines are right than stand before it
 abbrev pub TellsEntry : ℕ → Session → RunFault → List ℕ → Type 0
-TellsEntry at s fault text = (v : Verdict) × (Finds s v × TellsBy [] v (codes "\n") (nat_lt at (right_lines v)) fault text)
+TellsEntry at s fault text = (v : Verdict) ×
+    (Finds s v × TellsBy [] v (codes "\n") (nat_lt at (right_lines v)) fault text)
 
 -- `page`: one case, if one was opened with this number by the entries that are right
 pub record TellsPage (number : ℕ) (s : Session) (fault : RunFault) (text : List ℕ) : Type 0 where
@@ -53,12 +57,14 @@ pub record TellsPage (number : ℕ) (s : Session) (fault : RunFault) (text : Lis
   pub finds : Finds s verdict
   pub entries : List Entry
   pub first : AreFirst s (right_lines verdict) entries
-  pub tells : TellsBy (codes "<!-- ") verdict (codes " -->\n") (nat_lt number (state_of s entries).book.ever) fault text
+  pub tells : TellsBy (codes "<!-- ") verdict (codes " -->\n")
+      (nat_lt number (state_of s entries).book.ever) fault text
 
 -- the lines that say which of the first n workflows are retired, which a policy file cannot say
 abbrev pub retired_line : PolicyShape → ℕ → List ℕ
 retired_line p f =
-    if (flow_at p f).retired then codes "# workflow " ++ name_at p.flow_names f ++ codes " is retired, which a policy file cannot say\n" else []
+    if (flow_at p f).retired then codes "# workflow " ++ name_at p.flow_names f ++ codes
+    " is retired, which a policy file cannot say\n" else []
 
 abbrev pub retired_lines : PolicyShape → ℕ → List ℕ
 retired_lines p zero = []
@@ -76,7 +82,8 @@ pub record WritesPolicy (p : PolicyShape) (text : List ℕ) : Type 0 where
 
 -- behind the first line, and the lines that say what it cannot hold, the policy after the first n
 -- entries is written
-pub record WritesNow (n : ℕ) (s : Session) (v : Verdict) (fault : RunFault) (text : List ℕ) : Type 0 where
+pub record WritesNow (n : ℕ) (s : Session) (v : Verdict) (fault : RunFault) (text : List ℕ) :
+    Type 0 where
   pub entries : List Entry
   pub first : AreFirst s n entries
   pub document : List ℕ
@@ -104,4 +111,5 @@ lines_to (Some at) v = at + 1
 -- for every command
 abbrev pub TellsNow : Option ℕ → Session → RunFault → List ℕ → Type 0
 TellsNow at s fault text = (v : Verdict) × (Finds s v ×
-    MatchBool (is_told at v) (WritesNow (lines_to at v) s v fault text) (TellsBy (codes "# ") v (codes "\n") false fault text))
+    MatchBool (is_told at v) (WritesNow (lines_to at v) s v fault text)
+    (TellsBy (codes "# ") v (codes "\n") false fault text))

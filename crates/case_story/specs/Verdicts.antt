@@ -1,10 +1,12 @@
 -- What an audit finds in a transcript, and the words of it.
-use Rattle.std.specs.Prelude.{◌≡◌, ◌↔◌, ◌<◌, ◌≤◌, ◌==◌, ℕ, zero, suc, if◌then◌else◌, Bool, true, false, List, [], ◌∷◌, ◌++◌, length, codes, decimal}
+use Rattle.std.specs.Prelude.{◌≡◌, ◌↔◌, ◌<◌, ◌≤◌, ◌==◌, ℕ, zero, suc, if◌then◌else◌, Bool, true}
+use Rattle.std.specs.Prelude.{false, List, [], ◌∷◌, ◌++◌, length, codes, decimal}
 use Rattle.wf_names.specs.declared.limits.TheConstants.{TRANSCRIPT_LINE_LIMIT}
 use Rattle.wf_talk.specs.declared.entry.Entry.{Entry}
 use Rattle.line_reader.specs.Lines.{line_length}
 use Rattle.transcript_audit.specs.declared.fault.AuditKind.{AuditKind}
-use Rattle.transcript_audit.specs.declared.fault.AuditKind.TheVariants.{Text, At, Job as WrongJob, Reply, Missing}
+use Rattle.transcript_audit.specs.declared.fault.AuditKind.TheVariants.{Text, At, Job as WrongJob}
+use Rattle.transcript_audit.specs.declared.fault.AuditKind.TheVariants.{Reply, Missing}
 use Rattle.transcript_audit.specs.Audits.{AuditShape, AreNext, HasFault, IsTranscript}
 use Rattle.case_story.specs.declared.verdict.Verdict.{Verdict}
 use Rattle.case_story.specs.declared.verdict.Verdict.TheVariants.{Legal, Fault, TooLong}
@@ -33,7 +35,8 @@ EndsWith a [] (Legal n) = length a.entries ≡ length a.jobs
 EndsWith a [] (Fault n kind) = (kind ≡ Missing) × (length a.entries < length a.jobs)
 EndsWith a [] (TooLong n) = ⊥
 EndsWith a (line ∷ more) (Legal n) = ⊥
-EndsWith a (line ∷ more) (Fault n kind) = (line_length line ≤ TRANSCRIPT_LINE_LIMIT) × HasFault a line kind
+EndsWith a (line ∷ more) (Fault n kind) = (line_length line ≤ TRANSCRIPT_LINE_LIMIT) ×
+    HasFault a line kind
 EndsWith a (line ∷ more) (TooLong n) = TRANSCRIPT_LINE_LIMIT < line_length line
 
 -- the first lines, as many as are right, are the texts of entries that come next, and the others
@@ -52,7 +55,8 @@ pub record IsVerdict (a : AuditShape) (lines : List (List ℕ)) (v : Verdict) : 
 -- are those of a legal history that fills the jobs
 pub record HasVerdict (a : AuditShape) (lines : List (List ℕ)) (v : Verdict) : Type 0 where
   pub found : IsVerdict a lines v
-  pub exact : AreShort lines → (is_wrong v ≡ false) ↔ IsTranscript a.opening a.rounds a.jobs a.batch_ends lines
+  pub exact : AreShort lines → (is_wrong v ≡ false) ↔
+      IsTranscript a.opening a.rounds a.jobs a.batch_ends lines
 
 -- why a line is wrong
 abbrev pub kind_words : AuditKind → List ℕ
@@ -72,7 +76,8 @@ state_words Missing = codes " is missing ("
 
 -- which line is the first that is wrong, and why
 abbrev pub fault_words : ℕ → AuditKind → List ℕ
-fault_words n kind = codes "audited: line " ++ decimal n ++ state_words kind ++ kind_words kind ++ codes ")"
+fault_words n kind =
+    codes "audited: line " ++ decimal n ++ state_words kind ++ kind_words kind ++ codes ")"
 
 -- up to which line all is right, if there is one
 abbrev pub up_to : ℕ → List ℕ
@@ -80,7 +85,8 @@ up_to zero = []
 up_to (suc n) = codes "; up to line " ++ decimal n ++ codes " all is as told"
 
 abbrev pub legal_words : ℕ → List ℕ
-legal_words n = if n == 1 then codes "audited: legal, 1 entry" else codes "audited: legal, " ++ decimal n ++ codes " entries"
+legal_words n = if n == 1 then codes "audited: legal, 1 entry" else codes
+    "audited: legal, " ++ decimal n ++ codes " entries"
 
 -- the words of a verdict; one of a line that is too long is not told
 abbrev pub verdict_words : Verdict → List ℕ

@@ -1,5 +1,6 @@
 //! The command `now`: the policy after an entry, as a file.
-ghost use Rattle.std.specs.Prelude.{◌≡◌, ◌+◌, ◌++◌, ◌||◌, IfOk, MatchOption, codes, min, string_bytes, IfErr};
+ghost use Rattle.std.specs.Prelude.{◌≡◌, ◌+◌, ◌++◌, ◌||◌, IfOk, MatchOption, codes, min};
+ghost use Rattle.std.specs.Prelude.{string_bytes, IfErr};
 ghost use Rattle.wf_commands.specs.Answer.{AnswersAs, IsAnswerEnding};
 ghost use Rattle.case_story.specs.Sessions.{IsServed};
 ghost use Rattle.case_story.specs.Writing.{PrintsAfter};

@@ -1,6 +1,7 @@
 //! What an audit finds, and the line that says it.
 ghost use Rattle.std.specs.Prelude.{◌≡◌, ◌++◌, ◌-◌, IfOk, OnOk, codes, decimal, string_bytes};
-ghost use Rattle.case_story.specs.Verdicts.{fault_words, is_wrong, kind_words, legal_words, right_lines, state_words, up_to, verdict_words};
+ghost use Rattle.case_story.specs.Verdicts.{fault_words, is_wrong, kind_words, legal_words};
+ghost use Rattle.case_story.specs.Verdicts.{right_lines, state_words, up_to, verdict_words};
 
 use std::alloc::{AllocError, Global};
 use transcript_audit::AuditKind;

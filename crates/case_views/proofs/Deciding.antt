@@ -1,5 +1,6 @@
 -- What the decider finds on a deed.
-use Rattle.std.proofs.Common.{◌≡◌, ℕ, ◌<◌, Bool, true, false, List, length, Option, None, Some, Result, Ok, Err, IfOk, MatchResult, slice_set, refl, sym, ap, subst, ◌∙◌}
+use Rattle.std.proofs.Common.{◌≡◌, ℕ, ◌<◌, Bool, true, false, List, length, Option, None, Some, Result, Ok, Err, IfOk, MatchResult, slice_set, refl, sym, ap}
+use Rattle.std.proofs.Common.{subst, ◌∙◌}
 use Rattle.std.specs.Option.{option_map}
 use Rattle.std.proofs.lemmas.Bool.Decides.{eqb_tells}
 use Rattle.first_fault.specs.Reading.{Gives}
@@ -56,7 +57,8 @@ pub record Keeps (p : PolicyShape) (rows : List Row) (n : ℕ) (c : CaseShape) :
   pub kept : plan_of (row_at n rows) ≡ Some plan
   pub valid : IsValidPlan (problem_of p c.flow) (assigned_of c) (finished_of c) plan
 
-planned_keeps : (p : PolicyShape) (rows : List Row) (n : ℕ) (c : CaseShape) (o : Option (List ℕ)) → plan_of (row_at n rows) ≡ o → is_open c ≡ true → IsPlanned p c o → Keeps p rows n c
+planned_keeps : (p : PolicyShape) (rows : List Row) (n : ℕ) (c : CaseShape) (o : Option (List ℕ)) → plan_of (row_at n rows) ≡ o → is_open c ≡ true →
+    IsPlanned p c o → Keeps p rows n c
 planned_keeps p rows n c None is live planned = cc
 planned_keeps p rows n c (Some plan) is live planned = record { plan = plan; kept = is; valid = planned }
 
@@ -71,14 +73,16 @@ unsome_plan : (a b : List ℕ) → Some a ≡ Some b → a ≡ b
 unsome_plan a b e = cc
 
 -- the plan that is kept for an open case is valid
-pub kept_valid : (p : PolicyShape) (rows : List Row) (n : ℕ) (c : CaseShape) (plan : List ℕ) → ArePlanned p rows → case_in n rows ≡ Some c → is_open c ≡ true → plan_of (row_at n rows) ≡ Some plan
+pub kept_valid : (p : PolicyShape) (rows : List Row) (n : ℕ) (c : CaseShape) (plan : List ℕ) → ArePlanned p rows → case_in n rows ≡ Some c →
+    is_open c ≡ true → plan_of (row_at n rows) ≡ Some plan
     → IsValidPlan (problem_of p c.flow) (assigned_of c) (finished_of c) plan
 kept_valid p rows n c plan are is live kept =
     let keeps = kept_plan p rows n c are is live in
     subst (IsValidPlan (problem_of p c.flow) (assigned_of c) (finished_of c)) (unsome_plan keeps.plan plan (sym keeps.kept ∙ kept)) keeps.valid
 
 -- a plan that is valid and gives a step to a user is valid with the user there
-pub valid_with : (p : Problem) (c : CaseShape) (t u : ℕ) (plan : List ℕ) → planned plan t ≡ u → IsValidPlan p (assigned_of c) (finished_of c) plan → IsValidPlan p (assigned_with c t u) (finished_of c) plan
+pub valid_with : (p : Problem) (c : CaseShape) (t u : ℕ) (plan : List ℕ) → planned plan t ≡ u → IsValidPlan p (assigned_of c) (finished_of c) plan →
+    IsValidPlan p (assigned_with c t u) (finished_of c) plan
 valid_with p c t u plan gives valid = record {
   whole = valid.whole;
   known = valid.known;
@@ -96,11 +100,13 @@ still_assigned done a t u below are s is = either (eqb_tells s t)
     (λ apart. (let w = are s is in (w.0, given_other a t u s apart.1 ∙ w.1)))
 
 -- a kept plan is as long as its case
-pub kept_length : (p : PolicyShape) (c : CaseShape) (plan : List ℕ) → IsOfPolicy p c → IsValidPlan (problem_of p c.flow) (assigned_of c) (finished_of c) plan → length plan ≡ length c.states
+pub kept_length : (p : PolicyShape) (c : CaseShape) (plan : List ℕ) → IsOfPolicy p c →
+    IsValidPlan (problem_of p c.flow) (assigned_of c) (finished_of c) plan → length plan ≡ length c.states
 kept_length p c plan known valid = valid.whole ∙ sym known.steps
 
 -- what a search needs of a claim
-pub search_within : (p : PolicyShape) (c : CaseShape) (plan : List ℕ) (t u : ℕ) → IsOfPolicy p c → IsValidPlan (problem_of p c.flow) (assigned_of c) (finished_of c) plan →
+pub search_within : (p : PolicyShape) (c : CaseShape) (plan : List ℕ) (t u : ℕ) → IsOfPolicy p c →
+    IsValidPlan (problem_of p c.flow) (assigned_of c) (finished_of c) plan →
     t < length c.states → u < length p.roster.users → IsWithin (problem_of p c.flow) (assigned_with c t u)
 search_within p c plan t u known valid step user = claimed_within p c t u known step user (planned_within p c plan known valid)
 
@@ -141,7 +147,8 @@ decides_open b f (verdict.Plan plan) h = record { fits = h; nothing = λ e. cc; 
 decides_open b f (verdict.Refuted tree) h = record { fits = h; nothing = λ e. cc; something = λ e same. cc }
 
 -- a verdict on a claim
-pub decides_claim : (b : Book) (n : ℕ) (c : CaseShape) (t u : ℕ) (v : Verdict) → DecidesFor (problem_of b.policy c.flow) (assigned_with c t u) (finished_of c) v → DecidesDeed b (deed.Claim n c t u) v
+pub decides_claim : (b : Book) (n : ℕ) (c : CaseShape) (t u : ℕ) (v : Verdict) →
+    DecidesFor (problem_of b.policy c.flow) (assigned_with c t u) (finished_of c) v → DecidesDeed b (deed.Claim n c t u) v
 decides_claim b n c t u verdict.Nothing h = absurd h
 decides_claim b n c t u (verdict.View v) h = absurd h
 decides_claim b n c t u (verdict.Edited edition) h = absurd h
@@ -189,7 +196,8 @@ listed_needs_none (Ok given) h = cc
 listed_needs_none (Err d) h = refl
 
 -- where there is no deed, no verdict is needed
-pub refused_needs_none : (reading : Result Deed Denial) (e : Refused) → Gives {X = Deed} denial_in (λ d. d) (Err e) reading → (e ≡ refused.NoMemory → takes_memory reading ≡ true) → needs_verdict reading ≡ false
+pub refused_needs_none : (reading : Result Deed Denial) (e : Refused) → Gives {X = Deed} denial_in (λ d. d) (Err e) reading →
+    (e ≡ refused.NoMemory → takes_memory reading ≡ true) → needs_verdict reading ≡ false
 refused_needs_none reading (refused.Denied d) gives memory = ap needs_verdict gives
 refused_needs_none reading refused.NoMemory gives memory = listed_needs_none reading (memory refl)
 

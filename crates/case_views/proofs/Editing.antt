@@ -1,5 +1,6 @@
 -- What a change of the policy leaves the open cases.
-use Rattle.std.proofs.Common.{◌≡◌, ℕ, zero, suc, ◌+◌, ◌<◌, inl, inr, Bool, true, false, List, [], ◌∷◌, ◌++◌, length, take, drop, get_or, Option, None, Some, refl, sym, ap, subst, ◌∙◌, arith}
+use Rattle.std.proofs.Common.{◌≡◌, ℕ, zero, suc, ◌+◌, ◌<◌, inl, inr, Bool, true, false, List, [], ◌∷◌, ◌++◌, length, take, drop, get_or, Option, None, Some}
+use Rattle.std.proofs.Common.{refl, sym, ap, subst, ◌∙◌, arith}
 use Rattle.std.proofs.lemmas.List.{append_assoc, append-nil, take-append-drop}
 use Rattle.basics.proofs.Booleans.{bool_cases}
 use Rattle.basics.proofs.Lists.{take_next}
@@ -20,7 +21,8 @@ use Rattle.case_views.specs.Deciding.{HasAdded, IsPartAdded}
 use Rattle.case_views.specs.Listing.{IsLeftAt, open_in}
 
 -- what is said of a workflow, an assignment and finished steps is said of equal ones
-pub said_same : (P : Problem → List (Option ℕ) → List Bool → Type 0) (p : PolicyShape) (f g : ℕ) (a b : List (Option ℕ)) (d e : List Bool) → g ≡ f → b ≡ a → e ≡ d
+pub said_same : (P : Problem → List (Option ℕ) → List Bool → Type 0) (p : PolicyShape) (f g : ℕ) (a b : List (Option ℕ)) (d e : List Bool) → g ≡ f → b ≡ a →
+    e ≡ d
     → P (problem_of p g) b e → P (problem_of p f) a d
 said_same P p f g a b d e flow assigned done h =
     subst (λ x. P (problem_of p x) a d) flow
@@ -73,7 +75,8 @@ stranded_here p rows i r ps tree below is plans live shows =
     let all : open_in rows ≡ open_in (take i rows) ++ numbered r ∷ open_in (drop (i + 1) rows) =
     ap open_in (sym (take-append-drop i rows) ∙ ap (λ xs. take i rows ++ xs) (taken_off rows i r below is))
     ∙ open_append (take i rows) (r ∷ drop (i + 1) rows) ∙ ap (λ es. open_in (take i rows) ++ es) (open_row r (drop (i + 1) rows) live) in
-    subst (λ es. IsFirstStranded p es r.number r.case.flow tree) (sym all) (stranded_after p (open_in (take i rows)) (open_in (drop (i + 1) rows)) ps (numbered r) tree plans shows)
+    subst (λ es. IsFirstStranded p es r.number r.case.flow tree) (sym all)
+    (stranded_after p (open_in (take i rows)) (open_in (drop (i + 1) rows)) ps (numbered r) tree plans shows)
   where
     open_row : (x : Row) (xs : List Row) → is_open x.case ≡ true → open_in (x ∷ xs) ≡ numbered x ∷ open_in xs
     open_row x xs live = rw live refl
@@ -96,7 +99,8 @@ pub kept_plan_of : (p : PolicyShape) (c d : CaseShape) (o : Option (List ℕ)) (
 kept_plan_of p c d o plan is same planned = subst (λ k. IsPlanOf p k plan) (sym same) (subst (IsPlanned p c) (sym is) planned)
 
 -- what is left of the case of a row is what is added for it
-pub added_of : (p : PolicyShape) (r : Row) (left : Option Outcome) (tree : Option Tree) (before after : List (List ℕ)) → IsLeftAt p r left → IsPartAdded left before after tree → HasAdded p r before after tree
+pub added_of : (p : PolicyShape) (r : Row) (left : Option Outcome) (tree : Option Tree) (before after : List (List ℕ)) → IsLeftAt p r left →
+    IsPartAdded left before after tree → HasAdded p r before after tree
 added_of p r None tree before after left added =
     subst (HasAdded p r before after) (sym added.0) ([], (added.1 ∙ sym (append-nil before), no_plan p r left))
 added_of p r (Some (outcome.Plan plan)) tree before after left added =

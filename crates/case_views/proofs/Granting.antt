@@ -26,7 +26,8 @@ told_more p u c s before after b added told so_far rest t below = elim (cases_eq
   | inr differ ↦
       let less : t < s = omega (arith, below, differ) in
       let same : is_member after t ≡ is_member before t =
-      added t ∙ ap (λ x. is_member before t || (b && x)) (eq_below t s less) ∙ ap (λ x. is_member before t || x) (and-false b) ∙ or-false (is_member before t) in
+      added t ∙ ap (λ x. is_member before t || (b && x)) (eq_below t s less) ∙ ap (λ x. is_member before t || x) (and-false b) ∙
+      or-false (is_member before t) in
       subst (λ x. MatchBool x (IsGrantable p c t u) (¬ IsGrantable p c t u)) (sym same) (so_far t less)
 ]
 

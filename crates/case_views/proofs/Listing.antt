@@ -39,7 +39,8 @@ abbrev pub refused : PolicyShape → ℕ → Place → Type 0
 refused p u x = ¬ IsGrantable p x.of.case x.step u
 
 -- the work of two lists of steps
-pub granted_append : (p : PolicyShape) (u : ℕ) (xs ys : List Place) (ns ms all : List WorkItem) → AreGrantable p u xs ns → AreGrantable p u ys ms → all ≡ ns ++ ms →
+pub granted_append : (p : PolicyShape) (u : ℕ) (xs ys : List Place) (ns ms all : List WorkItem) → AreGrantable p u xs ns → AreGrantable p u ys ms →
+    all ≡ ns ++ ms →
     AreGrantable p u (xs ++ ys) all
 granted_append p u xs ys ns ms all first second same =
     subst (AreGrantable p u (xs ++ ys)) (sym same) (those_append (granted p u) (refused p u) item_of xs ys ns ms first second)
@@ -64,7 +65,8 @@ pub told_by : (p : PolicyShape) (c : CaseShape) (t u : ℕ) (o : Outcome) → Is
     HasSolved (problem_of p c.flow) (assigned_with c t u) (finished_of c) o → MatchBool (is_plan o) (IsGrantable p c t u) (¬ IsGrantable p c t u)
 told_by p c t u (outcome.Plan plan) well clear found = record { clear = clear; completable = (plan, found) }
 told_by p c t u (outcome.Refuted tree) well clear found = λ grantable.
-    refutes_soundly (problem_of p c.flow) (assigned_with c t u) (finished_of c) (shape_of tree) well (claimed_assigned c t u (free_of (state_at c t) _ clear)) found.refutes grantable.completable
+    refutes_soundly (problem_of p c.flow) (assigned_with c t u) (finished_of c) (shape_of tree) well
+    (claimed_assigned c t u (free_of (state_at c t) _ clear)) found.refutes grantable.completable
 
 -- where there is no cause
 pub clear_of : (o : Option Denial) → is_some o ≡ false → o ≡ None
@@ -85,7 +87,8 @@ refused_item p u e t c b items is same told =
     ([], (sym (append-nil items), none_those (granted p u) (refused p u) item_of (place e t) not))
 
 -- the steps so far, with one more
-pub step_more : (p : PolicyShape) (u : ℕ) (e : Numbered) (t : ℕ) (before after : List WorkItem) → AreGrantable p u (steps_from e t 0) before → HasListed p u (place e t) before after →
+pub step_more : (p : PolicyShape) (u : ℕ) (e : Numbered) (t : ℕ) (before after : List WorkItem) → AreGrantable p u (steps_from e t 0) before →
+    HasListed p u (place e t) before after →
     AreGrantable p u (steps_from e (t + 1) 0) after
 step_more p u e t before after first added =
     subst (λ l. AreGrantable p u l after) (sym (steps_more e t))

@@ -13,7 +13,8 @@ use Rattle.case_views.specs.Listing.{is_plan}
 use Rattle.case_views.specs.Seeing.{IsTold}
 
 -- what was found of a case tells whether it can be completed
-pub told_of : (p : PolicyShape) (c : CaseShape) (o : Outcome) → IsSoundPolicy p → HasSolved (problem_of p c.flow) (assigned_of c) (finished_of c) o → IsTold p c (is_plan o)
+pub told_of : (p : PolicyShape) (c : CaseShape) (o : Outcome) → IsSoundPolicy p → HasSolved (problem_of p c.flow) (assigned_of c) (finished_of c) o →
+    IsTold p c (is_plan o)
 told_of p c (outcome.Plan plan) sound found = (plan, found)
 told_of p c (outcome.Refuted tree) sound found =
     refutes_soundly (problem_of p c.flow) (assigned_of c) (finished_of c) (shape_of tree) (well_formed_any p c.flow sound) (finished_assigned c) found.refutes

@@ -1,5 +1,6 @@
 -- What a list gives, row by row, where threads share it.
-use Rattle.std.proofs.Common.{◌≡◌, ℕ, zero, suc, ◌+◌, ◌<◌, List, [], ◌∷◌, ◌++◌, length, take, map, get_or, Option, None, Some, Result, Ok, Err, IfOk, MatchResult, refl, sym, ap, subst, ◌∙◌, arith}
+use Rattle.std.proofs.Common.{◌≡◌, ℕ, zero, suc, ◌+◌, ◌<◌, List, [], ◌∷◌, ◌++◌, length, take, map, get_or, Option, None, Some, Result, Ok, Err, IfOk}
+use Rattle.std.proofs.Common.{MatchResult, refl, sym, ap, subst, ◌∙◌, arith}
 use Rattle.std.specs.Borrow.{Bor}
 use Rattle.std.specs.List.{AllZip, Contains, flat_map}
 use Rattle.rayon.proofs.ToStd.{slice-AllZip}
@@ -17,7 +18,8 @@ use Rattle.case_views.proofs.Listing.{granted_append, kept, stranded}
 use Rattle.case_views.proofs.Lists.{steps_append, those_append}
 
 -- where every result is a value, the values are told as the results are
-values_told : {X Y : Type 0} (E : Type 0) (Q : X → Y → Type 0) (xs : List X) (ys : List Y) → AllZip (λ x (r : Result Y E). IfOk r (Q x)) xs (map Ok ys) → AllZip Q xs ys
+values_told : {X Y : Type 0} (E : Type 0) (Q : X → Y → Type 0) (xs : List X) (ys : List Y) → AllZip (λ x (r : Result Y E). IfOk r (Q x)) xs (map Ok ys) →
+    AllZip Q xs ys
 values_told E Q [] [] each = tt
 values_told E Q [] (y ∷ ys) each = absurd each
 values_told E Q (x ∷ xs) [] each = absurd each
@@ -35,7 +37,8 @@ collected items Q zs s rs (Err e) shown each made = tt
 -- ---- one row after the other
 
 -- what is said of two lists, place by place
-zip_at : {X Y : Type 0} (Q : X → Y → Type 0) (xs : List X) (ys : List Y) (i : ℕ) (x : X) (y : Y) → i < length xs → x ≡ get_or xs i x → y ≡ get_or ys i y → AllZip Q xs ys → Q x y
+zip_at : {X Y : Type 0} (Q : X → Y → Type 0) (xs : List X) (ys : List Y) (i : ℕ) (x : X) (y : Y) → i < length xs → x ≡ get_or xs i x → y ≡ get_or ys i y →
+    AllZip Q xs ys → Q x y
 zip_at Q [] ys i x y below one other each = absurd (omega arith)
 zip_at Q (a ∷ xs) [] i x y below one other each = absurd each
 zip_at Q (a ∷ xs) (b ∷ ys) zero x y below one other each = subst (λ z. Q z y) (sym one) (subst (Q a) (sym other) each.0)
@@ -53,7 +56,8 @@ work_joined p u (r ∷ rs) (part ∷ parts) each =
     let places : steps_of (open_in (r ∷ rs)) ≡ steps_of (open_in (r ∷ [])) ++ steps_of (open_in rs) =
     ap steps_of (open_cons r rs) ∙ steps_append (open_in (r ∷ [])) (open_in rs) in
     subst (λ l. AreGrantable p u l (part ++ flat_map (λ l. l) parts)) (sym places)
-    (granted_append p u (steps_of (open_in (r ∷ []))) (steps_of (open_in rs)) part (flat_map (λ l. l) parts) (part ++ flat_map (λ l. l) parts) each.0 (work_joined p u rs parts each.1) refl)
+    (granted_append p u (steps_of (open_in (r ∷ []))) (steps_of (open_in rs)) part (flat_map (λ l. l) parts) (part ++ flat_map (λ l. l) parts) each.0
+    (work_joined p u rs parts each.1) refl)
 
 -- and so are the stranded cases
 pub stranded_joined : (p : PolicyShape) (rows : List Row) (parts : List (Option ℕ)) → AllZip (λ r part. AreStrandedIn p (r ∷ []) (list_of part)) rows parts →
@@ -63,7 +67,8 @@ stranded_joined p [] (part ∷ parts) each = absurd each
 stranded_joined p (r ∷ rs) [] each = absurd each
 stranded_joined p (r ∷ rs) (part ∷ parts) each =
     subst (λ es. AreThose (stranded p) (kept p) (λ e. e.number) es (list_of part ++ flat_map list_of parts)) (sym (open_cons r rs))
-    (those_append (stranded p) (kept p) (λ e. e.number) (open_in (r ∷ [])) (open_in rs) (list_of part) (flat_map list_of parts) each.0 (stranded_joined p rs parts each.1))
+    (those_append (stranded p) (kept p) (λ e. e.number) (open_in (r ∷ [])) (open_in rs) (list_of part) (flat_map list_of parts) each.0
+    (stranded_joined p rs parts each.1))
 
 -- ---- edits
 
@@ -71,15 +76,18 @@ stranded_joined p (r ∷ rs) (part ∷ parts) each =
 abbrev pub HavePlans : List Row → List (Option Outcome) → ℕ → List (List ℕ) → Type 0
 HavePlans rows parts i plans = (p : PolicyShape) → AllZip (IsLeftAt p) rows parts → ArePlansOf p (open_in (take i rows)) plans
 
-pub left_more : (rows : List Row) (parts : List (Option Outcome)) (i : ℕ) (r : Row) (part : Option Outcome) (plans all : List (List ℕ)) → i < length rows → r ≡ get_or rows i r → part ≡ get_or parts i part →
+pub left_more : (rows : List Row) (parts : List (Option Outcome)) (i : ℕ) (r : Row) (part : Option Outcome) (plans all : List (List ℕ)) → i < length rows →
+    r ≡ get_or rows i r → part ≡ get_or parts i part →
     HavePlans rows parts i plans → IsPartAdded part plans all None → HavePlans rows parts (i + 1) all
 left_more rows parts i r part plans all below row is so_far added p each =
     let more = added_of p r part None plans all (zip_at (IsLeftAt p) rows parts i r part below row is each) added in
     plans_more p rows i r plans more.0 all below row (so_far p each) more.1.1 more.1.0
 
 -- or one is the first without
-pub left_here : (rows : List Row) (parts : List (Option Outcome)) (i : ℕ) (r : Row) (part : Option Outcome) (plans all : List (List ℕ)) (tree : Tree) → i < length rows → r ≡ get_or rows i r → part ≡ get_or parts i part →
-    HavePlans rows parts i plans → IsPartAdded part plans all (Some tree) → (p : PolicyShape) → AllZip (IsLeftAt p) rows parts → IsFirstStranded p (open_in rows) r.number r.case.flow tree
+pub left_here : (rows : List Row) (parts : List (Option Outcome)) (i : ℕ) (r : Row) (part : Option Outcome) (plans all : List (List ℕ)) (tree : Tree) →
+    i < length rows → r ≡ get_or rows i r → part ≡ get_or parts i part →
+    HavePlans rows parts i plans → IsPartAdded part plans all (Some tree) → (p : PolicyShape) → AllZip (IsLeftAt p) rows parts →
+    IsFirstStranded p (open_in rows) r.number r.case.flow tree
 left_here rows parts i r part plans all tree below row is so_far added p each =
     let none = added_of p r part (Some tree) plans all (zip_at (IsLeftAt p) rows parts i r part below row is each) added in
     stranded_here p rows i r plans tree below row (so_far p each) none.0 none.1

@@ -1,5 +1,6 @@
 -- Inside: what the decider finds on a deed.
-use Rattle.std.specs.Prelude.{◌≡◌, ℕ, Bool, true, List, [], ◌∷◌, ◌++◌, Option, None, Some, Ok, IsTrue}
+use Rattle.std.specs.Prelude.{◌≡◌, ℕ, Bool, true, List, [], ◌∷◌, ◌++◌, Option, None, Some, Ok}
+use Rattle.std.specs.Prelude.{IsTrue}
 use Rattle.refutation_tree.specs.declared.tree.Tree.{Tree}
 use Rattle.refutation_tree.specs.Views.{shape_of}
 use Rattle.policy_book.specs.Shapes.{PolicyShape}
@@ -32,11 +33,12 @@ abbrev pub DecidesFor : Problem → List (Option ℕ) → List Bool → Verdict 
 DecidesFor p assigned finished verdict.NoMemory = Unit {0}
 DecidesFor p assigned finished verdict.OverBudget = Unit {0}
 DecidesFor p assigned finished (verdict.Plan plan) = IsValidPlan p assigned finished plan
-DecidesFor p assigned finished (verdict.Refuted tree) = IsTrue (refutes p assigned finished (shape_of tree))
+DecidesFor p assigned finished (verdict.Refuted tree) =
+    IsTrue (refutes p assigned finished (shape_of tree))
 DecidesFor p assigned finished v = ⊥
 
--- the policy after a change with plans for the open cases, or the first of them that it leaves without one, unless it was not
--- found out
+-- the policy after a change with plans for the open cases, or the first of them that it leaves
+-- without one, unless it was not found out
 abbrev pub DecidesChange : Book → Amendment → Verdict → Type 0
 DecidesChange b a verdict.NoMemory = Unit {0}
 DecidesChange b a verdict.OverBudget = Unit {0}
@@ -83,8 +85,10 @@ abbrev pub IsPartAdded : Option Outcome → List (List ℕ) → List (List ℕ) 
 IsPartAdded None before after tree = (tree ≡ None) × (after ≡ before)
 IsPartAdded (Some o) before after tree = IsAdded o before after tree
 
--- a plan for the case of a row is added to others, if the case is open; or there is none, as a tree shows
+-- a plan for the case of a row is added to others, if the case is open; or there is none, as a tree
+-- shows
 abbrev pub HasAdded : PolicyShape → Row → List (List ℕ) → List (List ℕ) → Option Tree → Type 0
 HasAdded p r before after None =
-    (more : List (List ℕ)) × ((after ≡ before ++ more) × ArePlansOf p (open_cases (numbered r ∷ [])) more)
+    (more : List (List ℕ)) ×
+    ((after ≡ before ++ more) × ArePlansOf p (open_cases (numbered r ∷ [])) more)
 HasAdded p r before after (Some tree) = (is_open r.case ≡ true) × IsTreeOf p r.case tree

@@ -9,7 +9,8 @@ use Rattle.case_views.specs.declared.granted.Work.{Work}
 
 -- a set has the steps of a case that a user would be granted, and no other step of it
 pub record TellsSteps (p : PolicyShape) (u : ℕ) (c : CaseShape) (steps : List Bool) : Type 0 where
-  pub told : (s : ℕ) → s < length c.states → MatchBool (is_member steps s) (IsGrantable p c s u) (¬ IsGrantable p c s u)
+  pub told : (s : ℕ) → s < length c.states →
+      MatchBool (is_member steps s) (IsGrantable p c s u) (¬ IsGrantable p c s u)
 
 -- what was found is right for a user under a policy
 abbrev pub TellsWork : PolicyShape → ℕ → Work → Type 0

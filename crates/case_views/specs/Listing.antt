@@ -1,5 +1,6 @@
 -- Inside: what views list of some rows of a table of cases.
-use Rattle.std.specs.Prelude.{◌≡◌, ℕ, Bool, true, false, List, [], ◌∷◌, ◌++◌, Option, None, Some, map}
+use Rattle.std.specs.Prelude.{◌≡◌, ℕ, Bool, true, false, List, [], ◌∷◌, ◌++◌, Option, None, Some}
+use Rattle.std.specs.Prelude.{map}
 use Rattle.policy_book.specs.Shapes.{PolicyShape}
 use Rattle.policy_book.specs.Policies.{problem_of}
 use Rattle.case_record.specs.Cases.{assigned_of, finished_of, is_open}
@@ -20,7 +21,8 @@ open_in rows = open_cases (map numbered rows)
 -- those of some steps that would be granted to a user
 abbrev pub AreGrantable : PolicyShape → ℕ → List Place → List WorkItem → Type 0
 AreGrantable p u places items =
-    AreThose (λ x. IsGrantable p x.of.case x.step u) (λ x. ¬ IsGrantable p x.of.case x.step u) item_of places items
+    AreThose (λ x. IsGrantable p x.of.case x.step u) (λ x. ¬ IsGrantable p x.of.case x.step u)
+    item_of places items
 
 -- the work of a user in the cases of rows
 abbrev pub IsWorkIn : PolicyShape → ℕ → List Row → List WorkItem → Type 0
@@ -28,7 +30,8 @@ IsWorkIn p u rows items = AreGrantable p u (steps_of (open_in rows)) items
 
 -- a step is listed behind others, if it would be granted
 abbrev pub HasListed : PolicyShape → ℕ → Place → List WorkItem → List WorkItem → Type 0
-HasListed p u place before after = (more : List WorkItem) × ((after ≡ before ++ more) × AreGrantable p u (place ∷ []) more)
+HasListed p u place before after = (more : List WorkItem) ×
+    ((after ≡ before ++ more) × AreGrantable p u (place ∷ []) more)
 
 -- the numbers of the open cases of rows that cannot be completed under a policy
 abbrev pub AreStrandedIn : PolicyShape → List Row → List ℕ → Type 0
@@ -43,7 +46,8 @@ list_of (Some x) = x ∷ []
 abbrev pub IsLeftAt : PolicyShape → Row → Option Outcome → Type 0
 IsLeftAt p r None = is_open r.case ≡ false
 IsLeftAt p r (Some o) =
-    (is_open r.case ≡ true) × HasSolved (problem_of p r.case.flow) (assigned_of r.case) (finished_of r.case) o
+    (is_open r.case ≡ true) ×
+    HasSolved (problem_of p r.case.flow) (assigned_of r.case) (finished_of r.case) o
 
 -- what was found is a plan
 abbrev pub is_plan : Outcome → Bool

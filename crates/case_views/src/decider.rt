@@ -10,7 +10,8 @@ ghost use Rattle.wf_board.specs.Deeds.{DecidesDeed};
 ghost use Rattle.wf_board.specs.Found.{AreFound, IsAllowed, IsFound};
 ghost use Rattle.wf_board.specs.Kept.{ArePlanned};
 ghost use Rattle.wf_board.specs.Verdicts.{IsPlanFor};
-ghost use Rattle.case_views.specs.Deciding.{verdict_without, DecidesFor, DecidesWhatIf, DecidesWork, IsVerdictOf};
+ghost use Rattle.case_views.specs.Deciding.{verdict_without, DecidesFor, DecidesWhatIf};
+ghost use Rattle.case_views.specs.Deciding.{DecidesWork, IsVerdictOf};
 
 use crate::edit_decider::edit_verdict;
 use crate::found::{Unfound, outcome_fresh, outcome_with, plan_fresh, plan_with};

@@ -9,7 +9,8 @@ ghost use Rattle.wf_board.specs.Boards.{book_of};
 ghost use Rattle.wf_board.specs.Edited.{IsPlanOf};
 ghost use Rattle.wf_board.specs.Found.{IsAllowed};
 ghost use Rattle.wf_board.specs.Kept.{ArePlanned, IsOfPolicy, IsPlanned};
-ghost use Rattle.case_views.specs.Deciding.{DecidesChange, HasAdded, IsAdded, IsLeft, IsPartAdded, IsVerdictOn};
+ghost use Rattle.case_views.specs.Deciding.{DecidesChange, HasAdded, IsAdded, IsLeft, IsPartAdded};
+ghost use Rattle.case_views.specs.Deciding.{IsVerdictOn};
 ghost use Rattle.case_views.specs.Listing.{IsLeftAt, open_in};
 
 use crate::decider::verdict_without;
@@ -140,8 +141,8 @@ fn add_outcome(outcome: &Outcome, plans: &mut Vec<Plan>) -> Result<Option<Tree>,
     }
 }
 
-/// What the changed policy leaves the case of a row, if it is open. Where its plan is broken, the one
-/// that was found for another case is tried first, and what is found here is kept for the next.
+/// What the changed policy leaves the case of a row, if it is open. Where its plan is broken, the
+/// one that was found for another case is tried first, and what is found here is kept for the next.
 pub(crate) fn left_at(
     alloc: Global,
     p: &Policy,

@@ -47,8 +47,8 @@ impl Work {
         None
     }
 
-    /// Remembers the steps of a case, in the place of another where there are many. Where there is no
-    /// memory for it, they are not remembered.
+    /// Remembers the steps of a case, in the place of another where there are many. Where there is
+    /// no memory for it, they are not remembered.
     pub(crate) fn keep(&mut self, case: &Case, steps: StepSet)
         ensures { (p : PolicyShape) → (u : ℕ) → TellsWork p u self.old
             → TellsSteps p u case.now steps → TellsWork p u self.new }

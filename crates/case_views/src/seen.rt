@@ -55,8 +55,8 @@ impl Seen {
         None
     }
 
-    /// Remembers whether a case can be completed, in the place of another where there are many. Where
-    /// there is no memory for it, it is not remembered.
+    /// Remembers whether a case can be completed, in the place of another where there are many.
+    /// Where there is no memory for it, it is not remembered.
     pub(crate) fn keep(&mut self, case: &Case, completable: bool)
         ensures { (p : PolicyShape) → TellsRight p self.old → IsTold p case.now completable
             → TellsRight p self.new }

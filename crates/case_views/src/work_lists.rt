@@ -1,5 +1,6 @@
 //! Work lists: the steps of the open cases that a user would be granted.
-ghost use Rattle.std.specs.Prelude.{◌≡◌, ℕ, ◌<◌, ◌∷◌, ◌&&◌, ◌||◌, ◌==◌, [], length, IfOk, MatchBool, OnOk};
+ghost use Rattle.std.specs.Prelude.{◌≡◌, ℕ, ◌<◌, ◌∷◌, ◌&&◌, ◌||◌, ◌==◌, [], length, IfOk};
+ghost use Rattle.std.specs.Prelude.{MatchBool, OnOk};
 ghost use Rattle.wf_names.specs.declared.limits.TheConstants.{STEP_LIMIT};
 ghost use Rattle.constraint_forms.specs.Assigned.{is_member};
 ghost use Rattle.policy_book.specs.Shapes.{PolicyShape};
@@ -25,8 +26,8 @@ use wsp_solver::Outcome;
 
 /// The work of a user: the steps of the open cases that the user would be granted now, by ascending
 /// case and step. A step against which there is a cause is left at once; for the others the plan
-/// that is kept for the case decides where it gives the user the step, else a plan near it where one
-/// is valid, and else a search.
+/// that is kept for the case decides where it gives the user the step, else a plan near it where
+/// one is valid, and else a search.
 pub fn worklist(alloc: Global, snap: &Snap, u: UserId) -> Result<WorkList, Unfound>
     requires { u < length snap.now.policy.roster.users }
     ensures { IfOk result (IsWorkOf (book_on snap.now) u) }

@@ -1,5 +1,6 @@
 -- Assignments with one more step given, and what tests say.
-use Rattle.std.proofs.Common.{◌≡◌, refl, sym, ap, subst, ◌∙◌, ℕ, ◌<◌, ◌≤◌, true, false, not, List, length, get_or, Option, None, Some, is_some, slice_set, eqb, leb, ◌⊎◌, ◌≢◌, inl, inr}
+use Rattle.std.proofs.Common.{◌≡◌, refl, sym, ap, subst, ◌∙◌, ℕ, ◌<◌, ◌≤◌, true, false, not, List, length, get_or, Option, None, Some, is_some, slice_set, eqb}
+use Rattle.std.proofs.Common.{leb, ◌⊎◌, ◌≢◌, inl, inr}
 use Rattle.std.proofs.lemmas.Bool.{false≢true}
 use Rattle.std.proofs.lemmas.Bool.Decides.{eqb_tells, leb_tells}
 use Rattle.std.proofs.lemmas.List.{get_or-set_same, get_or-set_other, set_past}
@@ -39,7 +40,8 @@ given a s u t w h = at_step (eqb_tells t s)
   where
     within : t ≡ s → ((leb (length a) s ≡ true) × (length a ≤ s)) ⊎ ((leb (length a) s ≡ false) × (s < length a)) → ((t ≡ s) × (w ≡ u)) ⊎ (user_at a t ≡ Some w)
     within same (inl past) = inr (sym (given_past a s u t past.1) ∙ h)
-    within same (inr below) = inl (same, sym (same_some u w (sym (subst (λ k. user_at (slice_set a s (Some u)) k ≡ Some u) (sym same) (given_same a s u below.1)) ∙ h)))
+    within same (inr below) =
+        inl (same, sym (same_some u w (sym (subst (λ k. user_at (slice_set a s (Some u)) k ≡ Some u) (sym same) (given_same a s u below.1)) ∙ h)))
 
     at_step : ((eqb t s ≡ true) × (t ≡ s)) ⊎ ((eqb t s ≡ false) × (t ≢ s)) → ((t ≡ s) × (w ≡ u)) ⊎ (user_at a t ≡ Some w)
     at_step (inl same) = within same.1 (leb_tells (length a) s)

@@ -1,5 +1,6 @@
 -- A tree that does not mention an assigned step refutes without it too.
-use Rattle.std.proofs.Common.{◌≡◌, ◌≢◌, refl, sym, ap, ◌∙◌, ℕ, ◌<◌, ◌≤◌, Bool, true, false, not, arith, ◌&&◌, ◌==◌, List, [], ◌∷◌, length, Option, None, Some, is_some, slice_get, slice_set, eqb, leb, nat_lt, ◌⊎◌, inl, inr}
+use Rattle.std.proofs.Common.{◌≡◌, ◌≢◌, refl, sym, ap, ◌∙◌, ℕ, ◌<◌, ◌≤◌, Bool, true, false, not, arith, ◌&&◌, ◌==◌, List, [], ◌∷◌, length, Option, None, Some}
+use Rattle.std.proofs.Common.{is_some, slice_get, slice_set, eqb, leb, nat_lt, ◌⊎◌, inl, inr}
 use Rattle.std.proofs.lemmas.Bool.{false≢true, and_from}
 use Rattle.std.proofs.lemmas.Bool.Decides.{eqb_tells, leb_tells, nat_tests}
 use Rattle.std.proofs.lemmas.List.{length-set}
@@ -10,7 +11,8 @@ use Rattle.constraint_forms.proofs.RuleLaws.{falsified_by_named}
 use Rattle.refutation_tree.specs.Shapes.{Shape, Kids, holder, rule, node, no_kids, tree_kid, twin_kid}
 use Rattle.policy_book.specs.Plans.{Problem}
 use Rattle.policy_book.specs.Twins.{are_twins, is_one_of}
-use Rattle.policy_book.specs.Refuting.{refutes, all_refute, have_users, authorised_users, is_misheld, is_broken, is_unassigned, is_rule_naming, mentions, any_mentions}
+use Rattle.policy_book.specs.Refuting.{refutes, all_refute, have_users, authorised_users, is_misheld, is_broken, is_unassigned, is_rule_naming, mentions}
+use Rattle.policy_book.specs.Refuting.{any_mentions}
 use Rattle.certificate_check.specs.Laws.{UnmentionedStepDrops}
 use Rattle.basics.proofs.Booleans.{and_both, or_false}
 use Rattle.certificate_check.proofs.TwinLaws.{mean_twins, twins_mean}
@@ -32,17 +34,21 @@ without_given a b s u t v w apart = record {
   others = λ x far. at x far (eqb_tells x t);
 }
   where
-    within : (x : ℕ) → x ≢ s → x ≡ t → ((leb (length a) t ≡ true) × (length a ≤ t)) ⊎ ((leb (length a) t ≡ false) × (t < length a)) → user_at (slice_set a t (Some v)) x ≡ user_at (slice_set b t (Some v)) x
+    within : (x : ℕ) → x ≢ s → x ≡ t → ((leb (length a) t ≡ true) × (length a ≤ t)) ⊎ ((leb (length a) t ≡ false) × (t < length a)) →
+        user_at (slice_set a t (Some v)) x ≡ user_at (slice_set b t (Some v)) x
     within x far same (inl past) = given_past a t v x past.1 ∙ w.others x far ∙ sym (given_past b t v x (omega (arith, past.1, w.long)))
     within x far same (inr below) =
-        ap (user_at (slice_set a t (Some v))) same ∙ given_same a t v below.1 ∙ sym (given_same b t v (omega (arith, below.1, w.long))) ∙ sym (ap (user_at (slice_set b t (Some v))) same)
+        ap (user_at (slice_set a t (Some v))) same ∙ given_same a t v below.1 ∙ sym (given_same b t v (omega (arith, below.1, w.long))) ∙
+        sym (ap (user_at (slice_set b t (Some v))) same)
 
-    at : (x : ℕ) → x ≢ s → ((eqb x t ≡ true) × (x ≡ t)) ⊎ ((eqb x t ≡ false) × (x ≢ t)) → user_at (slice_set a t (Some v)) x ≡ user_at (slice_set b t (Some v)) x
+    at : (x : ℕ) → x ≢ s → ((eqb x t ≡ true) × (x ≡ t)) ⊎ ((eqb x t ≡ false) × (x ≢ t)) →
+        user_at (slice_set a t (Some v)) x ≡ user_at (slice_set b t (Some v)) x
     at x far (inl same) = within x far same.1 (leb_tells (length a) t)
     at x far (inr other) = given_other a t v x other.1 ∙ w.others x far ∙ sym (given_other b t v x other.1)
 
 -- a rule that does not name the step is falsified by both or by none
-broken_without : (p : Problem) (a b : List (Option ℕ)) (s u : ℕ) → IsWithout a b s u → (o : Option Rule) → is_rule_naming s o ≡ false → is_broken p b o ≡ is_broken p a o
+broken_without : (p : Problem) (a b : List (Option ℕ)) (s u : ℕ) → IsWithout a b s u → (o : Option Rule) → is_rule_naming s o ≡ false →
+    is_broken p b o ≡ is_broken p a o
 broken_without p a b s u w None h = refl
 broken_without p a b s u w (Some r) h =
     falsified_by_named p.related r (user_at b) (user_at a) (λ t named. sym (w.others t (λ same. false≢true (sym h ∙ ap (names r) (sym same) ∙ named))))
@@ -63,7 +69,8 @@ twins_without p a b s u without v w h =
     before t x is (inr apart) = without.others t apart.1 ∙ is
 
 mutual
-  dropped : (p : Problem) (a b : List (Option ℕ)) (finished : List Bool) (s u : ℕ) → IsWithout a b s u → (tree : Shape) → mentions p.rules s tree ≡ false → refutes p a finished tree ≡ true → refutes p b finished tree ≡ true
+  dropped : (p : Problem) (a b : List (Option ℕ)) (finished : List Bool) (s u : ℕ) → IsWithout a b s u → (tree : Shape) → mentions p.rules s tree ≡ false →
+      refutes p a finished tree ≡ true → refutes p b finished tree ≡ true
   dropped p a b finished s u w (holder k) silent h =
       let apart : k ≢ s = λ same. false≢true (sym silent ∙ here k same) in
       ap (λ o. nat_lt k p.steps && is_misheld p finished k o) (sym (w.others k apart)) ∙ h
@@ -78,9 +85,11 @@ mutual
       let apart : k ≢ s = λ same. none_not_some u (sym (not_some (user_at a k) step.1) ∙ ap (user_at a) same ∙ w.here) in
       let free : is_unassigned p b k ≡ true = ap (λ o. nat_lt k p.steps && not (is_some o)) (sym (w.others k apart)) ∙ both.0 in
       and_from (is_unassigned p b k) (have_users (authorised_users p k) kids && all_refute p b finished k [] kids) free
-      (and_from (have_users (authorised_users p k) kids) (all_refute p b finished k [] kids) rest.0 (kids_dropped p a b finished s u w k apart [] kids silent rest.1))
+      (and_from (have_users (authorised_users p k) kids) (all_refute p b finished k [] kids) rest.0
+      (kids_dropped p a b finished s u w k apart [] kids silent rest.1))
 
-  kids_dropped : (p : Problem) (a b : List (Option ℕ)) (finished : List Bool) (s u : ℕ) → IsWithout a b s u → (k : ℕ) → k ≢ s → (earlier : List ℕ) (kids : Kids) → any_mentions p.rules s kids ≡ false → all_refute p a finished k earlier kids ≡ true → all_refute p b finished k earlier kids ≡ true
+  kids_dropped : (p : Problem) (a b : List (Option ℕ)) (finished : List Bool) (s u : ℕ) → IsWithout a b s u → (k : ℕ) → k ≢ s → (earlier : List ℕ)
+      (kids : Kids) → any_mentions p.rules s kids ≡ false → all_refute p a finished k earlier kids ≡ true → all_refute p b finished k earlier kids ≡ true
   kids_dropped p a b finished s u w k apart earlier no_kids silent h = refl
   kids_dropped p a b finished s u w k apart earlier (tree_kid v t kids) silent h =
       let quiet = or_false (mentions p.rules s t) (any_mentions p.rules s kids) silent in

@@ -1,5 +1,6 @@
 -- The walk over a tree's branches.
-use Rattle.std.proofs.Common.{◌≡◌, refl, sym, ap, subst, ◌∙◌, ℕ, zero, suc, ◌+◌, ◌-◌, ◌<◌, ◌≤◌, Bool, true, false, not, ◌&&◌, ◌||◌, ◌==◌, List, [], ◌∷◌, length, get_or, take, drop, ◌++◌, Option, Some, is_some, slice_set, arith, nat_lt, if◌then◌else◌, ◌⊎◌, inl, inr}
+use Rattle.std.proofs.Common.{◌≡◌, refl, sym, ap, subst, ◌∙◌, ℕ, zero, suc, ◌+◌, ◌-◌, ◌<◌, ◌≤◌, Bool, true, false, not, ◌&&◌, ◌||◌, ◌==◌, List, [], ◌∷◌, length}
+use Rattle.std.proofs.Common.{get_or, take, drop, ◌++◌, Option, Some, is_some, slice_set, arith, nat_lt, if◌then◌else◌, ◌⊎◌, inl, inr}
 use Rattle.std.proofs.lemmas.Bool.{false≢true, ltb-true, eqb-true, ne_eqb}
 use Rattle.std.proofs.lemmas.Bool.Decides.{nat_tests}
 use Rattle.std.proofs.lemmas.List.{drop-drop, length-drop, take_more}
@@ -24,13 +25,16 @@ or_none : (b c : Bool) → (b || c) ≡ ((b || false) || c)
 or_none true c = refl
 or_none false c = refl
 
-onto_mentions : (rules : List Rule) (s : ℕ) (kid : Kid) (u : ℕ) (rest : Kids) → any_mentions rules s (kid_onto kid u rest) ≡ (any_mentions rules s (kid_onto kid u no_kids) || any_mentions rules s rest)
+onto_mentions : (rules : List Rule) (s : ℕ) (kid : Kid) (u : ℕ) (rest : Kids) →
+    any_mentions rules s (kid_onto kid u rest) ≡ (any_mentions rules s (kid_onto kid u no_kids) || any_mentions rules s rest)
 onto_mentions rules s (Tree_kid t) u rest = or_none (mentions rules s (shape_of t)) (any_mentions rules s rest)
 onto_mentions rules s (Twin v) u rest = refl
 
 -- the branches from a place on mention a step: the one there or one behind it
-pub mentions_at : (rules : List Rule) (s : ℕ) (bs : List Branch) (i : ℕ) (b : Branch) → i < length bs → b ≡ get_or bs i b → any_mentions rules s (kids_of_items (drop i bs)) ≡ (any_mentions rules s (branch_onto b no_kids) || any_mentions rules s (kids_of_items (drop (i + 1) bs)))
-mentions_at rules s bs i b below is = ap (any_mentions rules s) (kids_of_items-drop bs i b below is) ∙ onto_mentions rules s b.kid b.user (kids_of_items (drop (i + 1) bs))
+pub mentions_at : (rules : List Rule) (s : ℕ) (bs : List Branch) (i : ℕ) (b : Branch) → i < length bs → b ≡ get_or bs i b → any_mentions rules s
+    (kids_of_items (drop i bs)) ≡ (any_mentions rules s (branch_onto b no_kids) || any_mentions rules s (kids_of_items (drop (i + 1) bs)))
+mentions_at rules s bs i b below is = ap (any_mentions rules s) (kids_of_items-drop bs i b below is) ∙
+    onto_mentions rules s b.kid b.user (kids_of_items (drop (i + 1) bs))
 
 -- ---- all refute
 
@@ -38,7 +42,8 @@ and_all : (b d : Bool) → (b && d) ≡ ((b && true) && d)
 and_all true d = refl
 and_all false d = refl
 
-onto_refutes : (p : Problem) (a : List (Option ℕ)) (done : List Bool) (s : ℕ) (earlier : List ℕ) (kid : Kid) (u : ℕ) (rest : Kids) → all_refute p a done s earlier (kid_onto kid u rest) ≡ (all_refute p a done s earlier (kid_onto kid u no_kids) && all_refute p a done s (user_onto kid u earlier) rest)
+onto_refutes : (p : Problem) (a : List (Option ℕ)) (done : List Bool) (s : ℕ) (earlier : List ℕ) (kid : Kid) (u : ℕ) (rest : Kids) → all_refute p a done s
+    earlier (kid_onto kid u rest) ≡ (all_refute p a done s earlier (kid_onto kid u no_kids) && all_refute p a done s (user_onto kid u earlier) rest)
 onto_refutes p a done s earlier (Tree_kid t) u rest = and_all (refutes p (slice_set a s (Some u)) done (shape_of t)) (all_refute p a done s (u ∷ earlier) rest)
 onto_refutes p a done s earlier (Twin v) u rest = and_all (is_one_of earlier v && are_twins p a u v) (all_refute p a done s earlier rest)
 
@@ -46,18 +51,21 @@ tree_users-push : (users : List ℕ) (bs : List Branch) (b : Branch) → tree_us
 tree_users-push users [] b = refl
 tree_users-push users (x ∷ bs) b = tree_users-push (user_onto x.kid x.user users) bs b
 
-pub tree_users-more : (bs : List Branch) (i : ℕ) (b : Branch) → i < length bs → b ≡ get_or bs i b → tree_users [] (take (i + 1) bs) ≡ user_onto b.kid b.user (tree_users [] (take i bs))
+pub tree_users-more : (bs : List Branch) (i : ℕ) (b : Branch) → i < length bs → b ≡ get_or bs i b →
+    tree_users [] (take (i + 1) bs) ≡ user_onto b.kid b.user (tree_users [] (take i bs))
 tree_users-more bs i b below is =
     ap (tree_users []) (take_more bs i b below ∙ ap (λ x. take i bs ++ x ∷ []) (sym is)) ∙ tree_users-push [] (take i bs) b
 
 -- the branches from a place on refute: the one there, and those behind it
 pub refutes_at : (p : Problem) (a : List (Option ℕ)) (done : List Bool) (s : ℕ) (bs : List Branch) (i : ℕ) (b : Branch) → i < length bs → b ≡ get_or bs i b →
     all_refute p a done s (tree_users [] (take i bs)) (kids_of_items (drop i bs))
-    ≡ (all_refute p a done s (tree_users [] (take i bs)) (branch_onto b no_kids) && all_refute p a done s (tree_users [] (take (i + 1) bs)) (kids_of_items (drop (i + 1) bs)))
+    ≡ (all_refute p a done s (tree_users [] (take i bs)) (branch_onto b no_kids) &&
+    all_refute p a done s (tree_users [] (take (i + 1) bs)) (kids_of_items (drop (i + 1) bs)))
 refutes_at p a done s bs i b below is =
     ap (all_refute p a done s (tree_users [] (take i bs))) (kids_of_items-drop bs i b below is)
     ∙ onto_refutes p a done s (tree_users [] (take i bs)) b.kid b.user (kids_of_items (drop (i + 1) bs))
-    ∙ ap (λ users. all_refute p a done s (tree_users [] (take i bs)) (branch_onto b no_kids) && all_refute p a done s users (kids_of_items (drop (i + 1) bs))) (sym (tree_users-more bs i b below is))
+    ∙ ap (λ users. all_refute p a done s (tree_users [] (take i bs)) (branch_onto b no_kids) &&
+    all_refute p a done s users (kids_of_items (drop (i + 1) bs))) (sym (tree_users-more bs i b below is))
 
 -- ---- users with trees
 
@@ -66,7 +74,8 @@ onto_one (Tree_kid t) u users x = or_none (u == x) (is_one_of users x)
 onto_one (Twin v) u users x = refl
 
 -- one more branch: it is the user's and has a tree, or one before it
-pub one_of_more : (bs : List Branch) (i : ℕ) (b : Branch) (x : ℕ) → i < length bs → b ≡ get_or bs i b → is_one_of (tree_users [] (take (i + 1) bs)) x ≡ (is_one_of (user_onto b.kid b.user []) x || is_one_of (tree_users [] (take i bs)) x)
+pub one_of_more : (bs : List Branch) (i : ℕ) (b : Branch) (x : ℕ) → i < length bs → b ≡ get_or bs i b →
+    is_one_of (tree_users [] (take (i + 1) bs)) x ≡ (is_one_of (user_onto b.kid b.user []) x || is_one_of (tree_users [] (take i bs)) x)
 one_of_more bs i b x below is = ap (λ users. is_one_of users x) (tree_users-more bs i b below is) ∙ onto_one b.kid b.user (tree_users [] (take i bs)) x
 
 onto_keeps : (kid : Kid) (u : ℕ) (users : List ℕ) (x : ℕ) → is_one_of users x ≡ true → is_one_of (user_onto kid u users) x ≡ true
@@ -76,7 +85,8 @@ tree_users-keep : (bs : List Branch) (users : List ℕ) (x : ℕ) → is_one_of 
 tree_users-keep [] users x h = h
 tree_users-keep (b ∷ bs) users x h = tree_users-keep bs (user_onto b.kid b.user users) x (onto_keeps b.kid b.user users x h)
 
-tree_users-take : (n : ℕ) (bs : List Branch) (users : List ℕ) (x : ℕ) → is_one_of (tree_users users (take n bs)) x ≡ true → is_one_of (tree_users users bs) x ≡ true
+tree_users-take : (n : ℕ) (bs : List Branch) (users : List ℕ) (x : ℕ) → is_one_of (tree_users users (take n bs)) x ≡ true →
+    is_one_of (tree_users users bs) x ≡ true
 tree_users-take zero bs users x h = tree_users-keep bs users x h
 tree_users-take (suc n) [] users x h = h
 tree_users-take (suc n) (b ∷ bs) users x h = tree_users-take n bs (user_onto b.kid b.user users) x h
@@ -90,15 +100,18 @@ onto_below n (Tree_kid t) u rest h = h
 onto_below n (Twin v) u rest h = h
 
 -- a user whose branch has a tree is a user of the branches
-tree_users-below : (n : ℕ) (bs : List Branch) (users : List ℕ) (x : ℕ) → AreUsersBelow n (kids_of_items bs) → (is_one_of users x ≡ true → x < n) → is_one_of (tree_users users bs) x ≡ true → x < n
+tree_users-below : (n : ℕ) (bs : List Branch) (users : List ℕ) (x : ℕ) → AreUsersBelow n (kids_of_items bs) → (is_one_of users x ≡ true → x < n) →
+    is_one_of (tree_users users bs) x ≡ true → x < n
 tree_users-below n [] users x known before h = before h
 tree_users-below n (b ∷ bs) users x known before h =
     let parts = onto_below n b.kid b.user (kids_of_items bs) known in
-    tree_users-below n bs (user_onto b.kid b.user users) x parts.1 (λ e. onto_known b.kid parts.0 (or_cases (is_one_of (user_onto b.kid b.user []) x) (is_one_of users x) (sym (onto_one b.kid b.user users x) ∙ e))) h
+    tree_users-below n bs (user_onto b.kid b.user users) x parts.1
+    (λ e. onto_known b.kid parts.0 (or_cases (is_one_of (user_onto b.kid b.user []) x) (is_one_of users x) (sym (onto_one b.kid b.user users x) ∙ e))) h
   where
     onto_known : (kid : Kid) → b.user < n → (is_one_of (user_onto kid b.user []) x ≡ true) ⊎ (is_one_of users x ≡ true) → x < n
     onto_known kid known (inr old) = before old
-    onto_known (Tree_kid t) known (inl own) = subst (λ y. y < n) (either (or_cases (b.user == x) false own) (λ e. eqb-true b.user x e) (λ e. absurd (false≢true e))) known
+    onto_known (Tree_kid t) known (inl own) =
+        subst (λ y. y < n) (either (or_cases (b.user == x) false own) (λ e. eqb-true b.user x e) (λ e. absurd (false≢true e))) known
     onto_known (Twin v) known (inl own) = absurd (false≢true own)
 
 pub tree_user_below : (n : ℕ) (bs : List Branch) (x : ℕ) → AreUsersBelow n (kids_of_items bs) → is_one_of (tree_users [] bs) x ≡ true → x < n
@@ -112,7 +125,8 @@ have_users-begin u us (tree_kid v t kids) = refl
 have_users-begin u us (twin_kid v w kids) = refl
 
 -- a user's branch comes next, or not, and the others have theirs behind it
-pub users_next : (u : ℕ) (us : List ℕ) (bs : List Branch) (i : ℕ) (b : Bool) → b ≡ begins_with u (kids_of_items (drop i bs)) → have_users (u ∷ us) (kids_of_items (drop i bs)) ≡ (b && have_users us (kids_of_items (drop (i + 1) bs)))
+pub users_next : (u : ℕ) (us : List ℕ) (bs : List Branch) (i : ℕ) (b : Bool) → b ≡ begins_with u (kids_of_items (drop i bs)) →
+    have_users (u ∷ us) (kids_of_items (drop i bs)) ≡ (b && have_users us (kids_of_items (drop (i + 1) bs)))
 users_next u us bs i b is =
     have_users-begin u us (kids_of_items (drop i bs)) ∙ ap (λ x. x && have_users us (kids_from 1 (kids_of_items (drop i bs)))) (sym is)
     ∙ ap (λ k. b && have_users us k) (kids_from-items 1 (drop i bs) ∙ ap kids_of_items (drop-drop 1 i bs))
@@ -134,7 +148,8 @@ passing_below test k zero most few (tree_kid v t kids) h = absurd (false≢true 
 passing_below test k zero most few (twin_kid v w kids) h = absurd (false≢true h)
 passing_below test k (suc n) most few kids h = at (test k) kids h (λ rest e. passing_below test (k + 1) n most (omega arith) rest e)
   where
-    at : (b : Bool) (left : Kids) → have_users (if b then k ∷ passing test (k + 1) n else passing test (k + 1) n) left ≡ true → ((rest : Kids) → have_users (passing test (k + 1) n) rest ≡ true → AreUsersBelow most rest) → AreUsersBelow most left
+    at : (b : Bool) (left : Kids) → have_users (if b then k ∷ passing test (k + 1) n else passing test (k + 1) n) left ≡ true →
+        ((rest : Kids) → have_users (passing test (k + 1) n) rest ≡ true → AreUsersBelow most rest) → AreUsersBelow most left
     at true no_kids e later = absurd (false≢true e)
     at true (tree_kid v t rest) e later =
         let both = and_both (k == v) (have_users (passing test (k + 1) n) rest) e in
@@ -162,8 +177,10 @@ user_below n (x ∷ bs) zero below b is h = subst (λ (y : Branch). y.user < n) 
 user_below n (x ∷ bs) (suc i) below b is h = user_below n bs i (omega arith) b is (onto_below n x.kid x.user (kids_of_items bs) h).1
 
 -- the user of each branch is a user of the policy
-pub branch_user : (p : Problem) (s : ℕ) (bs : List Branch) → have_users (authorised_users p s) (kids_of_items bs) ≡ true → (i : ℕ) → i < length bs → (b : Branch) → b ≡ get_or bs i b → b.user < p.users
-branch_user p s bs users i below b is = user_below p.users bs i below b is (passing_below (p.authorised s) 0 p.users p.users (omega arith) (kids_of_items bs) users)
+pub branch_user : (p : Problem) (s : ℕ) (bs : List Branch) → have_users (authorised_users p s) (kids_of_items bs) ≡ true → (i : ℕ) → i < length bs →
+    (b : Branch) → b ≡ get_or bs i b → b.user < p.users
+branch_user p s bs users i below b is =
+    user_below p.users bs i below b is (passing_below (p.authorised s) 0 p.users p.users (omega arith) (kids_of_items bs) users)
 
 -- ---- nodes
 
@@ -176,7 +193,8 @@ nodes_left zero bs = omega arith
 nodes_left (suc i) [] = omega arith
 nodes_left (suc i) (x ∷ bs) = omega (arith, nodes_left i bs, onto_nodes x.kid x.user (kids_of_items bs))
 
-pub nodes_within : (bs : List Branch) (i : ℕ) (b : Branch) → i < length bs → b ≡ get_or bs i b → nodes_of_kids (branch_onto b no_kids) ≤ nodes_of_kids (kids_of_items bs)
+pub nodes_within : (bs : List Branch) (i : ℕ) (b : Branch) → i < length bs → b ≡ get_or bs i b →
+    nodes_of_kids (branch_onto b no_kids) ≤ nodes_of_kids (kids_of_items bs)
 nodes_within bs i b below is = omega (arith, nodes-drop bs i b below is, nodes_left i bs)
 
 -- ---- what is assigned

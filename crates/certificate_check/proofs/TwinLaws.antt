@@ -1,5 +1,6 @@
 -- Twins: what the test tells, chains of twins, and plans with twins exchanged.
-use Rattle.std.proofs.Common.{◌≡◌, ◌≢◌, refl, sym, ap, subst, ◌∙◌, ℕ, zero, suc, ◌<◌, ◌≤◌, Bool, true, false, not, ◌&&◌, ◌||◌, ◌==◌, List, [], ◌∷◌, length, map, Option, None, Some, slice_get, slice_set, eqb, leb, ◌⊎◌, inl, inr, arith}
+use Rattle.std.proofs.Common.{◌≡◌, ◌≢◌, refl, sym, ap, subst, ◌∙◌, ℕ, zero, suc, ◌<◌, ◌≤◌, Bool, true, false, not, ◌&&◌, ◌||◌, ◌==◌, List, [], ◌∷◌, length, map}
+use Rattle.std.proofs.Common.{Option, None, Some, slice_get, slice_set, eqb, leb, ◌⊎◌, inl, inr, arith}
 use Rattle.std.proofs.lemmas.Bool.{false≢true}
 use Rattle.std.proofs.lemmas.Bool.Decides.{eqb_tells, leb_tells}
 use Rattle.std.proofs.lemmas.List.{length-map}
@@ -12,7 +13,8 @@ use Rattle.constraint_forms.proofs.Reading.{all_as_each, each_read}
 use Rattle.constraint_forms.proofs.RuleLaws.{satisfied_by_named}
 use Rattle.constraint_forms.proofs.Exchanges.{exchange_does_not_matter}
 use Rattle.policy_book.specs.Plans.{Problem, IsValidPlan, IsWellFormed}
-use Rattle.policy_book.specs.Twins.{agree, all_below, are_related_alike, are_twins, has_no_step, is_alike_to, is_given_to, is_rule_alike, may_do_the_same, treats_alike}
+use Rattle.policy_book.specs.Twins.{agree, all_below, are_related_alike, are_twins, has_no_step, is_alike_to, is_given_to, is_rule_alike, may_do_the_same}
+use Rattle.policy_book.specs.Twins.{treats_alike}
 use Rattle.certificate_check.specs.Laws.{TwinsChain, TwinsExchange}
 use Rattle.certificate_check.proofs.Assigned.{given_other, given_same, none_not_some, same_some}
 use Rattle.certificate_check.proofs.Below.{agree_same, all_pass, each_passes, same_agree}
@@ -82,7 +84,8 @@ means_alike : (users : ℕ) (holds : ℕ → ℕ → Bool) (u v : ℕ) → AreIn
 means_alike users holds u v alike =
     and_from (all_below users test) (agree (holds u u) (holds v v) && agree (holds u v) (holds v u))
     (all_pass users test each)
-    (and_from (agree (holds u u) (holds v v)) (agree (holds u v) (holds v u)) (same_agree (holds u u) (holds v v) alike.own) (same_agree (holds u v) (holds v u) alike.mutually))
+    (and_from (agree (holds u u) (holds v v)) (agree (holds u v) (holds v u)) (same_agree (holds u u) (holds v v) alike.own)
+    (same_agree (holds u v) (holds v u) alike.mutually))
   where
     test : ℕ → Bool
     test w = (w == u || w == v) || is_alike_to holds u v w
@@ -100,7 +103,8 @@ means_alike users holds u v alike =
 
 rule_means : (p : Problem) (u v : ℕ) (o : Option Rule) → is_rule_alike p u v o ≡ true → (r : Rule) → o ≡ Some r → AreTwinsFor p.users p.related r u v
 rule_means p u v o h r is rho read =
-    alike_means p.users (p.related rho) u v (each_read r (λ x. treats_alike p.users (p.related x) u v) (subst (λ x. is_rule_alike p u v x ≡ true) is h) rho read)
+    alike_means p.users (p.related rho) u v
+    (each_read r (λ x. treats_alike p.users (p.related x) u v) (subst (λ x. is_rule_alike p u v x ≡ true) is h) rho read)
 
 means_rule : (p : Problem) (u v : ℕ) (o : Option Rule) → ((r : Rule) → o ≡ Some r → AreTwinsFor p.users p.related r u v) → is_rule_alike p u v o ≡ true
 means_rule p u v None each = refl
@@ -114,9 +118,11 @@ twins_mean p a u v h =
     let same = and_both (may_do_the_same p u v) (are_related_alike p u v) both.1 in record {
       first = no_step_means a u idle.0;
       second = no_step_means a v idle.1;
-      steps = λ s below. agree_same (p.authorised s u) (p.authorised s v) (each_passes p.steps (λ t. agree (p.authorised t u) (p.authorised t v)) same.0 s below);
+      steps = λ s below. agree_same (p.authorised s u) (p.authorised s v)
+          (each_passes p.steps (λ t. agree (p.authorised t u) (p.authorised t v)) same.0 s below);
       rules = λ k r is.
-          rule_means p u v (slice_get p.rules k) (each_passes (length p.rules) (λ j. is_rule_alike p u v (slice_get p.rules j)) same.1 k (slice_get_within p.rules k r is)) r is;
+          rule_means p u v (slice_get p.rules k)
+          (each_passes (length p.rules) (λ j. is_rule_alike p u v (slice_get p.rules j)) same.1 k (slice_get_within p.rules k r is)) r is;
     }
 
 pub mean_twins : (p : Problem) (a : List (Option ℕ)) (u v : ℕ) → AreTwins p a u v → are_twins p a u v ≡ true
@@ -145,10 +151,12 @@ twins_turned p a u v twins = record {
   rules = λ k r is rho read. alike_turned p.users (p.related rho) u v (twins.rules k r is rho read);
 }
 
-alike_chain : (users : ℕ) (holds : ℕ → ℕ → Bool) (u v w : ℕ) → u < users → v < users → w < users → AreInterchangeable users holds u v → AreInterchangeable users holds v w → AreInterchangeable users holds u w
+alike_chain : (users : ℕ) (holds : ℕ → ℕ → Bool) (u v w : ℕ) → u < users → v < users → w < users → AreInterchangeable users holds u v →
+    AreInterchangeable users holds v w → AreInterchangeable users holds u w
 alike_chain users holds u v w u_in v_in w_in one two = at (eqb_tells u v) (eqb_tells v w) (eqb_tells u w)
   where
-    at : ((eqb u v ≡ true) × (u ≡ v)) ⊎ ((eqb u v ≡ false) × (u ≢ v)) → ((eqb v w ≡ true) × (v ≡ w)) ⊎ ((eqb v w ≡ false) × (v ≢ w)) → ((eqb u w ≡ true) × (u ≡ w)) ⊎ ((eqb u w ≡ false) × (u ≢ w)) → AreInterchangeable users holds u w
+    at : ((eqb u v ≡ true) × (u ≡ v)) ⊎ ((eqb u v ≡ false) × (u ≢ v)) → ((eqb v w ≡ true) × (v ≡ w)) ⊎ ((eqb v w ≡ false) × (v ≢ w)) →
+        ((eqb u w ≡ true) × (u ≡ w)) ⊎ ((eqb u w ≡ false) × (u ≢ w)) → AreInterchangeable users holds u w
     at (inl same) other last = subst (λ x. AreInterchangeable users holds x w) (sym same.1) two
     at (inr apart) (inl same) last = subst (λ x. AreInterchangeable users holds u x) same.1 one
     at (inr apart) (inr far) (inl same) = subst (λ x. AreInterchangeable users holds u x) same.1 record {
@@ -167,12 +175,14 @@ alike_chain users holds u v w u_in v_in w_in one two = at (eqb_tells u v) (eqb_t
         toward : (x : ℕ) → x < users → x ≢ u → x ≢ w → ((eqb x v ≡ true) × (x ≡ v)) ⊎ ((eqb x v ≡ false) × (x ≢ v)) → holds u x ≡ holds w x
         toward x below nu nw (inr nv) = one.towards x below nu nv.1 ∙ two.towards x below nv.1 nw
         toward x below nu nw (inl is) =
-            ap (holds u) is.1 ∙ one.mutually ∙ two.towards u u_in uv.1 uw.1 ∙ one.«from» w w_in (λ e. uw.1 (sym e)) (λ e. vw.1 (sym e)) ∙ ap (holds w) (sym is.1)
+            ap (holds u) is.1 ∙ one.mutually ∙ two.towards u u_in uv.1 uw.1 ∙ one.«from» w w_in (λ e. uw.1 (sym e)) (λ e. vw.1 (sym e)) ∙
+            ap (holds w) (sym is.1)
 
         back : (x : ℕ) → x < users → x ≢ u → x ≢ w → ((eqb x v ≡ true) × (x ≡ v)) ⊎ ((eqb x v ≡ false) × (x ≢ v)) → holds x u ≡ holds x w
         back x below nu nw (inr nv) = one.«from» x below nu nv.1 ∙ two.«from» x below nv.1 nw
         back x below nu nw (inl is) =
-            ap (λ y. holds y u) is.1 ∙ sym one.mutually ∙ two.«from» u u_in uv.1 uw.1 ∙ one.towards w w_in (λ e. uw.1 (sym e)) (λ e. vw.1 (sym e)) ∙ ap (λ y. holds y w) (sym is.1)
+            ap (λ y. holds y u) is.1 ∙ sym one.mutually ∙ two.«from» u u_in uv.1 uw.1 ∙ one.towards w w_in (λ e. uw.1 (sym e)) (λ e. vw.1 (sym e)) ∙
+            ap (λ y. holds y w) (sym is.1)
 
 pub twins_chain : TwinsChain
 twins_chain p a u v w u_in v_in w_in h k =
@@ -230,7 +240,8 @@ planned_stays u v plan s w is nu nv = at (leb_tells (length plan) s)
     at (inr below) = planned-map (exchanged u v) plan s below.1 ∙ ap (exchanged u v) is ∙ exchanged_other u v w nu nv
 
 -- a plan that gives a step to one of two twins, with both exchanged
-pub plan_exchanged : (p : Problem) (a : List (Option ℕ)) (done : List Bool) (s u v : ℕ) (plan : List ℕ) → IsWellFormed p → s < p.steps → s < length a → u < p.users → v < p.users → AreTwins p a u v →
+pub plan_exchanged : (p : Problem) (a : List (Option ℕ)) (done : List Bool) (s u v : ℕ) (plan : List ℕ) → IsWellFormed p → s < p.steps → s < length a →
+    u < p.users → v < p.users → AreTwins p a u v →
     IsValidPlan p (slice_set a s (Some u)) done plan → IsValidPlan p (slice_set a s (Some v)) done (map (exchanged u v) plan)
 plan_exchanged p a done s u v plan formed step room u_in v_in twins valid = record {
   whole = length-map plan (exchanged u v) ∙ valid.whole;
@@ -250,7 +261,8 @@ plan_exchanged p a done s u v plan formed step room u_in v_in twins valid = reco
     here : planned plan s ≡ u
     here = same_some (planned plan s) u (valid.keeps s u (given_same a s u room))
 
-    kept : (t w : ℕ) → user_at (slice_set a s (Some v)) t ≡ Some w → ((eqb t s ≡ true) × (t ≡ s)) ⊎ ((eqb t s ≡ false) × (t ≢ s)) → planned (map (exchanged u v) plan) t ≡ w
+    kept : (t w : ℕ) → user_at (slice_set a s (Some v)) t ≡ Some w → ((eqb t s ≡ true) × (t ≡ s)) ⊎ ((eqb t s ≡ false) × (t ≢ s)) →
+        planned (map (exchanged u v) plan) t ≡ w
     kept t w is (inl same) =
         ap (planned (map (exchanged u v) plan)) same.1 ∙ at_step s step ∙ ap (exchanged u v) here ∙ exchanged_first u v
         ∙ same_some v w (sym (given_same a s v room) ∙ ap (user_at (slice_set a s (Some v))) (sym same.1) ∙ is)

@@ -1,5 +1,6 @@
 -- A plan has no first fault exactly where it is valid.
-use Rattle.std.proofs.Common.{◌≡◌, ◌≢◌, ◌⊎◌, inl, inr, eqb, refl, sym, ap, subst, ◌∙◌, ℕ, zero, suc, ◌+◌, ◌<◌, ◌≤◌, ◌↔◌, Bool, true, false, ◌||◌, List, length, Option, None, Some, Ok, IsOk, slice_get, if◌then◌else◌, arith}
+use Rattle.std.proofs.Common.{◌≡◌, ◌≢◌, ◌⊎◌, inl, inr, eqb, refl, sym, ap, subst, ◌∙◌, ℕ, zero, suc, ◌+◌, ◌<◌, ◌≤◌, ◌↔◌, Bool, true, false, ◌||◌, List, length}
+use Rattle.std.proofs.Common.{Option, None, Some, Ok, IsOk, slice_get, if◌then◌else◌, arith}
 use Rattle.std.specs.Bool.{IsTrue}
 use Rattle.std.proofs.lemmas.Bool.{false≢true, eqb-true, eq-eqb}
 use Rattle.std.proofs.lemmas.Bool.Decides.{eqb_tells}
@@ -15,9 +16,11 @@ use Rattle.certificate_check.proofs.Assigned.{same_some, none_not_some}
 -- where nothing fails, all pass
 all_pass : (test : ℕ → Bool) (x k n : ℕ) → first_failing test k n ≡ None → k ≤ x → x < k + n → test x ≡ true
 all_pass test x k zero none low high = absurd (omega (arith, low, high))
-all_pass test x k (suc n) none low high = at (test k) refl none (eqb_tells k x) (λ e apart. all_pass test x (k + 1) n e (omega (arith, low, apart)) (omega (arith, high)))
+all_pass test x k (suc n) none low high =
+    at (test k) refl none (eqb_tells k x) (λ e apart. all_pass test x (k + 1) n e (omega (arith, low, apart)) (omega (arith, high)))
   where
-    at : (b : Bool) → test k ≡ b → (if b then first_failing test (k + 1) n else Some k) ≡ None → ((eqb k x ≡ true) × (k ≡ x)) ⊎ ((eqb k x ≡ false) × (k ≢ x)) → (first_failing test (k + 1) n ≡ None → k ≢ x → test x ≡ true) → test x ≡ true
+    at : (b : Bool) → test k ≡ b → (if b then first_failing test (k + 1) n else Some k) ≡ None → ((eqb k x ≡ true) × (k ≡ x)) ⊎
+        ((eqb k x ≡ false) × (k ≢ x)) → (first_failing test (k + 1) n ≡ None → k ≢ x → test x ≡ true) → test x ≡ true
     at true is e (inl same) later = sym (ap test same.1) ∙ is
     at true is e (inr apart) later = later e apart.1
     at false is e place later = none_not_some k (sym e)
@@ -57,26 +60,35 @@ authorised_may : (b c : Bool) → (b ≡ false → c ≡ true) → (b || c) ≡ 
 authorised_may true c allowed = refl
 authorised_may false c allowed = allowed refl
 
-satisfied_obeyed : (p : Problem) (plan : List ℕ) (o : Option Rule) → ((r : Rule) → o ≡ Some r → IsTrue (is_satisfied p.related r (planned plan))) → is_obeyed p plan o ≡ true
+satisfied_obeyed : (p : Problem) (plan : List ℕ) (o : Option Rule) → ((r : Rule) → o ≡ Some r → IsTrue (is_satisfied p.related r (planned plan))) →
+    is_obeyed p plan o ≡ true
 satisfied_obeyed p plan None obeys = refl
 satisfied_obeyed p plan (Some r) obeys = obeys r refl
 
-pub verdict_tells : (p : Problem) (a : List (Option ℕ)) (done : List Bool) (plan : List ℕ) → length plan ≡ p.steps → ((s : ℕ) → s < length plan → planned plan s < p.users) → IsWithin p a → IsOk (plan_verdict p a done plan) ↔ IsValidPlan p a done plan
+pub verdict_tells : (p : Problem) (a : List (Option ℕ)) (done : List Bool) (plan : List ℕ) → length plan ≡ p.steps →
+    ((s : ℕ) → s < length plan → planned plan s < p.users) → IsWithin p a → IsOk (plan_verdict p a done plan) ↔ IsValidPlan p a done plan
 verdict_tells p a done plan whole users within = (forth, back)
   where
     forth : IsOk (plan_verdict p a done plan) → IsValidPlan p a done plan
     forth ok =
-        let none = ok_parts (first_failing (λ s. is_kept (user_at a s) (planned plan s)) 0 p.steps) (first_failing (may_perform p done plan) 0 p.steps) (first_failing (λ k. is_obeyed p plan (slice_get p.rules k)) 0 (length p.rules)) ok in
+        let none = ok_parts (first_failing (λ s. is_kept (user_at a s) (planned plan s)) 0 p.steps) (first_failing (may_perform p done plan) 0 p.steps)
+        (first_failing (λ k. is_obeyed p plan (slice_get p.rules k)) 0 (length p.rules)) ok in
         record {
           whole = whole;
           known = λ s below. users s (subst (λ n. s < n) (sym whole) below);
-          keeps = λ s u is. ap Some (kept_keeps (user_at a s) (planned plan s) u (all_pass (λ t. is_kept (user_at a t) (planned plan t)) s 0 p.steps none.0 (omega arith) (omega (arith, within.steps s u is))) is);
-          allowed = λ s below unfinished. may_authorised (is_member done s) (p.authorised s (planned plan s)) (all_pass (may_perform p done plan) s 0 p.steps none.1 (omega arith) (omega (arith, below))) unfinished;
-          obeyed = λ k r is. subst (λ o. is_obeyed p plan o ≡ true) is (all_pass (λ j. is_obeyed p plan (slice_get p.rules j)) k 0 (length p.rules) none.2 (omega arith) (omega (arith, slice_get_within p.rules k r is)));
+          keeps = λ s u is. ap Some (kept_keeps (user_at a s) (planned plan s) u
+              (all_pass (λ t. is_kept (user_at a t) (planned plan t)) s 0 p.steps none.0 (omega arith) (omega (arith, within.steps s u is))) is);
+          allowed = λ s below unfinished. may_authorised (is_member done s) (p.authorised s (planned plan s))
+              (all_pass (may_perform p done plan) s 0 p.steps none.1 (omega arith) (omega (arith, below))) unfinished;
+          obeyed = λ k r is. subst (λ o. is_obeyed p plan o ≡ true) is (all_pass (λ j. is_obeyed p plan (slice_get p.rules j)) k 0 (length p.rules) none.2
+              (omega arith) (omega (arith, slice_get_within p.rules k r is)));
         }
 
     back : IsValidPlan p a done plan → IsOk (plan_verdict p a done plan)
     back valid = ok_whole _ _ _
-        (none_fails (λ s. is_kept (user_at a s) (planned plan s)) 0 p.steps (λ s low high. keeps_kept (user_at a s) (planned plan s) (λ u is. valid.keeps s u is)))
-        (none_fails (may_perform p done plan) 0 p.steps (λ s low high. authorised_may (is_member done s) (p.authorised s (planned plan s)) (valid.allowed s (omega (arith, high)))))
-        (none_fails (λ k. is_obeyed p plan (slice_get p.rules k)) 0 (length p.rules) (λ k low high. satisfied_obeyed p plan (slice_get p.rules k) (valid.obeyed k)))
+        (none_fails (λ s. is_kept (user_at a s) (planned plan s)) 0 p.steps
+        (λ s low high. keeps_kept (user_at a s) (planned plan s) (λ u is. valid.keeps s u is)))
+        (none_fails (may_perform p done plan) 0 p.steps
+        (λ s low high. authorised_may (is_member done s) (p.authorised s (planned plan s)) (valid.allowed s (omega (arith, high)))))
+        (none_fails (λ k. is_obeyed p plan (slice_get p.rules k)) 0 (length p.rules)
+        (λ k low high. satisfied_obeyed p plan (slice_get p.rules k) (valid.obeyed k)))

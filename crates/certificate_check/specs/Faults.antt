@@ -1,10 +1,12 @@
 -- What is wrong with a plan, the first of it.
-use Rattle.std.specs.Prelude.{ℕ, zero, suc, ◌+◌, Bool, true, ◌||◌, ◌==◌, List, length, Option, None, Some, Result, Ok, Err, if◌then◌else◌, slice_get}
+use Rattle.std.specs.Prelude.{ℕ, zero, suc, ◌+◌, Bool, true, ◌||◌, ◌==◌, List, length, Option, None}
+use Rattle.std.specs.Prelude.{Some, Result, Ok, Err, if◌then◌else◌, slice_get}
 use Rattle.constraint_forms.specs.declared.rule.Rule.{Rule}
 use Rattle.constraint_forms.specs.Assigned.{user_at, planned, is_member}
 use Rattle.constraint_forms.specs.Rules.{is_satisfied}
 use Rattle.policy_book.specs.Plans.{Problem}
-use Rattle.certificate_check.specs.declared.plan.PlanFault.TheVariants.{Moved, Role, Rule as Rule_fault}
+use Rattle.certificate_check.specs.declared.plan.PlanFault.TheVariants.{Moved, Role}
+use Rattle.certificate_check.specs.declared.plan.PlanFault.TheVariants.{Rule as Rule_fault}
 use Rattle.certificate_check.specs.declared.plan.PlanFault.{PlanFault}
 
 -- of the n numbers from k on the first that fails
@@ -27,15 +29,18 @@ is_obeyed p plan None = true
 is_obeyed p plan (Some rule) = is_satisfied p.related rule (planned plan)
 
 -- the fault with a number, or else what comes next
-abbrev pub or_else : Option ℕ → (ℕ → PlanFault) → Result (Unit {0}) PlanFault → Result (Unit {0}) PlanFault
+abbrev pub or_else : Option ℕ → (ℕ → PlanFault) → Result (Unit {0}) PlanFault →
+    Result (Unit {0}) PlanFault
 or_else None fault next = next
 or_else (Some n) fault next = Err (fault n)
 
 -- the first fault of a plan: an assigned step that has another user, then a step whose user is
 -- not authorised, then a rule that is not satisfied, each time the least
-abbrev pub plan_verdict : Problem → List (Option ℕ) → List Bool → List ℕ → Result (Unit {0}) PlanFault
+abbrev pub plan_verdict : Problem → List (Option ℕ) → List Bool → List ℕ →
+    Result (Unit {0}) PlanFault
 plan_verdict p assigned finished plan =
     or_else (first_failing (λ s. is_kept (user_at assigned s) (planned plan s)) 0 p.steps) Moved
     (or_else (first_failing (may_perform p finished plan) 0 p.steps) Role
-    (or_else (first_failing (λ k. is_obeyed p plan (slice_get p.rules k)) 0 (length p.rules)) Rule_fault
+    (or_else (first_failing (λ k. is_obeyed p plan (slice_get p.rules k)) 0 (length p.rules))
+    Rule_fault
     (Ok tt)))

@@ -4,7 +4,9 @@ ghost use Rattle.wf_names.specs.declared.limits.TheConstants.{STEP_LIMIT};
 ghost use Rattle.constraint_forms.specs.Assigned.{user_at};
 ghost use Rattle.constraint_forms.specs.Rules.{all_read};
 ghost use Rattle.policy_book.specs.Policies.{problem_of};
-ghost use Rattle.policy_book.specs.Twins.{agree, all_below, are_related_alike, are_twins, has_no_step, is_alike_to, is_given_to, is_rule_alike, may_do_the_same, treats_alike};
+ghost use Rattle.policy_book.specs.Twins.{agree, all_below, are_related_alike, are_twins};
+ghost use Rattle.policy_book.specs.Twins.{has_no_step, is_alike_to, is_given_to, is_rule_alike};
+ghost use Rattle.policy_book.specs.Twins.{may_do_the_same, treats_alike};
 
 use constraint_forms::{Holds, Rule};
 use policy_book::{Assign, Policy};

@@ -1,5 +1,6 @@
 //! Laws of refuting trees and of twins. Each function does nothing; its contract is the law.
-ghost use Rattle.certificate_check.specs.Laws.{RefutesSoundly, TwinsChain, TwinsExchange, UnmentionedStepDrops};
+ghost use Rattle.certificate_check.specs.Laws.{RefutesSoundly, TwinsChain, TwinsExchange};
+ghost use Rattle.certificate_check.specs.Laws.{UnmentionedStepDrops};
 
 /// A tree that refutes an assignment excludes every valid plan.
 pub fn refutation_is_sound()

@@ -3,7 +3,8 @@ ghost use Rattle.std.specs.Prelude.{◌≡◌, ◌<◌, ◌==◌, ◌↔◌, ℕ
 ghost use Rattle.constraint_forms.specs.Assigned.{planned, user_at};
 ghost use Rattle.policy_book.specs.Plans.{IsValidPlan, IsWithin};
 ghost use Rattle.policy_book.specs.Policies.{problem_of};
-ghost use Rattle.certificate_check.specs.Faults.{first_failing, is_kept, is_obeyed, may_perform, plan_verdict};
+ghost use Rattle.certificate_check.specs.Faults.{first_failing, is_kept, is_obeyed, may_perform};
+ghost use Rattle.certificate_check.specs.Faults.{plan_verdict};
 
 use constraint_forms::satisfied;
 use policy_book::{Assign, Plan, Policy, StepSet};

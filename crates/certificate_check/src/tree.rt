@@ -8,7 +8,9 @@ ghost use Rattle.policy_book.specs.Plans.{IsWithin};
 ghost use Rattle.policy_book.specs.Policies.{problem_of};
 ghost use Rattle.certificate_check.specs.Walks.{AreUsersBelow, begins_with, tree_users, user_onto};
 ghost use Rattle.policy_book.specs.Twins.{are_twins, is_one_of};
-ghost use Rattle.policy_book.specs.Refuting.{all_refute, any_mentions, authorised_users, have_users, is_broken, is_unassigned, is_misheld, is_rule_naming, mentions, refutes};
+ghost use Rattle.policy_book.specs.Refuting.{all_refute, any_mentions, authorised_users};
+ghost use Rattle.policy_book.specs.Refuting.{have_users, is_broken, is_unassigned, is_misheld};
+ghost use Rattle.policy_book.specs.Refuting.{is_rule_naming, mentions, refutes};
 
 use crate::alike::twins;
 use constraint_forms::falsified;

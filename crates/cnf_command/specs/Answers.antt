@@ -1,5 +1,6 @@
 -- The answers of the command `cnf` for a policy: its clauses, or what a model of them says.
-use Rattle.std.specs.Prelude.{◌≡◌, ◌↔◌, ℕ, ◌++◌, ℤ, Bool, List, length, codes, decimal, Option, IfSome, MatchOption, MatchResult, MatchBool, nat_lt}
+use Rattle.std.specs.Prelude.{◌≡◌, ◌↔◌, ℕ, ◌++◌, ℤ, Bool, List, length, codes, decimal, Option}
+use Rattle.std.specs.Prelude.{IfSome, MatchOption, MatchResult, MatchBool, nat_lt}
 use Rattle.wf_names.specs.declared.limits.TheConstants.{LINE_LIMIT}
 use Rattle.wf_outside.specs.Outside.{Filed, told, missing, untold}
 use Rattle.serde_json.specs.Written.{compact_text}
@@ -17,7 +18,8 @@ use Rattle.cnf_models.specs.declared.reading.Reading.{Reading}
 use Rattle.cnf_models.specs.declared.reading.Reading.TheVariants.{Plan, Clause}
 use Rattle.cnf_text.specs.Dimacs.{dimacs_text}
 use Rattle.run_record.specs.declared.fault.RunFault.{RunFault}
-use Rattle.run_record.specs.declared.fault.RunFault.TheVariants.{Nothing, Found, FileTooLong, LineTooLong, BadInput, TooLarge}
+use Rattle.run_record.specs.declared.fault.RunFault.TheVariants.{Nothing, Found, FileTooLong}
+use Rattle.run_record.specs.declared.fault.RunFault.TheVariants.{LineTooLong, BadInput, TooLarge}
 use Rattle.run_record.specs.declared.fault.InputFault.TheVariants.{NoFlow, Model}
 use Rattle.wf_commands.specs.Input.{number_named}
 use Rattle.wf_commands.specs.Once.{Refuses}

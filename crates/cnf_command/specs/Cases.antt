@@ -1,5 +1,7 @@
 -- The state of a case in the input: the JSON array `steps` of the reply to a view, or nothing.
-use Rattle.std.specs.Prelude.{◌≡◌, ℕ, ◌+◌, ◌<◌, nat_eq, ◌==◌, Bool, true, List, [], ◌∷◌, length, codes, Option, None, Some, is_some, option_map, option_and_then, Result, Ok, if◌then◌else◌, slice_set}
+use Rattle.std.specs.Prelude.{◌≡◌, ℕ, ◌+◌, ◌<◌, nat_eq, ◌==◌, Bool, true, List, [], ◌∷◌, length}
+use Rattle.std.specs.Prelude.{codes, Option, None, Some, is_some, option_map, option_and_then}
+use Rattle.std.specs.Prelude.{Result, Ok, if◌then◌else◌, slice_set}
 use Rattle.std.specs.List.{list_all}
 use Rattle.std.specs.Cmp.Lexicographic.{pointwise}
 use Rattle.serde_json.specs.Data.{Data, Items, no_items, item}

@@ -10,7 +10,8 @@ use Rattle.cnf_export.specs.declared.tally.TheConstants.{LITERAL_LIMIT}
 use Rattle.cnf_models.specs.Texts.{model_of_text}
 use Rattle.cnf_text.specs.Dimacs.{dimacs_text}
 use Rattle.run_record.specs.declared.fault.RunFault.{RunFault}
-use Rattle.run_record.specs.declared.fault.RunFault.TheVariants.{Nothing, Load, Read, NoMemory, LineTooLong, BadInput, TooLarge}
+use Rattle.run_record.specs.declared.fault.RunFault.TheVariants.{Nothing, Load, Read, NoMemory}
+use Rattle.run_record.specs.declared.fault.RunFault.TheVariants.{LineTooLong, BadInput, TooLarge}
 use Rattle.run_record.specs.declared.fault.InputFault.TheVariants.{NoFlow, Model}
 use Rattle.wf_commands.specs.Answer.{AnswersAs}
 use Rattle.wf_commands.specs.Once.{OverPolicy}

@@ -7,7 +7,8 @@ ghost use Rattle.cnf_export.specs.Encodings.{variables_of};
 ghost use Rattle.cnf_models.specs.Flags.{has_variable};
 ghost use Rattle.wire_json.specs.Entries.{named, plan_data};
 ghost use Rattle.wf_commands.specs.Answer.{AnswersAs, ending_with};
-ghost use Rattle.cnf_command.specs.Answers.{clause_line, plan_line, ReadsModel, Tells, TellsReading, UnlessLarge};
+ghost use Rattle.cnf_command.specs.Answers.{clause_line, plan_line, ReadsModel, Tells};
+ghost use Rattle.cnf_command.specs.Answers.{TellsReading, UnlessLarge};
 ghost use Rattle.cnf_command.specs.Cases.{IsCaseOf};
 ghost use Rattle.cnf_command.specs.Steps.{GivesModel, IsLateEnding};
 

@@ -7,7 +7,8 @@ ghost use Rattle.wf_names.specs.declared.limits.TheConstants.{STEP_LIMIT};
 ghost use Rattle.policy_book.specs.Policies.{flow_at, problem_of};
 ghost use Rattle.run_record.specs.declared.fault.InputFault.TheVariants.{NoUser};
 ghost use Rattle.wf_commands.specs.Input.{input_fault, listed_items, IsOfInput};
-ghost use Rattle.cnf_command.specs.Cases.{case_of_array, case_of_input, is_said, next_state, no_case, with_state, IsCaseOf, IsCaseSoFar, IsOfUsers};
+ghost use Rattle.cnf_command.specs.Cases.{case_of_array, case_of_input, is_said, next_state};
+ghost use Rattle.cnf_command.specs.Cases.{no_case, with_state, IsCaseOf, IsCaseSoFar, IsOfUsers};
 
 use crate::said::said_in;
 use constraint_forms::{Assign, StepSet};

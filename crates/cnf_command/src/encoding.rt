@@ -5,7 +5,8 @@ ghost use Rattle.policy_book.specs.Policies.{problem_of};
 ghost use Rattle.run_record.specs.Fault.{fault_in, CountsReadsAlone};
 ghost use Rattle.wf_commands.specs.Once.{ReadsInput};
 ghost use Rattle.cnf_command.specs.Cases.{IsCaseOf};
-ghost use Rattle.cnf_command.specs.Steps.{GivesCase, GivesEncoder, IsCaseEnding, IsLateEnding, IsReadingEnding, ReadsCase};
+ghost use Rattle.cnf_command.specs.Steps.{GivesCase, GivesEncoder, IsCaseEnding, IsLateEnding};
+ghost use Rattle.cnf_command.specs.Steps.{IsReadingEnding, ReadsCase};
 
 use crate::case::{Case, read_case};
 use cnf_export::{CnfFault, Encoder};

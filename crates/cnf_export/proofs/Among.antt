@@ -1,5 +1,6 @@
 -- The users of a group's steps, and how many they are.
-use Rattle.std.proofs.Common.{◌≡◌, ◌≢◌, refl, sym, ap, ◌∙◌, ℕ, zero, suc, ◌+◌, ◌<◌, ◌≤◌, Bool, true, false, ◌||◌, nat_eq, cond, List, [], ◌∷◌, length, Some, ◌⊎◌, inl, inr, arith}
+use Rattle.std.proofs.Common.{◌≡◌, ◌≢◌, refl, sym, ap, ◌∙◌, ℕ, zero, suc, ◌+◌, ◌<◌, ◌≤◌, Bool, true, false, ◌||◌, nat_eq, cond, List, [], ◌∷◌, length, Some}
+use Rattle.std.proofs.Common.{◌⊎◌, inl, inr, arith}
 use Rattle.std.proofs.lemmas.Bool.{false≢true}
 use Rattle.basics.proofs.Booleans.{bool_cases, differ, eq_above, eq_back, eq_is, eq_same, or_cases, or_left, or_right}
 use Rattle.wf_names.specs.UserSets.{count_below}
@@ -7,7 +8,8 @@ use Rattle.constraint_forms.specs.Assigned.{is_member}
 use Rattle.constraint_forms.specs.Rules.{count_members, different, is_among, users_from}
 
 -- a member's user is among them
-pub among_from : (k : ℕ) (group : List Bool) (f : ℕ → ℕ) (x y u : ℕ) → is_member group x ≡ true → y ≡ k + x → f y ≡ u → is_among (users_from k group (λ s. Some (f s))) u ≡ true
+pub among_from : (k : ℕ) (group : List Bool) (f : ℕ → ℕ) (x y u : ℕ) → is_member group x ≡ true → y ≡ k + x → f y ≡ u →
+    is_among (users_from k group (λ s. Some (f s))) u ≡ true
 among_from k [] f x y u one same is = absurd (false≢true one)
 among_from k (true ∷ bs) f zero y u one same is =
     let here : y ≡ k = omega (arith, same) in
@@ -84,7 +86,8 @@ more_below test u (suc n) low = at (bool_cases (nat_eq u n)) (λ apart. more_bel
     kept : (k c d : ℕ) → (c + k) + d ≡ c + (k + d)
     kept k c d = omega arith
 
-    at : (nat_eq u n ≡ true) ⊎ (nat_eq u n ≡ false) → (u < n → count_below n (λ w. nat_eq u w || test w) ≡ cond (test u) 0 1 + count_below n test) → count_below n (λ w. nat_eq u w || test w) + cond (nat_eq u n || test n) 1 0 ≡ cond (test u) 0 1 + (count_below n test + cond (test n) 1 0)
+    at : (nat_eq u n ≡ true) ⊎ (nat_eq u n ≡ false) → (u < n → count_below n (λ w. nat_eq u w || test w) ≡ cond (test u) 0 1 + count_below n test) →
+        count_below n (λ w. nat_eq u w || test w) + cond (nat_eq u n || test n) 1 0 ≡ cond (test u) 0 1 + (count_below n test + cond (test n) 1 0)
     at (inl is) rest =
         let same : u ≡ n = eq_back u n is in
         ap (λ b. count_below n (λ w. nat_eq u w || test w) + cond (b || test n) 1 0) is

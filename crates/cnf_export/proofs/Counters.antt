@@ -51,7 +51,8 @@ counter_of z n high = record {
 }
 
 -- .. and so is what agrees with them
-pub same_counter : (t z : ℕ → Bool) (c : ℕ → ℕ → Bool) (n high : ℕ) → ((u : ℕ) → u < n → z u ≡ t u) → ((u j : ℕ) → u < n → j < high → c u j ≡ nat_lt j (count_below (suc u) t)) → IsCounter z c n high
+pub same_counter : (t z : ℕ → Bool) (c : ℕ → ℕ → Bool) (n high : ℕ) → ((u : ℕ) → u < n → z u ≡ t u) →
+    ((u j : ℕ) → u < n → j < high → c u j ≡ nat_lt j (count_below (suc u) t)) → IsCounter z c n high
 same_counter t z c n high taken counted =
     let is = counter_of t n high in
     record {
@@ -60,5 +61,6 @@ same_counter t z c n high taken counted =
       next = λ u below more. counted (suc u) 0 below more ∙ is.next u below more
           ∙ (λ i. sym (counted u 0 (omega (arith, below)) more) i || sym (taken (suc u) below) i);
       next_more = λ u j below more. counted (suc u) (suc j) below more ∙ is.next_more u j below more
-          ∙ (λ i. sym (counted u (suc j) (omega (arith, below)) more) i || (sym (taken (suc u) below) i && sym (counted u j (omega (arith, below)) (omega (arith, more))) i));
+          ∙ (λ i. sym (counted u (suc j) (omega (arith, below)) more) i ||
+          (sym (taken (suc u) below) i && sym (counted u j (omega (arith, below)) (omega (arith, more))) i));
     }

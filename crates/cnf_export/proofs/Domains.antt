@@ -17,7 +17,8 @@ past (x ∷ xs) zero long = absurd (omega (arith, long))
 past (x ∷ xs) (suc s) long = past xs s (omega (arith, long))
 
 -- what is kept of a case is what its clauses are made of
-pub same_encoding : (t : TermsShape) (p : Problem) (assigned : List (Option ℕ)) (finished : List Bool) → t.users ≡ p.users → t.steps ≡ p.steps → AreDomains p assigned finished p.steps t.domains → is_related t.relations ≡ p.related →
+pub same_encoding : (t : TermsShape) (p : Problem) (assigned : List (Option ℕ)) (finished : List Bool) → t.users ≡ p.users → t.steps ≡ p.steps →
+    AreDomains p assigned finished p.steps t.domains → is_related t.relations ≡ p.related →
     encoding_in t ≡ encoding_of p assigned finished
 same_encoding t p assigned finished users steps domains related = λ i. record {
   users = users i;
@@ -29,5 +30,6 @@ same_encoding t p assigned finished users steps domains related = λ i. record {
     same : (s u : ℕ) → has_user (slice_index_or t.domains s []) u ≡ (nat_lt s p.steps && may_be p finished s (user_at assigned s) u)
     same s u = elim (cases_lt s p.steps) [
       | inl less ↦ domains.may s u less ∙ ap (λ b. b && may_be p finished s (user_at assigned s) u) (sym (lt_yes s p.steps less))
-      | inr more ↦ ap (λ d. has_user d u) (past t.domains s (let whole = domains.whole in omega (arith, whole, more))) ∙ ap (λ x. nat_eq x 1) (bit_at-zero (u % 64)) ∙ ap (λ b. b && may_be p finished s (user_at assigned s) u) (sym (lt_no s p.steps more))
+      | inr more ↦ ap (λ d. has_user d u) (past t.domains s (let whole = domains.whole in omega (arith, whole, more))) ∙
+          ap (λ x. nat_eq x 1) (bit_at-zero (u % 64)) ∙ ap (λ b. b && may_be p finished s (user_at assigned s) u) (sym (lt_no s p.steps more))
     ]

@@ -4,7 +4,8 @@ use Rattle.std.specs.Prelude.{ℤ}
 use Rattle.std.specs.List.{flat_map}
 use Rattle.constraint_forms.specs.declared.rule.Rule.{Rule}
 use Rattle.constraint_forms.specs.declared.rule.Rule.TheVariants as rule
-use Rattle.cnf_export.specs.Encodings.{Encoding, blocks, clause, count_groups, counting_clause, ending_clause, group_clauses, groups, height, items, literals, members, numbers, once_clause, part, parts, rule_groups, rules_groups, step_blocks, step_groups, taking_clause}
+use Rattle.cnf_export.specs.Encodings.{Encoding, blocks, clause, count_groups, counting_clause, ending_clause, group_clauses, groups, height, items, literals}
+use Rattle.cnf_export.specs.Encodings.{members, numbers, once_clause, part, parts, rule_groups, rules_groups, step_blocks, step_groups, taking_clause}
 use Rattle.cnf_export.specs.Sizes.{empties, empty_one}
 use Rattle.cnf_export.specs.declared.group.Group.{Group}
 use Rattle.cnf_export.specs.declared.group.Group.TheVariants.{Outside, Someone, Once, Pair, SomeOf, Taking, Counting, Ending}
@@ -84,7 +85,8 @@ pair_filled : (e : Encoding) (back : Bool) (rho x s : ℕ) → empties (group_cl
 pair_filled e false rho x s = group_filled e (Pair rho x s) (λ i k. refl)
 pair_filled e true rho x s = group_filled e (Pair rho s x) (λ i k. refl)
 
-flat_map_filled : {X : Type 0} (f : Group → List (List ℤ)) (g : X → Group) (xs : List X) → ((x : X) → empties (f (g x)) ≡ 0) → empties (flat_map f (map g xs)) ≡ 0
+flat_map_filled : {X : Type 0} (f : Group → List (List ℤ)) (g : X → Group) (xs : List X) → ((x : X) → empties (f (g x)) ≡ 0) →
+    empties (flat_map f (map g xs)) ≡ 0
 flat_map_filled f g [] each = refl
 flat_map_filled f g (x ∷ xs) each =
     let rest = flat_map_filled f g xs each in
@@ -95,12 +97,14 @@ flat_map_filled f g (x ∷ xs) each =
 one_filled : (e : Encoding) (g : Group) → empties (group_clauses e g) ≡ 0 → empties (flat_map (group_clauses e) (g ∷ [])) ≡ 0
 one_filled e g none = let sum = empties-append (group_clauses e g) [] in omega (arith, sum, none)
 
-count_filled : (e : Encoding) (block : ℕ) (most : Bool) (limit : ℕ) (group : List Bool) → empties (flat_map (group_clauses e) (count_groups block most limit group)) ≡ 0
+count_filled : (e : Encoding) (block : ℕ) (most : Bool) (limit : ℕ) (group : List Bool) →
+    empties (flat_map (group_clauses e) (count_groups block most limit group)) ≡ 0
 count_filled e block most limit group =
     let taking = group_filled e (Taking block group) (λ u k. taking_filled e block group u k) in
     let counting = group_filled e (Counting block most limit) (λ u k. counting_filled e block (height most limit) u (k / 4) (k % 4)) in
     let ending = one_filled e (Ending block most limit) (group_filled e (Ending block most limit) (λ u k. ending_filled e block most (height most limit))) in
-    let first = empties-append (group_clauses e (Taking block group)) (group_clauses e (Counting block most limit) ++ flat_map (group_clauses e) (Ending block most limit ∷ [])) in
+    let first = empties-append (group_clauses e (Taking block group))
+    (group_clauses e (Counting block most limit) ++ flat_map (group_clauses e) (Ending block most limit ∷ [])) in
     let second = empties-append (group_clauses e (Counting block most limit)) (flat_map (group_clauses e) (Ending block most limit ∷ [])) in
     omega (arith, taking, counting, ending, first, second)
 

@@ -1,5 +1,6 @@
 -- The numbers that pass, one after the other.
-use Rattle.std.proofs.Common.{◌≡◌, refl, sym, ap, ◌∙◌, ℕ, zero, suc, ◌+◌, ◌-◌, ◌<◌, ◌≤◌, Bool, true, false, cond, List, [], ◌∷◌, ◌++◌, map, length, drop, Option, None, Some, is_some, slice_get, arith, append_assoc}
+use Rattle.std.proofs.Common.{◌≡◌, refl, sym, ap, ◌∙◌, ℕ, zero, suc, ◌+◌, ◌-◌, ◌<◌, ◌≤◌, Bool, true, false, cond, List, [], ◌∷◌, ◌++◌, map, length, drop}
+use Rattle.std.proofs.Common.{Option, None, Some, is_some, slice_get, arith, append_assoc}
 use Rattle.std.specs.Prelude.{ℤ}
 use Rattle.std.specs.List.{flat_map}
 use Rattle.std.proofs.lemmas.List.{append-nil}
@@ -19,7 +20,8 @@ some_same {X} x y e = ap (or_else x) e
     or_else d (Some z) = z
 
 -- numbers that do not pass are passed over
-skipped : (test : ℕ → Bool) (d k n : ℕ) → k + d ≤ n → ((w : ℕ) → k ≤ w → w < k + d → test w ≡ false) → passing test k (n - k) ≡ passing test (k + d) (n - (k + d))
+skipped : (test : ℕ → Bool) (d k n : ℕ) → k + d ≤ n → ((w : ℕ) → k ≤ w → w < k + d → test w ≡ false) →
+    passing test k (n - k) ≡ passing test (k + d) (n - (k + d))
 skipped test zero k n within none = let same : k ≡ k + 0 = omega arith in ap (λ j. passing test j (n - j)) same
 skipped test (suc d) k n within none =
     let below : k < n = omega (arith, within) in
@@ -30,7 +32,8 @@ skipped test (suc d) k n within none =
     ∙ ap (λ j. passing test j (n - j)) same
 
 -- the next that passes
-pub next_passing : (test : ℕ → Bool) (k v n : ℕ) → k ≤ v → v < n → test v ≡ true → ((w : ℕ) → k ≤ w → w < v → test w ≡ false) → passing test k (n - k) ≡ v ∷ passing test (v + 1) (n - (v + 1))
+pub next_passing : (test : ℕ → Bool) (k v n : ℕ) → k ≤ v → v < n → test v ≡ true → ((w : ℕ) → k ≤ w → w < v → test w ≡ false) →
+    passing test k (n - k) ≡ v ∷ passing test (v + 1) (n - (v + 1))
 next_passing test k v n low below passes none =
     let same : k + (v - k) ≡ v = omega (arith, low) in
     skipped test (v - k) k n (omega (arith, low, below)) (λ w from_on high. none w from_on (omega (arith, high, same)))
@@ -41,7 +44,8 @@ next_passing test k v n low below passes none =
 -- none passes any more
 pub none_passing : (test : ℕ → Bool) (k n : ℕ) → ((w : ℕ) → k ≤ w → test w ≡ false) → passing test k n ≡ []
 none_passing test k zero none = refl
-none_passing test k (suc n) none = ap (λ b. cond b (k ∷ passing test (k + 1) n) (passing test (k + 1) n)) (none k (omega arith)) ∙ none_passing test (k + 1) n (λ w low. none w (omega (arith, low)))
+none_passing test k (suc n) none = ap (λ b. cond b (k ∷ passing test (k + 1) n) (passing test (k + 1) n)) (none k (omega arith)) ∙
+    none_passing test (k + 1) n (λ w low. none w (omega (arith, low)))
 
 -- tests that agree within the bounds
 pub passing_same : (t u : ℕ → Bool) (k n : ℕ) → ((w : ℕ) → k ≤ w → w < k + n → t w ≡ u w) → passing t k n ≡ passing u k n
@@ -51,7 +55,8 @@ passing_same t u k (suc n) same =
     ∙ ap (λ rest. cond (u k) (k ∷ rest) rest) (passing_same t u (k + 1) n (λ w low high. same w (omega (arith, low)) (omega (arith, high))))
 
 -- one more of those who pass is put behind
-pub one_added : (g : ℕ → ℤ) (test : ℕ → Bool) (into after : List ℤ) (k v n : ℕ) (l : ℤ) → after ≡ into ++ l ∷ [] → l ≡ g v → k ≤ v → v < n → test v ≡ true → ((w : ℕ) → k ≤ w → w < v → test w ≡ false) →
+pub one_added : (g : ℕ → ℤ) (test : ℕ → Bool) (into after : List ℤ) (k v n : ℕ) (l : ℤ) → after ≡ into ++ l ∷ [] → l ≡ g v → k ≤ v → v < n → test v ≡ true →
+    ((w : ℕ) → k ≤ w → w < v → test w ≡ false) →
     after ++ map g (passing test (v + 1) (n - (v + 1))) ≡ into ++ map g (passing test k (n - k))
 one_added g test into after k v n l is same low below passes none =
     ap (λ ls. ls ++ map g (passing test (v + 1) (n - (v + 1)))) (is ∙ ap (λ x. into ++ x ∷ []) same)
@@ -62,7 +67,8 @@ pub all_added : (g : ℕ → ℤ) (test : ℕ → Bool) (into : List ℤ) (k n :
 all_added g test into k n none = sym (append-nil into) ∙ ap (λ us. into ++ map g us) (sym (none_passing test k n none))
 
 -- one more is looked at
-pub one_looked_at : {A : Type 0} (f : ℕ → List A) (test : ℕ → Bool) (into after : List A) (t n : ℕ) → t < n → (test t ≡ true → after ≡ into ++ f t) → (test t ≡ false → after ≡ into) →
+pub one_looked_at : {A : Type 0} (f : ℕ → List A) (test : ℕ → Bool) (into after : List A) (t n : ℕ) → t < n → (test t ≡ true → after ≡ into ++ f t) →
+    (test t ≡ false → after ≡ into) →
     after ++ flat_map f (passing test (t + 1) (n - (t + 1))) ≡ into ++ flat_map f (passing test t (n - t))
 one_looked_at f test into after t n below added kept = at (test t) refl ∙ ap (λ us. into ++ flat_map f us) (sym (passing_at test t n below))
   where
@@ -73,7 +79,8 @@ one_looked_at f test into after t n below added kept = at (test t) refl ∙ ap (
     at true is = ap (λ ls. ls ++ flat_map f rest) (added is) ∙ append_assoc into (f t) (flat_map f rest)
     at false is = ap (λ ls. ls ++ flat_map f rest) (kept is)
 
-pub one_mapped : {A : Type 0} (f : ℕ → A) (test : ℕ → Bool) (into after : List A) (t n : ℕ) → t < n → (test t ≡ true → after ≡ into ++ f t ∷ []) → (test t ≡ false → after ≡ into) →
+pub one_mapped : {A : Type 0} (f : ℕ → A) (test : ℕ → Bool) (into after : List A) (t n : ℕ) → t < n → (test t ≡ true → after ≡ into ++ f t ∷ []) →
+    (test t ≡ false → after ≡ into) →
     after ++ map f (passing test (t + 1) (n - (t + 1))) ≡ into ++ map f (passing test t (n - t))
 one_mapped {A} f test into after t n below added kept = at (test t) refl ∙ ap (λ us. into ++ map f us) (sym (passing_at test t n below))
   where
@@ -113,16 +120,20 @@ drop_some {X} xs k x is = at xs k is ∙ (let next : suc k ≡ k + 1 = omega ari
     at (y ∷ ys) (suc n) e = at ys n e
 
 -- a part is listed
-pub part_listed : (e : Encoding) (g : Group) (p n item : ℕ) (old : List ℕ) (listed : ℕ) (rest : List (List ℤ)) (new : List ℕ) → new ≡ items e g p → p < n → length old ≤ item →
-    map (clause e g p) new ++ (flat_map (part e g) (numbers (p + 1) (n - (p + 1))) ++ rest) ≡ map (clause e g listed) (drop item old) ++ (flat_map (part e g) (numbers p (n - p)) ++ rest)
+pub part_listed : (e : Encoding) (g : Group) (p n item : ℕ) (old : List ℕ) (listed : ℕ) (rest : List (List ℤ)) (new : List ℕ) → new ≡ items e g p → p < n →
+    length old ≤ item →
+    map (clause e g p) new ++ (flat_map (part e g) (numbers (p + 1) (n - (p + 1))) ++ rest) ≡ map (clause e g listed)
+    (drop item old) ++ (flat_map (part e g) (numbers p (n - p)) ++ rest)
 part_listed e g p n item old listed rest new is below done =
     ap (λ us. map (clause e g p) us ++ (flat_map (part e g) (numbers (p + 1) (n - (p + 1))) ++ rest)) is
     ∙ sym (append_assoc (part e g p) (flat_map (part e g) (numbers (p + 1) (n - (p + 1)))) rest)
     ∙ ap (λ us. flat_map (part e g) us ++ rest) (sym (numbers_at p n below))
     ∙ ap (λ us. map (clause e g listed) us ++ (flat_map (part e g) (numbers p (n - p)) ++ rest)) (sym (drop_past item old done))
 
-pub nothing_left : (e : Encoding) (groups : List Group) (x : Position) → length x.items ≤ x.item → x.parts ≤ x.part → length groups ≤ x.next_group → left_at e groups x ≡ []
+pub nothing_left : (e : Encoding) (groups : List Group) (x : Position) → length x.items ≤ x.item → x.parts ≤ x.part → length groups ≤ x.next_group →
+    left_at e groups x ≡ []
 nothing_left e groups x items parts all =
-    ap (λ us. map (clause e x.current x.listed) us ++ (flat_map (part e x.current) (numbers x.part (x.parts - x.part)) ++ flat_map (group_clauses e) (drop x.next_group groups))) (drop_past x.item x.items items)
+    ap (λ us. map (clause e x.current x.listed) us ++ (flat_map (part e x.current) (numbers x.part (x.parts - x.part)) ++ flat_map (group_clauses e)
+    (drop x.next_group groups))) (drop_past x.item x.items items)
     ∙ ap (λ us. flat_map (part e x.current) us ++ flat_map (group_clauses e) (drop x.next_group groups)) (numbers_end x.part x.parts parts)
     ∙ ap (λ gs. flat_map (group_clauses e) gs) (drop_past x.next_group groups all)

@@ -14,7 +14,8 @@ length-append : (xs ys : List (List ℤ)) → length (xs ++ ys) ≡ length xs + 
 length-append [] ys = omega arith
 length-append (x ∷ xs) ys = let rest = length-append xs ys in omega (arith, rest)
 
-pub one_counted : (all left rest : List (List ℤ)) (c : List ℤ) (clauses size n after more : ℕ) → IsCounted all left clauses size → left ≡ c ∷ rest → n ≡ length c → n ≤ LITERAL_LIMIT - size → after ≡ clauses + 1 → more ≡ size + n → IsCounted all rest after more
+pub one_counted : (all left rest : List (List ℤ)) (c : List ℤ) (clauses size n after more : ℕ) → IsCounted all left clauses size → left ≡ c ∷ rest →
+    n ≡ length c → n ≤ LITERAL_LIMIT - size → after ≡ clauses + 1 → more ≡ size + n → IsCounted all rest after more
 one_counted all left rest c clauses size n after more is first len room one sum =
     let limit = is.few in
     let whole = is.clauses_are in
@@ -29,7 +30,8 @@ one_counted all left rest c clauses size n after more is first len room one sum 
       few = omega (arith, limit, room, sum);
     }
 
-pub too_large : (all left rest : List (List ℤ)) (c : List ℤ) (clauses size n : ℕ) → IsCounted all left clauses size → left ≡ c ∷ rest → n ≡ length c → LITERAL_LIMIT - size < n → LITERAL_LIMIT < literals all
+pub too_large : (all left rest : List (List ℤ)) (c : List ℤ) (clauses size n : ℕ) → IsCounted all left clauses size → left ≡ c ∷ rest → n ≡ length c →
+    LITERAL_LIMIT - size < n → LITERAL_LIMIT < literals all
 too_large all left rest c clauses size n is first len over =
     let same = ap literals (is.all_are ∙ ap (λ cs. is.given ++ cs) first) in
     let sum = literals-append is.given (c ∷ rest) in

@@ -11,7 +11,8 @@ every_true : (k : ℕ) (m : ℕ → Bool) (cs : List (List ℤ)) → first_false
 every_true k m [] h = tt
 every_true k m (c ∷ cs) h = at (satisfies m c) refl h (every_true (k + 1) m cs)
   where
-    at : (b : Bool) → satisfies m c ≡ b → cond b (first_false (k + 1) m cs) (Some k) ≡ None → (first_false (k + 1) m cs ≡ None → Every (λ d. satisfies m d ≡ true) cs) → Every (λ d. satisfies m d ≡ true) (c ∷ cs)
+    at : (b : Bool) → satisfies m c ≡ b → cond b (first_false (k + 1) m cs) (Some k) ≡ None →
+        (first_false (k + 1) m cs ≡ None → Every (λ d. satisfies m d ≡ true) cs) → Every (λ d. satisfies m d ≡ true) (c ∷ cs)
     at true is none rest = (is, rest none)
     at false is none rest = absurd (false≢true (sym (ap is_some none)))
 

@@ -1,5 +1,6 @@
 -- Flags in rows, and what the model that says a plan says.
-use Rattle.std.proofs.Common.{◌≡◌, refl, sym, ap, subst, ◌∙◌, ℕ, zero, suc, ◌+◌, ◌*◌, ◌-◌, ◌<◌, ◌≤◌, Bool, true, false, ◌==◌, nat_eq, nat_le, nat_lt, List, [], ◌∷◌, ◌++◌, map, length, slice_index_or, Option, ◌⊎◌, inl, inr, arith, append_assoc, suc-mul, cond}
+use Rattle.std.proofs.Common.{◌≡◌, refl, sym, ap, subst, ◌∙◌, ℕ, zero, suc, ◌+◌, ◌*◌, ◌-◌, ◌<◌, ◌≤◌, Bool, true, false, ◌==◌, nat_eq, nat_le, nat_lt, List, []}
+use Rattle.std.proofs.Common.{◌∷◌, ◌++◌, map, length, slice_index_or, Option, ◌⊎◌, inl, inr, arith, append_assoc, suc-mul, cond}
 use Rattle.std.specs.List.{flat_map}
 use Rattle.basics.proofs.Booleans.{bool_cases, differ, eq_back, eq_is}
 use Rattle.wf_names.specs.UserSets.{count_below}
@@ -45,7 +46,8 @@ length-rows f k (suc h) w =
     let next = suc-mul h w in
     omega (arith, sum, one, rest, next)
 
-rows_at : (f : ℕ → ℕ → Bool) (k h w i j p : ℕ) (rest : List Bool) → i < h → j < w → p ≡ i * w + j → slice_index_or (rows_from f k h w ++ rest) p false ≡ f (k + i) j
+rows_at : (f : ℕ → ℕ → Bool) (k h w i j p : ℕ) (rest : List Bool) → i < h → j < w → p ≡ i * w + j →
+    slice_index_or (rows_from f k h w ++ rest) p false ≡ f (k + i) j
 unfolding rows_from
 rows_at f k zero w i j p rest high low is = absurd (omega (arith, high))
 rows_at f k (suc h) w zero j p rest high low is =
@@ -158,7 +160,8 @@ says_rules : (e : Encoding) (plan : List ℕ) (before : List Bool) (block : ℕ)
 says_rules e plan before block [] len = tt
 says_rules e plan before block (r ∷ rules) len = (
   at r,
-  subst (λ flags. SaysRules e (has_variable flags) plan (block + blocks r) rules) (append_assoc before (rule_flags e.users plan r) (rules_flags e.users plan rules))
+  subst (λ flags. SaysRules e (has_variable flags) plan (block + blocks r) rules)
+      (append_assoc before (rule_flags e.users plan r) (rules_flags e.users plan rules))
       (says_rules e plan (before ++ rule_flags e.users plan r) (block + blocks r) rules longer),
 )
   where
@@ -179,7 +182,8 @@ says_rules e plan before block (r ∷ rules) len = (
     at (rule.AtLeast limit group) = says_count e plan before (rules_flags e.users plan rules) block (height false limit) group len
 
 -- the model made of a plan says it
-pub says_plan : (p : Problem) (plan : List ℕ) (assigned : List (Option ℕ)) (finished : List Bool) → SaysPlan (encoding_of p assigned finished) p.rules (has_variable (flags_of p plan)) plan
+pub says_plan : (p : Problem) (plan : List ℕ) (assigned : List (Option ℕ)) (finished : List Bool) →
+    SaysPlan (encoding_of p assigned finished) p.rules (has_variable (flags_of p plan)) plan
 says_plan p plan assigned finished =
     let e = encoding_of p assigned finished in
     let users = grid (λ s u. planned plan s == u) p.steps p.users in
@@ -216,7 +220,8 @@ map_planned [] f k each = refl
 map_planned (u ∷ plan) f k each =
     λ i. each 0 k (omega arith) (omega arith) i ∷ map_planned plan f (k + 1) (λ s j below same. each (suc s) j (omega (arith, below)) (omega (arith, same))) i
 
-pub said_back : (p : Problem) (plan : List ℕ) (assigned : List (Option ℕ)) (finished : List Bool) → length plan ≡ p.steps → ((s : ℕ) → s < p.steps → planned plan s < p.users) →
+pub said_back : (p : Problem) (plan : List ℕ) (assigned : List (Option ℕ)) (finished : List Bool) → length plan ≡ p.steps →
+    ((s : ℕ) → s < p.steps → planned plan s < p.users) →
     plan_in (encoding_of p assigned finished) (has_variable (flags_of p plan)) ≡ plan
 said_back p plan assigned finished whole known =
     let e = encoding_of p assigned finished in

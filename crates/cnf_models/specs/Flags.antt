@@ -1,5 +1,6 @@
 -- Models as flags, one for each variable, and the model that says a plan.
-use Rattle.std.specs.Prelude.{ℕ, suc, ◌==◌, nat_le, nat_lt, Bool, true, false, List, [], ◌∷◌, ◌++◌, map, slice_index_or}
+use Rattle.std.specs.Prelude.{ℕ, suc, ◌==◌, nat_le, nat_lt, Bool, true, false, List, [], ◌∷◌, ◌++◌}
+use Rattle.std.specs.Prelude.{map, slice_index_or}
 use Rattle.std.specs.List.{flat_map}
 use Rattle.wf_names.specs.UserSets.{count_below}
 use Rattle.constraint_forms.specs.declared.rule.Rule.{Rule}

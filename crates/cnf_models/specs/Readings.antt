@@ -1,5 +1,6 @@
 -- What a model says of a case.
-use Rattle.std.specs.Prelude.{◌≡◌, ℕ, ◌+◌, ℤ, Bool, List, [], ◌∷◌, Option, None, Some, if◌then◌else◌}
+use Rattle.std.specs.Prelude.{◌≡◌, ℕ, ◌+◌, ℤ, Bool, List, [], ◌∷◌, Option, None, Some}
+use Rattle.std.specs.Prelude.{if◌then◌else◌}
 use Rattle.policy_book.specs.Plans.{Problem, AreAssigned, IsValidPlan}
 use Rattle.cnf_export.specs.Clauses.{IsModelOf, satisfies}
 use Rattle.cnf_export.specs.Encodings.{clauses_of, encoding_of}

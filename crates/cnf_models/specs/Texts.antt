@@ -1,5 +1,8 @@
 -- Models as text, as solvers write them.
-use Rattle.std.specs.Prelude.{ℕ, ◌+◌, ◌*◌, ◌-◌, ◌≤◌, Bool, true, false, ◌&&◌, ◌||◌, ◌==◌, nat_le, nat_lt, List, [], ◌∷◌, length, drop, replicate, slice_index, slice_index_or, slice_set, Option, None, Some, option_and_then, Result, Ok, Err, if◌then◌else◌}
+use Rattle.std.specs.Prelude.{ℕ, ◌+◌, ◌*◌, ◌-◌, ◌≤◌, Bool, true, false, ◌&&◌, ◌||◌, ◌==◌, nat_le}
+use Rattle.std.specs.Prelude.{nat_lt, List, [], ◌∷◌, length, drop, replicate, slice_index}
+use Rattle.std.specs.Prelude.{slice_index_or, slice_set, Option, None, Some, option_and_then}
+use Rattle.std.specs.Prelude.{Result, Ok, Err, if◌then◌else◌}
 use Rattle.std.specs.List.{slice_split}
 use Rattle.first_fault.specs.Reading.{◌>>=◌, each}
 use Rattle.cnf_models.specs.declared.text.ModelFault.{ModelFault}

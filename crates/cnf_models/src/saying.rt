@@ -1,5 +1,6 @@
 //! The flags of a model that says a plan, part by part.
-ghost use Rattle.std.specs.Prelude.{◌≡◌, ◌≤◌, ◌<◌, ◌==◌, ◌+◌, ◌++◌, ℕ, suc, cond, nat_le, nat_lt, map, OnOk, IfOk};
+ghost use Rattle.std.specs.Prelude.{◌≡◌, ◌≤◌, ◌<◌, ◌==◌, ◌+◌, ◌++◌, ℕ, suc, cond, nat_le, nat_lt};
+ghost use Rattle.std.specs.Prelude.{map, OnOk, IfOk};
 ghost use Rattle.wf_names.specs.UserSets.{count_below};
 ghost use Rattle.constraint_forms.specs.Assigned.{planned};
 ghost use Rattle.cnf_export.specs.Encodings.{height, numbers};

@@ -1,11 +1,13 @@
 //! Models read from text.
-ghost use Rattle.std.specs.Prelude.{◌≡◌, ◌≤◌, ◌<◌, ◌+◌, ◌^◌, suc, [], ◌∷◌, length, Some, IfErr, IfOk};
+ghost use Rattle.std.specs.Prelude.{◌≡◌, ◌≤◌, ◌<◌, ◌+◌, ◌^◌, suc, [], ◌∷◌, length, Some, IfErr};
+ghost use Rattle.std.specs.Prelude.{IfOk};
 ghost use Rattle.std.specs.Option.{option_map_or};
 ghost use Rattle.std.specs.List.{slice_split};
 ghost use Rattle.memchr.specs.Find.{IsFirstByte};
 ghost use Rattle.first_fault.specs.Reading.{each, Gives};
 ghost use Rattle.cnf_models.specs.declared.text.ModelFault.TheVariants.{NoMemory};
-ghost use Rattle.cnf_models.specs.Texts.{count_of, is_blank, is_lf, is_passed_over, model_of_text, next_line, next_part, without_v, word_of, IsWordOf};
+ghost use Rattle.cnf_models.specs.Texts.{count_of, is_blank, is_lf, is_passed_over, model_of_text};
+ghost use Rattle.cnf_models.specs.Texts.{next_line, next_part, without_v, word_of, IsWordOf};
 
 use crate::Model;
 use crate::word::read_part;

@@ -3,7 +3,8 @@ ghost use Rattle.std.specs.Prelude.{◌≡◌, [], IsErrOf, OnErr, OnOk};
 ghost use Rattle.wf_outside.specs.Outside.{HasPart, Rose, with_bytes};
 ghost use Rattle.cnf_text.specs.Dimacs.{dimacs_text};
 ghost use Rattle.cnf_text.specs.Writing.{StaysUnlessFailed};
-ghost use Rattle.cnf_text.specs.declared.writing.WriteFault.TheVariants.{NoMemory, Failed as NotWritten};
+ghost use Rattle.cnf_text.specs.declared.writing.WriteFault.TheVariants.{NoMemory};
+ghost use Rattle.cnf_text.specs.declared.writing.WriteFault.TheVariants.{Failed as NotWritten};
 
 use crate::text::{push_clause, push_header};
 use cnf_export::{Encoder, Literals};

@@ -1,5 +1,6 @@
 -- The numbers that are found.
-use Rattle.std.proofs.Common.{◌≡◌, ◌∙◌, ◌<◌, ◌≤◌, ◌-◌, ◌^◌, ◌==◌, ℕ, Bool, true, false, cond, drop, refl, sym, ap, subst, arith, inl, inr, rules, List, [], ◌∷◌, Option, Some, None, Result, Ok, Err, true≢false}
+use Rattle.std.proofs.Common.{◌≡◌, ◌∙◌, ◌<◌, ◌≤◌, ◌-◌, ◌^◌, ◌==◌, ℕ, Bool, true, false, cond, drop, refl, sym, ap, subst, arith, inl, inr, rules, List, [], ◌∷◌}
+use Rattle.std.proofs.Common.{Option, Some, None, Result, Ok, Err, true≢false}
 use Rattle.std.specs.Prelude.{IfSome, codes, slice_get, ⊤, find, option_and_then, option_map, pos, unwrap_or}
 use Rattle.std.specs.List.{All, Any}
 use Rattle.std.specs.Str.{bytes_eq}
@@ -193,15 +194,18 @@ serve_options rows p = record {
   lanes = signed_within p.rules (codes "lanes") 1 LANE_LIMIT rows (λ e. cc)
       (rules_of (HasParser (codes "lanes") lanes_parser) serve_form rows p (other, (λ e. refl, (other, tt))) (other, (λ e. refl, (other, (other, tt))))) p.pass;
   rounds = signed_within p.rules (codes "rounds") 0 ROUND_LIMIT rows (λ e. cc)
-      (rules_of (HasParser (codes "rounds") rounds_parser) serve_form rows p (other, (other, (λ e. refl, tt))) (other, (other, (λ e. refl, (other, tt))))) p.pass;
+      (rules_of (HasParser (codes "rounds") rounds_parser) serve_form rows p (other, (other, (λ e. refl, tt))) (other, (other, (λ e. refl, (other, tt)))))
+      p.pass;
 }
 
 pub audit_options : (rows : List Row) → PassesIn audit_form rows → HasOptions rows
 audit_options rows p = record {
   lanes = signed_within p.rules (codes "lanes") 1 LANE_LIMIT rows (λ e. cc)
-      (rules_of (HasParser (codes "lanes") lanes_parser) audit_form rows p (other, (other, (λ e. refl, (other, tt)))) (other, (other, (λ e. refl, (other, (other, tt)))))) p.pass;
+      (rules_of (HasParser (codes "lanes") lanes_parser) audit_form rows p (other, (other, (λ e. refl, (other, tt))))
+      (other, (other, (λ e. refl, (other, (other, tt)))))) p.pass;
   rounds = signed_within p.rules (codes "rounds") 0 ROUND_LIMIT rows (λ e. cc)
-      (rules_of (HasParser (codes "rounds") rounds_parser) audit_form rows p (other, (other, (other, (λ e. refl, tt)))) (other, (other, (other, (λ e. refl, (other, tt)))))) p.pass;
+      (rules_of (HasParser (codes "rounds") rounds_parser) audit_form rows p (other, (other, (other, (λ e. refl, tt))))
+      (other, (other, (other, (λ e. refl, (other, tt)))))) p.pass;
 }
 
 pub resume_options : (rows : List Row) → PassesIn resume_form rows → HasOptions rows
@@ -223,4 +227,5 @@ absences_parser = Signed (pos 0) (pos ABSENCE_LIMIT)
 
 pub resilience_absences : (rows : List Row) → PassesIn resilience_form rows → WritesWithin 0 ABSENCE_LIMIT (codes "T") rows
 resilience_absences rows p = signed_within p.rules (codes "T") 0 ABSENCE_LIMIT rows (λ e. cc)
-    (rules_of (HasParser (codes "T") absences_parser) resilience_form rows p (other, (other, (λ e. refl, tt))) (other, (other, (λ e. refl, (other, tt))))) p.pass
+    (rules_of (HasParser (codes "T") absences_parser) resilience_form rows p (other, (other, (λ e. refl, tt))) (other, (other, (λ e. refl, (other, tt)))))
+    p.pass

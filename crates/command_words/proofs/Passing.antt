@@ -6,7 +6,8 @@ use Rattle.std.specs.Prelude.{if◌then◌else◌}
 use Rattle.std.proofs.lemmas.Bool.{ne_eqb, not-true}
 use Rattle.std.proofs.lemmas.List.{get_or-map, length-map}
 use Rattle.std.proofs.lemmas.List.Elements.{All-map, All-weaker}
-use Rattle.clap.specs.Words.{App, IsParsed, Rule, Text, app_of, args_of, built, fault_of, found_of, groups_of, has_subcommand, is_simple, is_simple_and_free, matches_of, rows_of, rule_of}
+use Rattle.clap.specs.Words.{App, IsParsed, Rule, Text, app_of, args_of, built, fault_of, found_of, groups_of, has_subcommand, is_simple, is_simple_and_free}
+use Rattle.clap.specs.Words.{matches_of, rows_of, rule_of}
 use Rattle.clap.specs.Words.{BuildsOrBreaks, HasKind, HasMatchesOf, IsAmong, Kinds, is_broken, kind_of}
 use Rattle.clap.specs.Facts.{Entry, EntryPasses, PassesArg, ValuesPass}
 use Rattle.clap.specs.Walk.{is_empty, row_of, rules_of, texts}

@@ -1,9 +1,12 @@
 -- A command of the code, as the definitions see it.
 use Rattle.std.specs.Prelude.{option_map}
 use Rattle.command_words.specs.declared.command.Command.{Command as Given}
-use Rattle.command_words.specs.declared.command.Command.TheVariants.{Plan, Show, Solve, Resilience, Cnf, Serve, Audit, Resume, Trial}
+use Rattle.command_words.specs.declared.command.Command.TheVariants.{Plan, Show, Solve, Resilience}
+use Rattle.command_words.specs.declared.command.Command.TheVariants.{Cnf, Serve, Audit, Resume}
+use Rattle.command_words.specs.declared.command.Command.TheVariants.{Trial}
 use Rattle.command_words.specs.declared.command.Options.{Options as GivenOptions}
-use Rattle.command_words.specs.Words.{AreOptions, Command, Options, plan, show, solve, resilience, cnf, serve, audit, resume, trial}
+use Rattle.command_words.specs.Words.{AreOptions, Command, Options, plan, show, solve, resilience}
+use Rattle.command_words.specs.Words.{cnf, serve, audit, resume, trial}
 
 -- the options
 abbrev pub options_in : GivenOptions → Options

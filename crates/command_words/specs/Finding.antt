@@ -3,7 +3,8 @@ use Rattle.std.specs.Prelude.{◌≡◌, ◌⊎◌, ◌≤◌, true, ℕ, List, 
 use Rattle.std.specs.List.{All, Any}
 use Rattle.std.specs.Str.{bytes_eq}
 use Rattle.std.specs.Str.Parse.{IsNumeral, digits_value, without_leading_plus}
-use Rattle.clap.specs.Words.{Accepts, App, Row, Rule, Text, built, found_of, one_of, reading_of, rows_of}
+use Rattle.clap.specs.Words.{Accepts, App, Row, Rule, Text, built, found_of, one_of, reading_of}
+use Rattle.clap.specs.Words.{rows_of}
 use Rattle.clap.specs.Facts.{parser_of_value}
 use Rattle.clap.specs.declared.parser.matches.ArgMatches.{ArgMatches}
 use Rattle.wf_names.specs.declared.limits.TheConstants.{LANE_LIMIT, ROUND_LIMIT}

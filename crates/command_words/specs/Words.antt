@@ -2,15 +2,19 @@
 -- say for a form which words are at fault, and what is found at others: `new_rule`, `new_app` and
 -- `with_rule` are what its builders make, `fault_of` lists what is wrong with words, and `first_of`
 -- and `one_of` are the texts that its getters read.
-use Rattle.std.specs.Prelude.{ℕ, pos, ◌<◌, ◌≤◌, ◌^◌, ◌-◌, Bool, true, false, ◌&&◌, List, [], ◌∷◌, fold, Option, None, Some, option_map, option_and_then, codes, nat_eq, nat_lt, if◌then◌else◌}
+use Rattle.std.specs.Prelude.{ℕ, pos, ◌<◌, ◌≤◌, ◌^◌, ◌-◌, Bool, true, false, ◌&&◌, List, [], ◌∷◌}
+use Rattle.std.specs.Prelude.{fold, Option, None, Some, option_map, option_and_then, codes, nat_eq}
+use Rattle.std.specs.Prelude.{nat_lt, if◌then◌else◌}
 use Rattle.std.specs.Fmt.{decimal}
 use Rattle.std.specs.Str.Parse.{digits_value, without_leading_plus}
 use Rattle.std.specs.Cmp.Lexicographic.{pointwise}
-use Rattle.clap.specs.Words.{App, Row, Rule, Text, fault_of, first_of, matches_of, new_app, new_rule, one_of, with_rule}
+use Rattle.clap.specs.Words.{App, Row, Rule, Text, fault_of, first_of, matches_of, new_app}
+use Rattle.clap.specs.Words.{new_rule, one_of, with_rule}
 use Rattle.clap.specs.Walk.{is_empty}
 use Rattle.clap.specs.declared.builder.value_parser.ValueParser.TheVariants.{Signed, Unsigned}
 use Rattle.command_words.specs.declared.command.TheConstants.{ABSENCE_LIMIT}
-use Rattle.wf_names.specs.declared.limits.TheConstants.{LANE_LIMIT, DEFAULT_LANES, ROUND_LIMIT, DEFAULT_ROUNDS}
+use Rattle.wf_names.specs.declared.limits.TheConstants.{LANE_LIMIT, DEFAULT_LANES, ROUND_LIMIT}
+use Rattle.wf_names.specs.declared.limits.TheConstants.{DEFAULT_ROUNDS}
 
 -- how a session is served: on how many lanes, and after how many rounds a request is answered again
 pub record Options : Type 0 where
@@ -121,7 +125,8 @@ abbrev pub solve_in : List Row → Option Command
 solve_in rows = option_map solve (policy_in rows)
 
 abbrev pub resilience_form : App
-resilience_form = form (codes "resilience") (policy_word ∷ wanted (codes "FLOW") ∷ absences_word ∷ [])
+resilience_form =
+    form (codes "resilience") (policy_word ∷ wanted (codes "FLOW") ∷ absences_word ∷ [])
 
 abbrev pub resilience_in : List Row → Option Command
 resilience_in rows = option_and_then (λ policy.
@@ -206,5 +211,6 @@ reads_input (Some (trial seed)) = false
 abbrev pub may_repeat : Option Command → Bool
 may_repeat None = false
 may_repeat (Some (serve policy options)) = nat_lt 1 options.lanes && nat_lt 0 options.rounds
-may_repeat (Some (resume policy requests transcript options)) = nat_lt 1 options.lanes && nat_lt 0 options.rounds
+may_repeat (Some (resume policy requests transcript options)) = nat_lt 1 options.lanes &&
+    nat_lt 0 options.rounds
 may_repeat (Some other) = false

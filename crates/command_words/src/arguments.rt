@@ -2,7 +2,8 @@
 ghost use Rattle.std.specs.Prelude.{◌≡◌, false, pos};
 ghost use Rattle.clap.specs.Words.{rule_of};
 ghost use Rattle.clap.specs.declared.builder.value_parser.ValueParser.TheVariants.{Signed};
-ghost use Rattle.command_words.specs.Words.{absences_word, lanes_option, model_word, ranged, rounds_option, wanted, wanted_number};
+ghost use Rattle.command_words.specs.Words.{absences_word, lanes_option, model_word, ranged};
+ghost use Rattle.command_words.specs.Words.{rounds_option, wanted, wanted_number};
 
 use crate::ABSENCE_LIMIT;
 use clap::Arg;

@@ -1,5 +1,6 @@
 //! What `clap` finds at the words.
-ghost use Rattle.std.specs.Prelude.{◌≡◌, ◌<◌, ◌≤◌, ◌-◌, ◌^◌, IfOk, IfSome, map, option_map, string_bytes, codes, true};
+ghost use Rattle.std.specs.Prelude.{◌≡◌, ◌<◌, ◌≤◌, ◌-◌, ◌^◌, IfOk, IfSome, map, option_map};
+ghost use Rattle.std.specs.Prelude.{string_bytes, codes, true};
 ghost use Rattle.clap.specs.Words.{app_of, first_of, is_simple_and_free};
 ghost use Rattle.command_words.specs.Words.{AreOptions, found, number_in, options_of};
 ghost use Rattle.command_words.specs.Asked.{options_in};

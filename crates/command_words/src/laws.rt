@@ -5,7 +5,8 @@ ghost use Rattle.std.specs.Prelude.{◌≡◌, ◌<◌, ◌≤◌, ◌^◌, ℕ,
 ghost use Rattle.std.specs.Fmt.{decimal};
 ghost use Rattle.clap.specs.Words.{Text};
 ghost use Rattle.command_words.specs.declared.command.TheConstants.{ABSENCE_LIMIT};
-ghost use Rattle.command_words.specs.Words.{AreOptions, audit, cnf, command_of, plan, resilience, resume, serve, show, solve, trial};
+ghost use Rattle.command_words.specs.Words.{AreOptions, audit, cnf, command_of, plan, resilience};
+ghost use Rattle.command_words.specs.Words.{resume, serve, show, solve, trial};
 ghost use Rattle.command_words.specs.Usage.{IsPlain, option_words, options_with};
 
 /// The words of each command, in the form that a usage text shows, are read as that command.
@@ -23,7 +24,8 @@ pub fn usage_is_read()
     ensures cnf { (policy flow : Text) → IsPlain policy → IsPlain flow
         → command_of (codes "cnf" ∷ policy ∷ flow ∷ []) ≡ Some (cnf policy flow None) }
     ensures model { (policy flow file : Text) → IsPlain policy → IsPlain flow → IsPlain file
-        → command_of (codes "cnf" ∷ policy ∷ flow ∷ file ∷ []) ≡ Some (cnf policy flow (Some file)) }
+        → command_of (codes "cnf" ∷ policy ∷ flow ∷ file ∷ []) ≡ Some
+        (cnf policy flow (Some file)) }
     ensures serve { (policy : Text) (lanes rounds : Option ℕ) → IsPlain policy
         → AreOptions (options_with lanes rounds)
         → command_of (codes "serve" ∷ policy ∷ option_words lanes rounds)

@@ -1,5 +1,6 @@
 //! The words of `trial`.
-ghost use Rattle.std.specs.Prelude.{◌≡◌, ◌-◌, ◌^◌, IfOk, IfSome, map, option_map, string_bytes, codes};
+ghost use Rattle.std.specs.Prelude.{◌≡◌, ◌-◌, ◌^◌, IfOk, IfSome, map, option_map, string_bytes};
+ghost use Rattle.std.specs.Prelude.{codes};
 ghost use Rattle.clap.specs.Words.{app_of};
 ghost use Rattle.command_words.specs.Words.{command_by, trial_form, trial_in};
 ghost use Rattle.command_words.specs.Asked.{CanServe, asked};

@@ -1,5 +1,7 @@
 -- How the flags of a word change with its bits.
-use Rattle.std.proofs.Common.{◌≡◌, ℕ, zero, suc, ◌*◌, ◌/◌, ◌%◌, ◌^◌, ◌<◌, ◌≤◌, Bool, true, false, nat_eq, nat_lt, List, ◌∷◌, length, get_or, set, replicate, slice_index_or, slice_set, refl, sym, ap, subst, ◌∙◌, inl, inr, arith, bit_and, bit_or, length-set, get_or-set_same, get_or-set_other}
+use Rattle.std.proofs.Common.{◌≡◌, ℕ, zero, suc, ◌*◌, ◌/◌, ◌%◌, ◌^◌, ◌<◌, ◌≤◌, Bool, true, false, nat_eq, nat_lt, List, ◌∷◌, length, get_or, set, replicate}
+use Rattle.std.proofs.Common.{slice_index_or, slice_set, refl, sym, ap, subst, ◌∙◌, inl, inr, arith, bit_and, bit_or, length-set, get_or-set_same}
+use Rattle.std.proofs.Common.{get_or-set_other}
 use Rattle.std.specs.Int.{bit_at, w32}
 use Rattle.std.proofs.lemmas.Nat.Bits.{bit_at-suc, bit_at_lowest, shr_and_one, bit_at_set_same, bit_at_set_other}
 use Rattle.std.proofs.lemmas.List.{same_lists, get_or_past}
@@ -75,6 +77,7 @@ set_fits n w i h small fits =
     or_lt n w _ fits (subst (λ x. x < 2 ^ n) (sym kept) power)
 
 -- words with equal flags are told apart by the flags
-pub same_words : (n x y : ℕ) (a b : List Bool) (r : Bool) → flags_of n x ≡ a → flags_of n y ≡ b → x < 2 ^ n → y < 2 ^ n → r ≡ nat_eq x y → r ≡ nat_eq (word_of a) (word_of b)
+pub same_words : (n x y : ℕ) (a b : List Bool) (r : Bool) → flags_of n x ≡ a → flags_of n y ≡ b → x < 2 ^ n → y < 2 ^ n → r ≡ nat_eq x y →
+    r ≡ nat_eq (word_of a) (word_of b)
 same_words n x y a b r e f hx hy is =
     is ∙ (λ j. nat_eq ((sym (word_of-flags_of n x hx) ∙ ap word_of e) j) ((sym (word_of-flags_of n y hy) ∙ ap word_of f) j))

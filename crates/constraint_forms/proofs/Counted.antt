@@ -1,5 +1,7 @@
 -- A count of the members' users, member by member.
-use Rattle.std.proofs.Common.{◌≡◌, ◌≢◌, ℕ, zero, suc, ◌+◌, ◌<◌, ◌≤◌, Bool, true, false, cond, not, ◌&&◌, ◌||◌, ◌==◌, nat_eq, nat_lt, List, [], ◌∷◌, length, drop, slice_set, get_or-set_same, get_or-set_other, Option, Some, None, is_none, is_some, ◌⊎◌, inl, inr, refl, sym, ap, subst, ◌∙◌, arith, add-zero, zero-add}
+use Rattle.std.proofs.Common.{◌≡◌, ◌≢◌, ℕ, zero, suc, ◌+◌, ◌<◌, ◌≤◌, Bool, true, false, cond, not, ◌&&◌, ◌||◌, ◌==◌, nat_eq, nat_lt, List, [], ◌∷◌, length}
+use Rattle.std.proofs.Common.{drop, slice_set, get_or-set_same, get_or-set_other, Option, Some, None, is_none, is_some, ◌⊎◌, inl, inr, refl, sym, ap, subst}
+use Rattle.std.proofs.Common.{◌∙◌, arith, add-zero, zero-add}
 use Rattle.std.specs.Bool.{IsTrue}
 use Rattle.basics.proofs.Booleans.{bool_cases, eq_back, eq_same, lt_yes, lt_no, not_true, same_by}
 use Rattle.constraint_forms.specs.Assigned.{is_member, user_at}
@@ -173,7 +175,8 @@ module _ (group : List Bool) (a : List (Option ℕ)) (s u : ℕ) (within : s < l
   abbrev reach : ℕ
   reach = different users + free_from 0 group others
 
-  few_member : (limit : ℕ) → is_member group s ≡ true → too_few_with limit group a s u ≡ nat_lt ((cond (is_among users u) 0 1 + different users) + free_from 0 group given) limit
+  few_member : (limit : ℕ) → is_member group s ≡ true →
+      too_few_with limit group a s u ≡ nat_lt ((cond (is_among users u) 0 1 + different users) + free_from 0 group given) limit
   few_member limit is = ap (λ n. nat_lt (n + free_from 0 group given) limit) (member_given is).count
 
   few_other : (limit : ℕ) → is_member group s ≡ false → too_few_with limit group a s u ≡ nat_lt reach limit

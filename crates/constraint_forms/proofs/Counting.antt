@@ -1,5 +1,6 @@
 -- How many users a set's members have.
-use Rattle.std.proofs.Common.{◌≡◌, ◌≢◌, ℕ, zero, suc, ◌+◌, ◌<◌, ◌≤◌, Bool, true, false, cond, not, ◌&&◌, ◌||◌, ◌==◌, nat_eq, nat_lt, nat_le, List, [], ◌∷◌, Option, Some, None, is_none, ◌⊎◌, inl, inr, refl, sym, ap, subst, ◌∙◌, arith, add-zero, zero-add}
+use Rattle.std.proofs.Common.{◌≡◌, ◌≢◌, ℕ, zero, suc, ◌+◌, ◌<◌, ◌≤◌, Bool, true, false, cond, not, ◌&&◌, ◌||◌, ◌==◌, nat_eq, nat_lt, nat_le, List, [], ◌∷◌}
+use Rattle.std.proofs.Common.{Option, Some, None, is_none, ◌⊎◌, inl, inr, refl, sym, ap, subst, ◌∙◌, arith, add-zero, zero-add}
 use Rattle.std.specs.Bool.{IsTrue}
 use Rattle.basics.proofs.Booleans.{bool_cases, eq_back, eq_same, lt_back, lt_yes, lt_no, not_true, or_cases, or_left, or_right, same_by}
 use Rattle.constraint_forms.specs.Assigned.{is_member}
@@ -20,7 +21,8 @@ unfolding without
 left_among u [] w ne h = h
 left_among u (v ∷ vs) w ne h = at (bool_cases (nat_eq v u)) (or_cases (nat_eq v w) (is_among vs w) h) (left_among u vs w ne)
   where
-    at : (nat_eq v u ≡ true) ⊎ (nat_eq v u ≡ false) → (nat_eq v w ≡ true) ⊎ (is_among vs w ≡ true) → (IsTrue (is_among vs w) → IsTrue (is_among (without u vs) w)) →
+    at : (nat_eq v u ≡ true) ⊎ (nat_eq v u ≡ false) → (nat_eq v w ≡ true) ⊎ (is_among vs w ≡ true) →
+        (IsTrue (is_among vs w) → IsTrue (is_among (without u vs) w)) →
         IsTrue (is_among (cond (v == u) (without u vs) (v ∷ without u vs)) w)
     at (inl same) (inl here) rest = absurd (ne (sym (eq_back v w here) ∙ eq_back v u same))
     at (inl same) (inr later) rest = rw same (rest later)
@@ -62,7 +64,8 @@ different-without u (v ∷ vs) = at (bool_cases (nat_eq v u)) (different-without
 pub different-le : (us vs : List ℕ) → AreAmong us vs → different us ≤ different vs
 different-le [] vs h = omega arith
 different-le (u ∷ us) vs h =
-    at (bool_cases (is_among us u)) (different-le us vs tail) (λ last. different-le us (without u vs) (λ w i. left_among u vs w (λ is. cc (sym last ∙ ap (is_among us) (sym is) ∙ i)) (tail w i)))
+    at (bool_cases (is_among us u)) (different-le us vs tail)
+    (λ last. different-le us (without u vs) (λ w i. left_among u vs w (λ is. cc (sym last ∙ ap (is_among us) (sym is) ∙ i)) (tail w i)))
   where
     tail : AreAmong us vs
     tail w i = h w (or_right (nat_eq u w) (is_among us w) i)
@@ -71,7 +74,8 @@ different-le (u ∷ us) vs h =
         cond (is_among us u) 0 1 + different us ≤ different vs
     at (inl again) same less = rw again (omega (arith, same))
     at (inr last) same less =
-        let n : different vs ≡ 1 + different (without u vs) = different-without u vs ∙ ap (λ b. cond b 1 0 + different (without u vs)) (h u (or_left (nat_eq u u) (is_among us u) (eq_same u))) in
+        let n : different vs ≡ 1 + different (without u vs) = different-without u vs ∙
+        ap (λ b. cond b 1 0 + different (without u vs)) (h u (or_left (nat_eq u u) (is_among us u) (eq_same u))) in
         rw last (omega (arith, less last, n))
 
 -- ---- what an assignment's extension gives
@@ -88,7 +92,8 @@ onto-among (Some x) p us vs h sub = rw (h x refl) (λ w i. at w (or_cases (nat_e
     at w (inl here) = or_left (nat_eq x w) (is_among vs w) here
     at w (inr later) = or_right (nat_eq x w) (is_among vs w) (sub w later)
 
-pub users_from-more : (a b : ℕ → Option ℕ) → ((s u : ℕ) → a s ≡ Some u → b s ≡ Some u) → (k : ℕ) (bs : List Bool) → AreAmong (users_from k bs a) (users_from k bs b)
+pub users_from-more : (a b : ℕ → Option ℕ) → ((s u : ℕ) → a s ≡ Some u → b s ≡ Some u) → (k : ℕ) (bs : List Bool) →
+    AreAmong (users_from k bs a) (users_from k bs b)
 users_from-more a b h k [] = λ w i. i
 users_from-more a b h k (true ∷ bs) = onto-among (a k) (b k) (users_from (k + 1) bs a) (users_from (k + 1) bs b) (h k) (users_from-more a b h (k + 1) bs)
 users_from-more a b h k (false ∷ bs) = users_from-more a b h (k + 1) bs
@@ -115,7 +120,8 @@ pub reach-le : (a b : ℕ → Option ℕ) → ((s u : ℕ) → a s ≡ Some u �
     different (users_from k bs b) + free_from k bs b ≤ different (users_from k bs a) + free_from k bs a
 reach-le a b h k [] = omega arith
 reach-le a b h k (true ∷ bs) =
-    step-le (a k) (b k) (users_from (k + 1) bs a) (users_from (k + 1) bs b) (free_from (k + 1) bs a) (free_from (k + 1) bs b) (h k) (users_from-more a b h (k + 1) bs) (reach-le a b h (k + 1) bs)
+    step-le (a k) (b k) (users_from (k + 1) bs a) (users_from (k + 1) bs b) (free_from (k + 1) bs a) (free_from (k + 1) bs b) (h k)
+    (users_from-more a b h (k + 1) bs) (reach-le a b h (k + 1) bs)
 reach-le a b h k (false ∷ bs) = reach-le a b h (k + 1) bs
 
 -- of a total assignment no member is free
@@ -167,7 +173,8 @@ join-after k m bs f g h i j s t =
     let d : k + suc j ≡ (k + 1) + j = omega arith in
     subst (λ n. (f ((k + 1) + i) == f n) ≡ (g ((k + 1) + i) == g n)) d (subst (λ n. (f n == f (k + suc j)) ≡ (g n == g (k + suc j))) e (h (suc i) (suc j) s t))
 
-different-same : (f g : ℕ → ℕ) (k : ℕ) (bs : List Bool) → JoinFrom k bs f g → different (users_from k bs (λ s. Some (f s))) ≡ different (users_from k bs (λ s. Some (g s)))
+different-same : (f g : ℕ → ℕ) (k : ℕ) (bs : List Bool) → JoinFrom k bs f g →
+    different (users_from k bs (λ s. Some (f s))) ≡ different (users_from k bs (λ s. Some (g s)))
 different-same f g k [] h = refl
 different-same f g k (true ∷ bs) h =
     let first : (i : ℕ) → IsTrue (is_member bs i) → (f ((k + 1) + i) == f k) ≡ (g ((k + 1) + i) == g k) = λ i t.

@@ -1,5 +1,6 @@
 -- The steps of a set one after the other, and those of two sets.
-use Rattle.std.proofs.Common.{◌≡◌, ℕ, zero, suc, max, ◌+◌, ◌-◌, ◌/◌, ◌%◌, ◌^◌, ◌<◌, ◌≤◌, false, ◌||◌, nat_eq, slice_index_or, refl, sym, ap, ◌∙◌, inl, inr, arith, bit_or}
+use Rattle.std.proofs.Common.{◌≡◌, ℕ, zero, suc, max, ◌+◌, ◌-◌, ◌/◌, ◌%◌, ◌^◌, ◌<◌, ◌≤◌, false, ◌||◌, nat_eq, slice_index_or, refl, sym, ap, ◌∙◌, inl, inr}
+use Rattle.std.proofs.Common.{arith, bit_or}
 use Rattle.std.specs.Int.{bit_at, w32, trailing_zeros}
 use Rattle.std.proofs.lemmas.Nat.{shr-shr, shr_le}
 use Rattle.std.proofs.lemmas.Nat.Bits.{bit_at-zero, bit_at_above, bit_at-trailing_zeros, bit_at_or, bit_at-lt}
@@ -57,12 +58,14 @@ some_bit (suc zero) (suc (suc b)) h k = absurd (omega (arith, k))
 some_bit (suc (suc a)) b h k = absurd (omega (arith, h))
 
 -- the flags of either word
-pub flags_of-or : (n v w s : ℕ) → slice_index_or (flags_of n (bit_or v w)) s false ≡ (slice_index_or (flags_of n v) s false || slice_index_or (flags_of n w) s false)
+pub flags_of-or : (n v w s : ℕ) →
+    slice_index_or (flags_of n (bit_or v w)) s false ≡ (slice_index_or (flags_of n v) s false || slice_index_or (flags_of n w) s false)
 flags_of-or n v w s = elim (cases_lt s n) [
   | inl lt ↦
       flags_of-at n (bit_or v w) s false lt ∙ ap (λ b. nat_eq b 1) (bit_at_or v w s)
       ∙ some_bit _ _ (bit_at-lt v s) (bit_at-lt w s)
-      ∙ sym (ap (λ b. b || slice_index_or (flags_of n w) s false) (flags_of-at n v s false lt) ∙ ap (λ b. nat_eq (bit_at v s) 1 || b) (flags_of-at n w s false lt))
+      ∙ sym (ap (λ b. b || slice_index_or (flags_of n w) s false) (flags_of-at n v s false lt) ∙
+      ap (λ b. nat_eq (bit_at v s) 1 || b) (flags_of-at n w s false lt))
   | inr ge ↦
       has_no_flag n (bit_or v w) s ge
       ∙ sym (ap (λ b. b || slice_index_or (flags_of n w) s false) (has_no_flag n v s ge) ∙ has_no_flag n w s ge)

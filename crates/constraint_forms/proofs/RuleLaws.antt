@@ -1,11 +1,13 @@
 -- What is true of the tests over a set's members, and of rules by their forms.
-use Rattle.std.proofs.Common.{◌≡◌, nat_le, nat_lt, ap, ◌∙◌, ℕ, zero, suc, ◌+◌, Bool, true, false, not, ◌&&◌, ◌||◌, List, [], ◌∷◌, Option, Some, None, is_some, refl, sym, subst, arith, add-zero, zero-add}
+use Rattle.std.proofs.Common.{◌≡◌, nat_le, nat_lt, ap, ◌∙◌, ℕ, zero, suc, ◌+◌, Bool, true, false, not, ◌&&◌, ◌||◌, List, [], ◌∷◌, Option, Some, None, is_some}
+use Rattle.std.proofs.Common.{refl, sym, subst, arith, add-zero, zero-add}
 use Rattle.std.specs.Bool.{IsTrue}
 use Rattle.basics.proofs.Booleans.{and_same, eq_same, or_left, or_right}
 use Rattle.constraint_forms.specs.declared.rule.Rule.TheVariants.{Pair, SomeOf, AllOf, SomeTo, AllTo, AtMost, AtLeast}
 use Rattle.constraint_forms.specs.Assigned.{is_member}
 use Rattle.constraint_forms.specs.Rules.{any_from, all_from, are_unrelated, different, free_from, names, turned, users_from, Relating}
-use Rattle.constraint_forms.proofs.Counting.{different-alike, different-le, free_from-same, free_from-total, from_zero, le_not, lt_less, lt_more, reach-le, users_from-more, users_from-same}
+use Rattle.constraint_forms.proofs.Counting.{different-alike, different-le, free_from-same, free_from-total, from_zero, le_not, lt_less, lt_more, reach-le}
+use Rattle.constraint_forms.proofs.Counting.{users_from-more, users_from-same}
 use Rattle.constraint_forms.specs.Laws.{TotalsDecide, StaysFalsified, FalsifiedByNamed, SatisfiedByNamed, SeesRelatedness}
 
 -- ---- what a rule names
@@ -85,7 +87,8 @@ all_from-more p q h k (b ∷ bs) = and_more _ _ _ _ (or_more (not b) (p k) (not 
 abbrev Keeps : Option ℕ → Option ℕ → Type 0
 Keeps u v = (x : ℕ) → u ≡ Some x → v ≡ Some x
 
-unrelated-more : (related : Relating) (rho : ℕ) (u v u' v' : Option ℕ) → Keeps u u' → Keeps v v' → Implies (are_unrelated related rho u v) (are_unrelated related rho u' v')
+unrelated-more : (related : Relating) (rho : ℕ) (u v u' v' : Option ℕ) → Keeps u u' → Keeps v v' →
+    Implies (are_unrelated related rho u v) (are_unrelated related rho u' v')
 unrelated-more related rho None v u' v' h i j = absurd (cc)
 unrelated-more related rho (Some x) None u' v' h i j = absurd (cc)
 unrelated-more related rho (Some x) (Some y) u' v' h i j = rw (h x refl, i y refl) j
@@ -105,7 +108,8 @@ stays_falsified related (SomeTo rho step group) a b h =
 stays_falsified related (AllTo rho step group) a b h =
     any_from-more _ _ (λ x. unrelated-more (turned true related) rho _ _ _ _ (h x) (h step)) 0 group
 stays_falsified related (AtMost limit group) a b h =
-    lt_more limit (different (users_from 0 group a)) (different (users_from 0 group b)) (different-le (users_from 0 group a) (users_from 0 group b) (users_from-more a b h 0 group))
+    lt_more limit (different (users_from 0 group a)) (different (users_from 0 group b))
+    (different-le (users_from 0 group a) (users_from 0 group b) (users_from-more a b h 0 group))
 stays_falsified related (AtLeast limit group) a b h =
     lt_less limit (different (users_from 0 group a) + free_from 0 group a) (different (users_from 0 group b) + free_from 0 group b) (reach-le a b h 0 group)
 
@@ -177,12 +181,15 @@ satisfied_by_named related (SomeTo rho step group) f g h =
 satisfied_by_named related (AllTo rho step group) f g h =
     all-same _ _ group (λ x t j. related rho (h step (step-named rho group step) j) (h x (member-named rho group step x t) j))
 satisfied_by_named related (AtMost limit group) f g h =
-    λ i. nat_le (different (users_from-same (λ s. Some (f s)) (λ s. Some (g s)) 0 group (from_zero group (λ s. Some (f s)) (λ s. Some (g s)) (λ s t. ap Some (h s t))) i)) limit
+    λ i. nat_le (different (users_from-same (λ s. Some (f s)) (λ s. Some (g s)) 0 group
+    (from_zero group (λ s. Some (f s)) (λ s. Some (g s)) (λ s t. ap Some (h s t))) i)) limit
 satisfied_by_named related (AtLeast limit group) f g h =
-    λ i. nat_le limit (different (users_from-same (λ s. Some (f s)) (λ s. Some (g s)) 0 group (from_zero group (λ s. Some (f s)) (λ s. Some (g s)) (λ s t. ap Some (h s t))) i))
+    λ i. nat_le limit (different
+    (users_from-same (λ s. Some (f s)) (λ s. Some (g s)) 0 group (from_zero group (λ s. Some (f s)) (λ s. Some (g s)) (λ s t. ap Some (h s t))) i))
 
 pub sees_relatedness : SeesRelatedness
-sees_relatedness related (Pair rho first second) f g h = h.relate_same rho first second (eq_same rho) (first-named rho first second) (second-named rho first second)
+sees_relatedness related (Pair rho first second) f g h =
+    h.relate_same rho first second (eq_same rho) (first-named rho first second) (second-named rho first second)
 sees_relatedness related (SomeOf rho group step) f g h =
     any-same _ _ group (λ x t. h.relate_same rho x step (eq_same rho) (member-named rho group step x t) (step-named rho group step))
 sees_relatedness related (AllOf rho group step) f g h =

@@ -14,4 +14,5 @@ same_plans cells cells' len len' a b eq r s h h' e e' same all =
     let c' : cells' ≡ padded STEP_LIMIT 0 b = sym (padded-take STEP_LIMIT 0 cells' len' h') ∙ ap (padded STEP_LIMIT 0) e' in
     let n : len ≡ length a = sym (length-taken STEP_LIMIT 0 cells len h) ∙ ap length e in
     let n' : len' ≡ length b = sym (length-taken STEP_LIMIT 0 cells' len' h') ∙ ap length e' in
-    all ∙ (λ i. same i && eq (c i) (c' i)) ∙ (λ i. nat_eq (n i) (n' i) && eq (padded STEP_LIMIT 0 a) (padded STEP_LIMIT 0 b)) ∙ and_swap (nat_eq (length a) (length b)) (eq (padded STEP_LIMIT 0 a) (padded STEP_LIMIT 0 b))
+    all ∙ (λ i. same i && eq (c i) (c' i)) ∙ (λ i. nat_eq (n i) (n' i) && eq (padded STEP_LIMIT 0 a) (padded STEP_LIMIT 0 b)) ∙
+    and_swap (nat_eq (length a) (length b)) (eq (padded STEP_LIMIT 0 a) (padded STEP_LIMIT 0 b))

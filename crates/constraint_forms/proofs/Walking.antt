@@ -1,5 +1,6 @@
 -- What is said of the members of a set from one on, where only the members are looked at.
-use Rattle.std.proofs.Common.{◌≡◌, ℕ, zero, suc, ◌+◌, ◌-◌, ◌<◌, ◌≤◌, Bool, true, false, not, cond, ◌&&◌, ◌||◌, List, [], ◌∷◌, Option, Some, None, is_none, is_some, length, drop, refl, sym, ap, ◌∙◌, arith}
+use Rattle.std.proofs.Common.{◌≡◌, ℕ, zero, suc, ◌+◌, ◌-◌, ◌<◌, ◌≤◌, Bool, true, false, not, cond, ◌&&◌, ◌||◌, List, [], ◌∷◌, Option, Some, None, is_none}
+use Rattle.std.proofs.Common.{is_some, length, drop, refl, sym, ap, ◌∙◌, arith}
 use Rattle.std.proofs.lemmas.List.{drop_all}
 use Rattle.wf_names.specs.declared.limits.TheConstants.{STEP_LIMIT}
 use Rattle.constraint_forms.specs.Assigned.{is_member, IsNextStep}
@@ -123,7 +124,8 @@ at_most_one true = omega arith
 at_most_one false = omega arith
 
 pub free_go : (f : ℕ → Option ℕ) (group : List Bool) (from s n count count' left : ℕ) (b : Bool) → length group ≡ STEP_LIMIT → IsNextStep group from s → n ≡ s
-    → b ≡ is_none (f s) → count' ≡ count + cond b 1 0 → count + free_from from (drop from group) f ≡ left → count' + free_from (n + 1) (drop (n + 1) group) f ≡ left
+    → b ≡ is_none (f s) → count' ≡ count + cond b 1 0 → count + free_from from (drop from group) f ≡ left →
+    count' + free_from (n + 1) (drop (n + 1) group) f ≡ left
 free_go f group from s n count count' left b len next same is more before =
     let rest = ap (λ k. free_from (k + 1) (drop (k + 1) group) f) same in
     let first = free_next f group from s len next ∙ ap (λ t. cond t 1 0 + free_from (s + 1) (drop (s + 1) group) f) (sym is) in
@@ -192,7 +194,8 @@ any_left_end p group from s left len below none before =
 
 -- some member may not pass: those whom one lets stay are put together
 pub all_left : (p : ℕ → Bool) (group : List Bool) (from x n : ℕ) (k k' s left : Bool) → length group ≡ STEP_LIMIT → IsNextStep group from x → n ≡ x
-    → k' ≡ (k || (s && not (p x))) → (k || (s && not (all_from from (drop from group) p))) ≡ left → (k' || (s && not (all_from (n + 1) (drop (n + 1) group) p))) ≡ left
+    → k' ≡ (k || (s && not (p x))) → (k || (s && not (all_from from (drop from group) p))) ≡ left →
+    (k' || (s && not (all_from (n + 1) (drop (n + 1) group) p))) ≡ left
 all_left p group from x n k k' s left len next same now before =
     let rest = all_from (x + 1) (drop (x + 1) group) p in
     ap (λ m. k' || (s && not (all_from (m + 1) (drop (m + 1) group) p))) same

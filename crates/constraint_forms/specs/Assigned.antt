@@ -1,5 +1,6 @@
 -- Sets of steps, assignments and plans, as lists with a place for each step.
-use Rattle.std.specs.Prelude.{◌≡◌, ◌<◌, ◌≤◌, ℕ, Bool, true, false, List, Option, None, slice_index, slice_index_or, replicate}
+use Rattle.std.specs.Prelude.{◌≡◌, ◌<◌, ◌≤◌, ℕ, Bool, true, false, List, Option, None, slice_index}
+use Rattle.std.specs.Prelude.{slice_index_or, replicate}
 use Rattle.wf_names.specs.declared.limits.TheConstants.{STEP_LIMIT}
 
 -- the user that an assignment gives to a step

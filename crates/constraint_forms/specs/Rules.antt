@@ -1,9 +1,11 @@
 -- What rules mean: over plans, and over partial assignments.
-use Rattle.std.specs.Prelude.{ℕ, ◌+◌, ◌<◌, Bool, true, false, cond, not, ◌&&◌, ◌||◌, ◌==◌, nat_le, nat_lt, List, [], ◌∷◌, Option, None, Some, is_none, is_some, IsTrue}
+use Rattle.std.specs.Prelude.{ℕ, ◌+◌, ◌<◌, Bool, true, false, cond, not, ◌&&◌, ◌||◌, ◌==◌, nat_le}
+use Rattle.std.specs.Prelude.{nat_lt, List, [], ◌∷◌, Option, None, Some, is_none, is_some, IsTrue}
 use Rattle.constraint_forms.specs.Assigned.{is_member}
 pub use Rattle.constraint_forms.specs.Assigned.{user_at, planned, is_member}
 use Rattle.constraint_forms.specs.declared.rule.Rule.{Rule}
-use Rattle.constraint_forms.specs.declared.rule.Rule.TheVariants.{Pair, SomeOf, AllOf, SomeTo, AllTo, AtMost, AtLeast}
+use Rattle.constraint_forms.specs.declared.rule.Rule.TheVariants.{Pair, SomeOf, AllOf, SomeTo}
+use Rattle.constraint_forms.specs.declared.rule.Rule.TheVariants.{AllTo, AtMost, AtLeast}
 
 -- whether a relation holds from one user to another
 abbrev pub Relating : Type 0
@@ -69,18 +71,25 @@ is_satisfied related (SomeOf rho group step) f = any_from 0 group (λ x. related
 is_satisfied related (AllOf rho group step) f = all_from 0 group (λ x. related rho (f x) (f step))
 is_satisfied related (SomeTo rho step group) f = any_from 0 group (λ x. related rho (f step) (f x))
 is_satisfied related (AllTo rho step group) f = all_from 0 group (λ x. related rho (f step) (f x))
-is_satisfied related (AtMost limit group) f = nat_le (different (users_from 0 group (λ s. Some (f s)))) limit
-is_satisfied related (AtLeast limit group) f = nat_le limit (different (users_from 0 group (λ s. Some (f s))))
+is_satisfied related (AtMost limit group) f =
+    nat_le (different (users_from 0 group (λ s. Some (f s)))) limit
+is_satisfied related (AtLeast limit group) f =
+    nat_le limit (different (users_from 0 group (λ s. Some (f s))))
 
 -- a partial assignment falsifies a rule
 abbrev pub is_falsified : Relating → Rule → (ℕ → Option ℕ) → Bool
 is_falsified related (Pair rho first second) f = are_unrelated related rho (f first) (f second)
-is_falsified related (SomeOf rho group step) f = is_some (f step) && all_from 0 group (λ x. are_unrelated related rho (f x) (f step))
-is_falsified related (AllOf rho group step) f = any_from 0 group (λ x. are_unrelated related rho (f x) (f step))
-is_falsified related (SomeTo rho step group) f = is_some (f step) && all_from 0 group (λ x. are_unrelated (turned true related) rho (f x) (f step))
-is_falsified related (AllTo rho step group) f = any_from 0 group (λ x. are_unrelated (turned true related) rho (f x) (f step))
+is_falsified related (SomeOf rho group step) f = is_some (f step) &&
+    all_from 0 group (λ x. are_unrelated related rho (f x) (f step))
+is_falsified related (AllOf rho group step) f =
+    any_from 0 group (λ x. are_unrelated related rho (f x) (f step))
+is_falsified related (SomeTo rho step group) f = is_some (f step) &&
+    all_from 0 group (λ x. are_unrelated (turned true related) rho (f x) (f step))
+is_falsified related (AllTo rho step group) f =
+    any_from 0 group (λ x. are_unrelated (turned true related) rho (f x) (f step))
 is_falsified related (AtMost limit group) f = nat_lt limit (different (users_from 0 group f))
-is_falsified related (AtLeast limit group) f = nat_lt (different (users_from 0 group f) + free_from 0 group f) limit
+is_falsified related (AtLeast limit group) f =
+    nat_lt (different (users_from 0 group f) + free_from 0 group f) limit
 
 -- a rule names a step
 abbrev pub names : Rule → ℕ → Bool

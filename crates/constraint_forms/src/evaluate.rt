@@ -1,6 +1,8 @@
 //! Whether a partial assignment falsifies a rule, and whether a plan satisfies it.
 ghost use Rattle.std.specs.Prelude.{◌≡◌, ℕ, ◌<◌, IsTrue, Some, length};
-ghost use Rattle.constraint_forms.specs.Rules.{all_from, any_from, are_unrelated, different, is_falsified, is_satisfied, turned, users_from, IsRuleOf};
+ghost use Rattle.constraint_forms.specs.Rules.{all_from, any_from, are_unrelated, different};
+ghost use Rattle.constraint_forms.specs.Rules.{is_falsified, is_satisfied, turned, users_from};
+ghost use Rattle.constraint_forms.specs.Rules.{IsRuleOf};
 ghost use Rattle.constraint_forms.specs.Assigned.{is_member, planned, user_at};
 
 use crate::count::{assigned_by, count_free, count_users};

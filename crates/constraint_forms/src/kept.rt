@@ -1,10 +1,13 @@
 //! What a rule leaves of a set of users who could be given a free step.
-ghost use Rattle.std.specs.Prelude.{◌≡◌, ◌&&◌, ℕ, ◌<◌, ◌≤◌, IsTrue, List, Option, Some, is_some, length, nat_lt, not, slice_set};
+ghost use Rattle.std.specs.Prelude.{◌≡◌, ◌&&◌, ℕ, ◌<◌, ◌≤◌, IsTrue, List, Option, Some, is_some};
+ghost use Rattle.std.specs.Prelude.{length, nat_lt, not, slice_set};
 ghost use Rattle.wf_names.specs.declared.limits.TheConstants.{STEP_LIMIT, USER_LIMIT};
 ghost use Rattle.wf_names.specs.UserSets.{has_user};
 ghost use Rattle.constraint_forms.specs.Assigned.{user_at};
-ghost use Rattle.constraint_forms.specs.Kept.{are_unrelated_with, too_few_with, too_many_with, IsBelow};
-ghost use Rattle.constraint_forms.specs.Rules.{all_from, any_from, are_unrelated, is_falsified, turned};
+ghost use Rattle.constraint_forms.specs.Kept.{are_unrelated_with, too_few_with, too_many_with};
+ghost use Rattle.constraint_forms.specs.Kept.{IsBelow};
+ghost use Rattle.constraint_forms.specs.Rules.{all_from, any_from, are_unrelated, is_falsified};
+ghost use Rattle.constraint_forms.specs.Rules.{turned};
 
 use crate::count::{count_free, count_users, users_of};
 use crate::evaluate::{is_related, is_unrelated};
@@ -24,8 +27,8 @@ pub trait RelatedRows: Holds {
         ensures { (v : ℕ) → has_user result v ≡ (nat_lt v users && Self.related self.now rho v u) };
 }
 
-// What is asked of a rule: who among the users below `users` may be given the step `s`, beside those
-// that are given already.
+// What is asked of a rule: who among the users below `users` may be given the step `s`, beside
+// those that are given already.
 #[derive(Clone, Copy)]
 struct Asked {
     given: Assign,

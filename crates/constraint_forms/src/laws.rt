@@ -1,7 +1,9 @@
 //! Laws of the rule forms: all that is needed to know of a rule without a look at its form.
 //!
 //! Each function does nothing; its contract is the law.
-ghost use Rattle.constraint_forms.specs.Laws.{ExchangeDoesNotMatter, FalsifiedByNamed, SatisfiedByNamed, SeesRelatedness, StaysFalsified, TotalsDecide};
+ghost use Rattle.constraint_forms.specs.Laws.{ExchangeDoesNotMatter, FalsifiedByNamed};
+ghost use Rattle.constraint_forms.specs.Laws.{SatisfiedByNamed, SeesRelatedness, StaysFalsified};
+ghost use Rattle.constraint_forms.specs.Laws.{TotalsDecide};
 
 /// A total assignment satisfies a rule exactly where it does not falsify it, and what an
 /// assignment falsifies, every extension of it falsifies.

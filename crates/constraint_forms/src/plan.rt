@@ -25,7 +25,10 @@ impl Model for Plan {
 
     ghost inverse = { λ users. record { users = padded STEP_LIMIT 0 users; len = length users } };
 
-    ghost inverse_ok = { λ p h i. record { users = padded-take STEP_LIMIT 0 p.users p.len h i; len = length-taken STEP_LIMIT 0 p.users p.len h i } };
+    ghost inverse_ok = { λ p h i. record {
+      users = padded-take STEP_LIMIT 0 p.users p.len h i;
+      len = length-taken STEP_LIMIT 0 p.users p.len h i;
+    } };
 }
 
 impl Plan {

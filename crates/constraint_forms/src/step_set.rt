@@ -1,5 +1,6 @@
 //! Sets of steps, kept as the bits of one word.
-ghost use Rattle.std.specs.Prelude.{◌≡◌, ℕ, ◌<◌, ◌≤◌, ◌||◌, false, true, length, slice_set, MatchOption};
+ghost use Rattle.std.specs.Prelude.{◌≡◌, ℕ, ◌<◌, ◌≤◌, ◌||◌, false, true, length, slice_set};
+ghost use Rattle.std.specs.Prelude.{MatchOption};
 ghost use Rattle.wf_names.specs.declared.limits.TheConstants.{STEP_LIMIT};
 ghost use Rattle.constraint_forms.specs.Assigned.{is_member, no_steps, IsNextStep};
 ghost use Rattle.constraint_forms.specs.Rules.{count_members};
@@ -60,7 +61,8 @@ impl StepSet {
 
     /// The steps of this set and of another one.
     pub fn union(&self, by: &StepSet) -> StepSet
-        ensures either { (s : ℕ) → is_member result s ≡ (is_member self.now s || is_member by.now s) }
+        ensures either { (s : ℕ) → is_member result s
+            ≡ (is_member self.now s || is_member by.now s) }
         ensures len { length result ≡ STEP_LIMIT }
     {
         StepSet {

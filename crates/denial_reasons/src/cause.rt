@@ -2,7 +2,8 @@
 ghost use Rattle.std.specs.Prelude.{◌≡◌, ◌<◌, true, length, is_some, IfOk, OnErr};
 ghost use Rattle.constraint_forms.specs.Assigned.{user_at};
 ghost use Rattle.policy_book.specs.Policies.{flow_at, problem_of};
-ghost use Rattle.denial_reasons.specs.Causes.{assigned_with, first_cause, first_falsified, permitted_roles, takes_memory};
+ghost use Rattle.denial_reasons.specs.Causes.{assigned_with, first_cause, first_falsified};
+ghost use Rattle.denial_reasons.specs.Causes.{permitted_roles, takes_memory};
 
 use case_record::Case;
 use constraint_forms::{Assign, falsified};
@@ -43,8 +44,8 @@ pub fn first_cause(
     }
 }
 
-/// Whether there is such a cause. Its list of roles is not made, and what is least work to ask is asked
-/// first.
+/// Whether there is such a cause. Its list of roles is not made, and what is least work to ask is
+/// asked first.
 pub fn has_cause(p: &Policy, c: &Case, s: StepId, u: UserId) -> bool
     requires flow { c.now.flow < length p.now.flows }
     requires steps { length c.now.states ≡ length (flow_at p.now c.now.flow).flow.steps }

@@ -1,5 +1,6 @@
 -- The text of each entry of a legal history is a line of it.
-use Rattle.std.proofs.Common.{◌≡◌, ℕ, ◌+◌, ◌<◌, ◌≤◌, ◌^◌, ◌⊎◌, inl, inr, false, List, [], ◌∷◌, ◌++◌, length, Option, Result, Ok, Err, refl, sym, ap, subst, ◌∙◌, arith, append_assoc, append-nil}
+use Rattle.std.proofs.Common.{◌≡◌, ℕ, ◌+◌, ◌<◌, ◌≤◌, ◌^◌, ◌⊎◌, inl, inr, false, List, [], ◌∷◌, ◌++◌, length, Option, Result, Ok, Err, refl, sym, ap, subst, ◌∙◌}
+use Rattle.std.proofs.Common.{arith, append_assoc, append-nil}
 use Rattle.serde_json.specs.Data.{depth}
 use Rattle.policy_book.specs.Shapes.{PolicyShape}
 use Rattle.policy_book.specs.Facts.{IsSoundPolicy}
@@ -43,7 +44,8 @@ deed_few s (deed.Change a) (reply.Edited n) sound known few =
     λ f below. subst (λ (m : ℕ). m ≤ STEP_LIMIT) (sym (ap length (names.steps f))) (few f (subst (λ m. f < m) names.flows below))
 deed_few s given answer sound known few = few
 
-decision_few : (s : State) (decision : Result Deed Denial) (answer : Reply) → IsSoundPolicy s.book.policy → HoldsOf (IsTold s.book) decision → HasFewSteps s.book.policy
+decision_few : (s : State) (decision : Result Deed Denial) (answer : Reply) → IsSoundPolicy s.book.policy → HoldsOf (IsTold s.book) decision →
+    HasFewSteps s.book.policy
     → HasFewSteps (state_after_decision s decision answer).book.policy
 decision_few s (Ok given) answer sound known few = deed_few s given answer sound known few
 decision_few s (Err d) answer sound known few = few
@@ -58,11 +60,13 @@ step_reached s what answer is step =
       serial = step_serial s what answer is.serial;
     }
 
-pub entry_reached : (start : State) (rounds : ℕ) (earlier : List Entry) (e : Entry) → IsReached (state_after start earlier) → IsRightAfter start rounds earlier e
+pub entry_reached : (start : State) (rounds : ℕ) (earlier : List Entry) (e : Entry) → IsReached (state_after start earlier) →
+    IsRightAfter start rounds earlier e
     → IsReached (state_after start (earlier ++ e ∷ []))
 entry_reached start rounds earlier e is right = subst IsReached (sym (after_more start earlier e)) (by_reply right.1)
   where
-    by_reply : IsStep (state_after start earlier) e.ask e.reply ⊎ IsRetry start rounds earlier e → IsReached (state_after_step (state_after start earlier) e.ask e.reply)
+    by_reply : IsStep (state_after start earlier) e.ask e.reply ⊎ IsRetry start rounds earlier e →
+        IsReached (state_after_step (state_after start earlier) e.ask e.reply)
     by_reply (inl step) = step_reached (state_after start earlier) e.ask e.reply is step
     by_reply (inr retry) = subst IsReached (sym (again_stays (state_after start earlier) e.ask e.reply retry.0 retry.1.0 retry.1.1.0)) is
 
@@ -115,18 +119,21 @@ text_stays start entries e =
 
 -- ---- the reply
 
-again_fits : (s : State) (o : Option ℕ) (answer : Reply) (n place : ℕ) → answer ≡ reply.Again n place → n < 2 ^ 8 → place < 2 ^ 32 → FitsReply s.book.policy (flows_of s) o answer
+again_fits : (s : State) (o : Option ℕ) (answer : Reply) (n place : ℕ) → answer ≡ reply.Again n place → n < 2 ^ 8 → place < 2 ^ 32 →
+    FitsReply s.book.policy (flows_of s) o answer
 again_fits s o answer n place is few below = subst (FitsReply s.book.policy (flows_of s) o) (sym is) ((few, below), omega arith)
 
 retry_fits : (start : State) (rounds : ℕ) (entries : List Entry) (e : Entry) → IsRetry start rounds entries e → rounds < 2 ^ 8 → length entries + 1 < 2 ^ 32
-    → FitsReply (state_after start entries).book.policy (flows_of (state_after start entries)) (concerned (state_after start entries).book.policy (flows_of (state_after start entries)) e.ask) e.reply
+    → FitsReply (state_after start entries).book.policy (flows_of (state_after start entries))
+    (concerned (state_after start entries).book.policy (flows_of (state_after start entries)) e.ask) e.reply
 retry_fits start rounds entries e retry few short =
     let s = state_after start entries in
     let may = retry.1.1.1 in
     let all = may.all in
     let last = may.last in
     let within = end_within 0 0 (λ x. counts_for x e.ask) entries (omega arith) in
-    again_fits s (concerned s.book.policy (flows_of s) e.ask) e.reply retry.0 retry.1.0 retry.1.1.0 (omega (arith, all, few)) (omega (arith, last, within, short))
+    again_fits s (concerned s.book.policy (flows_of s) e.ask) e.reply retry.0 retry.1.0 retry.1.1.0 (omega (arith, all, few))
+    (omega (arith, last, within, short))
 
 entry_fits : (p : PolicyShape) (rounds : ℕ) (entries : List Entry) (e : Entry) → IsLastOf p rounds entries e → IsKnownLast (opening_state p) rounds entries e
     → IsEntry (state_after (opening_state p) entries).book.policy (flows_of (state_after (opening_state p) entries)) e
@@ -150,7 +157,8 @@ entry_fits p rounds entries e is known = record {
     edits : s.edits + 1 < 2 ^ 32
     edits = let within = edits_within p entries in omega (arith, within, short)
 
-    by_reply : IsStep s e.ask e.reply ⊎ IsRetry (opening_state p) rounds entries e → FitsReply s.book.policy (flows_of s) (concerned s.book.policy (flows_of s) e.ask) e.reply
+    by_reply : IsStep s e.ask e.reply ⊎ IsRetry (opening_state p) rounds entries e →
+        FitsReply s.book.policy (flows_of s) (concerned s.book.policy (flows_of s) e.ask) e.reply
     by_reply (inl step) = step_fits s e.ask e.reply edits known.reached is.named step
     by_reply (inr retry) = retry_fits (opening_state p) rounds entries e retry is.few_rounds short
 

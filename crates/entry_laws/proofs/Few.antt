@@ -1,5 +1,6 @@
 -- No more cases are open than the limit, and a reply lists no more than there can be.
-use Rattle.std.proofs.Common.{◌≡◌, ℕ, zero, suc, ◌+◌, ◌*◌, ◌<◌, ◌≤◌, Bool, true, false, not, nat_eq, nat_le, List, [], ◌∷◌, ◌++◌, length, None, Result, Ok, Err, inl, inr, if◌then◌else◌, refl, sym, ap, subst, ◌∙◌, arith}
+use Rattle.std.proofs.Common.{◌≡◌, ℕ, zero, suc, ◌+◌, ◌*◌, ◌<◌, ◌≤◌, Bool, true, false, not, nat_eq, nat_le, List, [], ◌∷◌, ◌++◌, length, None, Result, Ok, Err}
+use Rattle.std.proofs.Common.{inl, inr, if◌then◌else◌, refl, sym, ap, subst, ◌∙◌, arith}
 use Rattle.std.specs.List.{list_all}
 use Rattle.std.proofs.lemmas.List.{length-append}
 use Rattle.std.proofs.lemmas.List.Elements.{filter-append}
@@ -44,7 +45,8 @@ HasFewOpen s = length (open_cases s.book.cases) ≤ OPEN_CASE_LIMIT
 abbrev OpensNone : (CaseShape → CaseShape) → Type 0
 OpensNone change = (c : CaseShape) → is_open (change c) ≡ true → is_open c ≡ true
 
-first_no_more : (a b : Bool) (x y : Numbered) (xs : List Numbered) → (a ≡ true → b ≡ true) → length (if a then x ∷ xs else xs) ≤ length (if b then y ∷ xs else xs)
+first_no_more : (a b : Bool) (x y : Numbered) (xs : List Numbered) → (a ≡ true → b ≡ true) →
+    length (if a then x ∷ xs else xs) ≤ length (if b then y ∷ xs else xs)
 first_no_more true true x y xs opens = omega arith
 first_no_more true false x y xs opens = absurd (let no : false ≡ true = opens refl in cc)
 first_no_more false true x y xs opens = omega arith
@@ -54,7 +56,8 @@ with_first : (a : Bool) (x : Numbered) (xs ys : List Numbered) → length xs ≤
 with_first true x xs ys few = omega (arith, few)
 with_first false x xs ys few = few
 
-changed_no_more : (n : ℕ) (change : CaseShape → CaseShape) (es : List Numbered) → OpensNone change → length (open_cases (with_case_changed n change es)) ≤ length (open_cases es)
+changed_no_more : (n : ℕ) (change : CaseShape → CaseShape) (es : List Numbered) → OpensNone change →
+    length (open_cases (with_case_changed n change es)) ≤ length (open_cases es)
 changed_no_more n change [] opens = omega arith
 changed_no_more n change (e ∷ es) opens = at (nat_eq e.number n) (changed_no_more n change es opens)
   where
@@ -98,7 +101,8 @@ place_of b (deed.TurnAway bad) none = tt
 
 decided_place : (b : Book) (what : Ask) → HoldsOf (HasPlace b) (decision_of b what)
 decided_place b what =
-    then_holds (λ _. Unit {0}) (HasPlace b) (decision_aside b what) _ (always (decision_aside b what)) (λ given _. unless_holds (HasPlace b) given (cause_full b given) (place_of b given))
+    then_holds (λ _. Unit {0}) (HasPlace b) (decision_aside b what) _ (always (decision_aside b what))
+    (λ given _. unless_holds (HasPlace b) given (cause_full b given) (place_of b given))
 
 one_more : (cases : List Numbered) (e : Numbered) → length (open_cases cases) < OPEN_CASE_LIMIT → length (open_cases (cases ++ e ∷ [])) ≤ OPEN_CASE_LIMIT
 one_more cases e room =
@@ -110,7 +114,8 @@ one_more cases e room =
     single true = omega arith
     single false = omega arith
 
-no_more : (s : State) (n : ℕ) (change : CaseShape → CaseShape) → OpensNone change → HasFewOpen s → length (open_cases (with_case_changed n change s.book.cases)) ≤ OPEN_CASE_LIMIT
+no_more : (s : State) (n : ℕ) (change : CaseShape → CaseShape) → OpensNone change → HasFewOpen s →
+    length (open_cases (with_case_changed n change s.book.cases)) ≤ OPEN_CASE_LIMIT
 no_more s n change opens few = omega (arith, few, changed_no_more n change s.book.cases opens)
 
 deed_open : (s : State) (given : Deed) (answer : Reply) → HasFewOpen s → HasPlace s.book given → HasFewOpen (state_after_deed s given answer)
@@ -123,7 +128,8 @@ deed_open s (deed.Withdraw n) reply.Withdrawn few room = no_more s n (λ x. with
 deed_open s (deed.Change a) (reply.Edited number) few room = few
 deed_open s given answer few room = few
 
-decision_open : (s : State) (decision : Result Deed Denial) (answer : Reply) → HasFewOpen s → HoldsOf (HasPlace s.book) decision → HasFewOpen (state_after_decision s decision answer)
+decision_open : (s : State) (decision : Result Deed Denial) (answer : Reply) → HasFewOpen s → HoldsOf (HasPlace s.book) decision →
+    HasFewOpen (state_after_decision s decision answer)
 decision_open s (Ok given) answer few room = deed_open s given answer few room
 decision_open s (Err d) answer few room = few
 
@@ -157,10 +163,12 @@ work_few : (s : State) (u : ℕ) (items : List WorkItem) → IsReached s → Has
 work_few s u items reached few is =
     let es = open_cases s.book.cases in
     let each : EachOf (λ (e : Numbered). length e.case.states ≤ STEP_LIMIT) es =
-    each_of (IsOpenIn s.book.cases) _ es (λ e known. case_few s.book.policy e.case reached.few (reached.sound.cases e.number e.case known.found)) (open_found s.book reached.serial) in
+    each_of (IsOpenIn s.book.cases) _ es (λ e known. case_few s.book.policy e.case reached.few (reached.sound.cases e.number e.case known.found))
+    (open_found s.book reached.serial) in
     omega (arith, few, places_few es each, those_few _ _ item_of (steps_of es) items is)
 
-stranded_few : (s : State) (p : PolicyShape) (numbers : List ℕ) → HasFewOpen s → AreStranded p (open_cases s.book.cases) numbers → length numbers ≤ OPEN_CASE_LIMIT
+stranded_few : (s : State) (p : PolicyShape) (numbers : List ℕ) → HasFewOpen s → AreStranded p (open_cases s.book.cases) numbers →
+    length numbers ≤ OPEN_CASE_LIMIT
 stranded_few s p numbers few is = omega (arith, few, those_few _ _ (λ e. e.number) (open_cases s.book.cases) numbers is)
 
 -- ---- replies
@@ -183,7 +191,8 @@ deed_few s (deed.WhatIf a) (reply.WhatIf numbers) reached few is = stranded_few 
 deed_few s (deed.TurnAway b) (reply.Bad given) reached few is = tt
 deed_few s given answer reached few is = absurd is
 
-decided_few : (s : State) (r : Result Deed Denial) (answer : Reply) → IsReached s → HasFewOpen s → Fares (λ _. Unit {0}) HasFewRoles r → Answers s r answer → ListsFew answer
+decided_few : (s : State) (r : Result Deed Denial) (answer : Reply) → IsReached s → HasFewOpen s → Fares (λ _. Unit {0}) HasFewRoles r →
+    Answers s r answer → ListsFew answer
 decided_few s (Ok given) answer reached few fares is = deed_few s given answer reached few is
 decided_few s (Err d) answer reached few fares (inl denied) = subst ListsFew (sym denied) fares
 decided_few s (Err d) answer reached few fares (inr short) = subst ListsFew (sym short) tt

@@ -1,5 +1,6 @@
 -- Every line that is written of a legal history fits a line of an audit.
-use Rattle.std.proofs.Common.{◌≡◌, ℕ, ◌+◌, ◌<◌, ◌≤◌, ◌^◌, ◌⊎◌, inl, inr, false, List, [], ◌∷◌, ◌++◌, length, Option, append_assoc, append-nil, refl, sym, subst, ◌∙◌, arith}
+use Rattle.std.proofs.Common.{◌≡◌, ℕ, ◌+◌, ◌<◌, ◌≤◌, ◌^◌, ◌⊎◌, inl, inr, false, List, [], ◌∷◌, ◌++◌, length, Option, append_assoc, append-nil, refl, sym, subst}
+use Rattle.std.proofs.Common.{◌∙◌, arith}
 use Rattle.std.proofs.lemmas.List.{length-append}
 use Rattle.basics.proofs.Booleans.{bool_cases}
 use Rattle.wf_names.specs.declared.limits.TheConstants.{TRANSCRIPT_LINE_LIMIT}
@@ -53,14 +54,16 @@ record IsKnown (p : PolicyShape) (rounds : ℕ) (earlier : List Entry) : Type 0 
   pub reached : IsReached (state_after (opening_state p) earlier)
   pub few : HasFewOpen (state_after (opening_state p) earlier)
 
-known_more : (p : PolicyShape) (rounds : ℕ) (earlier : List Entry) (e : Entry) → IsKnown p rounds earlier → IsRightAfter (opening_state p) rounds earlier e → IsKnown p rounds (earlier ++ e ∷ [])
+known_more : (p : PolicyShape) (rounds : ℕ) (earlier : List Entry) (e : Entry) → IsKnown p rounds earlier →
+    IsRightAfter (opening_state p) rounds earlier e → IsKnown p rounds (earlier ++ e ∷ [])
 known_more p rounds earlier e known right = record {
   legal = each_more (IsRightAfter (opening_state p) rounds) [] earlier e known.legal right;
   reached = entry_reached (opening_state p) rounds earlier e known.reached right;
   few = subst HasFewOpen (sym (after_more (opening_state p) earlier e)) (step_open (state_after (opening_state p) earlier) e.ask e.reply known.few);
 }
 
-known_all : (p : PolicyShape) (rounds : ℕ) (earlier entries : List Entry) → IsKnown p rounds earlier → EachAfter (IsRightAfter (opening_state p) rounds) earlier entries → IsKnown p rounds (earlier ++ entries)
+known_all : (p : PolicyShape) (rounds : ℕ) (earlier entries : List Entry) → IsKnown p rounds earlier →
+    EachAfter (IsRightAfter (opening_state p) rounds) earlier entries → IsKnown p rounds (earlier ++ entries)
 known_all p rounds earlier [] known each = subst (IsKnown p rounds) (sym (append-nil earlier)) known
 known_all p rounds earlier (e ∷ es) known each =
     subst (IsKnown p rounds) (append_assoc earlier (e ∷ []) es) (known_all p rounds (earlier ++ e ∷ []) es (known_more p rounds earlier e known each.0) each.1)
@@ -70,7 +73,8 @@ each_front P earlier [] more each = tt
 each_front P earlier (e ∷ es) more each = (each.0, each_front P (earlier ++ e ∷ []) es more each.1)
 
 -- the reply of an entry lists few
-right_few : (p : PolicyShape) (rounds : ℕ) (earlier : List Entry) (e : Entry) → IsKnown p rounds earlier → IsRightAfter (opening_state p) rounds earlier e → ListsFew e.reply
+right_few : (p : PolicyShape) (rounds : ℕ) (earlier : List Entry) (e : Entry) → IsKnown p rounds earlier → IsRightAfter (opening_state p) rounds earlier e →
+    ListsFew e.reply
 right_few p rounds earlier e known right = by_reply right.1
   where
     by_reply : IsStep (state_after (opening_state p) earlier) e.ask e.reply ⊎ IsRetry (opening_state p) rounds earlier e → ListsFew e.reply
@@ -78,8 +82,10 @@ right_few p rounds earlier e known right = by_reply right.1
     by_reply (inr retry) = subst ListsFew (sym retry.1.1.0) tt
 
 -- its text fits, with the names of the policy after it
-next_fits : (p : PolicyShape) (rounds : ℕ) (earlier : List Entry) (e : Entry) → IsLastOf p rounds earlier e → HasNames (state_after (opening_state p) earlier).book.policy → ListsFew e.reply →
-    shows_large e.reply ≡ false → length (entry_text (state_after_step (state_after (opening_state p) earlier) e.ask e.reply).book.policy e) ≤ TRANSCRIPT_LINE_LIMIT + 1
+next_fits : (p : PolicyShape) (rounds : ℕ) (earlier : List Entry) (e : Entry) → IsLastOf p rounds earlier e →
+    HasNames (state_after (opening_state p) earlier).book.policy → ListsFew e.reply →
+    shows_large e.reply ≡ false →
+    length (entry_text (state_after_step (state_after (opening_state p) earlier) e.ask e.reply).book.policy e) ≤ TRANSCRIPT_LINE_LIMIT + 1
 next_fits p rounds earlier e last names few small =
     let s = state_after (opening_state p) earlier in
     let fits = entry_short s.book.policy (flows_of s) e names (entries_are_lines p rounds earlier e last).entry few small in
@@ -92,8 +98,10 @@ record IsSession (p : PolicyShape) (rounds : ℕ) : Type 0 where
   steps : HasFewSteps p
   few_rounds : rounds < 2 ^ 8
 
-fit_from : (p : PolicyShape) (rounds : ℕ) (earlier entries : List Entry) → IsSession p rounds → IsKnown p rounds earlier → length earlier + length entries < 2 ^ 32 →
-    HasNames (state_after (opening_state p) earlier).book.policy → AreOfLines entries → AreRightful entries → EachAfter (IsRightAfter (opening_state p) rounds) earlier entries →
+fit_from : (p : PolicyShape) (rounds : ℕ) (earlier entries : List Entry) → IsSession p rounds → IsKnown p rounds earlier →
+    length earlier + length entries < 2 ^ 32 →
+    HasNames (state_after (opening_state p) earlier).book.policy → AreOfLines entries → AreRightful entries →
+    EachAfter (IsRightAfter (opening_state p) rounds) earlier entries →
     FitLines (texts_of (state_after (opening_state p) earlier) entries)
 fit_from p rounds earlier [] session known short names lines rightful each = tt
 fit_from p rounds earlier (e ∷ es) session known short names lines rightful each =
@@ -122,4 +130,5 @@ lines_fit p rounds earlier entries is =
     let right = IsRightAfter (opening_state p) rounds in
     let first : IsKnown p rounds [] = record { legal = tt; reached = opening_reached p is.policy is.steps; few = omega arith } in
     fit_from p rounds earlier entries (record { policy = is.policy; steps = is.steps; few_rounds = is.few_rounds })
-    (known_all p rounds [] earlier first (each_front right [] earlier entries is.legal)) is.few_entries is.names is.lines is.rightful (each_later right [] earlier entries is.legal)
+    (known_all p rounds [] earlier first (each_front right [] earlier entries is.legal)) is.few_entries is.names is.lines is.rightful
+    (each_later right [] earlier entries is.legal)

@@ -38,10 +38,12 @@ some_steps : (P : Place → Type 0) (e : Numbered) (more t : ℕ) → ((i : ℕ)
 some_steps P e zero t each = tt
 some_steps P e (suc more) t each = (each t (omega arith), some_steps P e more (t + 1) (λ i below. each i (omega (arith, below))))
 
-all_steps : (P : Place → Type 0) (es : List Numbered) → EachOf (λ e. (i : ℕ) → i < length e.case.states → P (record { of = e; step = i })) es → EachOf P (steps_of es)
+all_steps : (P : Place → Type 0) (es : List Numbered) → EachOf (λ e. (i : ℕ) → i < length e.case.states → P (record { of = e; step = i })) es →
+    EachOf P (steps_of es)
 all_steps P [] each = tt
 all_steps P (e ∷ es) each =
-    each_both P (steps_from e (length e.case.states) 0) (steps_of es) (some_steps P e (length e.case.states) 0 (λ i below. each.0 i (omega (arith, below)))) (all_steps P es each.1)
+    each_both P (steps_from e (length e.case.states) 0) (steps_of es) (some_steps P e (length e.case.states) 0 (λ i below. each.0 i (omega (arith, below))))
+    (all_steps P es each.1)
 
 number_stands : (s : State) (e : Numbered) → AreSerial s.book → IsOpenIn s.book.cases e → IsCase e.number
 number_stands s e are known =
@@ -59,12 +61,14 @@ item_stands s e i sound are known below =
       subst (λ n. i < n) of.steps below,
     )
 
-pub work_stands : (s : State) (u : ℕ) (items : List WorkItem) → IsSoundState s → AreSerial s.book → IsWorkOf s.book u items → All (IsWorkItem s.book.policy (flows_of s)) items
+pub work_stands : (s : State) (u : ℕ) (items : List WorkItem) → IsSoundState s → AreSerial s.book → IsWorkOf s.book u items →
+    All (IsWorkItem s.book.policy (flows_of s)) items
 work_stands s u items sound are is =
     let P = IsWorkItem s.book.policy (flows_of s) in
     let es = open_cases s.book.cases in
     those_hold _ _ item_of P (steps_of es) items
-    (all_steps (λ x. P (item_of x)) es (each_so (IsOpenIn s.book.cases) _ es (λ e known i below. item_stands s e i sound are known below) (open_found s.book are))) is
+    (all_steps (λ x. P (item_of x)) es
+    (each_so (IsOpenIn s.book.cases) _ es (λ e known i below. item_stands s e i sound are known below) (open_found s.book are))) is
 
 pub work_nests : (p : PolicyShape) (items : List WorkItem) → items_depth (items_of (map (work_data p) items)) ≤ 1
 work_nests p [] = omega arith
@@ -72,7 +76,8 @@ work_nests p (i ∷ items) = let rest = work_nests p items in omega (arith, rest
 
 -- ---- what an edit would strand
 
-pub stranded_stand : (s : State) (pol : PolicyShape) (numbers : List ℕ) → AreSerial s.book → AreStranded pol (open_cases s.book.cases) numbers → All IsCase numbers
+pub stranded_stand : (s : State) (pol : PolicyShape) (numbers : List ℕ) → AreSerial s.book → AreStranded pol (open_cases s.book.cases) numbers →
+    All IsCase numbers
 stranded_stand s pol numbers are is =
     let es = open_cases s.book.cases in
     those_hold _ _ (λ e. e.number) IsCase es numbers (each_so (IsOpenIn s.book.cases) _ es (λ e known. number_stands s e are known) (open_found s.book are)) is

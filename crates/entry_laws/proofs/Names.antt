@@ -1,5 +1,6 @@
 -- The names of a policy stay names along a session.
-use Rattle.std.proofs.Common.{◌≡◌, ℕ, zero, suc, ◌⊎◌, inl, inr, Bool, true, false, not, nat_eq, List, [], ◌∷◌, ◌++◌, length, slice_get, Option, None, Some, is_some, Result, Ok, Err, IsTrue, refl, sym, subst, arith}
+use Rattle.std.proofs.Common.{◌≡◌, ℕ, zero, suc, ◌⊎◌, inl, inr, Bool, true, false, not, nat_eq, List, [], ◌∷◌, ◌++◌, length, slice_get, Option, None, Some}
+use Rattle.std.proofs.Common.{is_some, Result, Ok, Err, IsTrue, refl, sym, subst, arith}
 use Rattle.std.specs.List.{position}
 use Rattle.std.specs.Cmp.Lexicographic.{pointwise, nat_list_eq_equiv}
 use Rattle.std.proofs.lemmas.Grind.{common_steps}
@@ -43,7 +44,8 @@ use Rattle.line_cutter.specs.Laws.{AddsNamed, IsNamedEdit}
 
 -- ---- one more name
 
-get_pushed : (xs : List (List ℕ)) (y : List ℕ) (n : ℕ) (x : List ℕ) → slice_get (xs ++ y ∷ []) n ≡ Some x → (slice_get xs n ≡ Some x) ⊎ ((n ≡ length xs) × (x ≡ y))
+get_pushed : (xs : List (List ℕ)) (y : List ℕ) (n : ℕ) (x : List ℕ) → slice_get (xs ++ y ∷ []) n ≡ Some x → (slice_get xs n ≡ Some x) ⊎
+    ((n ≡ length xs) × (x ≡ y))
 get_pushed [] y zero x e = inr (refl, (let same : y ≡ x = cc in sym same))
 get_pushed [] y (suc n) x e = cc
 get_pushed (z ∷ zs) y zero x e = inl e
@@ -57,9 +59,11 @@ place_kept : (p : List ℕ → Bool) (xs : List (List ℕ)) (y : List ℕ) (n : 
 place_kept p xs y n is = grind (arith, common_steps, position_or_len_push p xs y, length-append xs (y ∷ []), is)
 
 place_new : (p : List ℕ → Bool) (xs : List (List ℕ)) (y : List ℕ) → is_some (position p xs) ≡ false → p y ≡ true → position p (xs ++ y ∷ []) ≡ Some (length xs)
-place_new p xs y none passes = grind (arith, common_steps, position_or_len_push p xs y, prefix_len-le-length (λ x. not (p x)) xs, length-append xs (y ∷ []), none, passes)
+place_new p xs y none passes =
+    grind (arith, common_steps, position_or_len_push p xs y, prefix_len-le-length (λ x. not (p x)) xs, length-append xs (y ∷ []), none, passes)
 
-pub names_pushed : (names : List (List ℕ)) (name : List ℕ) → AreNames names → IsTrue (is_name name) → is_some (place_of names name) ≡ false → AreNames (names ++ name ∷ [])
+pub names_pushed : (names : List (List ℕ)) (name : List ℕ) → AreNames names → IsTrue (is_name name) → is_some (place_of names name) ≡ false →
+    AreNames (names ++ name ∷ [])
 names_pushed names name are form fresh = record {
   form = λ n x e. form_at x (get_pushed names name n x e);
   alone = λ n x e. alone_at n x (get_pushed names name n x e);
@@ -127,24 +131,47 @@ found_named p (edit.AddUser user) form = form
 found_named p (edit.Leave user) form =
     then_any IsNamedChange (or_fault (place_of p.roster.users user) (fault.Unknown missing.User)) (λ u. Ok (amend.Leave u)) (λ u. tt)
 found_named p (edit.Enrol role user) form =
-    then_any IsNamedChange (or_fault (place_of p.roster.users user) (fault.Unknown missing.User)) (λ u. or_fault (place_of p.roster.roles role) (fault.Unknown missing.Role) >>= (λ r. Ok (amend.Enrol u r))) (λ u. then_any IsNamedChange (or_fault (place_of p.roster.roles role) (fault.Unknown missing.Role)) (λ r. Ok (amend.Enrol u r)) (λ r. tt))
+    then_any IsNamedChange (or_fault (place_of p.roster.users user) (fault.Unknown missing.User))
+    (λ u. or_fault (place_of p.roster.roles role) (fault.Unknown missing.Role) >>= (λ r. Ok (amend.Enrol u r)))
+    (λ u. then_any IsNamedChange (or_fault (place_of p.roster.roles role) (fault.Unknown missing.Role)) (λ r. Ok (amend.Enrol u r)) (λ r. tt))
 found_named p (edit.Dismiss role user) form =
-    then_any IsNamedChange (or_fault (place_of p.roster.users user) (fault.Unknown missing.User)) (λ u. or_fault (place_of p.roster.roles role) (fault.Unknown missing.Role) >>= (λ r. Ok (amend.Dismiss u r))) (λ u. then_any IsNamedChange (or_fault (place_of p.roster.roles role) (fault.Unknown missing.Role)) (λ r. Ok (amend.Dismiss u r)) (λ r. tt))
+    then_any IsNamedChange (or_fault (place_of p.roster.users user) (fault.Unknown missing.User))
+    (λ u. or_fault (place_of p.roster.roles role) (fault.Unknown missing.Role) >>= (λ r. Ok (amend.Dismiss u r)))
+    (λ u. then_any IsNamedChange (or_fault (place_of p.roster.roles role) (fault.Unknown missing.Role)) (λ r. Ok (amend.Dismiss u r)) (λ r. tt))
 found_named p (edit.Relate first relation second) form =
-    then_any IsNamedChange (or_fault (place_of (known_names p.relations) relation) (fault.Unknown missing.Relation)) (λ rho. or_fault (place_of p.roster.users first) (fault.Unknown missing.User) >>= (λ u. or_fault (place_of p.roster.users second) (fault.Unknown missing.User) >>= (λ v. Ok (amend.Relate rho u v)))) (λ rho. then_any IsNamedChange (or_fault (place_of p.roster.users first) (fault.Unknown missing.User)) (λ u. or_fault (place_of p.roster.users second) (fault.Unknown missing.User) >>= (λ v. Ok (amend.Relate rho u v))) (λ u. then_any IsNamedChange (or_fault (place_of p.roster.users second) (fault.Unknown missing.User)) (λ v. Ok (amend.Relate rho u v)) (λ v. tt)))
+    then_any IsNamedChange (or_fault (place_of (known_names p.relations) relation) (fault.Unknown missing.Relation))
+    (λ rho. or_fault (place_of p.roster.users first) (fault.Unknown missing.User) >>=
+    (λ u. or_fault (place_of p.roster.users second) (fault.Unknown missing.User) >>= (λ v. Ok (amend.Relate rho u v))))
+    (λ rho. then_any IsNamedChange (or_fault (place_of p.roster.users first) (fault.Unknown missing.User))
+    (λ u. or_fault (place_of p.roster.users second) (fault.Unknown missing.User) >>= (λ v. Ok (amend.Relate rho u v)))
+    (λ u. then_any IsNamedChange (or_fault (place_of p.roster.users second) (fault.Unknown missing.User)) (λ v. Ok (amend.Relate rho u v)) (λ v. tt)))
 found_named p (edit.Unrelate first relation second) form =
-    then_any IsNamedChange (or_fault (place_of (known_names p.relations) relation) (fault.Unknown missing.Relation)) (λ rho. or_fault (place_of p.roster.users first) (fault.Unknown missing.User) >>= (λ u. or_fault (place_of p.roster.users second) (fault.Unknown missing.User) >>= (λ v. Ok (amend.Unrelate rho u v)))) (λ rho. then_any IsNamedChange (or_fault (place_of p.roster.users first) (fault.Unknown missing.User)) (λ u. or_fault (place_of p.roster.users second) (fault.Unknown missing.User) >>= (λ v. Ok (amend.Unrelate rho u v))) (λ u. then_any IsNamedChange (or_fault (place_of p.roster.users second) (fault.Unknown missing.User)) (λ v. Ok (amend.Unrelate rho u v)) (λ v. tt)))
+    then_any IsNamedChange (or_fault (place_of (known_names p.relations) relation) (fault.Unknown missing.Relation))
+    (λ rho. or_fault (place_of p.roster.users first) (fault.Unknown missing.User) >>=
+    (λ u. or_fault (place_of p.roster.users second) (fault.Unknown missing.User) >>= (λ v. Ok (amend.Unrelate rho u v))))
+    (λ rho. then_any IsNamedChange (or_fault (place_of p.roster.users first) (fault.Unknown missing.User))
+    (λ u. or_fault (place_of p.roster.users second) (fault.Unknown missing.User) >>= (λ v. Ok (amend.Unrelate rho u v)))
+    (λ u. then_any IsNamedChange (or_fault (place_of p.roster.users second) (fault.Unknown missing.User)) (λ v. Ok (amend.Unrelate rho u v)) (λ v. tt)))
 found_named p (edit.Permit flow role step) form =
-    then_any IsNamedChange (or_fault (place_of p.flow_names flow) (fault.Unknown missing.Flow)) (λ f. or_fault (place_of (flow_at p f).flow.steps step) (fault.Unknown missing.Step) >>= (λ s. or_fault (place_of p.roster.roles role) (fault.Unknown missing.Role) >>= (λ r. Ok (amend.Permit f r s)))) (λ f. then_any IsNamedChange (or_fault (place_of (flow_at p f).flow.steps step) (fault.Unknown missing.Step)) (λ s. or_fault (place_of p.roster.roles role) (fault.Unknown missing.Role) >>= (λ r. Ok (amend.Permit f r s))) (λ s. then_any IsNamedChange (or_fault (place_of p.roster.roles role) (fault.Unknown missing.Role)) (λ r. Ok (amend.Permit f r s)) (λ r. tt)))
+    then_any IsNamedChange (or_fault (place_of p.flow_names flow) (fault.Unknown missing.Flow)) (λ f. or_fault (place_of (flow_at p f).flow.steps step)
+    (fault.Unknown missing.Step) >>= (λ s. or_fault (place_of p.roster.roles role) (fault.Unknown missing.Role) >>= (λ r. Ok (amend.Permit f r s))))
+    (λ f. then_any IsNamedChange (or_fault (place_of (flow_at p f).flow.steps step) (fault.Unknown missing.Step))
+    (λ s. or_fault (place_of p.roster.roles role) (fault.Unknown missing.Role) >>= (λ r. Ok (amend.Permit f r s)))
+    (λ s. then_any IsNamedChange (or_fault (place_of p.roster.roles role) (fault.Unknown missing.Role)) (λ r. Ok (amend.Permit f r s)) (λ r. tt)))
 found_named p (edit.Forbid flow role step) form =
-    then_any IsNamedChange (or_fault (place_of p.flow_names flow) (fault.Unknown missing.Flow)) (λ f. or_fault (place_of (flow_at p f).flow.steps step) (fault.Unknown missing.Step) >>= (λ s. or_fault (place_of p.roster.roles role) (fault.Unknown missing.Role) >>= (λ r. Ok (amend.Forbid f r s)))) (λ f. then_any IsNamedChange (or_fault (place_of (flow_at p f).flow.steps step) (fault.Unknown missing.Step)) (λ s. or_fault (place_of p.roster.roles role) (fault.Unknown missing.Role) >>= (λ r. Ok (amend.Forbid f r s))) (λ s. then_any IsNamedChange (or_fault (place_of p.roster.roles role) (fault.Unknown missing.Role)) (λ r. Ok (amend.Forbid f r s)) (λ r. tt)))
+    then_any IsNamedChange (or_fault (place_of p.flow_names flow) (fault.Unknown missing.Flow)) (λ f. or_fault (place_of (flow_at p f).flow.steps step)
+    (fault.Unknown missing.Step) >>= (λ s. or_fault (place_of p.roster.roles role) (fault.Unknown missing.Role) >>= (λ r. Ok (amend.Forbid f r s))))
+    (λ f. then_any IsNamedChange (or_fault (place_of (flow_at p f).flow.steps step) (fault.Unknown missing.Step))
+    (λ s. or_fault (place_of p.roster.roles role) (fault.Unknown missing.Role) >>= (λ r. Ok (amend.Forbid f r s)))
+    (λ s. then_any IsNamedChange (or_fault (place_of p.roster.roles role) (fault.Unknown missing.Role)) (λ r. Ok (amend.Forbid f r s)) (λ r. tt)))
 found_named p (edit.Retire flow) form =
     then_any IsNamedChange (or_fault (place_of p.flow_names flow) (fault.Unknown missing.Flow)) (λ f. Ok (amend.Retire f)) (λ f. tt)
 
 amendment_named : (p : PolicyShape) (by : List ℕ) (e : Edit) → IsNamedEdit e → HoldsOf IsNamedChange (amendment_of p by e)
 amendment_named p by e form =
     then_any IsNamedChange (check (is_admin p by) fault.NotAdmin) (λ _. found p e >>= (λ a. allowed p a >>= (λ _. Ok a)))
-    (λ _. then_holds IsNamedChange IsNamedChange (found p e) (λ a. allowed p a >>= (λ _. Ok a)) (found_named p e form) (λ a is. then_same IsNamedChange a (allowed p a) is))
+    (λ _. then_holds IsNamedChange IsNamedChange (found p e) (λ a. allowed p a >>= (λ _. Ok a)) (found_named p e form)
+    (λ a is. then_same IsNamedChange a (allowed p a) is))
 
 on_edit_named : (r : Result Amendment EditCause) → HoldsOf IsNamedChange r → HoldsOf IsNamedDeed (on_edit deed.Change r)
 on_edit_named (Ok a) is = is
@@ -157,8 +184,10 @@ on_what_if_named (Err fault) = tt
 on_step_named : (make : ℕ → CaseShape → ℕ → ℕ → Deed) (b : Book) (n : ℕ) (step user : List ℕ) → ((c : CaseShape) (t u : ℕ) → IsNamedDeed (make n c t u)) →
     HoldsOf IsNamedDeed (on_step make b n step user)
 on_step_named make b n step user made =
-    then_any IsNamedDeed (open_case_at b n) (λ c. or_fault (step_named b c.flow step) denial.NoStep >>= (λ t. or_fault (user_named b user) denial.NoUser >>= (λ u. Ok (make n c t u))))
-    (λ c. then_any IsNamedDeed (or_fault (step_named b c.flow step) denial.NoStep) (λ t. or_fault (user_named b user) denial.NoUser >>= (λ u. Ok (make n c t u)))
+    then_any IsNamedDeed (open_case_at b n)
+    (λ c. or_fault (step_named b c.flow step) denial.NoStep >>= (λ t. or_fault (user_named b user) denial.NoUser >>= (λ u. Ok (make n c t u))))
+    (λ c. then_any IsNamedDeed (or_fault (step_named b c.flow step) denial.NoStep)
+    (λ t. or_fault (user_named b user) denial.NoUser >>= (λ u. Ok (make n c t u)))
     (λ t. then_any IsNamedDeed (or_fault (user_named b user) denial.NoUser) (λ u. Ok (make n c t u)) (λ u. made c t u)))
 
 resolve_named : (b : Book) (what : Ask) → AddsNamed what → HoldsOf IsNamedDeed (resolve b what)
@@ -168,7 +197,8 @@ resolve_named b (ask.Request (request.Claim n step user)) form = on_step_named d
 resolve_named b (ask.Request (request.Finish n step user)) form = on_step_named deed.Finish b n step user (λ c t u. tt)
 resolve_named b (ask.Request (request.GiveBack n step user)) form = on_step_named deed.GiveBack b n step user (λ c t u. tt)
 resolve_named b (ask.Request (request.Release by n step)) form =
-    then_any IsNamedDeed (check (is_admin b.policy by) denial.NotAdmin) (λ _. open_case_at b n >>= (λ c. or_fault (step_named b c.flow step) denial.NoStep >>= (λ s. Ok (deed.Release n c s))))
+    then_any IsNamedDeed (check (is_admin b.policy by) denial.NotAdmin)
+    (λ _. open_case_at b n >>= (λ c. or_fault (step_named b c.flow step) denial.NoStep >>= (λ s. Ok (deed.Release n c s))))
     (λ _. then_any IsNamedDeed (open_case_at b n) (λ c. or_fault (step_named b c.flow step) denial.NoStep >>= (λ s. Ok (deed.Release n c s)))
     (λ c. then_any IsNamedDeed (or_fault (step_named b c.flow step) denial.NoStep) (λ s. Ok (deed.Release n c s)) (λ s. tt)))
 resolve_named b (ask.Request (request.Withdraw by n)) form =
@@ -186,7 +216,8 @@ unless_named given (Some d) is = tt
 decision_named : (b : Book) (what : Ask) → AddsNamed what → HoldsOf IsNamedDeed (decision_of b what)
 decision_named b what form =
     then_holds IsNamedDeed IsNamedDeed (decision_aside b what) (λ given. unless_denied given (cause_full b given))
-    (then_holds IsNamedDeed IsNamedDeed (resolve b what) (λ given. unless_denied given (cause_aside b given)) (resolve_named b what form) (λ given is. unless_named given (cause_aside b given) is))
+    (then_holds IsNamedDeed IsNamedDeed (resolve b what) (λ given. unless_denied given (cause_aside b given)) (resolve_named b what form)
+    (λ given is. unless_named given (cause_aside b given) is))
     (λ given is. unless_named given (cause_full b given) is)
 
 -- ---- steps
@@ -201,14 +232,17 @@ deed_names s (deed.Release n c t) reply.Released sound known form names = names
 deed_names s (deed.Withdraw n) reply.Withdrawn sound known form names = names
 deed_names s (deed.Change a) (reply.Edited n) sound known form names =
     let its = known.0 sound in
-    names_kept s.book.policy (amended s.book.policy a) (changes_keep_names s.book.policy a its.found) names (amended_users s.book.policy a names form its.allowed)
+    names_kept s.book.policy (amended s.book.policy a) (changes_keep_names s.book.policy a its.found) names
+    (amended_users s.book.policy a names form its.allowed)
 deed_names s given answer sound known form names = names
 
-decision_names : (s : State) (r : Result Deed Denial) (answer : Reply) → IsSoundPolicy s.book.policy → HoldsOf (IsTold s.book) r → HoldsOf IsNamedDeed r → HasNames s.book.policy
+decision_names : (s : State) (r : Result Deed Denial) (answer : Reply) → IsSoundPolicy s.book.policy → HoldsOf (IsTold s.book) r → HoldsOf IsNamedDeed r →
+    HasNames s.book.policy
     → HasNames (state_after_decision s r answer).book.policy
 decision_names s (Ok given) answer sound known form names = deed_names s given answer sound known form names
 decision_names s (Err d) answer sound known form names = names
 
-pub step_names : (s : State) (what : Ask) (answer : Reply) → IsSoundPolicy s.book.policy → AddsNamed what → HasNames s.book.policy → HasNames (state_after_step s what answer).book.policy
+pub step_names : (s : State) (what : Ask) (answer : Reply) → IsSoundPolicy s.book.policy → AddsNamed what → HasNames s.book.policy →
+    HasNames (state_after_step s what answer).book.policy
 step_names s what answer sound form names =
     decision_names s (decision_of s.book what) answer sound (told s.book what) (decision_named s.book what form) names

@@ -1,5 +1,6 @@
 -- Cases are numbered in the order in which they were opened, and no more are ever opened than the limit.
-use Rattle.std.proofs.Common.{◌≡◌, ℕ, suc, ◌+◌, ◌<◌, ◌≤◌, Bool, true, false, not, nat_eq, nat_le, List, [], ◌∷◌, ◌++◌, length, None, Some, Result, Ok, Err, if◌then◌else◌, refl, sym, ap, subst, ◌∙◌, arith}
+use Rattle.std.proofs.Common.{◌≡◌, ℕ, suc, ◌+◌, ◌<◌, ◌≤◌, Bool, true, false, not, nat_eq, nat_le, List, [], ◌∷◌, ◌++◌, length, None, Some, Result, Ok, Err}
+use Rattle.std.proofs.Common.{if◌then◌else◌, refl, sym, ap, subst, ◌∙◌, arith}
 use Rattle.std.specs.Option.{option_map}
 use Rattle.basics.proofs.Booleans.{eq_other, or_false, not_yes}
 use Rattle.wf_names.specs.declared.limits.TheConstants.{CASE_LIMIT, OPEN_CASE_LIMIT}
@@ -56,7 +57,8 @@ decided_room b what =
     then_holds (λ _. Unit {0}) (HasRoom b) (decision_aside b what) _ (always (decision_aside b what))
     (λ given _. unless_holds (HasRoom b) given (cause_full b given) (room_of b given))
 
-deed_within : (s : State) (given : Deed) (answer : Reply) → s.book.ever ≤ CASE_LIMIT → HasRoom s.book given → (state_after_deed s given answer).book.ever ≤ CASE_LIMIT
+deed_within : (s : State) (given : Deed) (answer : Reply) → s.book.ever ≤ CASE_LIMIT → HasRoom s.book given →
+    (state_after_deed s given answer).book.ever ≤ CASE_LIMIT
 deed_within s (deed.Open f) (reply.Opened n plan) few room = omega (arith, room)
 deed_within s (deed.Claim n c t u) (reply.Granted plan) few room = few
 deed_within s (deed.Finish n c t u) (reply.Finished done) few room = few
@@ -66,7 +68,8 @@ deed_within s (deed.Withdraw n) reply.Withdrawn few room = few
 deed_within s (deed.Change a) (reply.Edited number) few room = few
 deed_within s given answer few room = few
 
-decision_within : (s : State) (decision : Result Deed Denial) (answer : Reply) → s.book.ever ≤ CASE_LIMIT → HoldsOf (HasRoom s.book) decision → (state_after_decision s decision answer).book.ever ≤ CASE_LIMIT
+decision_within : (s : State) (decision : Result Deed Denial) (answer : Reply) → s.book.ever ≤ CASE_LIMIT → HoldsOf (HasRoom s.book) decision →
+    (state_after_decision s decision answer).book.ever ≤ CASE_LIMIT
 decision_within s (Ok given) answer few room = deed_within s given answer few room
 decision_within s (Err d) answer few room = few
 
@@ -134,7 +137,8 @@ each_open : (cases es : List Numbered) → EachOf (IsFoundIn cases 0) es → Eac
 each_open cases [] each = tt
 each_open cases (e ∷ es) each = at_first (is_open e.case) refl (each_open cases es each.1)
   where
-    at_first : (b : Bool) → is_open e.case ≡ b → EachOf (IsOpenIn cases) (open_cases es) → EachOf (IsOpenIn cases) (if b then e ∷ open_cases es else open_cases es)
+    at_first : (b : Bool) → is_open e.case ≡ b → EachOf (IsOpenIn cases) (open_cases es) →
+        EachOf (IsOpenIn cases) (if b then e ∷ open_cases es else open_cases es)
     at_first true live rest = (record { found = each.0.found; below = let below = each.0.below in omega (arith, below); live = live }, rest)
     at_first false closed rest = rest
 

@@ -1,5 +1,6 @@
 -- The parts of replies stand for something, and nest little.
-use Rattle.std.proofs.Common.{◌≡◌, ℕ, zero, suc, ◌+◌, ◌<◌, ◌≤◌, Bool, true, false, List, [], ◌∷◌, length, map, slice_index_or, Option, None, Some, if◌then◌else◌, refl, sym, ap, subst, ◌∙◌, arith}
+use Rattle.std.proofs.Common.{◌≡◌, ℕ, zero, suc, ◌+◌, ◌<◌, ◌≤◌, Bool, true, false, List, [], ◌∷◌, length, map, slice_index_or, Option, None, Some}
+use Rattle.std.proofs.Common.{if◌then◌else◌, refl, sym, ap, subst, ◌∙◌, arith}
 use Rattle.std.specs.List.{All}
 use Rattle.std.specs.FinSet as set
 use Rattle.std.proofs.lemmas.List.{length-append, length-map, length-replicate, length-set}
@@ -45,7 +46,8 @@ all_from n (u ∷ us) below (suc k) d lt = all_from n us below.1 k d (omega (ari
 -- ---- plans
 
 -- the users of a valid plan are users of the policy, as many as the workflow has steps
-pub plan_fits : (p : PolicyShape) (f : ℕ) (pr : Problem) (a : List (Option ℕ)) (finished : List Bool) (plan : List ℕ) → IsProblemOf p f pr → pr.steps ≤ STEP_LIMIT
+pub plan_fits : (p : PolicyShape) (f : ℕ) (pr : Problem) (a : List (Option ℕ)) (finished : List Bool) (plan : List ℕ) → IsProblemOf p f pr →
+    pr.steps ≤ STEP_LIMIT
     → IsValidPlan pr a finished plan → IsPlan p plan
 plan_fits p f pr a finished plan of few valid = (
   subst (λ n. n ≤ STEP_LIMIT) (sym valid.whole) few,
@@ -92,7 +94,8 @@ state_stands p (Finished u) known = known u refl
 pub step_stands : (p : PolicyShape) (c : CaseShape) (t : ℕ) → IsOfPolicy p c → IsState p (state_at c t)
 step_stands p c t of = state_stands p (state_at c t) (λ u is. user_known p c t u of is)
 
-states_stand : (p : PolicyShape) (states : List StepState) → ((s u : ℕ) → user_of (slice_index_or states s Free) ≡ Some u → u < length p.roster.users) → All (IsState p) states
+states_stand : (p : PolicyShape) (states : List StepState) → ((s u : ℕ) → user_of (slice_index_or states s Free) ≡ Some u → u < length p.roster.users) →
+    All (IsState p) states
 states_stand p [] known k d lt = absurd (omega (arith, lt))
 states_stand p (x ∷ xs) known zero d lt = state_stands p x (λ u is. known 0 u is)
 states_stand p (x ∷ xs) known (suc k) d lt = states_stand p xs (λ s u is. known (suc s) u is) k d (omega (arith, lt))
@@ -139,7 +142,8 @@ first_below : (b : Bool) (k n v : ℕ) (o : Option ℕ) → k < n → (o ≡ Som
 first_below true k n v o here rest is = subst (λ m. m < n) (same_some k v is) here
 first_below false k n v o here rest is = rest is
 
-pub falsified_there : (related : Relating) (users : ℕ → Option ℕ) (k : ℕ) (rules : List Rule) (v : ℕ) → first_falsified related users k rules ≡ Some v → v < k + length rules
+pub falsified_there : (related : Relating) (users : ℕ → Option ℕ) (k : ℕ) (rules : List Rule) (v : ℕ) → first_falsified related users k rules ≡ Some v →
+    v < k + length rules
 falsified_there related users k [] v is = none_not_some v is
 falsified_there related users k (r ∷ rs) v is =
     first_below (is_falsified related r users) k (k + length (r ∷ rs)) v (first_falsified related users (k + 1) rs) (omega arith)

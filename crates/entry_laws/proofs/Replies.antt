@@ -83,11 +83,13 @@ opened_fits s o f n plan is known next valid =
 -- ---- trees
 
 unsatisfiable_fits : (s : State) (o : Option ℕ) (f : ℕ) (tree : Tree) → IsReached s → (o ≡ Some f) × (f < length s.book.policy.flow_names)
-    → refutes (problem_of s.book.policy f) no_users no_steps (shape_of tree) ≡ true → FitsReply s.book.policy (flows_of s) o (reply.Denied (denial.Unsatisfiable f tree))
+    → refutes (problem_of s.book.policy f) no_users no_steps (shape_of tree) ≡ true →
+    FitsReply s.book.policy (flows_of s) o (reply.Denied (denial.Unsatisfiable f tree))
 unsatisfiable_fits s o f tree is of refuted =
     let p = s.book.policy in
     let within : f < length p.flows = subst (λ m. f < m) is.sound.policy.named of.1 in
-    let fits = tree_fits p f (problem_of p f) no_users no_steps (shape_of tree) (problem_fits p f is.sound.policy within) (is.few f within) no_users_long refuted in
+    let fits = tree_fits p f (problem_of p f) no_users no_steps (shape_of tree) (problem_fits p f is.sound.policy within) (is.few f within) no_users_long
+    refuted in
     let nests = fits.nests in
     ((of, fits.stands), omega (arith, nests))
 
@@ -102,7 +104,8 @@ stranding_fits s o c t u tree is of refuted =
     (((of.0, subst (λ m. c.flow < m) (sym is.sound.policy.named) of.1.flow), fits.stands), omega (arith, nests))
 
 edit_fits : (s : State) (o : Option ℕ) (a : Amendment) (n f : ℕ) (tree : Tree) → IsReached s → IsAllowed s.book.policy a
-    → IsFirstStranded (amended s.book.policy a) (open_cases s.book.cases) n f tree → FitsReply s.book.policy (flows_of s) o (reply.Denied (denial.Strands n f tree))
+    → IsFirstStranded (amended s.book.policy a) (open_cases s.book.cases) n f tree →
+    FitsReply s.book.policy (flows_of s) o (reply.Denied (denial.Strands n f tree))
 edit_fits s o a n f tree is allowed stranded =
     let it = stranded_fits s a n f tree is.sound is.kept is.few is.serial allowed stranded in
     let nests = it.fits.nests in
@@ -110,7 +113,8 @@ edit_fits s o a n f tree is allowed stranded =
 
 -- ---- what is seen
 
-face_fits : (s : State) (o : Option ℕ) (c : CaseShape) → IsReached s → IsOfPolicy s.book.policy c → FitsReply s.book.policy (flows_of s) o (reply.Shown (face_of c))
+face_fits : (s : State) (o : Option ℕ) (c : CaseShape) → IsReached s → IsOfPolicy s.book.policy c →
+    FitsReply s.book.policy (flows_of s) o (reply.Shown (face_of c))
 face_fits s o c is of =
     let p = s.book.policy in
     let phase = phase_flat c.phase in
@@ -121,7 +125,8 @@ face_fits s o c is of =
 
 -- ---- lists of views
 
-work_fits : (s : State) (o : Option ℕ) (u : ℕ) (items : List WorkItem) → IsReached s → IsWorkOf s.book u items → FitsReply s.book.policy (flows_of s) o (reply.Work items)
+work_fits : (s : State) (o : Option ℕ) (u : ℕ) (items : List WorkItem) → IsReached s → IsWorkOf s.book u items →
+    FitsReply s.book.policy (flows_of s) o (reply.Work items)
 work_fits s o u items reached is =
     (work_stands s u items reached.sound reached.serial is, let nests = work_nests s.book.policy items in omega (arith, nests))
 
@@ -135,7 +140,8 @@ what_if_fits s o pol numbers reached is =
 bad_fits : (s : State) (o : Option ℕ) (b : Bad) → IsBad b → FitsReply s.book.policy (flows_of s) o (reply.Bad b)
 bad_fits s o b is = (is, let nests = bad_nests b in omega (arith, nests))
 
-deed_fits : (s : State) (o : Option ℕ) (given : Deed) (answer : Reply) → s.edits + 1 < 2 ^ 32 → IsReached s → IsTold s.book given → IsDeedFor s o given → IsReplyTo s given answer
+deed_fits : (s : State) (o : Option ℕ) (given : Deed) (answer : Reply) → s.edits + 1 < 2 ^ 32 → IsReached s → IsTold s.book given → IsDeedFor s o given →
+    IsReplyTo s given answer
     → FitsReply s.book.policy (flows_of s) o answer
 deed_fits s o given reply.NoMemory edits reached known of is = (tt, omega arith)
 deed_fits s o (deed.Open f) (reply.Opened n plan) edits reached known of is = opened_fits s o f n plan reached of.1 is.0 is.1
@@ -149,7 +155,8 @@ deed_fits s o (deed.GiveBack n c t u) reply.Returned edits reached known of is =
 deed_fits s o (deed.Release n c t) reply.Released edits reached known of is = (tt, omega arith)
 deed_fits s o (deed.Withdraw n) reply.Withdrawn edits reached known of is = (tt, omega arith)
 deed_fits s o (deed.Change a) (reply.Edited n) edits reached known of is = let next = is.0 in (omega (arith, next, edits), omega arith)
-deed_fits s o (deed.Change a) (reply.Denied (denial.Strands n f tree)) edits reached known of is = edit_fits s o a n f tree reached (known.0 reached.sound.policy) is
+deed_fits s o (deed.Change a) (reply.Denied (denial.Strands n f tree)) edits reached known of is =
+    edit_fits s o a n f tree reached (known.0 reached.sound.policy) is
 deed_fits s o (deed.Show c) (reply.Shown face) edits reached known of is =
     subst (λ (x : Face). FitsReply s.book.policy (flows_of s) o (reply.Shown x)) (sym is) (face_fits s o c reached of)
 deed_fits s o (deed.Work u) (reply.Work items) edits reached known of is = work_fits s o u items reached is
@@ -171,4 +178,5 @@ decided_fits s o (Err d) answer edits reached known of (inr short) = subst (Fits
 pub step_fits : (s : State) (what : Ask) (answer : Reply) → s.edits + 1 < 2 ^ 32 → IsReached s → IsNamedAsk what → IsStep s what answer
     → FitsReply s.book.policy (flows_of s) (concerned s.book.policy (flows_of s) what) answer
 step_fits s what answer edits reached named step =
-    decided_fits s (concerned s.book.policy (flows_of s) what) (decision_of s.book what) answer edits reached (told s.book what) (decision_fares s what reached.sound named) step
+    decided_fits s (concerned s.book.policy (flows_of s) what) (decision_of s.book what) answer edits reached (told s.book what)
+    (decision_fares s what reached.sound named) step

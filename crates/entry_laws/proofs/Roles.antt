@@ -33,7 +33,8 @@ passing_few : (test : ℕ → Bool) (k count : ℕ) → length (passing test k c
 passing_few test k zero = omega arith
 passing_few test k (suc count) = by_test (test k) (passing_few test (k + 1) count)
   where
-    by_test : (b : Bool) → length (passing test (k + 1) count) ≤ count → length (if b then k ∷ passing test (k + 1) count else passing test (k + 1) count) ≤ suc count
+    by_test : (b : Bool) → length (passing test (k + 1) count) ≤ count →
+        length (if b then k ∷ passing test (k + 1) count else passing test (k + 1) count) ≤ suc count
     by_test true rest = omega (arith, rest)
     by_test false rest = omega (arith, rest)
 
@@ -83,7 +84,8 @@ step_decides make b n step user =
     (λ t. decides_then (or_fault (user_named b user) denial.NoUser) _ (decides_or (user_named b user) denial.NoUser tt) (λ u. tt)))
 
 resolve_decides : (b : Book) (what : Ask) → Decides (resolve b what)
-resolve_decides b (ask.Request (request.OpenCase flow)) = decides_then (or_fault (flow_named b flow) denial.NoFlow) _ (decides_or (flow_named b flow) denial.NoFlow tt) (λ f. tt)
+resolve_decides b (ask.Request (request.OpenCase flow)) =
+    decides_then (or_fault (flow_named b flow) denial.NoFlow) _ (decides_or (flow_named b flow) denial.NoFlow tt) (λ f. tt)
 resolve_decides b (ask.Request (request.Claim n step user)) = step_decides deed.Claim b n step user
 resolve_decides b (ask.Request (request.Finish n step user)) = step_decides deed.Finish b n step user
 resolve_decides b (ask.Request (request.GiveBack n step user)) = step_decides deed.GiveBack b n step user
@@ -97,7 +99,8 @@ resolve_decides b (ask.Request (request.Withdraw by n)) =
 resolve_decides b (ask.Request (request.Change by e)) = edit_decides deed.Change (amendment_of b.policy by e)
 resolve_decides b (ask.Request (request.Show n)) =
     decides_then (or_fault (numbered_case b.cases n) denial.NoCase) _ (decides_or (numbered_case b.cases n) denial.NoCase tt) (λ c. tt)
-resolve_decides b (ask.Request (request.Worklist user)) = decides_then (or_fault (user_named b user) denial.NoUser) _ (decides_or (user_named b user) denial.NoUser tt) (λ u. tt)
+resolve_decides b (ask.Request (request.Worklist user)) =
+    decides_then (or_fault (user_named b user) denial.NoUser) _ (decides_or (user_named b user) denial.NoUser tt) (λ u. tt)
 resolve_decides b (ask.Request (request.WhatIf by e)) = edit_decides deed.WhatIf (amendment_of b.policy by e)
 resolve_decides b (ask.Bad bad) = tt
 

@@ -48,7 +48,8 @@ ListsFew given = Unit {0}
 
 -- ---- values
 
-members_long : (later : Bool) (key : List ℕ) (d : Data) (text : List ℕ) → length (comma_if later ++ (quoted key ++ (58 ∷ (compact_text d ++ text)))) ≤ 2 + (length (quoted key) + (length (compact_text d) + length text))
+members_long : (later : Bool) (key : List ℕ) (d : Data) (text : List ℕ) →
+    length (comma_if later ++ (quoted key ++ (58 ∷ (compact_text d ++ text)))) ≤ 2 + (length (quoted key) + (length (compact_text d) + length text))
 members_long true key d text = omega (arith, length-append (quoted key) (58 ∷ (compact_text d ++ text)), length-append (compact_text d) text)
 members_long false key d text = omega (arith, length-append (quoted key) (58 ∷ (compact_text d ++ text)), length-append (compact_text d) text)
 
@@ -67,7 +68,8 @@ case_short n small = length-decimal-le 5 n (omega arith) (omega (arith, small)) 
 
 -- ---- lists
 
-names_short : (names : List (List ℕ)) (ns : List ℕ) (later : Bool) → AreNames names → length (items_text later (items_of (map (named names) ns))) ≤ 43 * length ns + 1
+names_short : (names : List (List ℕ)) (ns : List ℕ) (later : Bool) → AreNames names →
+    length (items_text later (items_of (map (named names) ns))) ≤ 43 * length ns + 1
 names_short names [] later known = omega arith
 names_short names (n ∷ ns) later known =
     let rest = items_text true (items_of (map (named names) ns)) in
@@ -76,11 +78,17 @@ names_short names (n ∷ ns) later known =
 list_short : (names : List (List ℕ)) (ns : List ℕ) → AreNames names → length (compact_text (names_data names ns)) ≤ 43 * length ns + 2
 list_short names ns known = omega (arith, names_short names ns false known)
 
-cases_short : (cases : List ℕ) (later : Bool) → All IsCase cases → length (items_text later (items_of (map (λ c. number (unsigned c)) cases))) ≤ 6 * length cases + 1
+cases_short : (cases : List ℕ) (later : Bool) → All IsCase cases →
+    length (items_text later (items_of (map (λ c. number (unsigned c)) cases))) ≤ 6 * length cases + 1
 cases_short [] later known = omega arith
 cases_short (c ∷ cases) later known =
     let rest = items_text true (items_of (map (λ n. number (unsigned n)) cases)) in
-    omega (arith, items_long later (number (unsigned c)) rest, case_short c (All-head IsCase c cases known), cases_short cases true (All-tail IsCase c cases known))
+    omega (
+      arith,
+      items_long later (number (unsigned c)) rest,
+      case_short c (All-head IsCase c cases known),
+      cases_short cases true (All-tail IsCase c cases known),
+    )
 
 work_short : (p : PolicyShape) (flows : ℕ → Option ℕ) (i : WorkItem) → HasNames p → IsWorkItem p flows i → length (compact_text (work_data p i)) ≤ 51
 work_short p flows i names is =
@@ -122,7 +130,8 @@ seen_short p Free names = omega arith
 seen_short p (Held u) names = omega (arith, pair_short (codes "held") (user_data p u), user_short p u names)
 seen_short p (Finished u) names = omega (arith, pair_short (codes "finished") (user_data p u), user_short p u names)
 
-states_short : (p : PolicyShape) (states : List StepState) (later : Bool) → HasNames p → length (items_text later (items_of (map (seen_data p) states))) ≤ 61 * length states + 1
+states_short : (p : PolicyShape) (states : List StepState) (later : Bool) → HasNames p →
+    length (items_text later (items_of (map (seen_data p) states))) ≤ 61 * length states + 1
 states_short p [] later names = omega arith
 states_short p (x ∷ xs) later names =
     omega (arith, items_long later (seen_data p x) (items_text true (items_of (map (seen_data p) xs))), seen_short p x names, states_short p xs true names)
@@ -207,7 +216,8 @@ bad_short bad.Extra is = omega arith
 
 -- ---- replies
 
-opened_short : (p : PolicyShape) (n : ℕ) (plan : List ℕ) → HasNames p → n ≤ CASE_NUMBER_LIMIT → length plan ≤ STEP_LIMIT → length (compact_text (opened_data p n plan)) ≤ 1200
+opened_short : (p : PolicyShape) (n : ℕ) (plan : List ℕ) → HasNames p → n ≤ CASE_NUMBER_LIMIT → length plan ≤ STEP_LIMIT →
+    length (compact_text (opened_data p n plan)) ≤ 1200
 unfolding escape_byte
 opened_short p n plan names known few =
     let users = names_data p.roster.users plan in
@@ -237,13 +247,20 @@ abbrev pub shows_tree : Reply → Bool
 shows_tree (reply.Denied d) = has_tree d
 shows_tree given = false
 
-pub reply_short : (p : PolicyShape) (flows : ℕ → Option ℕ) (o : Option ℕ) (given : Reply) → HasNames p → IsReply p flows o given → ListsFew given → shows_tree given ≡ false →
+pub reply_short : (p : PolicyShape) (flows : ℕ → Option ℕ) (o : Option ℕ) (given : Reply) → HasNames p → IsReply p flows o given → ListsFew given →
+    shows_tree given ≡ false →
     length (compact_text (reply_data p given)) ≤ 1300000
 unfolding escape_byte
 reply_short p flows o (reply.Granted plan) names is few none =
     let users = names_data p.roster.users plan in
     let short = is.0 in
-    omega (arith, short, single_long (codes "granted") (single (codes "plan") users), single_long (codes "plan") users, list_short p.roster.users plan names.users)
+    omega (
+      arith,
+      short,
+      single_long (codes "granted") (single (codes "plan") users),
+      single_long (codes "plan") users,
+      list_short p.roster.users plan names.users,
+    )
 reply_short p flows o (reply.Finished true) names is few none = omega arith
 reply_short p flows o (reply.Finished false) names is few none = omega arith
 reply_short p flows o reply.Returned names is few none = omega arith
@@ -258,7 +275,9 @@ reply_short p flows o (reply.Shown face) names is few none = omega (arith, singl
 reply_short p flows o (reply.Work items) names is few none =
     omega (arith, few, single_long (codes "worklist") (array (items_of (map (work_data p) items))), works_short p flows items false names is)
 reply_short p flows o (reply.WhatIf cases) names is few none = omega (arith, few, single_long (codes "what_if") (cases_data cases), cases_short cases false is)
-reply_short p flows o (reply.Denied d) names is few none = omega (arith, single_long (codes "denied") (denial_data p d), denial_short p flows o d names is few none)
-reply_short p flows o (reply.Again rounds at) names is few none = omega (arith, single_long (codes "again") (again_data rounds at), again_short rounds at is.0 is.1)
+reply_short p flows o (reply.Denied d) names is few none =
+    omega (arith, single_long (codes "denied") (denial_data p d), denial_short p flows o d names is few none)
+reply_short p flows o (reply.Again rounds at) names is few none =
+    omega (arith, single_long (codes "again") (again_data rounds at), again_short rounds at is.0 is.1)
 reply_short p flows o reply.NoMemory names is few none = omega arith
 reply_short p flows o (reply.Bad b) names is few none = omega (arith, single_long (codes "bad") (bad_data b), bad_short b is)

@@ -33,7 +33,8 @@ record IsStranded (pol : PolicyShape) (all : List Numbered) (n f : ℕ) (tree : 
   flow : case.flow ≡ f
   refuted : refutes (problem_of pol case.flow) (assigned_of case) (finished_of case) (shape_of tree) ≡ true
 
-find_stranded : (pol : PolicyShape) (all es : List Numbered) (n f : ℕ) (tree : Tree) → EachOf (IsOpenIn all) es → IsFirstStranded pol es n f tree → IsStranded pol all n f tree
+find_stranded : (pol : PolicyShape) (all es : List Numbered) (n f : ℕ) (tree : Tree) → EachOf (IsOpenIn all) es → IsFirstStranded pol es n f tree →
+    IsStranded pol all n f tree
 find_stranded pol all [] n f tree each is = absurd is
 find_stranded pol all (e ∷ es) n f tree each (inl here) = record {
   case = e.case;
@@ -46,7 +47,8 @@ find_stranded pol all (e ∷ es) n f tree each (inr later) = find_stranded pol a
 
 -- ---- a user who is added strands no case
 
-still_complete : (s : State) (name : List ℕ) (es : List Numbered) → KeepsCompletable s → EachOf (IsOpenIn s.book.cases) es → CanAllBeCompleted (amended s.book.policy (amend.AddUser name)) es
+still_complete : (s : State) (name : List ℕ) (es : List Numbered) → KeepsCompletable s → EachOf (IsOpenIn s.book.cases) es →
+    CanAllBeCompleted (amended s.book.policy (amend.AddUser name)) es
 still_complete s name [] kept each = tt
 still_complete s name (e ∷ es) kept each =
     let plan = kept e.number e.case each.0.found each.0.live in (
@@ -79,14 +81,16 @@ pub record FitsStranded (s : State) (n f : ℕ) (tree : Tree) : Type 0 where
   pub flow : f < length s.book.policy.flow_names
   pub fits : FitsTree s.book.policy f (shape_of tree)
 
-amended_problem : (p : PolicyShape) (a : Amendment) (f : ℕ) → edits.IsKnownChange p a → IsSoundPolicy (amended p a) → f < length p.flows → (amended p a).roster.users ≡ p.roster.users
+amended_problem : (p : PolicyShape) (a : Amendment) (f : ℕ) → edits.IsKnownChange p a → IsSoundPolicy (amended p a) → f < length p.flows →
+    (amended p a).roster.users ≡ p.roster.users
     → IsProblemOf p f (problem_of (amended p a) f)
 amended_problem p a f found sound known same =
     let names = changes_keep_names p a found in
     let of = problem_fits (amended p a) f sound (subst (λ n. f < n) (sym names.flows) known) in
     record { steps = ap length (names.steps f); users = ap length same; rules = of.rules }
 
-pub stranded_fits : (s : State) (a : Amendment) (n f : ℕ) (tree : Tree) → IsSoundState s → KeepsCompletable s → HasFewSteps s.book.policy → AreSerial s.book → IsAllowed s.book.policy a
+pub stranded_fits : (s : State) (a : Amendment) (n f : ℕ) (tree : Tree) → IsSoundState s → KeepsCompletable s → HasFewSteps s.book.policy →
+    AreSerial s.book → IsAllowed s.book.policy a
     → IsFirstStranded (amended s.book.policy a) (open_cases s.book.cases) n f tree → FitsStranded s n f tree
 stranded_fits s a n f tree sound kept few are allowed is =
     let p = s.book.policy in

@@ -1,11 +1,13 @@
 -- No byte of a text of JSON is LF.
-use Rattle.std.proofs.Common.{◌≡◌, ◌≢◌, ℕ, zero, suc, ◌+◌, ◌/◌, ◌%◌, ◌<◌, ◌==◌, ◌||◌, inl, inr, Bool, true, false, ◌&&◌, cond, nat_lt, List, [], ◌∷◌, ◌++◌, pos, negsuc, if◌then◌else◌, refl, arith}
+use Rattle.std.proofs.Common.{◌≡◌, ◌≢◌, ℕ, zero, suc, ◌+◌, ◌/◌, ◌%◌, ◌<◌, ◌==◌, ◌||◌, inl, inr, Bool, true, false, ◌&&◌, cond, nat_lt, List, [], ◌∷◌, ◌++◌, pos}
+use Rattle.std.proofs.Common.{negsuc, if◌then◌else◌, refl, arith}
 use Rattle.std.specs.List.{All}
 use Rattle.std.specs.Char.{digit_char}
 use Rattle.std.specs.Fmt.{decimal, digit_glyph, digits, digits_onto}
 use Rattle.basics.proofs.Booleans.{and_both, eq_back, lt_back, lt_back_no, or_cases}
 use Rattle.json.specs.Print.{escape, escape_byte, escape_letter, quoted}
-use Rattle.serde_json.specs.Data.{Data, null, boolean, number, string, array, object, unsigned, negative, float, Items, no_items, item, Members, no_members, member}
+use Rattle.serde_json.specs.Data.{Data, null, boolean, number, string, array, object, unsigned, negative, float, Items, no_items, item, Members, no_members}
+use Rattle.serde_json.specs.Data.{member}
 use Rattle.serde_json.specs.Written.{comma_if, compact_text, items_text, members_text}
 use Rattle.wire_json.specs.Replies.{entry_data, entry_text}
 use Rattle.entry_laws.specs.Laws.{TextsAreLines}
@@ -81,7 +83,10 @@ unfolding escape_byte
 byte_none x =
     cond_none (nat_lt 0 (escape_letter x)) _ _ (λ _. (above 92 (omega arith), (letter_apart x, tt)))
     (λ _. cond_none (nat_lt x 32) _ _
-    (λ _. (above 92 (omega arith), (above 117 (omega arith), (above 48 (omega arith), (above 48 (omega arith), (char_apart (x / 16), (char_apart (x % 16), tt)))))))
+    (λ _. (
+      above 92 (omega arith),
+      (above 117 (omega arith), (above 48 (omega arith), (above 48 (omega arith), (char_apart (x / 16), (char_apart (x % 16), tt))))),
+    ))
     (λ high. (let least = lt_back_no x 32 high in above x (omega (arith, least)), tt)))
 
 escape_none : (s : List ℕ) → NoEnds (escape s)

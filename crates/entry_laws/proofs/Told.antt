@@ -96,7 +96,8 @@ case_fares s n sound =
     let Q = Fits s (flows_of s n) in
     then_fares (λ c. numbered_case s.book.cases n ≡ Some c) (IsOn s (flows_of s n)) Q (or_fault (numbered_case s.book.cases n) denial.NoCase) _
     (or_fares Q (numbered_case s.book.cases n) denial.NoCase (tt, omega arith))
-    (λ c is. then_fares (λ _. Unit {0}) (IsOn s (flows_of s n)) Q (check (is_open c) denial.Closed) _ (check_fares Q (is_open c) denial.Closed (tt, omega arith))
+    (λ c is. then_fares (λ _. Unit {0}) (IsOn s (flows_of s n)) Q (check (is_open c) denial.Closed) _
+    (check_fares Q (is_open c) denial.Closed (tt, omega arith))
     (λ _ _. (ap (option_map (λ (x : CaseShape). x.flow)) is, sound.cases n c is)))
 
 step_fares : (s : State) (make : ℕ → CaseShape → ℕ → ℕ → Deed) (n : ℕ) (step user : List ℕ) → IsSoundState s
@@ -132,14 +133,16 @@ resolve_fares s (ask.Request (request.GiveBack n step user)) sound named = step_
 resolve_fares s (ask.Request (request.Release by n step)) sound named =
     let P = IsDeedFor s (flows_of s n) in
     let Q = Fits s (flows_of s n) in
-    then_fares (λ _. Unit {0}) P Q (check (is_admin s.book.policy by) denial.NotAdmin) _ (check_fares Q (is_admin s.book.policy by) denial.NotAdmin (tt, omega arith))
+    then_fares (λ _. Unit {0}) P Q (check (is_admin s.book.policy by) denial.NotAdmin) _
+    (check_fares Q (is_admin s.book.policy by) denial.NotAdmin (tt, omega arith))
     (λ _ _. then_fares (IsOn s (flows_of s n)) P Q (open_case_at s.book n) _ (case_fares s n sound)
     (λ c of. then_fares (λ t. step_named s.book c.flow step ≡ Some t) P Q (or_fault (step_named s.book c.flow step) denial.NoStep) _
     (or_fares Q (step_named s.book c.flow step) denial.NoStep (tt, omega arith)) (λ t _. of)))
 resolve_fares s (ask.Request (request.Withdraw by n)) sound named =
     let P = IsDeedFor s (flows_of s n) in
     let Q = Fits s (flows_of s n) in
-    then_fares (λ _. Unit {0}) P Q (check (is_admin s.book.policy by) denial.NotAdmin) _ (check_fares Q (is_admin s.book.policy by) denial.NotAdmin (tt, omega arith))
+    then_fares (λ _. Unit {0}) P Q (check (is_admin s.book.policy by) denial.NotAdmin) _
+    (check_fares Q (is_admin s.book.policy by) denial.NotAdmin (tt, omega arith))
     (λ _ _. then_fares (IsOn s (flows_of s n)) P Q (open_case_at s.book n) _ (case_fares s n sound) (λ c of. tt))
 resolve_fares s (ask.Request (request.Change by e)) sound named = edit_fares s None deed.Change (amendment_of s.book.policy by e) (λ a. tt)
 resolve_fares s (ask.Request (request.Show n)) sound named =
@@ -159,7 +162,8 @@ resolve_fares s (ask.Bad b) sound named = bad_stands b named
 held_so : (s : State) (o : Option ℕ) (c : CaseShape) (t : ℕ) → IsOn s o c → Fits s o (denial.NotHeld (state_at c t))
 held_so s o c t of = (step_stands s.book.policy c t of.1, let nests = state_nests s.book.policy (state_at c t) in omega (arith, nests))
 
-order_so : (s : State) (o : Option ℕ) (c : CaseShape) (t v : ℕ) → IsSoundState s → IsOn s o c → first_missing c (flow_at s.book.policy c.flow).flow.order t ≡ Some v
+order_so : (s : State) (o : Option ℕ) (c : CaseShape) (t v : ℕ) → IsSoundState s → IsOn s o c →
+    first_missing c (flow_at s.book.policy c.flow).flow.order t ≡ Some v
     → Fits s o (denial.Order c.flow v)
 order_so s o c t v sound of is =
     let there = missing_there (flow_at s.book.policy c.flow).flow.order t 0 c.states v is in
@@ -169,7 +173,8 @@ roles_so : (s : State) (o : Option ℕ) (f t : ℕ) → Fits s o (denial.Role (p
 roles_so s o f t = (roles_stand s.book.policy f t, let flat = names_flat s.book.policy.roster.roles (permitted_roles s.book.policy f t) in omega (arith, flat))
 
 rule_so : (s : State) (o : Option ℕ) (c : CaseShape) (t u v : ℕ) → IsSoundState s → IsOn s o c
-    → first_falsified (problem_of s.book.policy c.flow).related (user_at (assigned_with c t u)) 0 (flow_at s.book.policy c.flow).rules ≡ Some v → Fits s o (denial.Rule v)
+    → first_falsified (problem_of s.book.policy c.flow).related (user_at (assigned_with c t u)) 0 (flow_at s.book.policy c.flow).rules ≡ Some v →
+    Fits s o (denial.Rule v)
 rule_so s o c t u v sound of is =
     let below = falsified_there (problem_of s.book.policy c.flow).related (user_at (assigned_with c t u)) 0 (flow_at s.book.policy c.flow).rules v is in
     let few = (sound.policy.flows c.flow of.1.flow).few in
@@ -218,5 +223,6 @@ decision_fares s what sound named =
     let P = IsDeedFor s o in
     let Q = Fits s o in
     then_fares P P Q (decision_aside s.book what) _
-    (then_fares P P Q (resolve s.book what) _ (resolve_fares s what sound named) (λ given of. unless_fares P Q given (cause_aside s.book given) of (cause_so s o given sound of)))
+    (then_fares P P Q (resolve s.book what) _ (resolve_fares s what sound named)
+    (λ given of. unless_fares P Q given (cause_aside s.book given) of (cause_so s o given sound of)))
     (λ given of. unless_fares P Q given (cause_full s.book given) of (full_so s o given))

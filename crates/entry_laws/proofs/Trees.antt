@@ -1,5 +1,6 @@
 -- A tree that refutes stands for something, and nests three levels for each step that nobody has and one more.
-use Rattle.std.proofs.Common.{◌≡◌, ℕ, zero, suc, ◌+◌, ◌*◌, ◌<◌, ◌≤◌, ◌^◌, max, nat_lt, Bool, true, ◌&&◌, ◌==◌, List, [], ◌∷◌, length, Option, None, Some, slice_get, slice_set, refl, sym, ap, subst, arith}
+use Rattle.std.proofs.Common.{◌≡◌, ℕ, zero, suc, ◌+◌, ◌*◌, ◌<◌, ◌≤◌, ◌^◌, max, nat_lt, Bool, true, ◌&&◌, ◌==◌, List, [], ◌∷◌, length, Option, None, Some}
+use Rattle.std.proofs.Common.{slice_get, slice_set, refl, sym, ap, subst, arith}
 use Rattle.std.proofs.lemmas.Option.{slice_get_within}
 use Rattle.std.proofs.lemmas.List.{length-set}
 use Rattle.serde_json.specs.Data.{depth, items_depth}
@@ -75,7 +76,8 @@ mutual
       node_nests (items_depth (items_of (branches_data p f kids))) (free_count a)
       (kids_nest p f pr a finished s [] kids wide (node_free pr a s wide parts.0) inner.1)
 
-  kids_nest : (p : PolicyShape) (f : ℕ) (pr : Problem) (a : List (Option ℕ)) (finished : List Bool) (s : ℕ) (earlier : List ℕ) (kids : Kids) → pr.steps ≤ length a
+  kids_nest : (p : PolicyShape) (f : ℕ) (pr : Problem) (a : List (Option ℕ)) (finished : List Bool) (s : ℕ) (earlier : List ℕ) (kids : Kids) →
+      pr.steps ≤ length a
       → IsFree pr a s → all_refute pr a finished s earlier kids ≡ true → items_depth (items_of (branches_data p f kids)) + 1 ≤ 3 * free_count a
   kids_nest p f pr a finished s earlier no_kids wide free all = let more = free_given a s 0 free.step free.none in omega (arith, more)
   kids_nest p f pr a finished s earlier (tree_kid u t kids) wide free all =
@@ -125,8 +127,10 @@ mutual
         kids_stand p f pr a finished s (authorised_users pr s) [] kids of users tt inner.0 inner.1,
       )
 
-  kids_stand : (p : PolicyShape) (f : ℕ) (pr : Problem) (a : List (Option ℕ)) (finished : List Bool) (s : ℕ) (us earlier : List ℕ) (kids : Kids) → IsProblemOf p f pr
-      → AllBelow (length p.roster.users) us → AllBelow (length p.roster.users) earlier → have_users us kids ≡ true → all_refute pr a finished s earlier kids ≡ true
+  kids_stand : (p : PolicyShape) (f : ℕ) (pr : Problem) (a : List (Option ℕ)) (finished : List Bool) (s : ℕ) (us earlier : List ℕ) (kids : Kids) →
+      IsProblemOf p f pr
+      → AllBelow (length p.roster.users) us → AllBelow (length p.roster.users) earlier → have_users us kids ≡ true →
+      all_refute pr a finished s earlier kids ≡ true
       → AreKids p f kids
   kids_stand p f pr a finished s us earlier no_kids of users before have all = tt
   kids_stand p f pr a finished s [] earlier (tree_kid u t kids) of users before have all = cc
@@ -134,8 +138,11 @@ mutual
   kids_stand p f pr a finished s (w ∷ us) earlier (tree_kid u t kids) of users before have all =
       let here = and_both (w == u) (have_users us kids) have in
       let both = and_both (refutes pr (slice_set a s (Some u)) finished t) _ all in
-      let below : u < length p.roster.users = subst (λ n. n < length p.roster.users) (eq_back w u here.0) users.0 in
-      (below, tree_stands p f pr (slice_set a s (Some u)) finished t of both.0, kids_stand p f pr a finished s us (u ∷ earlier) kids of users.1 (below, before) here.1 both.1)
+      let below : u < length p.roster.users = subst (λ n. n < length p.roster.users) (eq_back w u here.0) users.0 in (
+        below,
+        tree_stands p f pr (slice_set a s (Some u)) finished t of both.0,
+        kids_stand p f pr a finished s us (u ∷ earlier) kids of users.1 (below, before) here.1 both.1,
+      )
   kids_stand p f pr a finished s (w ∷ us) earlier (twin_kid u v kids) of users before have all =
       let here = and_both (w == u) (have_users us kids) have in
       let both = and_both (is_one_of earlier v && are_twins pr a u v) _ all in

@@ -24,8 +24,9 @@ abbrev pub AreOfLines : List Entry → Type 0
 AreOfLines [] = Unit {0}
 AreOfLines (e ∷ es) = IsOfLine e × AreOfLines es
 
--- entries that a session made behind others: with those they are a legal history of a sound policy, whose names have a
--- name's form where the first of them comes; each answers a line of an input, and none shows a tree that is too large
+-- entries that a session made behind others: with those they are a legal history of a sound policy,
+-- whose names have a name's form where the first of them comes; each answers a line of an input,
+-- and none shows a tree that is too large
 pub record ComeBehind (p : PolicyShape) (rounds : ℕ) (earlier entries : List Entry) : Type 0 where
   pub policy : IsSoundPolicy p
   pub steps : HasFewSteps p
@@ -44,5 +45,6 @@ FitLines (text ∷ texts) = (length text ≤ TRANSCRIPT_LINE_LIMIT + 1) × FitLi
 -- the texts of such entries, each with the names of the policy after it, all fit
 abbrev pub LinesFit : Type 0
 LinesFit =
-    (p : PolicyShape) (rounds : ℕ) (earlier entries : List Entry) → ComeBehind p rounds earlier entries →
+    (p : PolicyShape) (rounds : ℕ) (earlier entries : List Entry) →
+    ComeBehind p rounds earlier entries →
     FitLines (texts_of (state_after (opening_state p) earlier) entries)

@@ -1,5 +1,6 @@
 -- Every entry of a legal history is a line that the reader of transcripts accepts.
-use Rattle.std.specs.Prelude.{◌≡◌, ◌≢◌, ℕ, ◌+◌, ◌<◌, ◌≤◌, ◌^◌, Bool, false, true, List, [], ◌∷◌, ◌++◌, length, Option, option_map}
+use Rattle.std.specs.Prelude.{◌≡◌, ◌≢◌, ℕ, ◌+◌, ◌<◌, ◌≤◌, ◌^◌, Bool, false, true, List, [], ◌∷◌}
+use Rattle.std.specs.Prelude.{◌++◌, length, Option, option_map}
 use Rattle.std.specs.List.{All}
 use Rattle.wf_names.specs.Table.{AreNames}
 use Rattle.wf_names.specs.declared.limits.TheConstants.{STEP_LIMIT, TRANSCRIPT_LINE_LIMIT}
@@ -36,10 +37,12 @@ pub record IsLastOf (p : PolicyShape) (rounds : ℕ) (entries : List Entry) (e :
   pub line : e.line < 2 ^ 32
   pub named : IsNamedAsk e.ask
 
--- the text of the last entry, with the names of the policy after it, is a line of it in the state before it
+-- the text of the last entry, with the names of the policy after it, is a line of it in the state
+-- before it
 abbrev pub EntriesAreLines : Type 0
 EntriesAreLines =
-    (p : PolicyShape) (rounds : ℕ) (entries : List Entry) (e : Entry) → IsLastOf p rounds entries e →
+    (p : PolicyShape) (rounds : ℕ) (entries : List Entry) (e : Entry) →
+    IsLastOf p rounds entries e →
     let before = state_after (opening_state p) entries in
     let after = state_after (opening_state p) (entries ++ e ∷ []) in
     IsLineOf before.book.policy (flows_of before) (entry_text after.book.policy e) e
@@ -66,8 +69,10 @@ is_by_tree (reply.Denied (denial.Stranded f tree)) = true
 is_by_tree (reply.Denied (denial.Strands n f tree)) = true
 is_by_tree given = false
 
--- the text of an entry that denies by a tree which is not too large is, without its LF, no longer than a line of an audit
+-- the text of an entry that denies by a tree which is not too large is, without its LF, no longer
+-- than a line of an audit
 abbrev pub TreesFitLines : Type 0
 TreesFitLines =
     (p : PolicyShape) (flows : ℕ → Option ℕ) (e : Entry) → HasNames p → IsEntry p flows e →
-    is_by_tree e.reply ≡ true → shows_large e.reply ≡ false → length (entry_text p e) ≤ TRANSCRIPT_LINE_LIMIT + 1
+    is_by_tree e.reply ≡ true → shows_large e.reply ≡ false →
+    length (entry_text p e) ≤ TRANSCRIPT_LINE_LIMIT + 1

@@ -30,7 +30,8 @@ fits p flows e h = record { place = h.place; lane = h.lane; line = h.line; reply
 
 -- ---- from the entry to what is read
 
-place_back : (p : PolicyShape) (flows : ℕ → Option ℕ) (e : Entry) → IsEntry p flows e → place_in (entry_data p e) ≡ Some (record { at = e.at; lane = e.lane; line = e.line })
+place_back : (p : PolicyShape) (flows : ℕ → Option ℕ) (e : Entry) → IsEntry p flows e → place_in
+    (entry_data p e) ≡ Some (record { at = e.at; lane = e.lane; line = e.line })
 place_back p flows e h = rw (lt-ltb e.at (2 ^ 32) h.place, lt-ltb e.lane (2 ^ 8) h.lane, lt-ltb e.line (2 ^ 32) h.line) refl
 
 entry_back : (p : PolicyShape) (flows : ℕ → Option ℕ) (e : Entry) → HasNames p → IsEntry p flows e → entry_in p flows e.ask (entry_data p e) ≡ Some e
@@ -51,12 +52,14 @@ pub line_placed : (p : PolicyShape) (flows : ℕ → Option ℕ) (text : List �
 unfolding place_of_line
 line_placed p flows text e k h = ap (option_and_then place_in) (value_back p flows text e k h) ∙ place_back p flows e h.entry
 
-line_told : (p : PolicyShape) (flows : ℕ → Option ℕ) (text : List ℕ) (e : Entry) → HasNames p → IsLineOf p flows text e → entry_of_line p flows e.ask text ≡ Some e
+line_told : (p : PolicyShape) (flows : ℕ → Option ℕ) (text : List ℕ) (e : Entry) → HasNames p → IsLineOf p flows text e →
+    entry_of_line p flows e.ask text ≡ Some e
 unfolding entry_of_line
 line_told p flows text e k h =
     ap (option_and_then (entry_in p flows e.ask)) (value_back p flows text e k h) ∙ entry_back p flows e k h.entry
 
-told_for : (p : PolicyShape) (flows : ℕ → Option ℕ) (a : Ask) (text : List ℕ) (e : Entry) → HasNames p → e.ask ≡ a → IsLineOf p flows text e → entry_of_line p flows a text ≡ Some e
+told_for : (p : PolicyShape) (flows : ℕ → Option ℕ) (a : Ask) (text : List ℕ) (e : Entry) → HasNames p → e.ask ≡ a → IsLineOf p flows text e →
+    entry_of_line p flows a text ≡ Some e
 told_for p flows a text e k same h = subst (λ (b : Ask). entry_of_line p flows b text ≡ Some e) same (line_told p flows text e k h)
 
 -- ---- from what is read to the entry
@@ -74,8 +77,10 @@ pub record IsTold (p : PolicyShape) (flows : ℕ → Option ℕ) (a : Ask) (text
 told_parts : (p : PolicyShape) (flows : ℕ → Option ℕ) (a : Ask) (text : List ℕ) (e : Entry) → entry_of_line p flows a text ≡ Some e → IsTold p flows a text e
 unfolding entry_of_line entry_in
 told_parts p flows a text e h =
-    let r = and_then_some (value_of text) (λ d. option_and_then (λ place. option_map (entry_at place a) (at_key (reply_in p flows (concerned p flows a)) (codes "reply") d)) (place_in d)) e h in
-    let q = and_then_some (place_in r.found) (λ place. option_map (entry_at place a) (at_key (reply_in p flows (concerned p flows a)) (codes "reply") r.found)) e r.then_ in
+    let r = and_then_some (value_of text) (λ d. option_and_then
+    (λ place. option_map (entry_at place a) (at_key (reply_in p flows (concerned p flows a)) (codes "reply") d)) (place_in d)) e h in
+    let q = and_then_some (place_in r.found)
+    (λ place. option_map (entry_at place a) (at_key (reply_in p flows (concerned p flows a)) (codes "reply") r.found)) e r.then_ in
     let m = map_some (at_key (reply_in p flows (concerned p flows a)) (codes "reply") r.found) (entry_at q.found a) e q.then_ in
     record { value = r.found; place = q.found; reply = m.found; read = r.there; placed = q.there; replied = m.there; entry = m.same }
 
@@ -87,8 +92,10 @@ pub record PlaceFits (place : Place) : Type 0 where
 
 place_fits : (d : Data) (place : Place) → place_in d ≡ Some place → PlaceFits place
 place_fits d place e =
-    let r = and_then_some (number_below (2 ^ 32) (codes "at") d) (λ n. option_and_then (λ l. option_map (λ m. record { at = n; lane = l; line = m }) (number_below (2 ^ 32) (codes "line") d)) (number_below (2 ^ 8) (codes "lane") d)) place e in
-    let q = and_then_some (number_below (2 ^ 8) (codes "lane") d) (λ l. option_map (λ m. record { at = r.found; lane = l; line = m }) (number_below (2 ^ 32) (codes "line") d)) place r.then_ in
+    let r = and_then_some (number_below (2 ^ 32) (codes "at") d) (λ n. option_and_then (λ l. option_map (λ m. record { at = n; lane = l; line = m })
+    (number_below (2 ^ 32) (codes "line") d)) (number_below (2 ^ 8) (codes "lane") d)) place e in
+    let q = and_then_some (number_below (2 ^ 8) (codes "lane") d)
+    (λ l. option_map (λ m. record { at = r.found; lane = l; line = m }) (number_below (2 ^ 32) (codes "line") d)) place r.then_ in
     let m = map_some (number_below (2 ^ 32) (codes "line") d) (λ m. record { at = r.found; lane = q.found; line = m }) place q.then_ in
     subst PlaceFits m.same (record {
       first = number_within (2 ^ 32) (codes "at") d r.found r.there;
@@ -100,7 +107,8 @@ place_named : (p : PolicyShape) (flows : ℕ → Option ℕ) (a : Ask) (text : L
 unfolding place_of_line
 place_named p flows a text e t = ap (option_and_then place_in) t.read ∙ t.placed
 
-told_line : (p : PolicyShape) (flows : ℕ → Option ℕ) (a : Ask) (text : List ℕ) (e : Entry) → HasNames p → (t : IsTold p flows a text e) → entry_text p (entry_at t.place a t.reply) ≡ text
+told_line : (p : PolicyShape) (flows : ℕ → Option ℕ) (a : Ask) (text : List ℕ) (e : Entry) → HasNames p → (t : IsTold p flows a text e) →
+    entry_text p (entry_at t.place a t.reply) ≡ text
     → IsLineOf p flows text (entry_at t.place a t.reply)
 unfolding entry_text
 told_line p flows a text e k t same =
@@ -118,12 +126,14 @@ told_line p flows a text e k t same =
         lane = here.lane;
         line = here.line;
         reply = here.reply;
-        nests = shallow (entry_data p (entry_at t.place a t.reply)) t.value (plain_entry p flows (entry_at t.place a t.reply) k here) (ap value_of same ∙ t.read);
+        nests = shallow (entry_data p (entry_at t.place a t.reply)) t.value (plain_entry p flows (entry_at t.place a t.reply) k here)
+            (ap value_of same ∙ t.read);
       };
       written = same;
     }
 
-with_parts : (p : PolicyShape) (flows : ℕ → Option ℕ) (a : Ask) (text : List ℕ) (e : Entry) → HasNames p → entry_of_line p flows a text ≡ Some e → entry_text p e ≡ text
+with_parts : (p : PolicyShape) (flows : ℕ → Option ℕ) (a : Ask) (text : List ℕ) (e : Entry) → HasNames p → entry_of_line p flows a text ≡ Some e →
+    entry_text p e ≡ text
     → (t : IsTold p flows a text e) → HasReply p flows a text e.reply
 with_parts p flows a text e k read same t =
     subst (λ (x : Entry). HasReply p flows a text x.reply) t.entry (record {
@@ -135,16 +145,19 @@ with_parts p flows a text e k read same t =
 
 -- ---- what the code rests on
 
-pub has_reply : (p : PolicyShape) (flows : ℕ → Option ℕ) (a : Ask) (text : List ℕ) (e : Entry) → HasNames p → entry_of_line p flows a text ≡ Some e → entry_text p e ≡ text → HasReply p flows a text e.reply
+pub has_reply : (p : PolicyShape) (flows : ℕ → Option ℕ) (a : Ask) (text : List ℕ) (e : Entry) → HasNames p → entry_of_line p flows a text ≡ Some e →
+    entry_text p e ≡ text → HasReply p flows a text e.reply
 has_reply p flows a text e k read same = with_parts p flows a text e k read same (told_parts p flows a text e read)
 
 -- the place and the reply of a line that is the text of an entry
-pub line_place : (p : PolicyShape) (flows : ℕ → Option ℕ) (a : Ask) (text : List ℕ) (place : Place) (r : Reply) → HasNames p → IsLineOf p flows text (entry_at place a r) → place_of_line text ≡ Some place
+pub line_place : (p : PolicyShape) (flows : ℕ → Option ℕ) (a : Ask) (text : List ℕ) (place : Place) (r : Reply) → HasNames p →
+    IsLineOf p flows text (entry_at place a r) → place_of_line text ≡ Some place
 unfolding place_of_line
 line_place p flows a text place r k h =
     ap (option_and_then place_in) (value_back p flows text (entry_at place a r) k h) ∙ place_back p flows (entry_at place a r) h.entry
 
-pub line_reply : (p : PolicyShape) (flows : ℕ → Option ℕ) (a : Ask) (text : List ℕ) (place : Place) (r : Reply) → HasNames p → IsLineOf p flows text (entry_at place a r) → HasReply p flows a text r
+pub line_reply : (p : PolicyShape) (flows : ℕ → Option ℕ) (a : Ask) (text : List ℕ) (place : Place) (r : Reply) → HasNames p →
+    IsLineOf p flows text (entry_at place a r) → HasReply p flows a text r
 line_reply p flows a text place r k h = record {
   place = place;
   named = line_place p flows a text place r k h;
@@ -155,7 +168,8 @@ line_reply p flows a text place r k h = record {
 pub not_told : (p : PolicyShape) (flows : ℕ → Option ℕ) (a : Ask) (text : List ℕ) → HasNames p → entry_of_line p flows a text ≡ None → HasNoReply p flows a text
 not_told p flows a text k none e asks h = none_some e (sym none ∙ told_for p flows a text e k asks h)
 
-pub not_written : (p : PolicyShape) (flows : ℕ → Option ℕ) (a : Ask) (text : List ℕ) (e : Entry) → HasNames p → entry_of_line p flows a text ≡ Some e → entry_text p e ≢ text → HasNoReply p flows a text
+pub not_written : (p : PolicyShape) (flows : ℕ → Option ℕ) (a : Ask) (text : List ℕ) (e : Entry) → HasNames p → entry_of_line p flows a text ≡ Some e →
+    entry_text p e ≢ text → HasNoReply p flows a text
 not_written p flows a text e k read other d asks h =
     let same : e ≡ d = some_same e d (sym read ∙ told_for p flows a text d k asks h) in
     other (ap (entry_text p) same ∙ h.written)

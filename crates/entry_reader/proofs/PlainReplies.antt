@@ -66,7 +66,8 @@ case_small c h = omega (arith, h)
 
 mutual
   plain_tree : (p : PolicyShape) (f : ℕ) (t : Shape) → HasNames p → IsTree p f t → IsPlain (tree_data p f t)
-  plain_tree p f (holder s) k h = plain_single (codes "holder") (step_data p f s) (IsUtf8-are_ascii _ refl) (named_utf8 (flow_at p f).flow.steps s (k.steps f) h)
+  plain_tree p f (holder s) k h =
+      plain_single (codes "holder") (step_data p f s) (IsUtf8-are_ascii _ refl) (named_utf8 (flow_at p f).flow.steps s (k.steps f) h)
   plain_tree p f (rule n) k h = plain_single (codes "rule") (number (unsigned n)) (IsUtf8-are_ascii _ refl) (small n h)
   plain_tree p f (node s kids) k h =
       (refl, (IsUtf8-are_ascii _ refl, named_utf8 (flow_at p f).flow.steps s (k.steps f) h.0, (IsUtf8-are_ascii _ refl, plain_kids p f kids k h.1, tt)))
@@ -74,8 +75,13 @@ mutual
   plain_kids : (p : PolicyShape) (f : ℕ) (kids : Kids) → HasNames p → AreKids p f kids → ArePlain (items_of (branches_data p f kids))
   plain_kids p f no_kids k h = tt
   plain_kids p f (tree_kid u t kids) k h = ((named_utf8 p.roster.users u k.users h.0, (plain_tree p f t k h.1, tt)), plain_kids p f kids k h.2)
-  plain_kids p f (twin_kid u v kids) k h =
-      ((named_utf8 p.roster.users u k.users h.0, (plain_single (codes "twin") (user_data p v) (IsUtf8-are_ascii _ refl) (named_utf8 p.roster.users v k.users h.1), tt)), plain_kids p f kids k h.2)
+  plain_kids p f (twin_kid u v kids) k h = (
+    (
+      named_utf8 p.roster.users u k.users h.0,
+      (plain_single (codes "twin") (user_data p v) (IsUtf8-are_ascii _ refl) (named_utf8 p.roster.users v k.users h.1), tt),
+    ),
+    plain_kids p f kids k h.2,
+  )
 
 -- ---- states
 
@@ -121,16 +127,20 @@ plain_denial : (p : PolicyShape) (flows : ℕ → Option ℕ) (f : Option ℕ) (
 plain_denial p flows f denial.NoFlow k h = IsUtf8-are_ascii _ refl
 plain_denial p flows f denial.Retired k h = IsUtf8-are_ascii _ refl
 plain_denial p flows f denial.Full k h = IsUtf8-are_ascii _ refl
-plain_denial p flows f (denial.Unsatisfiable g t) k h = plain_single (codes "unsatisfiable") (tree_data p g (shape_of t)) (IsUtf8-are_ascii _ refl) (plain_tree p g (shape_of t) k h.1)
+plain_denial p flows f (denial.Unsatisfiable g t) k h =
+    plain_single (codes "unsatisfiable") (tree_data p g (shape_of t)) (IsUtf8-are_ascii _ refl) (plain_tree p g (shape_of t) k h.1)
 plain_denial p flows f denial.NoCase k h = IsUtf8-are_ascii _ refl
 plain_denial p flows f denial.Closed k h = IsUtf8-are_ascii _ refl
 plain_denial p flows f denial.NoStep k h = IsUtf8-are_ascii _ refl
 plain_denial p flows f denial.NoUser k h = IsUtf8-are_ascii _ refl
 plain_denial p flows f (denial.Taken u) k h = plain_single (codes "taken") (user_data p u) (IsUtf8-are_ascii _ refl) (named_utf8 p.roster.users u k.users h)
-plain_denial p flows f (denial.Order g s) k h = plain_single (codes "order") (step_data p g s) (IsUtf8-are_ascii _ refl) (named_utf8 (flow_at p g).flow.steps s (k.steps g) h.1)
-plain_denial p flows f (denial.Role roles) k h = plain_single (codes "role") (names_data p.roster.roles roles) (IsUtf8-are_ascii _ refl) (plain_names p.roster.roles roles k.roles h)
+plain_denial p flows f (denial.Order g s) k h =
+    plain_single (codes "order") (step_data p g s) (IsUtf8-are_ascii _ refl) (named_utf8 (flow_at p g).flow.steps s (k.steps g) h.1)
+plain_denial p flows f (denial.Role roles) k h =
+    plain_single (codes "role") (names_data p.roster.roles roles) (IsUtf8-are_ascii _ refl) (plain_names p.roster.roles roles k.roles h)
 plain_denial p flows f (denial.Rule n) k h = plain_single (codes "rule") (number (unsigned n)) (IsUtf8-are_ascii _ refl) (small n h)
-plain_denial p flows f (denial.Stranded g t) k h = plain_single (codes "stranded") (tree_data p g (shape_of t)) (IsUtf8-are_ascii _ refl) (plain_tree p g (shape_of t) k h.1)
+plain_denial p flows f (denial.Stranded g t) k h =
+    plain_single (codes "stranded") (tree_data p g (shape_of t)) (IsUtf8-are_ascii _ refl) (plain_tree p g (shape_of t) k h.1)
 plain_denial p flows f (denial.NotHeld s) k h = plain_single (codes "not_held") (state_data p s) (IsUtf8-are_ascii _ refl) (plain_state p s k h)
 plain_denial p flows f denial.NotAdmin k h = IsUtf8-are_ascii _ refl
 plain_denial p flows f (denial.Unknown what) k h = plain_single (codes "unknown") (missing_data what) (IsUtf8-are_ascii _ refl) (plain_missing what)
@@ -144,11 +154,14 @@ plain_denial p flows f (denial.Strands c g t) k h =
 
 -- ---- lists of views
 
-plain_items : (p : PolicyShape) (flows : ℕ → Option ℕ) (items : List WorkItem) → HasNames p → All (IsWorkItem p flows) items → ArePlain (items_of (map (work_data p) items))
+plain_items : (p : PolicyShape) (flows : ℕ → Option ℕ) (items : List WorkItem) → HasNames p → All (IsWorkItem p flows) items → ArePlain
+    (items_of (map (work_data p) items))
 plain_items p flows [] k h = tt
 plain_items p flows (i ∷ items) k h =
-    let first = all_first (IsWorkItem p flows) i items h in
-    ((case_small i.case first.0, (named_utf8 (flow_at p i.flow).flow.steps i.step (k.steps i.flow) first.2, tt)), plain_items p flows items k (all_more (IsWorkItem p flows) i items h))
+    let first = all_first (IsWorkItem p flows) i items h in (
+      (case_small i.case first.0, (named_utf8 (flow_at p i.flow).flow.steps i.step (k.steps i.flow) first.2, tt)),
+      plain_items p flows items k (all_more (IsWorkItem p flows) i items h),
+    )
 
 plain_cases : (cases : List ℕ) → All IsCase cases → ArePlain (items_of (map (λ c. number (unsigned c)) cases))
 plain_cases [] h = tt

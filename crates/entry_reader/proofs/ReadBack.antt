@@ -1,5 +1,6 @@
 -- What is written in a line is read back: JSON without blanks and without floats, and a line end.
-use Rattle.std.proofs.Common.{◌≡◌, ℕ, suc, ◌<◌, ◌≤◌, ◌^◌, max, Bool, true, false, ◌&&◌, List, [], ◌∷◌, ◌++◌, Some, refl, sym, ap, ap₂, ◌∙◌, arith, append-nil, IsUtf8}
+use Rattle.std.proofs.Common.{◌≡◌, ℕ, suc, ◌<◌, ◌≤◌, ◌^◌, max, Bool, true, false, ◌&&◌, List, [], ◌∷◌, ◌++◌, Some, refl, sym, ap, ap₂, ◌∙◌, arith, append-nil}
+use Rattle.std.proofs.Common.{IsUtf8}
 use Rattle.std.specs.Prelude.{⊤, None, option_map, option_and_then, ◌==◌, length, if◌then◌else◌}
 use Rattle.std.specs.Str.Lossy.{utf8_valid_len}
 use Rattle.std.specs.Ordering.{nat_cmp, match_ordering}
@@ -18,7 +19,8 @@ use Rattle.json.proofs.Printed.Trees.{value-json_tokens, ArePrintable-json_token
 use Rattle.json.proofs.Nesting.{value-depth}
 use Rattle.json.proofs.Found.{one_reading}
 use Rattle.json.proofs.Printed.Utf8.{IsUtf8-quoted, IsUtf8-are_ascii, IsUtf8-boolean}
-use Rattle.serde_json.specs.Data.{Num, unsigned, negative, float, Data, null, boolean, number, string, array, object, Items, no_items, item, Members, no_members, member, put, depth, items_depth, members_depth}
+use Rattle.serde_json.specs.Data.{Num, unsigned, negative, float, Data, null, boolean, number, string, array, object, Items, no_items, item, Members}
+use Rattle.serde_json.specs.Data.{no_members, member, put, depth, items_depth, members_depth}
 use Rattle.serde_json.specs.Read.{read, of_json, of_items, of_members, max_depth}
 use Rattle.serde_json.specs.Written.{outline, items_outline, members_outline, comma_if, compact_text, items_text, members_text}
 use Rattle.serde_json.proofs.Numbers.{number_of-decimal}
@@ -68,7 +70,8 @@ abbrev mutual
 
 -- ---- the members go in one after another
 
-put_by : (o : Ordering) (k l : List ℕ) (d e : Data) (ms : Members) → match_ordering o false false (goes_last k ms) ≡ true → (goes_last k ms ≡ true → put k d ms ≡ before ms (member k d no_members))
+put_by : (o : Ordering) (k l : List ℕ) (d e : Data) (ms : Members) → match_ordering o false false (goes_last k ms) ≡ true →
+    (goes_last k ms ≡ true → put k d ms ≡ before ms (member k d no_members))
     → match_ordering o (member k d (member l e ms)) (member l d ms) (member l e (put k d ms)) ≡ member l e (before ms (member k d no_members))
 put_by Less k l d e ms h rest = cc
 put_by Equal k l d e ms h rest = cc
@@ -109,7 +112,8 @@ mutual
   members_back (member k d ms) found h up =
       let parts = and_parts (goes_last k found) _ up in
       let last = before found (member k d no_members) in
-      ap (option_and_then (λ x. of_members (members_outline ms) (put k x found))) (back d h.1) ∙ ap (of_members (members_outline ms)) (put_last k d found parts.0)
+      ap (option_and_then (λ x. of_members (members_outline ms) (put k x found))) (back d h.1) ∙
+      ap (of_members (members_outline ms)) (put_last k d found parts.0)
       ∙ members_back ms last h.2 parts.1 ∙ ap Some (before_before found (member k d no_members) ms)
 
 -- ---- what is printed of it
@@ -189,7 +193,8 @@ line_tokens d h =
 
 line_read : (d : Data) → IsPlain d → depth d ≤ max_depth → read (compact_text d ++ line_end) ≡ Some d
 line_read d h shallow =
-    ap (λ ts. option_and_then of_json (option_and_then (λ p. json.if_last p.0 p.1) (json.value max_depth ts))) (line_tokens d h ∙ sym (append-nil (json_tokens (outline d))))
+    ap (λ ts. option_and_then of_json (option_and_then (λ p. json.if_last p.0 p.1) (json.value max_depth ts)))
+    (line_tokens d h ∙ sym (append-nil (json_tokens (outline d))))
     ∙ ap (λ o. option_and_then of_json (option_and_then (λ p. json.if_last p.0 p.1) o)) (value-json_tokens (outline d) max_depth [] (omega (arith, depths d)))
     ∙ back d h
 
@@ -211,10 +216,12 @@ value_read text d e = if_read (utf8_valid_len text == length text) text d e
 pub shallow : (d found : Data) → IsPlain d → value_of (compact_text d ++ line_end) ≡ Some found → depth d ≤ max_depth
 shallow d found h e =
     let ts = json_tokens (outline d) in
-    let value_at = ap (λ us. option_and_then of_json (option_and_then (λ p. json.if_last p.0 p.1) (json.value max_depth us))) (sym (line_tokens d h)) ∙ value_read (compact_text d ++ line_end) found e in
+    let value_at = ap (λ us. option_and_then of_json (option_and_then (λ p. json.if_last p.0 p.1) (json.value max_depth us))) (sym (line_tokens d h)) ∙
+    value_read (compact_text d ++ line_end) found e in
     let r = and_then_some (option_and_then (λ p. json.if_last p.0 p.1) (json.value max_depth ts)) of_json found value_at in
     let q = and_then_some (json.value max_depth ts) (λ p. json.if_last p.0 p.1) r.found r.there in
     let whole : json.value (tree.depth (outline d)) ts ≡ Some (outline d, []) =
     ap (json.value (tree.depth (outline d))) (sym (append-nil ts)) ∙ value-json_tokens (outline d) (tree.depth (outline d)) [] (omega arith) in
-    let same : q.found ≡ (outline d, []) = some_same q.found (outline d, []) (one_reading max_depth (tree.depth (outline d)) ts q.found (outline d, []) q.there whole) in
+    let same : q.found ≡ (outline d, []) =
+    some_same q.found (outline d, []) (one_reading max_depth (tree.depth (outline d)) ts q.found (outline d, []) q.there whole) in
     omega (arith, value-depth max_depth ts q.found.1 q.found.0 q.there, ap (λ p. tree.depth p.0) same, depths d)

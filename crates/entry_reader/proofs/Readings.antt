@@ -33,7 +33,8 @@ map_some None f y e = absurd (none_some y e)
 
 -- ---- lists
 
-more_mapped : {X : Type 0} (xs : List X) (x : X) (o : Option (List X)) → option_map (λ ys. xs ++ ys) (option_map (λ ys. x ∷ ys) o) ≡ option_map (λ ys. (xs ++ x ∷ []) ++ ys) o
+more_mapped : {X : Type 0} (xs : List X) (x : X) (o : Option (List X)) →
+    option_map (λ ys. xs ++ ys) (option_map (λ ys. x ∷ ys) o) ≡ option_map (λ ys. (xs ++ x ∷ []) ++ ys) o
 more_mapped xs x (Some ys) = ap Some (sym (append_assoc xs (x ∷ []) ys))
 more_mapped xs x None = refl
 

@@ -31,17 +31,20 @@ use Rattle.wf_names.specs.Table.{AreNames}
 use Rattle.entry_reader.specs.Named.{HasNames}
 use Rattle.entry_reader.specs.Within.{IsPlan, IsTree, IsState, IsFace, IsBad, IsCase, IsConcerned, IsDenial, IsWorkItem, IsReply}
 use Rattle.entry_reader.specs.Values.{each_in, few, few_in, numbered, user_in, user_state, seen_in, state_in, tree_in}
-use Rattle.entry_reader.specs.Told.{tree_from, flow_within, tree_by, step_by, strands_in, missing_in, denial_in, states_in, phase_in, flow_in, face_in, number_of_case, item_in, bad_in, reply_in}
+use Rattle.entry_reader.specs.Told.{tree_from, flow_within, tree_by, step_by, strands_in, missing_in, denial_in, states_in, phase_in, flow_in, face_in}
+use Rattle.entry_reader.specs.Told.{number_of_case, item_in, bad_in, reply_in}
 use Rattle.entry_reader.proofs.NamesBack.{numbered_named}
 use Rattle.entry_reader.proofs.PlainReplies.{all_first, all_more}
 use Rattle.entry_reader.proofs.TreesBack.{below_back, user_back, step_back, tree_back}
 
 -- ---- lists
 
-names_back : (names : List (List ℕ)) (ns : List ℕ) → AreNames names → All (λ n. n < length names) ns → each_in (numbered names) (items_of (map (named names) ns)) ≡ Some ns
+names_back : (names : List (List ℕ)) (ns : List ℕ) → AreNames names → All (λ n. n < length names) ns → each_in
+    (numbered names) (items_of (map (named names) ns)) ≡ Some ns
 names_back names [] k h = refl
 names_back names (n ∷ ns) k h =
-    ap (option_and_then (λ x. option_map (λ xs. x ∷ xs) (each_in (numbered names) (items_of (map (named names) ns))))) (numbered_named names n k (all_first (λ m. m < length names) n ns h))
+    ap (option_and_then (λ x. option_map (λ xs. x ∷ xs) (each_in (numbered names) (items_of (map (named names) ns)))))
+    (numbered_named names n k (all_first (λ m. m < length names) n ns h))
     ∙ ap (option_map (λ xs. n ∷ xs)) (names_back names ns k (all_more (λ m. m < length names) n ns h))
 
 few_back : {X : Type 0} (xs : List X) → length xs ≤ STEP_LIMIT → few xs ≡ Some xs
@@ -62,10 +65,12 @@ seen_back p Free k h = refl
 seen_back p (Held u) k h = ap (option_and_then (user_state (codes "held"))) (user_back p u k h)
 seen_back p (Finished u) k h = ap (option_and_then (user_state (codes "finished"))) (user_back p u k h)
 
-states_back : (p : PolicyShape) (states : List StepState) → HasNames p → All (IsState p) states → each_in (seen_in p) (items_of (map (seen_data p) states)) ≡ Some states
+states_back : (p : PolicyShape) (states : List StepState) → HasNames p → All (IsState p) states → each_in
+    (seen_in p) (items_of (map (seen_data p) states)) ≡ Some states
 states_back p [] k h = refl
 states_back p (s ∷ states) k h =
-    ap (option_and_then (λ x. option_map (λ xs. x ∷ xs) (each_in (seen_in p) (items_of (map (seen_data p) states))))) (seen_back p s k (all_first (IsState p) s states h))
+    ap (option_and_then (λ x. option_map (λ xs. x ∷ xs) (each_in (seen_in p) (items_of (map (seen_data p) states)))))
+    (seen_back p s k (all_first (IsState p) s states h))
     ∙ ap (option_map (λ xs. s ∷ xs)) (states_back p states k (all_more (IsState p) s states h))
 
 phase_back : (p : PolicyShape) (face : Face) (phase : Phase) → face.phase ≡ phase → phase_in (face_data p face) ≡ Some phase
@@ -90,12 +95,14 @@ tree_again (Step s kids) = refl
 flow_back : (p : PolicyShape) (o : Option ℕ) (f : ℕ) → IsConcerned p o f → flow_within p o ≡ Some f
 flow_back p o f h = ap (flow_within p) h.0 ∙ rw (lt-ltb f (length p.flow_names) h.1) refl
 
-tree_by_back : (p : PolicyShape) (o : Option ℕ) (f : ℕ) (t : Tree) → HasNames p → IsConcerned p o f → IsTree p f (shape_of t) → tree_by p o (tree_data p f (shape_of t)) ≡ Some (f, t)
+tree_by_back : (p : PolicyShape) (o : Option ℕ) (f : ℕ) (t : Tree) → HasNames p → IsConcerned p o f → IsTree p f (shape_of t) →
+    tree_by p o (tree_data p f (shape_of t)) ≡ Some (f, t)
 tree_by_back p o f t k c h =
     ap (option_and_then (λ n. option_map (λ x. (n, tree_from x)) (tree_in p n (tree_data p f (shape_of t))))) (flow_back p o f c)
     ∙ ap (option_map (λ x. (f, tree_from x))) (tree_back p f (shape_of t) k h) ∙ ap (λ x. Some (f, x)) (tree_again t)
 
-step_by_back : (p : PolicyShape) (o : Option ℕ) (f s : ℕ) → HasNames p → IsConcerned p o f → s < length (flow_at p f).flow.steps → step_by p o (step_data p f s) ≡ Some (f, s)
+step_by_back : (p : PolicyShape) (o : Option ℕ) (f s : ℕ) → HasNames p → IsConcerned p o f → s < length (flow_at p f).flow.steps →
+    step_by p o (step_data p f s) ≡ Some (f, s)
 step_by_back p o f s k c h =
     ap (option_and_then (λ n. option_map (λ x. (n, x)) (numbered (flow_at p n).flow.steps (step_data p f s)))) (flow_back p o f c)
     ∙ ap (option_map (λ x. (f, x))) (step_back p f s k h)
@@ -103,7 +110,8 @@ step_by_back p o f s k c h =
 case_back : (c : ℕ) → c ≤ 65535 → nat_lt c 65536 ≡ true
 case_back c h = lt-ltb c 65536 (omega (arith, h))
 
-strands_back : (p : PolicyShape) (flows : ℕ → Option ℕ) (c f : ℕ) (t : Tree) → HasNames p → c ≤ CASE_NUMBER_LIMIT → IsConcerned p (flows c) f → IsTree p f (shape_of t)
+strands_back : (p : PolicyShape) (flows : ℕ → Option ℕ) (c f : ℕ) (t : Tree) → HasNames p → c ≤ CASE_NUMBER_LIMIT → IsConcerned p (flows c) f →
+    IsTree p f (shape_of t)
     → strands_in p flows (strands_data c (tree_data p f (shape_of t))) ≡ Some (denial.Strands c f t)
 strands_back p flows c f t k few_cases concerns h =
     rw (case_back c few_cases) (ap (option_map (λ x. denial.Strands c x.0 x.1)) (tree_by_back p (flows c) f t k concerns h))
@@ -115,7 +123,8 @@ missing_back missing.Relation = refl
 missing_back missing.User = refl
 missing_back missing.Role = refl
 
-denial_back : (p : PolicyShape) (flows : ℕ → Option ℕ) (f : Option ℕ) (d : Denial) → HasNames p → IsDenial p flows f d → denial_in p flows f (denial_data p d) ≡ Some d
+denial_back : (p : PolicyShape) (flows : ℕ → Option ℕ) (f : Option ℕ) (d : Denial) → HasNames p → IsDenial p flows f d → denial_in
+    p flows f (denial_data p d) ≡ Some d
 unfolding denial_in
 denial_back p flows f denial.NoFlow k h = refl
 denial_back p flows f denial.Retired k h = refl
@@ -149,7 +158,8 @@ items_back : (p : PolicyShape) (flows : ℕ → Option ℕ) (items : List WorkIt
     → each_in (item_in p flows) (items_of (map (work_data p) items)) ≡ Some items
 items_back p flows [] k h = refl
 items_back p flows (i ∷ items) k h =
-    ap (option_and_then (λ x. option_map (λ xs. x ∷ xs) (each_in (item_in p flows) (items_of (map (work_data p) items))))) (item_back p flows i k (all_first (IsWorkItem p flows) i items h))
+    ap (option_and_then (λ x. option_map (λ xs. x ∷ xs) (each_in (item_in p flows) (items_of (map (work_data p) items)))))
+    (item_back p flows i k (all_first (IsWorkItem p flows) i items h))
     ∙ ap (option_map (λ xs. i ∷ xs)) (items_back p flows items k (all_more (IsWorkItem p flows) i items h))
 
 number_back : (c : ℕ) → c ≤ CASE_NUMBER_LIMIT → number_of_case (number (unsigned c)) ≡ Some c
@@ -158,7 +168,8 @@ number_back c h = rw (case_back c h) refl
 cases_back : (cases : List ℕ) → All IsCase cases → each_in number_of_case (items_of (map (λ c. number (unsigned c)) cases)) ≡ Some cases
 cases_back [] h = refl
 cases_back (c ∷ cases) h =
-    ap (option_and_then (λ x. option_map (λ xs. x ∷ xs) (each_in number_of_case (items_of (map (λ n. number (unsigned n)) cases))))) (number_back c (all_first IsCase c cases h))
+    ap (option_and_then (λ x. option_map (λ xs. x ∷ xs) (each_in number_of_case (items_of (map (λ n. number (unsigned n)) cases)))))
+    (number_back c (all_first IsCase c cases h))
     ∙ ap (option_map (λ xs. c ∷ xs)) (cases_back cases (all_more IsCase c cases h))
 
 -- ---- replies
@@ -171,7 +182,8 @@ bad_back bad.Lane h = refl
 bad_back (bad.Key key) h = rw h refl
 bad_back bad.Extra h = refl
 
-pub reply_back : (p : PolicyShape) (flows : ℕ → Option ℕ) (f : Option ℕ) (r : Reply) → HasNames p → IsReply p flows f r → reply_in p flows f (reply_data p r) ≡ Some r
+pub reply_back : (p : PolicyShape) (flows : ℕ → Option ℕ) (f : Option ℕ) (r : Reply) → HasNames p → IsReply p flows f r → reply_in
+    p flows f (reply_data p r) ≡ Some r
 unfolding reply_in
 reply_back p flows f (reply.Granted plan) k h = ap (option_map reply.Granted) (plan_back p plan k h)
 reply_back p flows f (reply.Finished done) k h = refl

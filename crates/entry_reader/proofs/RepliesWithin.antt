@@ -1,5 +1,6 @@
 -- What is read as a reply stands for something.
-use Rattle.std.proofs.Common.{◌≡◌, ℕ, zero, suc, ◌+◌, ◌<◌, ◌≤◌, ◌^◌, List, [], ◌∷◌, length, refl, sym, ap, ◌∙◌, subst, arith, ltb-true, leb-true, true, false, Bool, inl, inr, ◌⊎◌}
+use Rattle.std.proofs.Common.{◌≡◌, ℕ, zero, suc, ◌+◌, ◌<◌, ◌≤◌, ◌^◌, List, [], ◌∷◌, length, refl, sym, ap, ◌∙◌, subst, arith, ltb-true, leb-true, true, false}
+use Rattle.std.proofs.Common.{Bool, inl, inr, ◌⊎◌}
 use Rattle.std.specs.Prelude.{codes, Option, Some, None, option_map, option_and_then, nat_lt, nat_le, nat_eq, if◌then◌else◌}
 use Rattle.std.specs.List.{All, find}
 use Rattle.std.specs.Cmp.Lexicographic.{pointwise}
@@ -27,8 +28,11 @@ use Rattle.entry_reader.specs.declared.kind.DenialKind.{DenialKind}
 use Rattle.entry_reader.specs.declared.kind.DenialKind.TheVariants as why
 use Rattle.entry_reader.specs.Places.{number_below}
 use Rattle.entry_reader.specs.Within.{IsUser, IsRole, IsPlan, IsTree, IsState, IsFace, IsBad, IsCase, IsConcerned, IsDenial, IsWorkItem, IsReply}
-use Rattle.entry_reader.specs.Values.{row_of, or_else, only, below, name_in, numbered, each_in, few, few_in, pair_parts, user_in, step_in, free_state, user_state, state_in, seen_at, seen_in, tree_in}
-use Rattle.entry_reader.specs.Told.{denial_words, denial_kinds, reply_words, reply_kinds, bad_words, tree_from, flow_within, tree_by, step_by, case_in, strands_in, missing_in, roles_in, denial_by, denial_in, plan_in, opened_in, states_in, phase_in, flow_in, face_in, number_of_case, item_in, work_in, cases_in, again_in, key_in, bad_in, done_in, reply_by, reply_in}
+use Rattle.entry_reader.specs.Values.{row_of, or_else, only, below, name_in, numbered, each_in, few, few_in, pair_parts, user_in, step_in, free_state}
+use Rattle.entry_reader.specs.Values.{user_state, state_in, seen_at, seen_in, tree_in}
+use Rattle.entry_reader.specs.Told.{denial_words, denial_kinds, reply_words, reply_kinds, bad_words, tree_from, flow_within, tree_by, step_by, case_in}
+use Rattle.entry_reader.specs.Told.{strands_in, missing_in, roles_in, denial_by, denial_in, plan_in, opened_in, states_in, phase_in, flow_in, face_in}
+use Rattle.entry_reader.specs.Told.{number_of_case, item_in, work_in, cases_in, again_in, key_in, bad_in, done_in, reply_by, reply_in}
 use Rattle.entry_reader.proofs.Readings.{and_then_some, map_some, none_some, some_same}
 use Rattle.entry_reader.proofs.NamesBack.{numbered_is, name_text}
 use Rattle.entry_reader.proofs.TreesBack.{below_is, tree_is}
@@ -62,7 +66,8 @@ all_cons P x xs here rest (suc k) d lt = rest k d (omega (arith, lt))
 all_nil : {X : Type 0} (P : X → Type 0) → All P []
 all_nil P k d lt = absurd (omega (arith, lt))
 
-each_holds : {X : Type 0} (P : X → Type 0) (read : Data → Option X) (ds : Items) (xs : List X) → ((d : Data) (x : X) → read d ≡ Some x → P x) → each_in read ds ≡ Some xs → All P xs
+each_holds : {X : Type 0} (P : X → Type 0) (read : Data → Option X) (ds : Items) (xs : List X) → ((d : Data) (x : X) → read d ≡ Some x → P x) → each_in
+    read ds ≡ Some xs → All P xs
 each_holds P read no_items xs h e = subst (All P) (some_same [] xs e) (all_nil P)
 each_holds P read (item d ds) xs h e =
     let r = and_then_some (read d) (λ x. option_map (λ ys. x ∷ ys) (each_in read ds)) xs e in
@@ -74,11 +79,13 @@ pub record AreFew {X : Type 0} (P : X → Type 0) (xs : List X) : Type 0 where
   pub short : length xs ≤ STEP_LIMIT
   pub all : All P xs
 
-if_few : {X : Type 0} (b : Bool) (xs ys : List X) → nat_le (length xs) STEP_LIMIT ≡ b → (if b then Some xs else None) ≡ Some ys → (xs ≡ ys) × (length xs ≤ STEP_LIMIT)
+if_few : {X : Type 0} (b : Bool) (xs ys : List X) → nat_le (length xs) STEP_LIMIT ≡ b → (if b then Some xs else None) ≡ Some ys → (xs ≡ ys) ×
+    (length xs ≤ STEP_LIMIT)
 if_few true xs ys h e = (some_same xs ys e, leb-true (length xs) STEP_LIMIT h)
 if_few false xs ys h e = absurd (none_some ys e)
 
-few_hold : {X : Type 0} (P : X → Type 0) (read : Data → Option X) (d : Data) (xs : List X) → ((d : Data) (x : X) → read d ≡ Some x → P x) → few_in read d ≡ Some xs → AreFew P xs
+few_hold : {X : Type 0} (P : X → Type 0) (read : Data → Option X) (d : Data) (xs : List X) → ((d : Data) (x : X) → read d ≡ Some x → P x) → few_in
+    read d ≡ Some xs → AreFew P xs
 few_hold P read d xs h e =
     let r = and_then_some (option_and_then (each_in read) (as_array d)) few xs e in
     let q = and_then_some (as_array d) (each_in read) r.found r.there in
@@ -120,7 +127,8 @@ if_free p false s e = absurd (none_some s e)
 free_within : (p : PolicyShape) (w : List ℕ) (s : StepState) → free_state w ≡ Some s → IsState p s
 free_within p w s e = if_free p (pointwise nat_eq w (codes "free")) s e
 
-if_user : (p : PolicyShape) (b c : Bool) (u : ℕ) (s : StepState) → IsUser p u → (if b then Some (Held u) else if c then Some (Finished u) else None) ≡ Some s → IsState p s
+if_user : (p : PolicyShape) (b c : Bool) (u : ℕ) (s : StepState) → IsUser p u →
+    (if b then Some (Held u) else if c then Some (Finished u) else None) ≡ Some s → IsState p s
 if_user p true c u s h e = subst (IsState p) (some_same (Held u) s e) h
 if_user p false true u s h e = subst (IsState p) (some_same (Finished u) s e) h
 if_user p false false u s h e = absurd (none_some s e)
@@ -148,8 +156,10 @@ seen_within p d s e = let r = and_then_some (as_array d) (seen_at p) s e in seen
 
 face_within : (p : PolicyShape) (d : Data) (face : Face) → face_in p d ≡ Some face → IsFace p face
 face_within p d face e =
-    let r = and_then_some (flow_in p d) (λ f. option_and_then (λ phase. option_map (λ states. record { flow = f; phase = phase; states = states }) (states_in p d)) (phase_in d)) face e in
-    let q = and_then_some (phase_in d) (λ phase. option_map (λ states. record { flow = r.found; phase = phase; states = states }) (states_in p d)) face r.then_ in
+    let r = and_then_some (flow_in p d)
+    (λ f. option_and_then (λ phase. option_map (λ states. record { flow = f; phase = phase; states = states }) (states_in p d)) (phase_in d)) face e in
+    let q = and_then_some (phase_in d) (λ phase. option_map (λ states. record { flow = r.found; phase = phase; states = states }) (states_in p d)) face
+    r.then_ in
     let m = map_some (states_in p d) (λ states. record { flow = r.found; phase = q.found; states = states }) face q.then_ in
     let flow = and_then_some (get (codes "flow") d) (numbered p.flow_names) r.found r.there in
     let states = and_then_some (get (codes "steps") d) (few_in (seen_in p)) m.found m.there in
@@ -158,8 +168,10 @@ face_within p d face e =
 
 -- ---- denials
 
-if_flow : (p : PolicyShape) (o : Option ℕ) (b : Bool) (m f : ℕ) → o ≡ Some m → nat_lt m (length p.flow_names) ≡ b → (if b then Some m else None) ≡ Some f → IsConcerned p o f
-if_flow p o true m f h lt e = let same = some_same m f e in (h ∙ ap Some same, subst (λ (x : ℕ). x < length p.flow_names) same (ltb-true m (length p.flow_names) lt))
+if_flow : (p : PolicyShape) (o : Option ℕ) (b : Bool) (m f : ℕ) → o ≡ Some m → nat_lt m (length p.flow_names) ≡ b → (if b then Some m else None) ≡ Some f →
+    IsConcerned p o f
+if_flow p o true m f h lt e = let same = some_same m f e in
+    (h ∙ ap Some same, subst (λ (x : ℕ). x < length p.flow_names) same (ltb-true m (length p.flow_names) lt))
 if_flow p o false m f h lt e = absurd (none_some f e)
 
 flow_is : (p : PolicyShape) (o : Option ℕ) (f : ℕ) → flow_within p o ≡ Some f → IsConcerned p o f
@@ -194,7 +206,8 @@ step_by_within p o d s e =
 
 strands_within : (p : PolicyShape) (flows : ℕ → Option ℕ) (o : Option ℕ) (d : Data) (x : Denial) → strands_in p flows d ≡ Some x → IsDenial p flows o x
 strands_within p flows o d x e =
-    let r = and_then_some (case_in d) (λ c. option_and_then (λ v. option_map (λ t. denial.Strands c t.0 t.1) (tree_by p (flows c) v)) (get (codes "tree") d)) x e in
+    let r = and_then_some (case_in d)
+    (λ c. option_and_then (λ v. option_map (λ t. denial.Strands c t.0 t.1) (tree_by p (flows c) v)) (get (codes "tree") d)) x e in
     let q = and_then_some (get (codes "tree") d) (λ v. option_map (λ t. denial.Strands r.found t.0 t.1) (tree_by p (flows r.found) v)) x r.then_ in
     let m = map_some (tree_by p (flows r.found) q.found) (λ t. denial.Strands r.found t.0 t.1) x q.then_ in
     let h = tree_by_within p (flows r.found) q.found m.found m.there in
@@ -205,17 +218,22 @@ roles_within p d roles e =
     let r = and_then_some (as_array d) (each_in (numbered p.roster.roles)) roles e in
     each_holds (IsRole p) (numbered p.roster.roles) r.found roles (λ x n h. (numbered_is p.roster.roles x n h).within) r.then_
 
-denial_by_within : (p : PolicyShape) (flows : ℕ → Option ℕ) (o : Option ℕ) (kind : DenialKind) (d : Data) (x : Denial) → denial_by p flows o kind d ≡ Some x → IsDenial p flows o x
+denial_by_within : (p : PolicyShape) (flows : ℕ → Option ℕ) (o : Option ℕ) (kind : DenialKind) (d : Data) (x : Denial) →
+    denial_by p flows o kind d ≡ Some x → IsDenial p flows o x
 denial_by_within p flows o why.Unsatisfiable d x e =
     let r = map_some (tree_by p o d) (λ t. denial.Unsatisfiable t.0 t.1) x e in subst (IsDenial p flows o) r.same (tree_by_within p o d r.found r.there)
-denial_by_within p flows o why.Taken d x e = let r = map_some (user_in p d) denial.Taken x e in subst (IsDenial p flows o) r.same (user_within p d r.found r.there)
+denial_by_within p flows o why.Taken d x e = let r = map_some (user_in p d) denial.Taken x e in
+    subst (IsDenial p flows o) r.same (user_within p d r.found r.there)
 denial_by_within p flows o why.Order d x e =
     let r = map_some (step_by p o d) (λ s. denial.Order s.0 s.1) x e in subst (IsDenial p flows o) r.same (step_by_within p o d r.found r.there)
-denial_by_within p flows o why.Role d x e = let r = map_some (roles_in p d) denial.Role x e in subst (IsDenial p flows o) r.same (roles_within p d r.found r.there)
-denial_by_within p flows o why.Rule d x e = let r = map_some (below 256 d) denial.Rule x e in subst (IsDenial p flows o) r.same (below_is 256 d r.found r.there).below
+denial_by_within p flows o why.Role d x e = let r = map_some (roles_in p d) denial.Role x e in
+    subst (IsDenial p flows o) r.same (roles_within p d r.found r.there)
+denial_by_within p flows o why.Rule d x e = let r = map_some (below 256 d) denial.Rule x e in
+    subst (IsDenial p flows o) r.same (below_is 256 d r.found r.there).below
 denial_by_within p flows o why.Stranded d x e =
     let r = map_some (tree_by p o d) (λ t. denial.Stranded t.0 t.1) x e in subst (IsDenial p flows o) r.same (tree_by_within p o d r.found r.there)
-denial_by_within p flows o why.NotHeld d x e = let r = map_some (state_in p d) denial.NotHeld x e in subst (IsDenial p flows o) r.same (state_within p d r.found r.there)
+denial_by_within p flows o why.NotHeld d x e = let r = map_some (state_in p d) denial.NotHeld x e in
+    subst (IsDenial p flows o) r.same (state_within p d r.found r.there)
 denial_by_within p flows o why.Unknown d x e = let r = map_some (missing_in d) denial.Unknown x e in subst (IsDenial p flows o) r.same tt
 denial_by_within p flows o why.Strands d x e = strands_within p flows o d x e
 
@@ -238,8 +256,10 @@ number_of_case_within d c e = omega (arith, (below_is (CASE_NUMBER_LIMIT + 1) d 
 
 item_within : (p : PolicyShape) (flows : ℕ → Option ℕ) (d : Data) (i : WorkItem) → item_in p flows d ≡ Some i → IsWorkItem p flows i
 item_within p flows d i e =
-    let r = and_then_some (pair_parts d) (λ m. option_and_then (λ c. option_map (λ s. record { case = c; flow = s.0; step = s.1 }) (step_by p (flows c) m.1)) (number_of_case m.0)) i e in
-    let q = and_then_some (number_of_case r.found.0) (λ c. option_map (λ s. record { case = c; flow = s.0; step = s.1 }) (step_by p (flows c) r.found.1)) i r.then_ in
+    let r = and_then_some (pair_parts d)
+    (λ m. option_and_then (λ c. option_map (λ s. record { case = c; flow = s.0; step = s.1 }) (step_by p (flows c) m.1)) (number_of_case m.0)) i e in
+    let q = and_then_some (number_of_case r.found.0) (λ c. option_map (λ s. record { case = c; flow = s.0; step = s.1 }) (step_by p (flows c) r.found.1)) i
+    r.then_ in
     let m = map_some (step_by p (flows q.found) r.found.1) (λ s. record { case = q.found; flow = s.0; step = s.1 }) i q.then_ in
     let h = step_by_within p (flows q.found) r.found.1 m.found m.there in
     subst (IsWorkItem p flows) m.same (number_of_case_within r.found.0 q.found q.there, h.0, h.1)
@@ -277,15 +297,21 @@ opened_within p flows o d x e =
     let q = map_some (plan_in p d) (reply.Opened r.found) x r.then_ in
     subst (IsReply p flows o) q.same (case_within d r.found r.there, plan_within p d q.found q.there)
 
-reply_by_within : (p : PolicyShape) (flows : ℕ → Option ℕ) (o : Option ℕ) (kind : ReplyKind) (d : Data) (x : Reply) → reply_by p flows o kind d ≡ Some x → IsReply p flows o x
-reply_by_within p flows o told.Granted d x e = let r = map_some (plan_in p d) reply.Granted x e in subst (IsReply p flows o) r.same (plan_within p d r.found r.there)
+reply_by_within : (p : PolicyShape) (flows : ℕ → Option ℕ) (o : Option ℕ) (kind : ReplyKind) (d : Data) (x : Reply) → reply_by p flows o kind d ≡ Some x →
+    IsReply p flows o x
+reply_by_within p flows o told.Granted d x e = let r = map_some (plan_in p d) reply.Granted x e in
+    subst (IsReply p flows o) r.same (plan_within p d r.found r.there)
 reply_by_within p flows o told.Finished d x e = let r = map_some (done_in d) reply.Finished x e in subst (IsReply p flows o) r.same tt
 reply_by_within p flows o told.Opened d x e = opened_within p flows o d x e
 reply_by_within p flows o told.Edited d x e =
-    let r = map_some (number_below (2 ^ 32) (codes "number") d) reply.Edited x e in subst (IsReply p flows o) r.same (number_within (2 ^ 32) (codes "number") d r.found r.there)
-reply_by_within p flows o told.Shown d x e = let r = map_some (face_in p d) reply.Shown x e in subst (IsReply p flows o) r.same (face_within p d r.found r.there)
-reply_by_within p flows o told.Work d x e = let r = map_some (work_in p flows d) reply.Work x e in subst (IsReply p flows o) r.same (work_within p flows d r.found r.there)
-reply_by_within p flows o told.WhatIf d x e = let r = map_some (cases_in d) reply.WhatIf x e in subst (IsReply p flows o) r.same (cases_within d r.found r.there)
+    let r = map_some (number_below (2 ^ 32) (codes "number") d) reply.Edited x e in
+    subst (IsReply p flows o) r.same (number_within (2 ^ 32) (codes "number") d r.found r.there)
+reply_by_within p flows o told.Shown d x e = let r = map_some (face_in p d) reply.Shown x e in
+    subst (IsReply p flows o) r.same (face_within p d r.found r.there)
+reply_by_within p flows o told.Work d x e = let r = map_some (work_in p flows d) reply.Work x e in
+    subst (IsReply p flows o) r.same (work_within p flows d r.found r.there)
+reply_by_within p flows o told.WhatIf d x e = let r = map_some (cases_in d) reply.WhatIf x e in
+    subst (IsReply p flows o) r.same (cases_within d r.found r.there)
 reply_by_within p flows o told.Denied d x e =
     let r = map_some (denial_in p flows o d) reply.Denied x e in subst (IsReply p flows o) r.same (denial_within p flows o d r.found r.there)
 reply_by_within p flows o told.Again d x e = again_within p flows o d x e

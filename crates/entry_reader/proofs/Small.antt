@@ -1,5 +1,6 @@
 -- The members of a small object, and the items of an array.
-use Rattle.std.proofs.Common.{◌≡◌, ℕ, zero, suc, ◌+◌, ◌-◌, ◌<◌, ◌≤◌, Bool, List, [], ◌∷◌, length, drop, get_or, refl, sym, ap, ap₂, ◌∙◌, arith, Global, String, string_bytes}
+use Rattle.std.proofs.Common.{◌≡◌, ℕ, zero, suc, ◌+◌, ◌-◌, ◌<◌, ◌≤◌, Bool, List, [], ◌∷◌, length, drop, get_or, refl, sym, ap, ap₂, ◌∙◌, arith, Global, String}
+use Rattle.std.proofs.Common.{string_bytes}
 use Rattle.std.proofs.lemmas.List.{drop_more}
 use Rattle.std.specs.Prelude.{Some, None, option_and_then, slice_get, if◌then◌else◌}
 use Rattle.serde_json.specs.declared.value.Value.{Value}
@@ -15,7 +16,8 @@ lone_none [] h = refl
 lone_none (e ∷ []) h = absurd (h refl)
 lone_none (e ∷ g ∷ es) h = refl
 
-pub lone_some : (es : List (String Global × Value)) (k : String Global) (v : Value) → length es ≡ 1 → slice_get es 0 ≡ Some (k, v) → lone (members_view es) ≡ Some (string_bytes k, view v)
+pub lone_some : (es : List (String Global × Value)) (k : String Global) (v : Value) → length es ≡ 1 → slice_get es 0 ≡ Some (k, v) →
+    lone (members_view es) ≡ Some (string_bytes k, view v)
 lone_some [] k v h e = absurd (none_some (k, v) e)
 lone_some (x ∷ []) k v h e = ap (λ m. Some (string_bytes m.0, view m.1)) (some_same x (k, v) e)
 lone_some (x ∷ y ∷ es) k v h e = absurd (omega (arith, h))
@@ -32,7 +34,8 @@ pub node_told : (es : List (String Global × Value)) (k l : String Global) (v w 
 node_told [] k l v w keys h e g is = absurd (omega (arith, h))
 node_told (x ∷ []) k l v w keys h e g is = absurd (omega (arith, h))
 node_told (x ∷ y ∷ []) k l v w keys h e g is =
-    ap₂ (λ (m n : String Global × Value). if are_node_keys (string_bytes m.0) (string_bytes n.0) then Some (view m.1, view n.1) else None) (some_same x (k, v) e) (some_same y (l, w) g)
+    ap₂ (λ (m n : String Global × Value). if are_node_keys (string_bytes m.0) (string_bytes n.0) then Some (view m.1, view n.1) else None)
+    (some_same x (k, v) e) (some_same y (l, w) g)
     ∙ ap (λ (b : Bool). if b then Some (view v, view w) else None) is
 node_told (x ∷ y ∷ z ∷ es) k l v w keys h e g is = absurd (omega (arith, h))
 
@@ -54,7 +57,8 @@ seen_none p (a ∷ []) h g = absurd (h refl)
 seen_none p (a ∷ b ∷ []) h g = absurd (g refl)
 seen_none p (a ∷ b ∷ c ∷ vs) h g = refl
 
-pub seen_free : (p : PolicyShape) (vs : List Value) (a : Value) → length vs ≡ 1 → a ≡ get_or vs 0 a → seen_at p (items_view vs) ≡ option_and_then free_state (as_str (view a))
+pub seen_free : (p : PolicyShape) (vs : List Value) (a : Value) → length vs ≡ 1 → a ≡ get_or vs 0 a →
+    seen_at p (items_view vs) ≡ option_and_then free_state (as_str (view a))
 seen_free p [] a h i = absurd (omega (arith, h))
 seen_free p (x ∷ []) a h i = ap (λ v. option_and_then free_state (as_str (view v))) (sym i)
 seen_free p (x ∷ y ∷ vs) a h i = absurd (omega (arith, h))
@@ -68,7 +72,8 @@ seen_user p (x ∷ y ∷ z ∷ vs) a b h i j = absurd (omega (arith, h))
 
 -- ---- items one after the other
 
-pub items_next : (vs : List Value) (i : ℕ) (v : Value) → i < length vs → v ≡ get_or vs i v → items_view (drop i vs) ≡ item (view v) (items_view (drop (i + 1) vs))
+pub items_next : (vs : List Value) (i : ℕ) (v : Value) → i < length vs → v ≡ get_or vs i v →
+    items_view (drop i vs) ≡ item (view v) (items_view (drop (i + 1) vs))
 items_next vs i v h e = ap items_view (drop_more vs i v h) ∙ ap (λ x. item (view x) (items_view (drop (i + 1) vs))) (sym e)
 
 pub items_done : (vs : List Value) (i : ℕ) → length vs ≤ i → items_view (drop i vs) ≡ no_items

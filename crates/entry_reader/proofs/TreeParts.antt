@@ -19,7 +19,8 @@ of_parts p f d (Some n) = node_in p f n.0 n.1
 of_parts p f d None = lone_leaf p f d
 
 two_members : (p : PolicyShape) (f : ℕ) (k l : List ℕ) (d e : Data) (b : Bool) → are_node_keys k l ≡ b
-    → tree_in p f (object (member k d (member l e no_members))) ≡ of_parts p f (object (member k d (member l e no_members))) (node_parts (object (member k d (member l e no_members))))
+    → tree_in p f (object (member k d (member l e no_members))) ≡ of_parts p f (object (member k d (member l e no_members)))
+    (node_parts (object (member k d (member l e no_members))))
 two_members p f k l d e true h = rw h refl
 two_members p f k l d e false h = rw h refl
 
@@ -56,19 +57,22 @@ kid_by_parts p f (array (item d (item e no_items))) rest = refl
 kid_by_parts p f (array (item d (item e (item g ds)))) rest = refl
 kid_by_parts p f (object ms) rest = refl
 
-pub branch_twin : (p : PolicyShape) (f : ℕ) (d s x : Data) (u v : ℕ) (rest : Option Kids) → Some (s, x) ≡ pair_parts d → Some u ≡ user_in p s → Some v ≡ twin_in p x
+pub branch_twin : (p : PolicyShape) (f : ℕ) (d s x : Data) (u v : ℕ) (rest : Option Kids) → Some (s, x) ≡ pair_parts d → Some u ≡ user_in p s →
+    Some v ≡ twin_in p x
     → kid_in p f d rest ≡ option_map (twin_kid u v) rest
 branch_twin p f d s x u v rest e user twin =
     kid_by_parts p f d rest ∙ ap (kid_of_parts p f rest) (sym e) ∙ ap (option_and_then (λ n. with_kid n (twin_in p x) (tree_in p f x) rest)) (sym user)
     ∙ ap (λ o. with_kid u o (tree_in p f x) rest) (sym twin)
 
-pub branch_tree : (p : PolicyShape) (f : ℕ) (d s x : Data) (u : ℕ) (t : Shape) (rest : Option Kids) → Some (s, x) ≡ pair_parts d → Some u ≡ user_in p s → None ≡ twin_in p x → tree_in p f x ≡ Some t
+pub branch_tree : (p : PolicyShape) (f : ℕ) (d s x : Data) (u : ℕ) (t : Shape) (rest : Option Kids) → Some (s, x) ≡ pair_parts d → Some u ≡ user_in p s →
+    None ≡ twin_in p x → tree_in p f x ≡ Some t
     → kid_in p f d rest ≡ option_map (tree_kid u t) rest
 branch_tree p f d s x u t rest e user twin tree =
     kid_by_parts p f d rest ∙ ap (kid_of_parts p f rest) (sym e) ∙ ap (option_and_then (λ n. with_kid n (twin_in p x) (tree_in p f x) rest)) (sym user)
     ∙ ap (λ o. with_kid u o (tree_in p f x) rest) (sym twin) ∙ ap (λ o. with_kid u None o rest) tree
 
-pub branch_bad : (p : PolicyShape) (f : ℕ) (d s x : Data) (u : ℕ) (rest : Option Kids) → Some (s, x) ≡ pair_parts d → Some u ≡ user_in p s → None ≡ twin_in p x → tree_in p f x ≡ None
+pub branch_bad : (p : PolicyShape) (f : ℕ) (d s x : Data) (u : ℕ) (rest : Option Kids) → Some (s, x) ≡ pair_parts d → Some u ≡ user_in p s → None ≡ twin_in
+    p x → tree_in p f x ≡ None
     → kid_in p f d rest ≡ None
 branch_bad p f d s x u rest e user twin tree =
     kid_by_parts p f d rest ∙ ap (kid_of_parts p f rest) (sym e) ∙ ap (option_and_then (λ n. with_kid n (twin_in p x) (tree_in p f x) rest)) (sym user)
@@ -76,7 +80,8 @@ branch_bad p f d s x u rest e user twin tree =
 
 -- ---- depths
 
-deeper_pair : (k l : List ℕ) (d e s u : Data) (b : Bool) → are_node_keys k l ≡ b → Some (s, u) ≡ node_parts (object (member k d (member l e no_members))) → u ≡ e
+deeper_pair : (k l : List ℕ) (d e s u : Data) (b : Bool) → are_node_keys k l ≡ b → Some (s, u) ≡ node_parts (object (member k d (member l e no_members))) →
+    u ≡ e
 deeper_pair k l d e s u true h g = let same : (s, u) ≡ (d, e) = some_same _ _ (rw h at g) in ap (λ p. p.1) same
 deeper_pair k l d e s u false h g = absurd (none_some _ (sym (rw h at g)))
 
@@ -112,8 +117,10 @@ array_deeper (object ms) vs e = absurd (none_some _ (sym e))
 
 -- ---- branches one after the other
 
-with_next : (so_far : Kids) (b : Branch) (o : Option Kids) → option_map (joined so_far) (option_map (branch_onto b) o) ≡ option_map (joined (joined so_far (branch_onto b no_kids))) o
-with_next so_far b (Some kids) = ap Some (ap (joined so_far) (sym (kid_onto-joined b.kid b.user no_kids kids)) ∙ sym (joined-assoc so_far (branch_onto b no_kids) kids))
+with_next : (so_far : Kids) (b : Branch) (o : Option Kids) →
+    option_map (joined so_far) (option_map (branch_onto b) o) ≡ option_map (joined (joined so_far (branch_onto b no_kids))) o
+with_next so_far b (Some kids) =
+    ap Some (ap (joined so_far) (sym (kid_onto-joined b.kid b.user no_kids kids)) ∙ sym (joined-assoc so_far (branch_onto b no_kids) kids))
 with_next so_far b None = refl
 
 pub kids_more : (p : PolicyShape) (f : ℕ) (whole : Option Kids) (so_far new : Kids) (b : Branch) (d : Data) (ds : Items)

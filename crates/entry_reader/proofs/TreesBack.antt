@@ -3,7 +3,8 @@ use Rattle.std.proofs.Common.{◌≡◌, ℕ, ◌<◌, List, Bool, true, false, 
 use Rattle.std.specs.Prelude.{Option, Some, None, option_map, option_and_then, codes, nat_lt, nat_eq, if◌then◌else◌}
 use Rattle.std.specs.Cmp.Lexicographic.{pointwise, bytes_decides}
 use Rattle.std.proofs.lemmas.Bool.{and_parts}
-use Rattle.serde_json.specs.Data.{Data, unsigned, negative, float, null, boolean, number, string, array, object, Items, no_items, item, Members, no_members, member}
+use Rattle.serde_json.specs.Data.{Data, unsigned, negative, float, null, boolean, number, string, array, object, Items, no_items, item, Members, no_members}
+use Rattle.serde_json.specs.Data.{member}
 use Rattle.serde_json.specs.View.{items_of}
 use Rattle.refutation_tree.specs.Shapes.{Shape, Kids, holder, rule, node, no_kids, tree_kid, twin_kid}
 use Rattle.policy_book.specs.Shapes.{PolicyShape}
@@ -85,7 +86,8 @@ pub record IsTreeOf (p : PolicyShape) (f : ℕ) (d : Data) (t : Shape) : Type 0 
 key_is : (k w : List ℕ) → pointwise nat_eq k w ≡ true → k ≡ w
 key_is k w h = (bytes_decides k w).0 h
 
-holder_leaf : (p : PolicyShape) (f : ℕ) (k : List ℕ) (d : Data) (t : Shape) → pointwise nat_eq k (codes "holder") ≡ true → option_map holder (step_in p f d) ≡ Some t → IsTreeOf p f (object (member k d no_members)) t
+holder_leaf : (p : PolicyShape) (f : ℕ) (k : List ℕ) (d : Data) (t : Shape) → pointwise nat_eq k (codes "holder") ≡ true →
+    option_map holder (step_in p f d) ≡ Some t → IsTreeOf p f (object (member k d no_members)) t
 holder_leaf p f k d t key e =
     let r = map_some (step_in p f d) holder t e in
     let s = numbered_is (flow_at p f).flow.steps d r.found r.there in
@@ -94,7 +96,8 @@ holder_leaf p f k d t key e =
       written = ap (tree_data p f) (sym r.same) ∙ ap₂ (λ w x. object (member w x no_members)) (sym (key_is k (codes "holder") key)) s.written;
     }
 
-rule_leaf : (p : PolicyShape) (f : ℕ) (k : List ℕ) (d : Data) (t : Shape) → pointwise nat_eq k (codes "rule") ≡ true → option_map rule (below 256 d) ≡ Some t → IsTreeOf p f (object (member k d no_members)) t
+rule_leaf : (p : PolicyShape) (f : ℕ) (k : List ℕ) (d : Data) (t : Shape) → pointwise nat_eq k (codes "rule") ≡ true →
+    option_map rule (below 256 d) ≡ Some t → IsTreeOf p f (object (member k d no_members)) t
 rule_leaf p f k d t key e =
     let r = map_some (below 256 d) rule t e in
     let n = below_is 256 d r.found r.there in
@@ -103,7 +106,8 @@ rule_leaf p f k d t key e =
       written = ap (tree_data p f) (sym r.same) ∙ ap₂ (λ w x. object (member w x no_members)) (sym (key_is k (codes "rule") key)) n.written;
     }
 
-rule_or_none : (p : PolicyShape) (f : ℕ) (k : List ℕ) (d : Data) (t : Shape) (b : Bool) → pointwise nat_eq k (codes "rule") ≡ b → (if b then option_map rule (below 256 d) else None) ≡ Some t → IsTreeOf p f (object (member k d no_members)) t
+rule_or_none : (p : PolicyShape) (f : ℕ) (k : List ℕ) (d : Data) (t : Shape) (b : Bool) → pointwise nat_eq k (codes "rule") ≡ b →
+    (if b then option_map rule (below 256 d) else None) ≡ Some t → IsTreeOf p f (object (member k d no_members)) t
 rule_or_none p f k d t true h e = rule_leaf p f k d t h e
 rule_or_none p f k d t false h e = absurd (none_some t e)
 
@@ -121,8 +125,10 @@ pub record AreKidsIn (p : PolicyShape) (f : ℕ) (ds : Items) (kids : Kids) : Ty
   pub inside : AreKids p f kids
   pub written : items_of (branches_data p f kids) ≡ ds
 
-node_of : (p : PolicyShape) (f : ℕ) (k l : List ℕ) (d e : Data) (t : Shape) (b : Bool) → are_node_keys k l ≡ b → ((kids : Kids) → kids_of p f e ≡ Some kids → AreKidsOf p f e kids)
-    → (if b then option_and_then (λ s. option_map (node s) (kids_of p f e)) (step_in p f d) else None) ≡ Some t → IsTreeOf p f (object (member k d (member l e no_members))) t
+node_of : (p : PolicyShape) (f : ℕ) (k l : List ℕ) (d e : Data) (t : Shape) (b : Bool) → are_node_keys k l ≡ b →
+    ((kids : Kids) → kids_of p f e ≡ Some kids → AreKidsOf p f e kids)
+    → (if b then option_and_then (λ s. option_map (node s) (kids_of p f e)) (step_in p f d) else None) ≡ Some t →
+    IsTreeOf p f (object (member k d (member l e no_members))) t
 node_of p f k l d e t true h kids_are g =
     let r = and_then_some (step_in p f d) (λ s. option_map (node s) (kids_of p f e)) t g in
     let s = numbered_is (flow_at p f).flow.steps d r.found r.there in
@@ -165,7 +171,8 @@ kid_is p f u d x ds (Some v) kids twin user tree rest e =
     let other = twin_is p x v twin in
     record {
       inside = subst (λ (k : Kids). AreKids p f k) r.same (user.within, other.0, more.inside);
-      written = ap (λ k. items_of (branches_data p f k)) (sym r.same) ∙ (λ i. item (array (item (user.written i) (item (other.1 i) no_items))) (more.written i));
+      written = ap (λ k. items_of (branches_data p f k)) (sym r.same) ∙
+          (λ i. item (array (item (user.written i) (item (other.1 i) no_items))) (more.written i));
     }
 kid_is p f u d x ds None kids twin user tree rest e =
     let q = and_then_some (tree_in p f x) (λ t. option_map (tree_kid u t) (kids_in p f ds)) kids e in
@@ -174,7 +181,8 @@ kid_is p f u d x ds None kids twin user tree rest e =
     let more = rest r.found r.there in
     record {
       inside = subst (λ (k : Kids). AreKids p f k) r.same (user.within, below.tree, more.inside);
-      written = ap (λ k. items_of (branches_data p f k)) (sym r.same) ∙ (λ i. item (array (item (user.written i) (item (below.written i) no_items))) (more.written i));
+      written = ap (λ k. items_of (branches_data p f k)) (sym r.same) ∙
+          (λ i. item (array (item (user.written i) (item (below.written i) no_items))) (more.written i));
     }
 
 mutual

@@ -7,7 +7,9 @@ use Rattle.wf_talk.specs.declared.entry.Entry.{Entry}
 use Rattle.wf_talk.specs.declared.request.Ask.{Ask}
 use Rattle.wf_talk.specs.declared.request.Ask.TheVariants as ask
 use Rattle.wf_talk.specs.declared.request.Request.{Request}
-use Rattle.wf_talk.specs.declared.request.Request.TheVariants.{OpenCase, Claim, Finish, GiveBack, Release, Withdraw, Change, Show, Worklist, WhatIf}
+use Rattle.wf_talk.specs.declared.request.Request.TheVariants.{OpenCase, Claim, Finish, GiveBack}
+use Rattle.wf_talk.specs.declared.request.Request.TheVariants.{Release, Withdraw, Change, Show}
+use Rattle.wf_talk.specs.declared.request.Request.TheVariants.{Worklist, WhatIf}
 use Rattle.wf_talk.specs.declared.reply.Reply.{Reply}
 use Rattle.policy_book.specs.Shapes.{PolicyShape}
 use Rattle.wire_json.specs.Replies.{entry_data, entry_text}
@@ -33,7 +35,8 @@ abbrev pub concerned : PolicyShape → (ℕ → Option ℕ) → Ask → Option �
 concerned p flows (ask.Request r) = concerned_by p flows r
 concerned p flows (ask.Bad b) = None
 
--- an entry whose numbers fit and stand for something, and whose text nests no deeper than JSON is read
+-- an entry whose numbers fit and stand for something, and whose text nests no deeper than JSON is
+-- read
 pub record IsEntry (p : PolicyShape) (flows : ℕ → Option ℕ) (e : Entry) : Type 0 where
   pub place : e.at < 2 ^ 32
   pub lane : e.lane < 2 ^ 8
@@ -42,16 +45,20 @@ pub record IsEntry (p : PolicyShape) (flows : ℕ → Option ℕ) (e : Entry) : 
   pub nests : depth (entry_data p e) ≤ max_depth
 
 -- a line is the text of an entry
-pub record IsLineOf (p : PolicyShape) (flows : ℕ → Option ℕ) (text : List ℕ) (e : Entry) : Type 0 where
+pub record IsLineOf (p : PolicyShape) (flows : ℕ → Option ℕ) (text : List ℕ) (e : Entry) : Type
+    0 where
   pub entry : IsEntry p flows e
   pub written : entry_text p e ≡ text
 
 -- the entry at a place, with its ask and its reply
 abbrev pub entry_at : Place → Ask → Reply → Entry
-entry_at place a r = record { at = place.at; lane = place.lane; line = place.line; ask = a; reply = r }
+entry_at place a r =
+    record { at = place.at; lane = place.lane; line = place.line; ask = a; reply = r }
 
--- a line is the text of an entry for an ask that has this reply, at the place that the line names, and of no other
-pub record HasReply (p : PolicyShape) (flows : ℕ → Option ℕ) (a : Ask) (text : List ℕ) (r : Reply) : Type 0 where
+-- a line is the text of an entry for an ask that has this reply, at the place that the line names,
+-- and of no other
+pub record HasReply (p : PolicyShape) (flows : ℕ → Option ℕ) (a : Ask) (text : List ℕ)
+    (r : Reply) : Type 0 where
   pub place : Place
   pub named : place_of_line text ≡ Some place
   pub line : IsLineOf p flows text (entry_at place a r)

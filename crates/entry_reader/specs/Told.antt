@@ -1,5 +1,6 @@
 -- Inside: what the values of replies and entries read as.
-use Rattle.std.specs.Prelude.{ℕ, ◌+◌, ◌^◌, nat_lt, List, [], ◌∷◌, length, codes, Bool, Option, None, Some, option_map, option_and_then, if◌then◌else◌}
+use Rattle.std.specs.Prelude.{ℕ, ◌+◌, ◌^◌, nat_lt, List, [], ◌∷◌, length, codes, Bool, Option, None}
+use Rattle.std.specs.Prelude.{Some, option_map, option_and_then, if◌then◌else◌}
 use Rattle.serde_json.specs.Data.{Data}
 use Rattle.serde_json.specs.Find.{get, as_bool, as_str, as_array}
 use Rattle.wf_names.specs.declared.limits.TheConstants.{CASE_NUMBER_LIMIT}
@@ -29,7 +30,9 @@ use Rattle.entry_reader.specs.declared.kind.DenialKind.{DenialKind}
 use Rattle.entry_reader.specs.declared.kind.DenialKind.TheVariants as why
 use Rattle.entry_reader.specs.Places.{number_below, place_in}
 use Rattle.entry_reader.specs.Lines.{concerned, entry_at}
-use Rattle.entry_reader.specs.Values.{row_of, or_else, only, at_key, below, name_in, numbered, user_in, step_in, each_in, few_in, pair_parts, tree_in, state_in, seen_in}
+use Rattle.entry_reader.specs.Values.{row_of, or_else, only, at_key, below, name_in, numbered}
+use Rattle.entry_reader.specs.Values.{user_in, step_in, each_in, few_in, pair_parts, tree_in}
+use Rattle.entry_reader.specs.Values.{state_in, seen_in}
 
 -- ---- words
 
@@ -38,41 +41,74 @@ phases = (codes "open", Live) ∷ (codes "done", Done) ∷ (codes "withdrawn", W
 
 abbrev pub bad_words : List (List ℕ × Bad)
 bad_words =
-    (codes "syntax", bad.Syntax) ∷ (codes "object", bad.Object) ∷ (codes "do", bad.Do) ∷ (codes "lane", bad.Lane)
+    (codes "syntax", bad.Syntax) ∷ (codes "object", bad.Object) ∷ (
+      codes "do",
+      bad.Do,
+    ) ∷ (codes "lane", bad.Lane)
     ∷ (codes "extra", bad.Extra) ∷ []
 
 abbrev pub missing_words : List (List ℕ × Missing)
 missing_words =
-    (codes "flow", missing.Flow) ∷ (codes "step", missing.Step) ∷ (codes "relation", missing.Relation)
+    (codes "flow", missing.Flow) ∷ (codes "step", missing.Step) ∷ (
+      codes "relation",
+      missing.Relation,
+    )
     ∷ (codes "user", missing.User) ∷ (codes "role", missing.Role) ∷ []
 
 -- the denials that are a word alone
 abbrev pub denial_words : List (List ℕ × Denial)
 denial_words =
-    (codes "no_flow", denial.NoFlow) ∷ (codes "retired", denial.Retired) ∷ (codes "full", denial.Full)
-    ∷ (codes "no_case", denial.NoCase) ∷ (codes "closed", denial.Closed) ∷ (codes "no_step", denial.NoStep)
-    ∷ (codes "no_user", denial.NoUser) ∷ (codes "not_admin", denial.NotAdmin) ∷ (codes "fixed", denial.Fixed)
-    ∷ (codes "already", denial.Already) ∷ (codes "absent", denial.Absent) ∷ (codes "last_admin", denial.LastAdmin) ∷ []
+    (codes "no_flow", denial.NoFlow) ∷ (codes "retired", denial.Retired) ∷ (
+      codes "full",
+      denial.Full,
+    )
+    ∷ (codes "no_case", denial.NoCase) ∷ (codes "closed", denial.Closed) ∷ (
+      codes "no_step",
+      denial.NoStep,
+    )
+    ∷ (codes "no_user", denial.NoUser) ∷ (codes "not_admin", denial.NotAdmin) ∷ (
+      codes "fixed",
+      denial.Fixed,
+    )
+    ∷ (codes "already", denial.Already) ∷ (codes "absent", denial.Absent) ∷ (
+      codes "last_admin",
+      denial.LastAdmin,
+    ) ∷ []
 
 -- the keys of the denials that tell more
 abbrev pub denial_kinds : List (List ℕ × DenialKind)
 denial_kinds =
-    (codes "unsatisfiable", why.Unsatisfiable) ∷ (codes "taken", why.Taken) ∷ (codes "order", why.Order)
+    (codes "unsatisfiable", why.Unsatisfiable) ∷ (codes "taken", why.Taken) ∷ (
+      codes "order",
+      why.Order,
+    )
     ∷ (codes "role", why.Role) ∷ (codes "rule", why.Rule) ∷ (codes "stranded", why.Stranded)
-    ∷ (codes "not_held", why.NotHeld) ∷ (codes "unknown", why.Unknown) ∷ (codes "strands", why.Strands) ∷ []
+    ∷ (codes "not_held", why.NotHeld) ∷ (codes "unknown", why.Unknown) ∷ (
+      codes "strands",
+      why.Strands,
+    ) ∷ []
 
 -- the replies that are a word alone
 abbrev pub reply_words : List (List ℕ × Reply)
 reply_words =
-    (codes "returned", reply.Returned) ∷ (codes "released", reply.Released) ∷ (codes "withdrawn", reply.Withdrawn)
+    (codes "returned", reply.Returned) ∷ (
+      codes "released",
+      reply.Released,
+    ) ∷ (codes "withdrawn", reply.Withdrawn)
     ∷ (codes "no_memory", reply.NoMemory) ∷ []
 
 -- the keys of the replies that tell more
 abbrev pub reply_kinds : List (List ℕ × ReplyKind)
 reply_kinds =
-    (codes "granted", told.Granted) ∷ (codes "finished", told.Finished) ∷ (codes "opened", told.Opened)
+    (codes "granted", told.Granted) ∷ (codes "finished", told.Finished) ∷ (
+      codes "opened",
+      told.Opened,
+    )
     ∷ (codes "edited", told.Edited) ∷ (codes "view", told.Shown) ∷ (codes "worklist", told.Work)
-    ∷ (codes "what_if", told.WhatIf) ∷ (codes "denied", told.Denied) ∷ (codes "again", told.Again) ∷ (codes "bad", told.Bad) ∷ []
+    ∷ (codes "what_if", told.WhatIf) ∷ (codes "denied", told.Denied) ∷ (
+      codes "again",
+      told.Again,
+    ) ∷ (codes "bad", told.Bad) ∷ []
 
 -- ---- denials
 
@@ -88,7 +124,8 @@ flow_within p f = option_and_then (λ n. if nat_lt n (length p.flow_names) then 
 
 -- a workflow of the policy, with the tree over it, or with a step of it
 abbrev pub tree_by : PolicyShape → Option ℕ → Data → Option (ℕ × Tree)
-tree_by p f d = option_and_then (λ n. option_map (λ t. (n, tree_from t)) (tree_in p n d)) (flow_within p f)
+tree_by p f d =
+    option_and_then (λ n. option_map (λ t. (n, tree_from t)) (tree_in p n d)) (flow_within p f)
 
 abbrev pub step_by : PolicyShape → Option ℕ → Data → Option (ℕ × ℕ)
 step_by p f d = option_and_then (λ n. option_map (λ s. (n, s)) (step_in p n d)) (flow_within p f)
@@ -99,7 +136,8 @@ case_in d = number_below (CASE_NUMBER_LIMIT + 1) (codes "case") d
 -- a case with the tree over its workflow
 abbrev pub strands_in : PolicyShape → (ℕ → Option ℕ) → Data → Option Denial
 strands_in p flows d =
-    option_and_then (λ c. option_and_then (λ x. option_map (λ t. denial.Strands c t.0 t.1) (tree_by p (flows c) x)) (get (codes "tree") d)) (case_in d)
+    option_and_then (λ c. option_and_then (λ x. option_map (λ t. denial.Strands c t.0 t.1)
+    (tree_by p (flows c) x)) (get (codes "tree") d)) (case_in d)
 
 abbrev pub missing_in : Data → Option Missing
 missing_in d = option_and_then (row_of missing_words) (as_str d)
@@ -121,7 +159,8 @@ short_denial p f why.Strands d = None
 
 -- a denial by its kind
 abbrev pub denial_by : PolicyShape → (ℕ → Option ℕ) → Option ℕ → DenialKind → Data → Option Denial
-denial_by p flows f why.Unsatisfiable d = option_map (λ t. denial.Unsatisfiable t.0 t.1) (tree_by p f d)
+denial_by p flows f why.Unsatisfiable d =
+    option_map (λ t. denial.Unsatisfiable t.0 t.1) (tree_by p f d)
 denial_by p flows f why.Taken d = short_denial p f why.Taken d
 denial_by p flows f why.Order d = short_denial p f why.Order d
 denial_by p flows f why.Role d = option_map denial.Role (roles_in p d)
@@ -134,7 +173,8 @@ denial_by p flows f why.Strands d = strands_in p flows d
 unfoldable pub denial_in : PolicyShape → (ℕ → Option ℕ) → Option ℕ → Data → Option Denial
 denial_in p flows f d =
     or_else (option_and_then (row_of denial_words) (as_str d))
-    (option_and_then (λ m. option_and_then (λ kind. denial_by p flows f kind m.1) (row_of denial_kinds m.0)) (only d))
+    (option_and_then (λ m. option_and_then (λ kind. denial_by p flows f kind m.1)
+    (row_of denial_kinds m.0)) (only d))
 
 -- ---- replies
 
@@ -184,7 +224,8 @@ cases_in d = option_and_then (each_in number_of_case) (as_array d)
 
 abbrev pub again_in : Data → Option Reply
 again_in d =
-    option_and_then (λ number. option_map (λ rounds. reply.Again rounds number) (number_below 256 (codes "rounds") d))
+    option_and_then (λ number. option_map (λ rounds. reply.Again rounds number)
+    (number_below 256 (codes "rounds") d))
     (number_below (2 ^ 32) (codes "at") d)
 
 abbrev pub key_in : Data → Option (List ℕ)
@@ -225,14 +266,16 @@ reply_by p flows f told.Bad d = short_reply told.Bad d
 unfoldable pub reply_in : PolicyShape → (ℕ → Option ℕ) → Option ℕ → Data → Option Reply
 reply_in p flows f d =
     or_else (option_and_then (row_of reply_words) (as_str d))
-    (option_and_then (λ m. option_and_then (λ kind. reply_by p flows f kind m.1) (row_of reply_kinds m.0)) (only d))
+    (option_and_then (λ m. option_and_then (λ kind. reply_by p flows f kind m.1)
+    (row_of reply_kinds m.0)) (only d))
 
 -- ---- entries
 
 -- the entry for an ask that a value tells
 unfoldable pub entry_in : PolicyShape → (ℕ → Option ℕ) → Ask → Data → Option Entry
 entry_in p flows a d =
-    option_and_then (λ place. option_map (entry_at place a) (at_key (reply_in p flows (concerned p flows a)) (codes "reply") d)) (place_in d)
+    option_and_then (λ place. option_map (entry_at place a)
+    (at_key (reply_in p flows (concerned p flows a)) (codes "reply") d)) (place_in d)
 
 unfoldable pub entry_of_line : PolicyShape → (ℕ → Option ℕ) → Ask → List ℕ → Option Entry
 entry_of_line p flows a text = option_and_then (entry_in p flows a) (value_of text)

@@ -1,15 +1,18 @@
 -- Inside: what the values of trees and replies read as.
-use Rattle.std.specs.Prelude.{ℕ, nat_lt, nat_le, nat_eq, Bool, ◌&&◌, List, [], ◌∷◌, length, codes, Option, None, Some, option_map, option_and_then, if◌then◌else◌}
+use Rattle.std.specs.Prelude.{ℕ, nat_lt, nat_le, nat_eq, Bool, ◌&&◌, List, [], ◌∷◌, length, codes}
+use Rattle.std.specs.Prelude.{Option, None, Some, option_map, option_and_then, if◌then◌else◌}
 use Rattle.std.specs.List.{find}
 use Rattle.std.specs.Cmp.Lexicographic.{pointwise}
-use Rattle.serde_json.specs.Data.{Data, null, boolean, number, string, array, object, Items, no_items, item, Members, no_members, member}
+use Rattle.serde_json.specs.Data.{Data, null, boolean, number, string, array, object, Items}
+use Rattle.serde_json.specs.Data.{no_items, item, Members, no_members, member}
 use Rattle.serde_json.specs.Find.{get, as_number, as_u64, as_str, as_array, as_object}
 use Rattle.wf_names.specs.Names.{is_name}
 use Rattle.wf_names.specs.Table.{place_of}
 use Rattle.wf_names.specs.declared.limits.TheConstants.{STEP_LIMIT}
 use Rattle.wf_names.specs.declared.states.StepState.{StepState}
 use Rattle.wf_names.specs.declared.states.StepState.TheVariants.{Free, Held, Finished}
-use Rattle.refutation_tree.specs.Shapes.{Shape, Kids, holder, rule, node, no_kids, tree_kid, twin_kid}
+use Rattle.refutation_tree.specs.Shapes.{Shape, Kids, holder, rule, node, no_kids, tree_kid}
+use Rattle.refutation_tree.specs.Shapes.{twin_kid}
 use Rattle.policy_book.specs.Shapes.{PolicyShape}
 use Rattle.policy_book.specs.Policies.{flow_at}
 
@@ -39,7 +42,8 @@ at_key read key d = option_and_then read (get key d)
 
 -- an unsigned whole number below a bound
 abbrev pub below : ℕ → Data → Option ℕ
-below bound d = option_and_then (λ n. if nat_lt n bound then Some n else None) (option_and_then as_u64 (as_number d))
+below bound d = option_and_then (λ n. if nat_lt n bound then Some n else None)
+    (option_and_then as_u64 (as_number d))
 
 -- a text of a name's form
 abbrev pub name_in : Data → Option (List ℕ)
@@ -58,7 +62,8 @@ step_in p f d = numbered (flow_at p f).flow.steps d
 -- each item, in order
 abbrev pub each_in : {X : Type 0} → (Data → Option X) → Items → Option (List X)
 each_in read no_items = Some []
-each_in read (item d ds) = option_and_then (λ x. option_map (λ xs. x ∷ xs) (each_in read ds)) (read d)
+each_in read (item d ds) =
+    option_and_then (λ x. option_map (λ xs. x ∷ xs) (each_in read ds)) (read d)
 
 -- the items of an array, at most as many as a workflow may have steps
 abbrev pub few : {X : Type 0} → List X → Option (List X)
@@ -104,7 +109,8 @@ abbrev mutual
   tree_at p f no_members = None
   tree_at p f (member k d no_members) = leaf_in p f k d
   tree_at p f (member k d (member l e no_members)) =
-      if are_node_keys k l then option_and_then (λ s. option_map (node s) (kids_of p f e)) (step_in p f d) else None
+      if are_node_keys k l then option_and_then (λ s. option_map (node s) (kids_of p f e))
+      (step_in p f d) else None
   tree_at p f (member k d (member l e (member m g ms))) = None
 
   pub kids_of : PolicyShape → ℕ → Data → Option Kids
@@ -134,7 +140,8 @@ abbrev mutual
       option_and_then (λ u. with_kid u (twin_in p e) (tree_in p f e) kids) (user_in p d)
   kid_at p f (item d (item e (item g ds))) kids = None
 
--- the same in steps: the parts of a node, an object with one leaf, a node of its parts, and the parts of a branch
+-- the same in steps: the parts of a node, an object with one leaf, a node of its parts, and the
+-- parts of a branch
 abbrev pub node_at : Members → Option (Data × Data)
 node_at no_members = None
 node_at (member k d no_members) = None
@@ -148,7 +155,8 @@ abbrev pub lone_leaf : PolicyShape → ℕ → Data → Option Shape
 lone_leaf p f d = option_and_then (λ m. leaf_in p f m.0 m.1) (only d)
 
 abbrev pub node_in : PolicyShape → ℕ → Data → Data → Option Shape
-node_in p f step users = option_and_then (λ s. option_map (node s) (kids_of p f users)) (step_in p f step)
+node_in p f step users =
+    option_and_then (λ s. option_map (node s) (kids_of p f users)) (step_in p f step)
 
 -- the two items of an array
 abbrev pub pair_at : Items → Option (Data × Data)
@@ -180,7 +188,8 @@ state_in p d =
 abbrev pub seen_at : PolicyShape → Items → Option StepState
 seen_at p no_items = None
 seen_at p (item d no_items) = option_and_then free_state (as_str d)
-seen_at p (item d (item e no_items)) = option_and_then (λ w. option_and_then (user_state w) (user_in p e)) (as_str d)
+seen_at p (item d (item e no_items)) =
+    option_and_then (λ w. option_and_then (user_state w) (user_in p e)) (as_str d)
 seen_at p (item d (item e (item g ds))) = None
 
 abbrev pub seen_in : PolicyShape → Data → Option StepState

@@ -1,12 +1,13 @@
--- Replies whose numbers stand for something: users, roles and workflows of the policy, cases, and steps and trees of
--- the workflow that is concerned.
+-- Replies whose numbers stand for something: users, roles and workflows of the policy, cases, and
+-- steps and trees of the workflow that is concerned.
 use Rattle.std.specs.Prelude.{◌≡◌, ℕ, ◌<◌, ◌≤◌, ◌^◌, List, length, Option, Some, IsTrue}
 use Rattle.std.specs.List.{All}
 use Rattle.wf_names.specs.Names.{is_name}
 use Rattle.wf_names.specs.declared.limits.TheConstants.{STEP_LIMIT, CASE_NUMBER_LIMIT}
 use Rattle.wf_names.specs.declared.states.StepState.{StepState}
 use Rattle.wf_names.specs.declared.states.StepState.TheVariants.{Free, Held, Finished}
-use Rattle.refutation_tree.specs.Shapes.{Shape, Kids, holder, rule, node, no_kids, tree_kid, twin_kid}
+use Rattle.refutation_tree.specs.Shapes.{Shape, Kids, holder, rule, node, no_kids, tree_kid}
+use Rattle.refutation_tree.specs.Shapes.{twin_kid}
 use Rattle.refutation_tree.specs.Views.{shape_of}
 use Rattle.wf_talk.specs.declared.request.Bad.{Bad}
 use Rattle.wf_talk.specs.declared.request.Bad.TheVariants as bad
@@ -78,12 +79,14 @@ IsBad bad.Extra = Unit {0}
 abbrev pub IsConcerned : PolicyShape → Option ℕ → ℕ → Type 0
 IsConcerned p concerned f = (concerned ≡ Some f) × IsFlow p f
 
--- a denial: its step and its tree are of the workflow that is concerned; where an edit strands a case, of the case's
+-- a denial: its step and its tree are of the workflow that is concerned; where an edit strands a
+-- case, of the case's
 abbrev pub IsDenial : PolicyShape → (ℕ → Option ℕ) → Option ℕ → Denial → Type 0
 IsDenial p flows concerned denial.NoFlow = Unit {0}
 IsDenial p flows concerned denial.Retired = Unit {0}
 IsDenial p flows concerned denial.Full = Unit {0}
-IsDenial p flows concerned (denial.Unsatisfiable f tree) = IsConcerned p concerned f × IsTree p f (shape_of tree)
+IsDenial p flows concerned (denial.Unsatisfiable f tree) = IsConcerned p concerned f ×
+    IsTree p f (shape_of tree)
 IsDenial p flows concerned denial.NoCase = Unit {0}
 IsDenial p flows concerned denial.Closed = Unit {0}
 IsDenial p flows concerned denial.NoStep = Unit {0}
@@ -92,7 +95,8 @@ IsDenial p flows concerned (denial.Taken u) = IsUser p u
 IsDenial p flows concerned (denial.Order f s) = IsConcerned p concerned f × IsStepOf p f s
 IsDenial p flows concerned (denial.Role roles) = All (IsRole p) roles
 IsDenial p flows concerned (denial.Rule k) = IsRule k
-IsDenial p flows concerned (denial.Stranded f tree) = IsConcerned p concerned f × IsTree p f (shape_of tree)
+IsDenial p flows concerned (denial.Stranded f tree) = IsConcerned p concerned f ×
+    IsTree p f (shape_of tree)
 IsDenial p flows concerned (denial.NotHeld state) = IsState p state
 IsDenial p flows concerned denial.NotAdmin = Unit {0}
 IsDenial p flows concerned (denial.Unknown what) = Unit {0}
@@ -105,7 +109,8 @@ IsDenial p flows concerned (denial.Strands c f tree) =
 
 -- a step of a work list: its workflow is that of the case
 abbrev pub IsWorkItem : PolicyShape → (ℕ → Option ℕ) → WorkItem → Type 0
-IsWorkItem p flows i = IsCase i.case × IsConcerned p (flows i.case) i.flow × IsStepOf p i.flow i.step
+IsWorkItem p flows i = IsCase i.case × IsConcerned p (flows i.case) i.flow ×
+    IsStepOf p i.flow i.step
 
 -- a reply
 abbrev pub IsReply : PolicyShape → (ℕ → Option ℕ) → Option ℕ → Reply → Type 0

@@ -1,5 +1,6 @@
 -- Readings that end at their first fault, and code that gives what they read.
-use Rattle.std.specs.Prelude.{◌≡◌, Bool, true, false, List, [], ◌∷◌, Option, None, Some, Result, Ok, Err}
+use Rattle.std.specs.Prelude.{◌≡◌, Bool, true, false, List, [], ◌∷◌, Option, None, Some, Result, Ok}
+use Rattle.std.specs.Prelude.{Err}
 
 infixl 10 ◌>>=◌
 -- reads on from what was read; the first fault ends the reading

@@ -1,5 +1,6 @@
 -- What a table keeps where one row changes, and where one is added.
-use Rattle.std.proofs.Common.{◌≡◌, ℕ, ◌+◌, ◌<◌, ◌≤◌, Bool, true, false, cond, ◌⊎◌, inl, inr, nat_eq, List, [], ◌∷◌, ◌++◌, Option, None, Some, is_some, IsSomeAnd, slice_set, if◌then◌else◌, refl, sym, ap, subst, ◌∙◌, arith}
+use Rattle.std.proofs.Common.{◌≡◌, ℕ, ◌+◌, ◌<◌, ◌≤◌, Bool, true, false, cond, ◌⊎◌, inl, inr, nat_eq, List, [], ◌∷◌, ◌++◌, Option, None, Some, is_some}
+use Rattle.std.proofs.Common.{IsSomeAnd, slice_set, if◌then◌else◌, refl, sym, ap, subst, ◌∙◌, arith}
 use Rattle.std.specs.Option.{option_map}
 use Rattle.basics.proofs.Booleans.{eq_back, eq_is}
 use Rattle.grant_table.proofs.Counts.{counted}
@@ -10,19 +11,22 @@ use Rattle.wf_names.specs.declared.states.Phase.{Phase}
 use Rattle.wf_names.specs.declared.states.Phase.TheVariants.{Live, Done, Withdrawn}
 use Rattle.case_record.specs.Cases.{CaseShape, as_finished, is_open, state_at}
 use Rattle.grant_table.specs.declared.rows.Row.{Row}
-use Rattle.grant_table.specs.Tables.{CasesShape, case_at, case_in, change_row, finished_row, is_open_case, ones, open_count, plan_of, plan_while, row_at, with_row}
+use Rattle.grant_table.specs.Tables.{CasesShape, case_at, case_in, change_row, finished_row, is_open_case, ones, open_count, plan_of, plan_while, row_at}
+use Rattle.grant_table.specs.Tables.{with_row}
 use Rattle.grant_table.specs.Kept.{AreNumberedBelow, ArePlannedWhileOpen, AscendFrom, IsSoundTable}
 
 abbrev or_else : Row → Option Row → Row
 or_else d None = d
 or_else d (Some r) = r
 
-row_is : (n : ℕ) (x : Row) (rest : Option Row) (r : Row) (b : Bool) → nat_eq x.number n ≡ b → (if b then Some x else rest) ≡ Some r → ((nat_eq x.number n ≡ true) × (x ≡ r)) ⊎ ((nat_eq x.number n ≡ false) × (rest ≡ Some r))
+row_is : (n : ℕ) (x : Row) (rest : Option Row) (r : Row) (b : Bool) → nat_eq x.number n ≡ b → (if b then Some x else rest) ≡ Some r →
+    ((nat_eq x.number n ≡ true) × (x ≡ r)) ⊎ ((nat_eq x.number n ≡ false) × (rest ≡ Some r))
 row_is n x rest r true e h = inl (e, ap (or_else x) h)
 row_is n x rest r false e h = inr (e, h)
 
 -- the row with a number is the first one or stands in the rest
-row_case : (n : ℕ) (x : Row) (xs : List Row) (r : Row) → row_at n (x ∷ xs) ≡ Some r → ((nat_eq x.number n ≡ true) × (x ≡ r)) ⊎ ((nat_eq x.number n ≡ false) × (row_at n xs ≡ Some r))
+row_case : (n : ℕ) (x : Row) (xs : List Row) (r : Row) → row_at n (x ∷ xs) ≡ Some r → ((nat_eq x.number n ≡ true) × (x ≡ r)) ⊎
+    ((nat_eq x.number n ≡ false) × (row_at n xs ≡ Some r))
 row_case n x xs r h = row_is n x (row_at n xs) r (nat_eq x.number n) refl h
 
 pub row_number : (n : ℕ) (rows : List Row) (r : Row) → row_at n rows ≡ Some r → r.number ≡ n
@@ -32,7 +36,8 @@ row_number n (x ∷ xs) r h = elim (row_case n x xs r h) [
   | inr miss ↦ row_number n xs r miss.1
 ]
 
-ascend_changed : (low n : ℕ) (rows : List Row) (r new : Row) → AscendFrom low rows → row_at n rows ≡ Some r → new.number ≡ n → AscendFrom low (change_row n (λ _. new) rows)
+ascend_changed : (low n : ℕ) (rows : List Row) (r new : Row) → AscendFrom low rows → row_at n rows ≡ Some r → new.number ≡ n →
+    AscendFrom low (change_row n (λ _. new) rows)
 ascend_changed low n [] r new order h same = tt
 ascend_changed low n (x ∷ xs) r new order h same = elim (row_case n x xs r h) [
   | inl hit ↦
@@ -41,7 +46,8 @@ ascend_changed low n (x ∷ xs) r new order h same = elim (row_case n x xs r h) 
   | inr miss ↦ rw miss.0 (order.0, ascend_changed (x.number + 1) n xs r new order.1 miss.1 same)
 ]
 
-below_changed : (high n : ℕ) (rows : List Row) (r new : Row) → AreNumberedBelow high rows → row_at n rows ≡ Some r → new.number ≡ n → AreNumberedBelow high (change_row n (λ _. new) rows)
+below_changed : (high n : ℕ) (rows : List Row) (r new : Row) → AreNumberedBelow high rows → row_at n rows ≡ Some r → new.number ≡ n →
+    AreNumberedBelow high (change_row n (λ _. new) rows)
 below_changed high n [] r new below h same = tt
 below_changed high n (x ∷ xs) r new below h same = elim (row_case n x xs r h) [
   | inl hit ↦
@@ -50,7 +56,8 @@ below_changed high n (x ∷ xs) r new below h same = elim (row_case n x xs r h) 
   | inr miss ↦ rw miss.0 (below.0, below_changed high n xs r new below.1 miss.1 same)
 ]
 
-planned_changed : (n : ℕ) (rows : List Row) (r new : Row) → ArePlannedWhileOpen rows → row_at n rows ≡ Some r → is_some new.plan ≡ is_open new.case → ArePlannedWhileOpen (change_row n (λ _. new) rows)
+planned_changed : (n : ℕ) (rows : List Row) (r new : Row) → ArePlannedWhileOpen rows → row_at n rows ≡ Some r → is_some new.plan ≡ is_open new.case →
+    ArePlannedWhileOpen (change_row n (λ _. new) rows)
 planned_changed n [] r new planned h is = tt
 planned_changed n (x ∷ xs) r new planned h is = elim (row_case n x xs r h) [
   | inl hit ↦ rw hit.0 (is, planned.1)
@@ -66,7 +73,8 @@ planned_at n (x ∷ xs) r planned h = elim (row_case n x xs r h) [
 ]
 
 -- how many cases are open after a change
-pub count_changed : (n : ℕ) (rows : List Row) (r new : Row) → row_at n rows ≡ Some r → open_count (change_row n (λ _. new) rows) + ones r ≡ open_count rows + ones new
+pub count_changed : (n : ℕ) (rows : List Row) (r new : Row) → row_at n rows ≡ Some r →
+    open_count (change_row n (λ _. new) rows) + ones r ≡ open_count rows + ones new
 count_changed n [] r new h = cc
 count_changed n (x ∷ xs) r new h = elim (row_case n x xs r h) [
   | inl hit ↦
@@ -98,7 +106,8 @@ pub kept_put :
     live' + cond ended 1 0 ≡ live → IsSoundTable (change_row new.number (λ _. new) rows) ever live'
 kept_put ever live live' rows new ended kept there planned left = kept_at (row_at new.number rows) refl there
   where
-    kept_at : (o : Option Row) → row_at new.number rows ≡ o → IsSomeAnd o (λ r. ones r ≡ ones new + cond ended 1 0) → IsSoundTable (change_row new.number (λ _. new) rows) ever live'
+    kept_at : (o : Option Row) → row_at new.number rows ≡ o → IsSomeAnd o (λ r. ones r ≡ ones new + cond ended 1 0) →
+        IsSoundTable (change_row new.number (λ _. new) rows) ever live'
     kept_at None h counts = absurd counts
     kept_at (Some r) h counts = record {
       ascend = ascend_changed 0 new.number rows r new kept.ascend h refl;
@@ -119,13 +128,15 @@ counts_one ever live rows new ended kept there = counts_at (row_at new.number ro
     counts_at (Some r) h counts = omega (arith, count_changed new.number rows r new h, kept.counted, counts)
 
 -- a row that a function gives, put in its place, is the change by that function
-pub put_rows : (n : ℕ) (rows : List Row) (r new : Row) (f : Row → Row) → row_at n rows ≡ Some r → new ≡ f r → (f r).number ≡ r.number → change_row new.number (λ _. new) rows ≡ change_row n f rows
+pub put_rows : (n : ℕ) (rows : List Row) (r new : Row) (f : Row → Row) → row_at n rows ≡ Some r → new ≡ f r → (f r).number ≡ r.number →
+    change_row new.number (λ _. new) rows ≡ change_row n f rows
 put_rows n rows r new f h is same =
     let number : new.number ≡ n = ap (λ (y : Row). y.number) is ∙ same ∙ row_number n rows r h in
     (λ i. change_row (number i) (λ _. is i) rows) ∙ const_changed n rows r f h
 
 -- a row with the number of one that is there finds that one
-pub there_again : (P : Row → Type 0) (n : ℕ) (rows : List Row) (r new : Row) → row_at n rows ≡ Some r → new.number ≡ r.number → P r → IsSomeAnd (row_at new.number rows) P
+pub there_again : (P : Row → Type 0) (n : ℕ) (rows : List Row) (r new : Row) → row_at n rows ≡ Some r → new.number ≡ r.number → P r →
+    IsSomeAnd (row_at new.number rows) P
 there_again P n rows r new h same holds =
     let number : new.number ≡ n = same ∙ row_number n rows r h in
     subst (λ o. IsSomeAnd o P) (sym h ∙ (λ i. row_at (sym number i) rows)) holds
@@ -134,7 +145,8 @@ there_again P n rows r new h same holds =
 pub known : (P : CaseShape → Type 0) (n : ℕ) (rows : List Row) (r : Row) → row_at n rows ≡ Some r → IsSomeAnd (case_in n rows) P → P r.case
 known P n rows r h there = subst (λ o. IsSomeAnd (option_map (λ (y : Row). y.case) o) P) h there
 
-ascend_added : (low : ℕ) (rows : List Row) (new : Row) → AscendFrom low rows → AreNumberedBelow new.number rows → low ≤ new.number → AscendFrom low (rows ++ new ∷ [])
+ascend_added : (low : ℕ) (rows : List Row) (new : Row) → AscendFrom low rows → AreNumberedBelow new.number rows → low ≤ new.number →
+    AscendFrom low (rows ++ new ∷ [])
 ascend_added low [] new order below h = (h, tt)
 ascend_added low (r ∷ rs) new order below h = (order.0, ascend_added (r.number + 1) rs new order.1 below.1 (omega (arith, below.0)))
 
@@ -176,11 +188,13 @@ some_row None h = h
 some_row (Some r) h = refl
 
 -- a table with one row changed
-pub table_put : (t : CasesShape) (n : ℕ) (r new : Row) (f : Row → Row) → row_at n t.rows ≡ Some r → new ≡ f r → (f r).number ≡ r.number → with_row t new.number (λ _. new) ≡ with_row t n f
+pub table_put : (t : CasesShape) (n : ℕ) (r new : Row) (f : Row → Row) → row_at n t.rows ≡ Some r → new ≡ f r → (f r).number ≡ r.number →
+    with_row t new.number (λ _. new) ≡ with_row t n f
 table_put t n r new f h is same = λ i. record { rows = put_rows n t.rows r new f h is same i; ever = t.ever; spare = t.spare }
 
 -- an open case ends where its last step is finished
-phase_counts : (phase : Phase) (b : Bool) → is_live phase ≡ true → cond (is_live phase) 1 0 ≡ (cond (is_live (if b then Done else phase)) 1 0 + cond (is_done (if b then Done else phase)) 1 0)
+phase_counts : (phase : Phase) (b : Bool) → is_live phase ≡ true →
+    cond (is_live phase) 1 0 ≡ (cond (is_live (if b then Done else phase)) 1 0 + cond (is_done (if b then Done else phase)) 1 0)
 phase_counts Live true h = omega arith
 phase_counts Live false h = omega arith
 phase_counts Done b h = cc
@@ -194,10 +208,12 @@ plan_kept true plan h = h
 plan_kept false plan h = refl
 
 -- the case with a number after a change
-pub case_changed : (P : CaseShape → Type 0) (t : CasesShape) (n : ℕ) (r new : Row) → row_at n t.rows ≡ Some r → new.number ≡ r.number → P new.case → IsSomeAnd (case_at (with_row t new.number (λ _. new)) n) P
+pub case_changed : (P : CaseShape → Type 0) (t : CasesShape) (n : ℕ) (r new : Row) → row_at n t.rows ≡ Some r → new.number ≡ r.number → P new.case →
+    IsSomeAnd (case_at (with_row t new.number (λ _. new)) n) P
 case_changed P t n r new h same holds =
     let number : new.number ≡ n = same ∙ row_number n t.rows r h in
-    let found : row_at n (change_row new.number (λ _. new) t.rows) ≡ Some new = subst (λ m. row_at n (change_row m (λ _. new) t.rows) ≡ Some new) (sym number) (row_changed n t.rows r new h number) in
+    let found : row_at n (change_row new.number (λ _. new) t.rows) ≡ Some new =
+    subst (λ m. row_at n (change_row m (λ _. new) t.rows) ≡ Some new) (sym number) (row_changed n t.rows r new h number) in
     subst (λ o. IsSomeAnd (option_map (λ (y : Row). y.case) o) P) (sym found) holds
 
 -- a plan is kept for the case with a number exactly where it is open

@@ -1,5 +1,6 @@
 -- The next open case is the least.
-use Rattle.std.proofs.Common.{◌≡◌, ℕ, ◌+◌, ◌<◌, ◌≤◌, Bool, true, false, ◌&&◌, inl, inr, nat_eq, nat_le, List, [], ◌∷◌, Option, None, Some, MatchOption, refl, sym, ap, subst, ◌∙◌, arith}
+use Rattle.std.proofs.Common.{◌≡◌, ℕ, ◌+◌, ◌<◌, ◌≤◌, Bool, true, false, ◌&&◌, inl, inr, nat_eq, nat_le, List, [], ◌∷◌, Option, None, Some, MatchOption, refl}
+use Rattle.std.proofs.Common.{sym, ap, subst, ◌∙◌, arith}
 use Rattle.std.specs.Option.{option_map}
 use Rattle.case_record.specs.Cases.{is_open}
 use Rattle.grant_table.specs.declared.rows.Row.{Row}
@@ -50,7 +51,8 @@ longer low r rs (Some n) order test h = record {
   least = λ m above below. passed low m r rs test above (h.least m above below);
 }
 
-means : (b low : ℕ) (rows : List Row) → AscendFrom b rows → MatchOption (next_open low rows) ((m : ℕ) → low ≤ m → open_in m rows ≡ false) (λ n. IsLeast rows low n)
+means : (b low : ℕ) (rows : List Row) → AscendFrom b rows →
+    MatchOption (next_open low rows) ((m : ℕ) → low ≤ m → open_in m rows ≡ false) (λ n. IsLeast rows low n)
 means b low [] order = λ m above. refl
 means b low (r ∷ rs) order = elim (bool_cases (nat_le low r.number && is_open r.case)) [
   | inl hit ↦

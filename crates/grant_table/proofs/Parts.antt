@@ -1,5 +1,6 @@
 -- What a part of a table keeps.
-use Rattle.std.proofs.Common.{◌≡◌, ℕ, zero, suc, ◌+◌, ◌<◌, ◌≤◌, Bool, cond, inl, inr, nat_eq, List, [], ◌∷◌, length, get_or, slice_get, Some, refl, sym, ap, subst, ◌∙◌, arith}
+use Rattle.std.proofs.Common.{◌≡◌, ℕ, zero, suc, ◌+◌, ◌<◌, ◌≤◌, Bool, cond, inl, inr, nat_eq, List, [], ◌∷◌, length, get_or, slice_get, Some, refl, sym, ap}
+use Rattle.std.proofs.Common.{subst, ◌∙◌, arith}
 use Rattle.std.specs.List.{filter}
 use Rattle.grant_table.specs.declared.rows.Row.{Row}
 use Rattle.grant_table.specs.Tables.{is_open_row, ones, only, open_count, open_rows, row_at}
@@ -37,7 +38,8 @@ count_filter p (r ∷ rs) = elim (bool_cases (p r)) [
 ]
 
 -- a table of some of the rows is kept
-pub kept_filter : (p : Row → Bool) (ever live : ℕ) (rows : List Row) → IsSoundTable rows ever live → IsSoundTable (filter p rows) ever (open_count (filter p rows))
+pub kept_filter : (p : Row → Bool) (ever live : ℕ) (rows : List Row) → IsSoundTable rows ever live →
+    IsSoundTable (filter p rows) ever (open_count (filter p rows))
 kept_filter p ever live rows kept = record {
   ascend = ascend_filter p 0 rows kept.ascend;
   below = below_filter p ever rows kept.below;

@@ -1,5 +1,6 @@
 -- The ended cases in front of the open ones are passed over.
-use Rattle.std.proofs.Common.{◌≡◌, ℕ, zero, suc, ◌+◌, ◌<◌, ◌≤◌, false, cond, inl, inr, nat_eq, nat_le, ◌&&◌, List, [], ◌∷◌, ◌++◌, length, take, drop, Option, None, Some, IsSomeAnd, get_or, refl, sym, ap, ◌∙◌, arith}
+use Rattle.std.proofs.Common.{◌≡◌, ℕ, zero, suc, ◌+◌, ◌<◌, ◌≤◌, false, cond, inl, inr, nat_eq, nat_le, ◌&&◌, List, [], ◌∷◌, ◌++◌, length, take, drop, Option}
+use Rattle.std.proofs.Common.{None, Some, IsSomeAnd, get_or, refl, sym, ap, ◌∙◌, arith}
 use Rattle.basics.proofs.Booleans.{and-false, bool_cases}
 use Rattle.basics.proofs.Lists.{take_next}
 use Rattle.grant_table.specs.declared.rows.Row.{Row}
@@ -33,7 +34,8 @@ next_open_passed from_number (suc n) [] none = refl
 next_open_passed from_number (suc n) (r ∷ rs) none =
     rw (closed_first n r rs none, and-false (nat_le from_number r.number)) (next_open_passed from_number n rs (closed_rest n r rs none))
 
-pub replanned_passed : (n : ℕ) (rows : List Row) (plans : List (List ℕ)) → open_count (take n rows) ≡ 0 → take n rows ++ replanned (drop n rows) plans ≡ replanned rows plans
+pub replanned_passed : (n : ℕ) (rows : List Row) (plans : List (List ℕ)) → open_count (take n rows) ≡ 0 →
+    take n rows ++ replanned (drop n rows) plans ≡ replanned rows plans
 replanned_passed zero rows plans none = refl
 replanned_passed (suc n) [] plans none = refl
 replanned_passed (suc n) (r ∷ rs) plans none =
@@ -45,10 +47,12 @@ ascend_passed low (suc n) [] order = order
 ascend_passed low (suc n) (r ∷ rs) order = ascend_from_less (r.number + 1) low (drop n rs) (omega (arith, order.0)) (ascend_passed (r.number + 1) n rs order.1)
 
 -- one more row whose case is not open
-pub one_passed : (rows : List Row) (i : ℕ) (row : Row) → i < length rows → row ≡ get_or rows i row → is_open_row row ≡ false → open_count (take i rows) ≡ 0 → open_count (take (i + 1) rows) ≡ 0
+pub one_passed : (rows : List Row) (i : ℕ) (row : Row) → i < length rows → row ≡ get_or rows i row → is_open_row row ≡ false →
+    open_count (take i rows) ≡ 0 → open_count (take (i + 1) rows) ≡ 0
 one_passed rows i row below is closed none =
     let zero_ones : ◌≡◌ {A = ℕ} (ones row) 0 = ap (λ b. cond b 1 0) closed in
-    let more : open_count (take (i + 1) rows) ≡ open_count (take i rows) + ones row = ap open_count (take_next rows i row below is) ∙ count_added (take i rows) row in
+    let more : open_count (take (i + 1) rows) ≡ open_count (take i rows) + ones row = ap open_count (take_next rows i row below is) ∙
+    count_added (take i rows) row in
     omega (arith, more, none, zero_ones)
 
 taken_all : (i : ℕ) (rows : List Row) → length rows ≤ i → take i rows ≡ rows
@@ -80,7 +84,8 @@ passed_added first rows new passed = record {
   within = omega (arith, passed.within, longer_by_one rows new);
 }
 
-put_counts : (n : ℕ) (rows : List Row) (new : Row) (more : ℕ) → open_count (take n rows) ≡ 0 → IsSomeAnd (row_at new.number rows) (λ r. ones r ≡ ones new + more)
+put_counts : (n : ℕ) (rows : List Row) (new : Row) (more : ℕ) → open_count (take n rows) ≡ 0 →
+    IsSomeAnd (row_at new.number rows) (λ r. ones r ≡ ones new + more)
     → open_count (take n (change_row new.number (λ _. new) rows)) ≡ 0
 put_counts zero rows new more none there = refl
 put_counts (suc n) [] new more none there = refl
@@ -102,7 +107,8 @@ same_length n (r ∷ rs) new = elim (bool_cases (nat_eq r.number n)) [
   | inr miss ↦ rw miss (ap suc (same_length n rs new))
 ]
 
-pub passed_put : (first : ℕ) (rows : List Row) (new : Row) (more : ℕ) → ArePassed rows first → IsSomeAnd (row_at new.number rows) (λ r. ones r ≡ ones new + more)
+pub passed_put : (first : ℕ) (rows : List Row) (new : Row) (more : ℕ) → ArePassed rows first →
+    IsSomeAnd (row_at new.number rows) (λ r. ones r ≡ ones new + more)
     → ArePassed (change_row new.number (λ _. new) rows) first
 passed_put first rows new more passed there = record {
   ended = put_counts first rows new more passed.ended there;

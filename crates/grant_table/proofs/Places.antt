@@ -1,5 +1,6 @@
 -- Where the row with a number stands in ascending rows.
-use Rattle.std.proofs.Common.{◌≡◌, ℕ, zero, suc, ◌+◌, ◌<◌, ◌≤◌, Bool, true, false, cond, nat_lt, nat_le, List, [], ◌∷◌, length, drop, get_or, slice_index_or, slice_get, slice_set, Option, None, Some, refl, sym, ap, subst, ◌∙◌, arith}
+use Rattle.std.proofs.Common.{◌≡◌, ℕ, zero, suc, ◌+◌, ◌<◌, ◌≤◌, Bool, true, false, cond, nat_lt, nat_le, List, [], ◌∷◌, length, drop, get_or, slice_index_or}
+use Rattle.std.proofs.Common.{slice_get, slice_set, Option, None, Some, refl, sym, ap, subst, ◌∙◌, arith}
 use Rattle.std.specs.List.{prefix_len, AllWithin}
 use Rattle.std.specs.List.Sorted.{IsPartitionedBy}
 use Rattle.std.proofs.Math.Seq.{drop-cons}
@@ -10,12 +11,16 @@ use Rattle.grant_table.specs.Kept.{AscendFrom, IsRowPlace}
 use Rattle.basics.proofs.Booleans.{eq_above, eq_below, eq_is, lt_back, lt_back_no}
 
 -- the place at which a test turns is the length of the front part that passes
-pub prefix_is : {X : Type 0} (p : X → Bool) (xs : List X) (i : ℕ) → i ≤ length xs → AllWithin (λ y. p y ≡ true) xs 0 i → AllWithin (λ y. p y ≡ false) xs i (length xs) → i ≡ prefix_len p xs
+pub prefix_is : {X : Type 0} (p : X → Bool) (xs : List X) (i : ℕ) → i ≤ length xs → AllWithin (λ y. p y ≡ true) xs 0 i → AllWithin
+    (λ y. p y ≡ false) xs i (length xs) → i ≡ prefix_len p xs
 prefix_is p [] i h low high = omega arith
 prefix_is p (x ∷ xs) zero h low high = rw (high 0 x (omega arith) (omega arith)) refl
 prefix_is p (x ∷ xs) (suc i) h low high =
     rw (low 0 x (omega arith) (omega arith))
-    (omega (arith, prefix_is p xs i (omega arith) (λ k d a b. low (suc k) d (omega arith) (omega arith)) (λ k d a b. high (suc k) d (omega arith) (omega arith))))
+    (omega (
+      arith,
+      prefix_is p xs i (omega arith) (λ k d a b. low (suc k) d (omega arith) (omega arith)) (λ k d a b. high (suc k) d (omega arith) (omega arith)),
+    ))
 
 pub low_bound : (low : ℕ) (rows : List Row) (j : ℕ) (d : Row) → AscendFrom low rows → j < length rows → low ≤ (slice_index_or rows j d).number
 low_bound low [] j d order h = absurd (omega arith)
@@ -38,7 +43,8 @@ no_prefix : (m : ℕ) (b : Bool) → zero ≡ cond b (1 + m) 0 → b ≡ false
 no_prefix m true e = absurd (omega arith)
 no_prefix m false e = refl
 
-pub place_found : (n : ℕ) (rows : List Row) (i : ℕ) (d : Row) → i ≡ prefix_len (λ (r : Row). nat_lt r.number n) rows → i < length rows → (slice_index_or rows i d).number ≡ n → IsRowPlace n rows i
+pub place_found : (n : ℕ) (rows : List Row) (i : ℕ) (d : Row) → i ≡ prefix_len (λ (r : Row). nat_lt r.number n) rows → i < length rows →
+    (slice_index_or rows i d).number ≡ n → IsRowPlace n rows i
 place_found n [] i d e h is = absurd (omega arith)
 place_found n (r ∷ rs) zero d e h is = eq_is _ _ is
 place_found n (r ∷ rs) (suc i) d e h is =
@@ -46,7 +52,8 @@ place_found n (r ∷ rs) (suc i) d e h is =
     (eq_below _ _ (lt_back _ _ next.0), place_found n rs i d next.1 (omega arith) is)
 
 -- a row that has a number stands at its place
-pub stands_place : (low n : ℕ) (rows : List Row) (i : ℕ) (d : Row) → AscendFrom low rows → i < length rows → (slice_index_or rows i d).number ≡ n → IsRowPlace n rows i
+pub stands_place : (low n : ℕ) (rows : List Row) (i : ℕ) (d : Row) → AscendFrom low rows → i < length rows → (slice_index_or rows i d).number ≡ n →
+    IsRowPlace n rows i
 stands_place low n [] i d order h is = absurd (omega (arith, h))
 stands_place low n (r ∷ rs) zero d order h is = eq_is _ _ is
 stands_place low n (r ∷ rs) (suc i) d order h is =
@@ -57,7 +64,8 @@ pub none_below : (low n : ℕ) (rows : List Row) → AscendFrom low rows → n <
 none_below low n [] order h = refl
 none_below low n (r ∷ rs) order h = rw (eq_above r.number n (omega (arith, order.0, h))) (none_below (r.number + 1) n rs order.1 (omega (arith, order.0, h)))
 
-pub place_missing : (low n : ℕ) (rows : List Row) (i : ℕ) → AscendFrom low rows → i ≡ prefix_len (λ (r : Row). nat_lt r.number n) rows → (i < length rows → (d : Row) → (slice_index_or rows i d).number ≡ n → ⊥) → row_at n rows ≡ None
+pub place_missing : (low n : ℕ) (rows : List Row) (i : ℕ) → AscendFrom low rows → i ≡ prefix_len (λ (r : Row). nat_lt r.number n) rows →
+    (i < length rows → (d : Row) → (slice_index_or rows i d).number ≡ n → ⊥) → row_at n rows ≡ None
 place_missing low n [] i order e differ = refl
 place_missing low n (r ∷ rs) zero order e differ =
     let above : n ≤ r.number = lt_back_no _ _ (no_prefix _ _ e) in
@@ -88,7 +96,8 @@ ascend_from_less low less [] h order = tt
 ascend_from_less low less (r ∷ rs) h order = (omega (arith, h, order.0), order.1)
 
 -- the rows that a search for the next open case goes through
-pub later_ascend : (low n : ℕ) (rows : List Row) (i : ℕ) → AscendFrom low rows → i ≡ prefix_len (λ (r : Row). nat_lt r.number n) rows → AscendFrom n (drop i rows)
+pub later_ascend : (low n : ℕ) (rows : List Row) (i : ℕ) → AscendFrom low rows → i ≡ prefix_len (λ (r : Row). nat_lt r.number n) rows →
+    AscendFrom n (drop i rows)
 later_ascend low n [] zero order e = tt
 later_ascend low n [] (suc i) order e = tt
 later_ascend low n (r ∷ rs) zero order e = (lt_back_no _ _ (no_prefix _ _ e), order.1)
@@ -113,7 +122,8 @@ taken_off rows i row h is =
     let same : suc i ≡ i + 1 = omega arith in
     drop-cons rows i row h ∙ (λ k. sym is k ∷ drop (same k) rows)
 
-pub next_ascend : (n : ℕ) (rows : List Row) (i : ℕ) (row : Row) → i < length rows → row ≡ get_or rows i row → AscendFrom n (drop i rows) → AscendFrom n (drop (i + 1) rows)
+pub next_ascend : (n : ℕ) (rows : List Row) (i : ℕ) (row : Row) → i < length rows → row ≡ get_or rows i row → AscendFrom n (drop i rows) →
+    AscendFrom n (drop (i + 1) rows)
 next_ascend n rows i row h is order =
     let both = subst (AscendFrom n) (taken_off rows i row h is) order in
     ascend_from_less (row.number + 1) n _ (omega (arith, both.0)) both.1

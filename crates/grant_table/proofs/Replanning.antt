@@ -1,5 +1,6 @@
 -- How the open cases of a table get other plans.
-use Rattle.std.proofs.Common.{◌≡◌, ℕ, suc, ◌+◌, ◌<◌, ◌≤◌, true, false, inl, inr, List, [], ◌∷◌, ◌++◌, length, take, drop, get_or, slice_set, refl, sym, ap, ◌∙◌, arith}
+use Rattle.std.proofs.Common.{◌≡◌, ℕ, suc, ◌+◌, ◌<◌, ◌≤◌, true, false, inl, inr, List, [], ◌∷◌, ◌++◌, length, take, drop, get_or, slice_set, refl, sym, ap, ◌∙◌}
+use Rattle.std.proofs.Common.{arith}
 use Rattle.std.proofs.lemmas.List.{append_assoc, drop-set-lt, drop_all, take-append-drop, take_more_set}
 use Rattle.std.proofs.Math.Seq.{drop-cons}
 use Rattle.basics.proofs.Booleans.{bool_cases}
@@ -21,7 +22,8 @@ replanned_closed r rs [] closed = ap (λ xs. r ∷ xs) (sym (replanned_none rs))
 replanned_closed r rs (plan ∷ plans) closed = rw closed refl
 
 -- an open case gets the next plan
-pub replanned_open : (r : Row) (rs : List Row) (plan : List ℕ) (plans : List (List ℕ)) → is_open_row r ≡ true → replanned (r ∷ rs) (plan ∷ plans) ≡ replanned_row plan r ∷ replanned rs plans
+pub replanned_open : (r : Row) (rs : List Row) (plan : List ℕ) (plans : List (List ℕ)) → is_open_row r ≡ true →
+    replanned (r ∷ rs) (plan ∷ plans) ≡ replanned_row plan r ∷ replanned rs plans
 replanned_open r rs plan plans live = rw live refl
 
 -- how far a loop over the rows has come
@@ -53,7 +55,8 @@ gets_next rows i plans k r plan below is plan_below plan_is live =
     ∙ append_assoc (take i rows) (new ∷ []) rest ∙ ap (λ xs. take i rows ++ xs) (sym left)
 
 -- where there are no plans left, all of the rows are there
-pub none_left : (rows : List Row) (i : ℕ) (plans : List (List ℕ)) (k : ℕ) → length plans ≤ k → replanned_so_far rows (i + 1) plans k ≡ replanned_so_far rows i plans k
+pub none_left : (rows : List Row) (i : ℕ) (plans : List (List ℕ)) (k : ℕ) → length plans ≤ k →
+    replanned_so_far rows (i + 1) plans k ≡ replanned_so_far rows i plans k
 none_left rows i plans k past = all rows (i + 1) ∙ sym (all rows i)
   where
     all : (xs : List Row) (n : ℕ) → replanned_so_far xs n plans k ≡ xs
@@ -90,8 +93,10 @@ pub count_replanned : (rows : List Row) (plans : List (List ℕ)) → open_count
 count_replanned [] plans = refl
 count_replanned (r ∷ rs) [] = refl
 count_replanned (r ∷ rs) (plan ∷ plans) = elim (bool_cases (is_open_row r)) [
-  | inl live ↦ ap open_count (replanned_open r rs plan plans live) ∙ omega (arith, counted (replanned_row plan r) (replanned rs plans), counted r rs, count_replanned rs plans)
-  | inr closed ↦ ap open_count (replanned_closed r rs (plan ∷ plans) closed) ∙ omega (arith, counted r (replanned rs (plan ∷ plans)), counted r rs, count_replanned rs (plan ∷ plans))
+  | inl live ↦ ap open_count (replanned_open r rs plan plans live) ∙
+      omega (arith, counted (replanned_row plan r) (replanned rs plans), counted r rs, count_replanned rs plans)
+  | inr closed ↦ ap open_count (replanned_closed r rs (plan ∷ plans) closed) ∙
+      omega (arith, counted r (replanned rs (plan ∷ plans)), counted r rs, count_replanned rs (plan ∷ plans))
 ]
 
 -- a table with other plans is kept

@@ -1,11 +1,14 @@
 -- A table of cases, as contracts see it.
-use Rattle.std.specs.Prelude.{◌≡◌, ℕ, ◌+◌, ◌-◌, ◌<◌, ◌≤◌, Bool, true, false, cond, ◌&&◌, nat_eq, nat_le, List, [], ◌∷◌, ◌++◌, length, Option, None, Some, if◌then◌else◌}
+use Rattle.std.specs.Prelude.{◌≡◌, ℕ, ◌+◌, ◌-◌, ◌<◌, ◌≤◌, Bool, true, false, cond, ◌&&◌, nat_eq}
+use Rattle.std.specs.Prelude.{nat_le, List, [], ◌∷◌, ◌++◌, length, Option, None, Some}
+use Rattle.std.specs.Prelude.{if◌then◌else◌}
 use Rattle.std.specs.Option.{option_map}
 use Rattle.std.specs.List.{count_by, filter}
 use Rattle.wf_names.specs.States.{is_held}
 use Rattle.wf_names.specs.declared.states.StepState.TheVariants.{Free, Held}
 use Rattle.wf_names.specs.declared.states.Phase.TheVariants.{Withdrawn}
-use Rattle.case_record.specs.Cases.{CaseShape, finished_case, fresh_case, is_open, state_at, with_phase, with_state}
+use Rattle.case_record.specs.Cases.{CaseShape, finished_case, fresh_case, is_open, state_at}
+use Rattle.case_record.specs.Cases.{with_phase, with_state}
 use Rattle.grant_table.specs.declared.rows.Row.{Row}
 use Rattle.grant_table.specs.Lookup.{look_up, change_at}
 
@@ -84,7 +87,11 @@ plan_while is_kept plan = if is_kept then plan else None
 
 -- a row with a held step finished
 abbrev pub finished_row : ℕ → Row → Row
-finished_row s r = record r { case = finished_case r.case s; plan = plan_while (is_open (finished_case r.case s)) r.plan }
+finished_row s r = record r {
+  case = finished_case r.case s;
+  plan =
+      plan_while (is_open (finished_case r.case s)) r.plan;
+}
 
 -- a row with a held step free again
 abbrev pub freed_row : ℕ → Row → Row
@@ -103,7 +110,8 @@ abbrev pub replanned : List Row → List (List ℕ) → List Row
 replanned [] plans = []
 replanned (r ∷ rs) [] = r ∷ rs
 replanned (r ∷ rs) (plan ∷ plans) =
-    if is_open_row r then replanned_row plan r ∷ replanned rs plans else r ∷ replanned rs (plan ∷ plans)
+    if is_open_row r then replanned_row plan r ∷ replanned rs plans else r ∷ replanned rs
+    (plan ∷ plans)
 
 -- the case with a number alone
 abbrev pub only : ℕ → List Row → List Row
@@ -133,4 +141,5 @@ pub record IsNextOpen (t : CasesShape) (low n : ℕ) : Type 0 where
 -- the same as a function, over ascending rows
 abbrev pub next_open : ℕ → List Row → Option ℕ
 next_open from_number [] = None
-next_open from_number (r ∷ rs) = if nat_le from_number r.number && is_open r.case then Some r.number else next_open from_number rs
+next_open from_number (r ∷ rs) = if nat_le from_number r.number &&
+    is_open r.case then Some r.number else next_open from_number rs

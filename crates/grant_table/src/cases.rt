@@ -1,10 +1,16 @@
 //! The table of cases.
-ghost use Rattle.std.specs.Prelude.{◌≡◌, ℕ, ◌+◌, ◌-◌, ◌<◌, ◌≤◌, Bool, true, false, cond, [], length, is_some, IfOk, IfSome, OnOk, OnErr, IsSomeAnd, MatchOption};
-ghost use Rattle.wf_names.specs.declared.limits.TheConstants.{CASE_LIMIT, OPEN_CASE_LIMIT, STEP_LIMIT};
+ghost use Rattle.std.specs.Prelude.{◌≡◌, ℕ, ◌+◌, ◌-◌, ◌<◌, ◌≤◌, Bool, true, false, cond, []};
+ghost use Rattle.std.specs.Prelude.{length, is_some, IfOk, IfSome, OnOk, OnErr, IsSomeAnd};
+ghost use Rattle.std.specs.Prelude.{MatchOption};
+ghost use Rattle.wf_names.specs.declared.limits.TheConstants.{CASE_LIMIT, OPEN_CASE_LIMIT};
+ghost use Rattle.wf_names.specs.declared.limits.TheConstants.{STEP_LIMIT};
 ghost use Rattle.wf_names.specs.States.{is_done};
 ghost use Rattle.case_record.specs.Cases.{is_open};
 ghost use Rattle.grant_table.specs.Kept.{IsOpenPart, IsSoundTable};
-ghost use Rattle.grant_table.specs.Tables.{case_at, finished_row, freed_row, held_row, is_open_case, next_open, only, open_count, open_rows, ones, plan_at, replanned, row_at, with_case, with_row, withdrawn_row, IsNextOpen, HasFreeStep, HasHeldStep};
+ghost use Rattle.grant_table.specs.Tables.{case_at, finished_row, freed_row, held_row};
+ghost use Rattle.grant_table.specs.Tables.{is_open_case, next_open, only, open_count, open_rows};
+ghost use Rattle.grant_table.specs.Tables.{ones, plan_at, replanned, row_at, with_case, with_row};
+ghost use Rattle.grant_table.specs.Tables.{withdrawn_row, IsNextOpen, HasFreeStep, HasHeldStep};
 
 use crate::changes::{finished, freed, held, withdrawn};
 use crate::recent::Recent;
@@ -40,7 +46,12 @@ impl Model for Cases {
 
     ghost Value = { CasesShape };
 
-    ghost view = { λ t. record { rows = t.rows.items; ever = t.ever; spare = vec_capacity t.rows - vec_len t.rows } };
+    ghost view = { λ t. record {
+      rows = t.rows.items;
+      ever = t.ever;
+      spare =
+          vec_capacity t.rows - vec_len t.rows;
+    } };
 
     ghost invariant = { λ t. IsKeptTable t.rows.items t.ever t.live t.first };
 }

@@ -5,7 +5,8 @@ ghost use Rattle.constraint_forms.specs.Assigned.{no_steps, no_users};
 ghost use Rattle.policy_book.specs.Policies.{flow_at, problem_of};
 ghost use Rattle.policy_book.specs.Plans.{IsValidPlan};
 ghost use Rattle.case_record.specs.Cases.{assigned_of, finished_of};
-ghost use Rattle.grant_table.specs.Tables.{case_at, held_row, open_count, with_case, with_row, HasFreeStep};
+ghost use Rattle.grant_table.specs.Tables.{case_at, held_row, open_count, with_case, with_row};
+ghost use Rattle.grant_table.specs.Tables.{HasFreeStep};
 
 use crate::Cases;
 use constraint_forms::Plan;
@@ -13,7 +14,8 @@ use policy_book::Policy;
 use wf_names::{CaseId, FlowId, StepId, UserId};
 
 impl Cases {
-    /// Opens a fresh case of a workflow at the next number, and answers that number. Takes no memory.
+    /// Opens a fresh case of a workflow at the next number, and answers that number. Takes no
+    /// memory.
     pub fn open_case(&mut self, p: &Policy, f: FlowId, plan: Plan) -> CaseId
         requires flow { f < length p.now.flows }
         requires valid { IsValidPlan (problem_of p.now f) no_users no_steps plan }
@@ -28,7 +30,8 @@ impl Cases {
         self.open_fresh(f, steps, plan)
     }
 
-    /// Gives a free step of an open case to a user, and keeps a plan that is valid with the user there.
+    /// Gives a free step of an open case to a user, and keeps a plan that is valid with the user
+    /// there.
     pub fn hold(&mut self, p: &Policy, c: CaseId, s: StepId, u: UserId, plan: Plan)
         requires free { IsSomeAnd (case_at self.old c) (λ k. HasFreeStep k s) }
         requires valid { IsSomeAnd (case_at self.old c)

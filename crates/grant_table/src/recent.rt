@@ -5,8 +5,8 @@ use wf_names::FlowId;
 /// How many plans are remembered.
 const REMEMBERED: usize = 8;
 
-/// For some workflows, the plan with which a case was last opened: a hint where to look for the next
-/// one. Nothing is promised of it, so whoever takes it has to check it.
+/// For some workflows, the plan with which a case was last opened: a hint where to look for the
+/// next one. Nothing is promised of it, so whoever takes it has to check it.
 #[derive(Clone, Copy)]
 pub(crate) struct Recent {
     plans: [Option<(FlowId, Plan)>; REMEMBERED],

@@ -1,6 +1,7 @@
 -- The user whom an edit of an input adds has a name of a name's form.
 use Rattle.std.proofs.Common.{refl, subst}
-use Rattle.std.specs.Prelude.{◌≡◌, ℕ, nat_eq, Bool, true, false, List, [], ◌∷◌, ◌++◌, Option, Some, None, is_some, unwrap_or, codes, option_map, option_and_then, Result, Ok, Err, IsTrue, if◌then◌else◌}
+use Rattle.std.specs.Prelude.{◌≡◌, ℕ, nat_eq, Bool, true, false, List, [], ◌∷◌, ◌++◌, Option, Some, None, is_some, unwrap_or, codes, option_map}
+use Rattle.std.specs.Prelude.{option_and_then, Result, Ok, Err, IsTrue, if◌then◌else◌}
 use Rattle.std.specs.List.{find}
 use Rattle.std.specs.Option.{option_or}
 use Rattle.std.specs.Cmp.Lexicographic.{pointwise}
@@ -16,7 +17,8 @@ use Rattle.wf_talk.specs.declared.request.Bad.{Bad}
 use Rattle.wf_talk.specs.declared.request.Bad.TheVariants.{Syntax, Object, Do, Lane, Key, Extra}
 use Rattle.wire_json.specs.declared.request.Asked.{Asked}
 use Rattle.wire_json.specs.Values.{value_of}
-use Rattle.wire_json.specs.Requests.{Row, Reading, rows, edits, row_of, by, user, the_name, text_at, lane_at, has_form, has_only, request_by, asked_by, change_by, what_if_by, what_if_in, reading_of, request_in, asked, asked_of}
+use Rattle.wire_json.specs.Requests.{Row, Reading, rows, edits, row_of, by, user, the_name, text_at, lane_at, has_form, has_only, request_by, asked_by}
+use Rattle.wire_json.specs.Requests.{change_by, what_if_by, what_if_in, reading_of, request_in, asked, asked_of}
 use Rattle.line_cutter.specs.Laws.{AddsNamed, IsNamedEdit}
 
 -- ---- rows
@@ -58,7 +60,8 @@ first_form true key next is = (refl, is)
 first_form false key next is = cc
 
 user_row : (d : Data) → HaveForm d (by ∷ user ∷ []) → IsTrue (is_name (the_name user d))
-user_row d is = form_named (text_at user d) (first_form (has_form d user) user (Ok tt) (first_form (has_form d by) by (check (has_form d user) (Key user) >>= (λ _. Ok tt)) is).1).0
+user_row d is = form_named (text_at user d)
+    (first_form (has_form d user) user (Ok tt) (first_form (has_form d by) by (check (has_form d user) (Key user) >>= (λ _. Ok tt)) is).1).0
 
 rows_plain : EachRow IsPlainRow rows
 rows_plain = ((λ d. tt), ((λ d. tt), ((λ d. tt), ((λ d. tt), ((λ d. tt), ((λ d. tt), ((λ d. tt), ((λ d. tt), tt))))))))
@@ -75,7 +78,8 @@ IsAdding (Err b) = Unit {0}
 abbrev ReadsAdding : Reading → Type 0
 ReadsAdding read = (d : Data) (ms : Members) → IsAdding (read d ms)
 
-by_adding : (others keys : List (List ℕ)) (is : Data → Request) → ((d : Data) → HaveForm d keys → AddsNamed (ask.Request (is d))) → ReadsAdding (request_by others keys is)
+by_adding : (others keys : List (List ℕ)) (is : Data → Request) → ((d : Data) → HaveForm d keys → AddsNamed (ask.Request (is d))) →
+    ReadsAdding (request_by others keys is)
 unfolding request_by
 by_adding others keys is adds d ms = at_keys (each (λ (_ : Unit {0}) key. check (has_form d key) (Key key)) tt keys) (adds d)
   where
@@ -83,7 +87,8 @@ by_adding others keys is adds d ms = at_keys (each (λ (_ : Unit {0}) key. check
     at_only (Ok x) h = h
     at_only (Err b) h = tt
 
-    at_keys : (r : Result (Unit {0}) Bad) → (r ≡ Ok tt → AddsNamed (ask.Request (is d))) → IsAdding (r >>= (λ _. check (has_only (others ++ keys) ms) Extra >>= (λ _. Ok (is d))))
+    at_keys : (r : Result (Unit {0}) Bad) → (r ≡ Ok tt → AddsNamed (ask.Request (is d))) →
+        IsAdding (r >>= (λ _. check (has_only (others ++ keys) ms) Extra >>= (λ _. Ok (is d))))
     at_keys (Ok x) h = at_only (check (has_only (others ++ keys) ms) Extra) (h refl)
     at_keys (Err b) h = tt
 
@@ -99,7 +104,8 @@ abbrev AllAdding : Option Reading → Type 0
 AllAdding None = Unit {0}
 AllAdding (Some read) = ReadsAdding read
 
-mapped_adding : {A : Type 0} (by_row : Row A → Reading) (found : Option (Row A)) → ((r : Row A) → found ≡ Some r → ReadsAdding (by_row r)) → AllAdding (option_map by_row found)
+mapped_adding : {A : Type 0} (by_row : Row A → Reading) (found : Option (Row A)) → ((r : Row A) → found ≡ Some r → ReadsAdding (by_row r)) →
+    AllAdding (option_map by_row found)
 mapped_adding by_row None h = tt
 mapped_adding by_row (Some r) h = h r refl
 
@@ -113,9 +119,11 @@ if_adding false read others h g = g
 
 word_adding : (word : List ℕ) → AllAdding (reading_of word)
 word_adding word =
-    if_adding (pointwise nat_eq word (codes "what_if")) what_if_in (option_or (option_map asked_by (row_of rows word)) (option_map change_by (row_of edits word))) what_if_adding
+    if_adding (pointwise nat_eq word (codes "what_if")) what_if_in
+    (option_or (option_map asked_by (row_of rows word)) (option_map change_by (row_of edits word))) what_if_adding
     (or_else_adding (option_map asked_by (row_of rows word)) (option_map change_by (row_of edits word))
-    (mapped_adding asked_by (row_of rows word) (λ r is. by_adding (codes "do" ∷ codes "lane" ∷ []) r.keys r.is (λ d have. find_row IsPlainRow (λ y. pointwise nat_eq word y.word) rows r rows_plain is d)))
+    (mapped_adding asked_by (row_of rows word) (λ r is. by_adding (codes "do" ∷ codes "lane" ∷ []) r.keys r.is
+    (λ d have. find_row IsPlainRow (λ y. pointwise nat_eq word y.word) rows r rows_plain is d)))
     (mapped_adding change_by (row_of edits word) (λ r is. by_adding (codes "do" ∷ codes "lane" ∷ []) (by ∷ r.keys) (λ d. Change (the_name by d) (r.is d))
     (λ d have. find_row IsEditRow (λ y. pointwise nat_eq word y.word) edits r edits_named is d have))))
 
@@ -129,7 +137,8 @@ text_adding (Some word) read e = found_adding (reading_of word) read (word_addin
 
 -- ---- a line
 
-then_adding : {A : Type 0} (r : Result A Bad) (next : A → Result Asked Bad) → ((a : A) → r ≡ Ok a → AddsNamed (asked (next a)).ask) → AddsNamed (asked (r >>= next)).ask
+then_adding : {A : Type 0} (r : Result A Bad) (next : A → Result Asked Bad) → ((a : A) → r ≡ Ok a → AddsNamed (asked (next a)).ask) →
+    AddsNamed (asked (r >>= next)).ask
 then_adding (Ok a) next rest = rest a refl
 then_adding (Err b) next rest = tt
 
@@ -143,8 +152,10 @@ lane_adding lane (Err b) is = tt
 in_adding : (lanes : ℕ) (d : Data) → AddsNamed (asked (request_in lanes d)).ask
 unfolding request_in
 in_adding lanes d =
-    then_adding (or_fault (as_object d) Object) (λ ms. or_fault (option_and_then reading_of (text_at (codes "do") d)) Do >>= (λ read. or_fault (lane_at lanes d) Lane >>= (λ lane. with_lane lane (read d ms)))) (λ ms is_ms.
-    then_adding (or_fault (option_and_then reading_of (text_at (codes "do") d)) Do) (λ read. or_fault (lane_at lanes d) Lane >>= (λ lane. with_lane lane (read d ms))) (λ read is_read.
+    then_adding (or_fault (as_object d) Object) (λ ms. or_fault (option_and_then reading_of (text_at (codes "do") d)) Do >>=
+    (λ read. or_fault (lane_at lanes d) Lane >>= (λ lane. with_lane lane (read d ms)))) (λ ms is_ms.
+    then_adding (or_fault (option_and_then reading_of (text_at (codes "do") d)) Do)
+    (λ read. or_fault (lane_at lanes d) Lane >>= (λ lane. with_lane lane (read d ms))) (λ read is_read.
     then_adding (or_fault (lane_at lanes d) Lane) (λ lane. with_lane lane (read d ms)) (λ lane is_lane.
     lane_adding lane (read d ms) (text_adding (text_at (codes "do") d) read is_read d ms))))
 

@@ -30,7 +30,8 @@ ends_more : (before : ℕ) (ends : List ℕ) (last more : ℕ) → EndsUpTo befo
 ends_more before [] last more up above = (omega (arith, up, above), refl)
 ends_more before (e ∷ es) last more up above = (up.0, ends_more e es last more up.1 above)
 
-batches_more : (before : ℕ) (ends : List ℕ) (last : ℕ) (jobs more : List Job) → EndsUpTo before ends last → last ≤ before + length jobs → AreBatches before ends jobs → AreBatches before ends (jobs ++ more)
+batches_more : (before : ℕ) (ends : List ℕ) (last : ℕ) (jobs more : List Job) → EndsUpTo before ends last → last ≤ before + length jobs →
+    AreBatches before ends jobs → AreBatches before ends (jobs ++ more)
 batches_more before [] last jobs more up within are = tt
 batches_more before (e ∷ es) last jobs more up within are =
     let above = ends_above e es last up.1 in
@@ -42,7 +43,8 @@ batches_more before (e ∷ es) last jobs more up within are =
           (batches_more e es last (drop (e - before) jobs) more up.1 (omega (arith, size, above, first, within)) are.1),
     )
 
-batches_end : (before : ℕ) (ends : List ℕ) (last : ℕ) (jobs : List Job) (end : ℕ) → EndsUpTo before ends last → last ≤ before + length jobs → AreBatches before ends jobs → FollowOn (drop (last - before) jobs) → end ≡ before + length jobs →
+batches_end : (before : ℕ) (ends : List ℕ) (last : ℕ) (jobs : List Job) (end : ℕ) → EndsUpTo before ends last → last ≤ before + length jobs →
+    AreBatches before ends jobs → FollowOn (drop (last - before) jobs) → end ≡ before + length jobs →
     AreBatches before (ends ++ end ∷ []) jobs
 batches_end before [] last jobs end up within are follows is =
     let none : last - before ≡ 0 = omega (arith, up) in
@@ -52,9 +54,11 @@ batches_end before (e ∷ es) last jobs end up within are follows is =
     let above = ends_above e es last up.1 in
     let first = up.0 in
     let size : length (drop (e - before) jobs) ≡ length jobs - (e - before) = length-drop (e - before) jobs in
-    let far : drop (last - e) (drop (e - before) jobs) ≡ drop (last - before) jobs = drop-drop (last - e) (e - before) jobs ∙ ap (λ n. drop n jobs) (omega (arith, above, first)) in (
+    let far : drop (last - e) (drop (e - before) jobs) ≡ drop (last - before) jobs = drop-drop (last - e) (e - before) jobs ∙
+    ap (λ n. drop n jobs) (omega (arith, above, first)) in (
       are.0,
-      batches_end e es last (drop (e - before) jobs) end up.1 (omega (arith, size, above, first, within)) are.1 (subst FollowOn (sym far) follows) (omega (arith, size, above, first, within, is)),
+      batches_end e es last (drop (e - before) jobs) end up.1 (omega (arith, size, above, first, within)) are.1 (subst FollowOn (sym far) follows)
+          (omega (arith, size, above, first, within, is)),
     )
 
 -- ---- what the cutting keeps
@@ -90,7 +94,8 @@ runs_end c h =
       all = record {
         begins = omega arith;
         ends = ends_more 0 c.ends c.from (length c.jobs) h.ends h.begins;
-        batches = batches_end 0 c.ends c.from c.jobs (length c.jobs) h.ends (omega (arith, begins)) h.batches (subst (λ n. FollowOn (drop n c.jobs)) same h.follows) (omega arith);
+        batches = batches_end 0 c.ends c.from c.jobs (length c.jobs) h.ends (omega (arith, begins)) h.batches
+            (subst (λ n. FollowOn (drop n c.jobs)) same h.follows) (omega arith);
         follows = (0, none_lead 0 (drop (length c.jobs) c.jobs) none);
       };
       run = none_lead c.number (drop (length c.jobs) c.jobs) none;
@@ -104,7 +109,8 @@ unfolding end_full_batch
 runs_full c h = runs_if (nat_le (c.from + BATCH_LINE_LIMIT) (length c.jobs)) (end_batch c) c (λ full. runs_end c h.all) (λ room. h)
 
 -- behind one more job
-one_more : (c : Cut) (job : Job) (number : ℕ) → HasRuns c → job.line ≡ c.number → HasBatches (record c { jobs = c.jobs ++ job ∷ []; number = number }) × LeadUpTo (c.number + 1) (drop c.from (c.jobs ++ job ∷ []))
+one_more : (c : Cut) (job : Job) (number : ℕ) → HasRuns c → job.line ≡ c.number → HasBatches (record c { jobs = c.jobs ++ job ∷ []; number = number }) ×
+    LeadUpTo (c.number + 1) (drop c.from (c.jobs ++ job ∷ []))
 one_more c job number h is =
     let begins = h.all.begins in
     let size : length (c.jobs ++ job ∷ []) ≡ length c.jobs + 1 = length-append c.jobs (job ∷ []) in

@@ -1,6 +1,7 @@
 -- Laws of the cutting, for the proofs over it.
 use Rattle.std.proofs.Common.{refl, ap, subst, sym, ◌∙◌, arith}
-use Rattle.std.specs.Prelude.{◌≡◌, ◌≢◌, ℕ, suc, ◌+◌, ◌-◌, ◌==◌, ◌<◌, ◌≤◌, Bool, true, false, List, [], ◌∷◌, ◌++◌, length, map, take, slice_index, Some, None, is_some, if◌then◌else◌}
+use Rattle.std.specs.Prelude.{◌≡◌, ◌≢◌, ℕ, suc, ◌+◌, ◌-◌, ◌==◌, ◌<◌, ◌≤◌, Bool, true, false, List, [], ◌∷◌, ◌++◌, length, map, take, slice_index, Some, None}
+use Rattle.std.specs.Prelude.{is_some, if◌then◌else◌}
 use Rattle.std.proofs.lemmas.Grind.{common_steps}
 use Rattle.std.proofs.lemmas.List.{map-append, length-append, append_assoc, append-nil, length-take-le, get_or-take, take_more}
 use Rattle.std.proofs.Math.Seq.{take-append_seam}
@@ -16,11 +17,13 @@ last-push : (d : ℕ) (xs : List ℕ) (x : ℕ) → last_or d (xs ++ x ∷ []) �
 last-push d [] x = refl
 last-push d (y ∷ ys) x = last-push y ys x
 
-sound_end : (c : Cut) → c.number ≤ SESSION_LINE_LIMIT → length c.line ≤ LINE_LIMIT → c.from ≤ length c.jobs → length c.jobs < c.from + BATCH_LINE_LIMIT → c.from ≡ last_or 0 c.ends → IsSound (end_batch c)
+sound_end : (c : Cut) → c.number ≤ SESSION_LINE_LIMIT → length c.line ≤ LINE_LIMIT → c.from ≤ length c.jobs → length c.jobs < c.from + BATCH_LINE_LIMIT →
+    c.from ≡ last_or 0 c.ends → IsSound (end_batch c)
 unfolding end_batch
 sound_end c lines short begins batch last = grind (arith, common_steps, last-push)
 
-sound_full : (c : Cut) → c.number ≤ SESSION_LINE_LIMIT → length c.line ≤ LINE_LIMIT → c.from ≤ length c.jobs → length c.jobs ≤ c.from + BATCH_LINE_LIMIT → c.from ≡ last_or 0 c.ends → IsSound (end_full_batch c)
+sound_full : (c : Cut) → c.number ≤ SESSION_LINE_LIMIT → length c.line ≤ LINE_LIMIT → c.from ≤ length c.jobs → length c.jobs ≤ c.from + BATCH_LINE_LIMIT →
+    c.from ≡ last_or 0 c.ends → IsSound (end_full_batch c)
 unfolding end_full_batch end_batch
 sound_full c lines short begins batch last = grind (arith, common_steps, last-push)
 
@@ -81,7 +84,8 @@ stops_byte c d b going none e stop stopped =
 
 -- ---- runs
 
-plain_step : (c : Cut) (b : ℕ) → c.stop ≡ None → c.number < SESSION_LINE_LIMIT → length c.line < LINE_LIMIT → b ≢ 10 → step c b ≡ record c { line = c.line ++ b ∷ [] }
+plain_step : (c : Cut) (b : ℕ) → c.stop ≡ None → c.number < SESSION_LINE_LIMIT → length c.line < LINE_LIMIT → b ≢ 10 →
+    step c b ≡ record c { line = c.line ++ b ∷ [] }
 unfolding step
 plain_step c b going lines short other = grind (arith, common_steps)
 
@@ -155,7 +159,8 @@ handed_end : (jobs : List Job) (batch_ends : List ℕ) (c : Cut) → end_batch (
 unfolding end_batch
 handed_end jobs batch_ends c = grind (arith, common_steps, length-append, map-append, append_assoc)
 
-handed_full : (jobs : List Job) (batch_ends : List ℕ) (c : Cut) → end_full_batch (after_handing jobs batch_ends c) ≡ after_handing jobs batch_ends (end_full_batch c)
+handed_full : (jobs : List Job) (batch_ends : List ℕ) (c : Cut) →
+    end_full_batch (after_handing jobs batch_ends c) ≡ after_handing jobs batch_ends (end_full_batch c)
 unfolding end_full_batch
 handed_full jobs batch_ends c = grind (arith, common_steps, length-append, handed_end)
 
@@ -178,11 +183,13 @@ unfolding step
 handed_step jobs batch_ends c b = grind (arith, common_steps, handed_line)
 
 -- what was handed over stays in front of all that is cut
-pub handed_all : (jobs : List Job) (batch_ends : List ℕ) (c : Cut) (bytes : List ℕ) → cut_all (after_handing jobs batch_ends c) bytes ≡ after_handing jobs batch_ends (cut_all c bytes)
+pub handed_all : (jobs : List Job) (batch_ends : List ℕ) (c : Cut) (bytes : List ℕ) →
+    cut_all (after_handing jobs batch_ends c) bytes ≡ after_handing jobs batch_ends (cut_all c bytes)
 handed_all jobs batch_ends c [] = refl
 handed_all jobs batch_ends c (b ∷ bs) = ap (λ d. cut_all d bs) (handed_step jobs batch_ends c b) ∙ handed_all jobs batch_ends (step c b) bs
 
-handed_flush : (jobs : List Job) (batch_ends : List ℕ) (c : Cut) (ended : Bool) → flush ended (after_handing jobs batch_ends c) ≡ after_handing jobs batch_ends (flush ended c)
+handed_flush : (jobs : List Job) (batch_ends : List ℕ) (c : Cut) (ended : Bool) →
+    flush ended (after_handing jobs batch_ends c) ≡ after_handing jobs batch_ends (flush ended c)
 unfolding flush
 handed_flush jobs batch_ends c ended = grind (arith, common_steps, append_assoc)
 
@@ -204,7 +211,8 @@ pub closed_after : (jobs more : List Job) (batch_ends : List ℕ) → last_or 0 
 closed_after jobs more batch_ends closed = grind (arith, common_steps, length-append, last-push)
 
 -- what was handed over stands first, up to its last end of a batch
-pub up_to_end : (jobs : List Job) (batch_ends : List ℕ) (c : Cut) → last_or 0 batch_ends ≡ length jobs → UpToAnEnd jobs batch_ends (after_handing jobs batch_ends c)
+pub up_to_end : (jobs : List Job) (batch_ends : List ℕ) (c : Cut) → last_or 0 batch_ends ≡ length jobs →
+    UpToAnEnd jobs batch_ends (after_handing jobs batch_ends c)
 up_to_end jobs batch_ends c closed =
     let more : List ℕ = map (λ n. length jobs + n) c.ends in
     record {

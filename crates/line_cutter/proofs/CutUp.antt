@@ -27,7 +27,8 @@ cut_none lanes jobs batch_ends c none no_ends e sound = rw (none, no_ends, e) (r
 pub cut_further : (lanes : ℕ) (seen more : List ℕ) (jobs : List Job) (batch_ends : List ℕ) (c d : Cut) → HasCutUp lanes jobs batch_ends c seen → Cuts c d more
     → after_handing jobs batch_ends d ≡ cut_all (start lanes) (seen ++ more)
 cut_further lanes seen more jobs batch_ends c d before cuts =
-    ap (after_handing jobs batch_ends) cuts.cut ∙ sym (handed_all jobs batch_ends c more) ∙ ap (λ x. cut_all x more) before.cut ∙ sym (cut_all-append (start lanes) seen more)
+    ap (after_handing jobs batch_ends) cuts.cut ∙ sym (handed_all jobs batch_ends c more) ∙ ap (λ x. cut_all x more) before.cut ∙
+    sym (cut_all-append (start lanes) seen more)
 
 pub cut_more : (lanes : ℕ) (seen more : List ℕ) (jobs : List Job) (batch_ends : List ℕ) (c d : Cut) → HasCutUp lanes jobs batch_ends c seen → Cuts c d more
     → IsSound d → d.ends ≡ [] → HasCutUp lanes jobs batch_ends d (seen ++ more)
@@ -59,7 +60,8 @@ cut_batch lanes seen more jobs after batch_ends ends_new c d e batch before cuts
 
 -- the same where more of a text is cut
 pub cut_rest : (lanes at count : ℕ) (bytes : List ℕ) (jobs : List Job) (batch_ends : List ℕ) (c : Cut)
-    → HasCutUp lanes jobs batch_ends c (take at bytes ++ take count (take (length bytes - at) (drop at bytes))) → HasCutUp lanes jobs batch_ends c (take (at + count) bytes)
+    → HasCutUp lanes jobs batch_ends c (take at bytes ++ take count (take (length bytes - at) (drop at bytes))) →
+    HasCutUp lanes jobs batch_ends c (take (at + count) bytes)
 cut_rest lanes at count bytes jobs batch_ends c cut =
     let rest : take (length bytes - at) (drop at bytes) ≡ drop at bytes = take_all (length bytes - at) (drop at bytes) (omega (arith, length-drop at bytes)) in
     let whole : take at bytes ++ take count (take (length bytes - at) (drop at bytes)) ≡ take (at + count) bytes =
@@ -77,7 +79,8 @@ pub cut_stopped : (lanes at : ℕ) (bytes : List ℕ) (jobs : List Job) (batch_e
 cut_stopped lanes at bytes jobs batch_ends c before stop =
     let same : is_some (cut_all (start lanes) (take at bytes)).stop ≡ true = ap (λ (x : Cut). is_some x.stop) (sym before.cut) ∙ stop in
     record {
-      cut = before.cut ∙ sym (stopped (cut_all (start lanes) (take at bytes)) (drop at bytes) same) ∙ sym (cut_all-append (start lanes) (take at bytes) (drop at bytes))
+      cut = before.cut ∙ sym (stopped (cut_all (start lanes) (take at bytes)) (drop at bytes) same) ∙
+          sym (cut_all-append (start lanes) (take at bytes) (drop at bytes))
           ∙ ap (cut_all (start lanes)) (take-append-drop at bytes);
       sound = before.sound;
       handed = before.handed;
@@ -117,7 +120,8 @@ few_finish : (c : Cut) → AreFew c → length (end_batch (flush true c)).jobs �
 unfolding flush end_batch
 few_finish c h = grind (arith, common_steps, length-append, h.few, h.number, h.within)
 
-pub few_cut : (lanes : ℕ) (bytes : List ℕ) (jobs batch : List Job) (batch_ends : List ℕ) (c : Cut) → after_handing jobs batch_ends c ≡ cut_all (start lanes) bytes
+pub few_cut : (lanes : ℕ) (bytes : List ℕ) (jobs batch : List Job) (batch_ends : List ℕ) (c : Cut) →
+    after_handing jobs batch_ends c ≡ cut_all (start lanes) bytes
     → batch ≡ c.jobs → length jobs + length batch ≤ SESSION_LINE_LIMIT
 few_cut lanes bytes jobs batch batch_ends c e is =
     let all = few_all (start lanes) bytes (few_start lanes) in
@@ -137,8 +141,10 @@ pub few_whole : (lanes : ℕ) (bytes : List ℕ) (jobs batch : List Job) (batch_
     → d ≡ end_batch (flush true c) → batch ≡ d.jobs → length jobs + length batch ≤ SESSION_LINE_LIMIT
 unfolding jobs_from
 few_whole lanes bytes jobs batch batch_ends c d before is batch_is =
-    let few : length (jobs_of_input bytes true lanes).jobs ≤ SESSION_LINE_LIMIT = few_finish (cut_all (start lanes) bytes) (few_all (start lanes) bytes (few_start lanes)) in
-    let same : length (jobs ++ d.jobs) ≡ length (jobs_of_input bytes true lanes).jobs = ap (λ (x : Cut). length x.jobs) (whole_cut lanes bytes jobs batch_ends c d before is) in
+    let few : length (jobs_of_input bytes true lanes).jobs ≤ SESSION_LINE_LIMIT =
+    few_finish (cut_all (start lanes) bytes) (few_all (start lanes) bytes (few_start lanes)) in
+    let same : length (jobs ++ d.jobs) ≡ length (jobs_of_input bytes true lanes).jobs =
+    ap (λ (x : Cut). length x.jobs) (whole_cut lanes bytes jobs batch_ends c d before is) in
     omega (arith, few, same, length-append jobs d.jobs, ap length batch_is)
 
 pub whole_jobs : (lanes : ℕ) (bytes : List ℕ) (jobs batch after : List Job) (batch_ends : List ℕ) (c d : Cut) → HasCutUp lanes jobs batch_ends c bytes
@@ -147,7 +153,8 @@ whole_jobs lanes bytes jobs batch after batch_ends c d before is batch_is grown 
     grown ∙ ap (λ js. jobs ++ js) batch_is ∙ ap (λ (x : Cut). x.jobs) (whole_cut lanes bytes jobs batch_ends c d before is)
 
 pub whole_ends : (lanes : ℕ) (bytes : List ℕ) (jobs batch : List Job) (batch_ends ends_new : List ℕ) (c d : Cut) → HasCutUp lanes jobs batch_ends c bytes
-    → d ≡ end_batch (flush true c) → IsEnded d → batch ≡ d.jobs → ends_new ≡ ends_after batch_ends (length jobs) batch → ends_new ≡ (jobs_of_input bytes true lanes).ends
+    → d ≡ end_batch (flush true c) → IsEnded d → batch ≡ d.jobs → ends_new ≡ ends_after batch_ends (length jobs) batch →
+    ends_new ≡ (jobs_of_input bytes true lanes).ends
 whole_ends lanes bytes jobs batch batch_ends ends_new c d before is ended batch_is grown =
     grown ∙ ap (ends_after batch_ends (length jobs)) batch_is ∙ sym (append-nil _) ∙ ap (λ (x : Cut). x.ends) (sym (handed_over jobs batch_ends d ended))
     ∙ ap (λ (x : Cut). x.ends) (whole_cut lanes bytes jobs batch_ends c d before is)

@@ -87,7 +87,8 @@ within_last : (xs : List (List ℕ)) (y : List ℕ) → AreWithin (xs ++ y ∷ [
 within_last [] y all = all.0
 within_last (x ∷ xs) y all = within_last xs y all.1
 
-jobs_more : (lanes : ℕ) (e : Bool) (n : ℕ) (xs ys : List (List ℕ)) → jobs_of_lines lanes e n (xs ++ ys) ≡ jobs_of_lines lanes e n xs ++ jobs_of_lines lanes e (n + length xs) ys
+jobs_more : (lanes : ℕ) (e : Bool) (n : ℕ) (xs ys : List (List ℕ)) →
+    jobs_of_lines lanes e n (xs ++ ys) ≡ jobs_of_lines lanes e n xs ++ jobs_of_lines lanes e (n + length xs) ys
 jobs_more lanes e n [] ys = ap (λ k. jobs_of_lines lanes e k ys) (omega arith)
 jobs_more lanes e n (x ∷ xs) ys =
     let rest = jobs_more lanes e (n + 1) xs ys in
@@ -149,7 +150,8 @@ line_ended c = record {
 byte_first : (front : List ℕ) (b : ℕ) (more : List ℕ) → (front ++ b ∷ []) ++ more ≡ front ++ b ∷ more
 byte_first front b more = append_assoc front (b ∷ []) more
 
-has_line : (lanes first : ℕ) (front : List ℕ) (c : Cut) (b : ℕ) → HasCut lanes first front c → c.number < SESSION_LINE_LIMIT → (b == 10) ≡ true → HasCut lanes first (front ++ b ∷ []) (end_line c)
+has_line : (lanes first : ℕ) (front : List ℕ) (c : Cut) (b : ℕ) → HasCut lanes first front c → c.number < SESSION_LINE_LIMIT → (b == 10) ≡ true →
+    HasCut lanes first (front ++ b ∷ []) (end_line c)
 has_line lanes first front c b h below lf =
     let ended = line_ended c in
     let line = c.line ++ b ∷ [] in
@@ -179,7 +181,8 @@ has_line lanes first front c b h below lf =
           ∙ sym (jobs_more lanes e first h.lines (line ∷ []));
     }
 
-has_byte : (lanes first : ℕ) (front : List ℕ) (c : Cut) (b : ℕ) → HasCut lanes first front c → c.number < SESSION_LINE_LIMIT → length c.line < LINE_LIMIT → (b == 10) ≡ false →
+has_byte : (lanes first : ℕ) (front : List ℕ) (c : Cut) (b : ℕ) → HasCut lanes first front c → c.number < SESSION_LINE_LIMIT → length c.line < LINE_LIMIT →
+    (b == 10) ≡ false →
     HasCut lanes first (front ++ b ∷ []) (record c { line = c.line ++ b ∷ [] })
 has_byte lanes first front c b h below room other =
     let size : length (c.line ++ b ∷ []) ≡ length c.line + 1 = length-append c.line (b ∷ []) in
@@ -209,11 +212,13 @@ step_ended : (c : Cut) (b : ℕ) → c.stop ≡ None → c.number < SESSION_LINE
 unfolding step
 step_ended c b going below lf = grind (arith, common_steps)
 
-step_byte : (c : Cut) (b : ℕ) → c.stop ≡ None → c.number < SESSION_LINE_LIMIT → (b == 10) ≡ false → length c.line < LINE_LIMIT → step c b ≡ record c { line = c.line ++ b ∷ [] }
+step_byte : (c : Cut) (b : ℕ) → c.stop ≡ None → c.number < SESSION_LINE_LIMIT → (b == 10) ≡ false → length c.line < LINE_LIMIT →
+    step c b ≡ record c { line = c.line ++ b ∷ [] }
 unfolding step
 step_byte c b going below other room = grind (arith, common_steps)
 
-step_long : (c : Cut) (b : ℕ) → c.stop ≡ None → c.number < SESSION_LINE_LIMIT → (b == 10) ≡ false → LINE_LIMIT ≤ length c.line → step c b ≡ record c { stop = Some (LineTooLong c.number) }
+step_long : (c : Cut) (b : ℕ) → c.stop ≡ None → c.number < SESSION_LINE_LIMIT → (b == 10) ≡ false → LINE_LIMIT ≤ length c.line →
+    step c b ≡ record c { stop = Some (LineTooLong c.number) }
 unfolding step
 step_long c b going below other full = grind (arith, common_steps)
 
@@ -229,7 +234,8 @@ number_cases a b = at_test (nat_lt a b) refl
     at_test false is = inr (grind (arith, common_steps))
 
 -- a line that is too long is the last
-meets_long : (lanes first : ℕ) (front : List ℕ) (c : Cut) (b : ℕ) → HasCut lanes first front c → c.number < SESSION_LINE_LIMIT → (b == 10) ≡ false → LINE_LIMIT ≤ length c.line →
+meets_long : (lanes first : ℕ) (front : List ℕ) (c : Cut) (b : ℕ) → HasCut lanes first front c → c.number < SESSION_LINE_LIMIT → (b == 10) ≡ false →
+    LINE_LIMIT ≤ length c.line →
     MeetsLimit first (front ++ b ∷ []) (LineTooLong c.number)
 meets_long lanes first front c b h below other full =
     let line = c.line ++ b ∷ [] in
@@ -239,17 +245,21 @@ meets_long lanes first front c b h below other full =
     let more = ap length all in
     let n = h.number in
     let size : length line ≡ length c.line + 1 = length-append c.line (b ∷ []) in
-    let alone = length_alone line none in
-    (omega (arith, more, count, n), (below, λ within. let last = within_last h.lines line (subst AreWithin all within) in omega (arith, last, alone, size, full)))
+    let alone = length_alone line none in (
+      omega (arith, more, count, n),
+      (below, λ within. let last = within_last h.lines line (subst AreWithin all within) in omega (arith, last, alone, size, full)),
+    )
   where
     one : (l : List ℕ) → has_end (l ++ b ∷ []) ≡ false → lines_of (l ++ b ∷ []) ≡ (l ++ b ∷ []) ∷ []
     one [] none = one_line b [] none
     one (x ∷ xs) none = one_line x (xs ++ b ∷ []) none
 
-meets_many : (lanes first : ℕ) (front : List ℕ) (c : Cut) (b : ℕ) → HasCut lanes first front c → SESSION_LINE_LIMIT ≤ c.number → MeetsLimit first (front ++ b ∷ []) TooManyLines
+meets_many : (lanes first : ℕ) (front : List ℕ) (c : Cut) (b : ℕ) → HasCut lanes first front c → SESSION_LINE_LIMIT ≤ c.number →
+    MeetsLimit first (front ++ b ∷ []) TooManyLines
 meets_many lanes first front c b h above =
     let all = ap length (h.cut (b ∷ [])) in
-    let count : length (h.lines ++ lines_of (c.line ++ b ∷ [])) ≡ length h.lines + length (lines_of (c.line ++ b ∷ [])) = length-append h.lines (lines_of (c.line ++ b ∷ [])) in
+    let count : length (h.lines ++ lines_of (c.line ++ b ∷ [])) ≡ length h.lines + length (lines_of (c.line ++ b ∷ [])) =
+    length-append h.lines (lines_of (c.line ++ b ∷ [])) in
     let some = some_lines c.line b in
     let n = h.number in
     omega (arith, all, count, some, n, above)
@@ -260,7 +270,8 @@ steps_on lanes first front c b h = elim (number_cases c.number SESSION_LINE_LIMI
   | inl below ↦ elim (bool_cases (b == 10)) [
     | inl lf ↦ inl (subst (HasCut lanes first (front ++ b ∷ [])) (sym (step_ended c b h.stop below lf)) (has_line lanes first front c b h below lf))
     | inr other ↦ elim (number_cases (length c.line) LINE_LIMIT) [
-      | inl room ↦ inl (subst (HasCut lanes first (front ++ b ∷ [])) (sym (step_byte c b h.stop below other room)) (has_byte lanes first front c b h below room other))
+      | inl room ↦ inl
+          (subst (HasCut lanes first (front ++ b ∷ [])) (sym (step_byte c b h.stop below other room)) (has_byte lanes first front c b h below room other))
       | inr full ↦ inr (LineTooLong c.number, (step_long c b h.stop below other full, meets_long lanes first front c b h below other full))
     ]
   ]
@@ -272,7 +283,8 @@ steps_on lanes first front c b h = elim (number_cases c.number SESSION_LINE_LIMI
 abbrev EndsAs : ℕ → List ℕ → List ℕ → Cut → Cut → Type 0
 EndsAs first front rest before c =
     ((rest ≡ []) × (c ≡ before))
-    ⊎ ((stop : Stop) × ((b : ℕ) × ((more : List ℕ) × ((rest ≡ b ∷ more) × ((c ≡ record before { stop = Some stop }) × MeetsLimit first (front ++ b ∷ []) stop)))))
+    ⊎ ((stop : Stop) ×
+    ((b : ℕ) × ((more : List ℕ) × ((rest ≡ b ∷ more) × ((c ≡ record before { stop = Some stop }) × MeetsLimit first (front ++ b ∷ []) stop)))))
 
 record HasRun (lanes first : ℕ) (bytes : List ℕ) (c : Cut) : Type 0 where
   pub front : List ℕ
@@ -305,7 +317,8 @@ jobs_open lanes e n [] none = at_end e
     at_end true = refl
     at_end false = refl
 jobs_open lanes e n (x ∷ xs) none =
-    ap (jobs_of_lines lanes e n) (one_line x xs none) ∙ append-nil (job_at lanes n (text_of e (x ∷ xs))) ∙ ap (λ t. job_at lanes n (if t then without_cr (take (line_length (x ∷ xs)) (x ∷ xs)) else (if e then x ∷ xs else []))) none
+    ap (jobs_of_lines lanes e n) (one_line x xs none) ∙ append-nil (job_at lanes n (text_of e (x ∷ xs))) ∙
+    ap (λ t. job_at lanes n (if t then without_cr (take (line_length (x ∷ xs)) (x ∷ xs)) else (if e then x ∷ xs else []))) none
 
 flushed : (c : Cut) (ended : Bool) → (end_batch (flush ended c)).jobs ≡ c.jobs ++ job_at c.lanes c.number (if ended && not (is_some c.stop) then c.line else [])
 unfolding flush end_batch
@@ -317,7 +330,8 @@ flushed_stop c ended = grind (arith, common_steps)
 
 within_limits : (lanes first : ℕ) (front : List ℕ) (c : Cut) → HasCut lanes first front c → IsWithinLimits first front
 within_limits lanes first front c h =
-    let all : lines_of front ≡ h.lines ++ lines_of c.line = ap lines_of (sym (append-nil front)) ∙ h.cut [] ∙ ap (λ l. h.lines ++ lines_of l) (append-nil c.line) in
+    let all : lines_of front ≡ h.lines ++ lines_of c.line = ap lines_of (sym (append-nil front)) ∙ h.cut [] ∙
+    ap (λ l. h.lines ++ lines_of l) (append-nil c.line) in
     let count : length (h.lines ++ lines_of c.line) ≡ length h.lines + length (lines_of c.line) = length-append h.lines (lines_of c.line) in
     let size = ap length all in
     let n = h.number in
@@ -341,10 +355,12 @@ within_limits lanes first front c h =
     ]
 
 -- the jobs, where the cutting stopped so
-jobs_are : (lanes first : ℕ) (front : List ℕ) (before c : Cut) (e : Bool) → HasCut lanes first front before → c.jobs ≡ before.jobs ++ job_at before.lanes before.number (if e then before.line else []) →
+jobs_are : (lanes first : ℕ) (front : List ℕ) (before c : Cut) (e : Bool) → HasCut lanes first front before →
+    c.jobs ≡ before.jobs ++ job_at before.lanes before.number (if e then before.line else []) →
     c.jobs ≡ jobs_of_lines lanes e first (lines_of front)
 jobs_are lanes first front before c e h is =
-    let all : lines_of front ≡ h.lines ++ lines_of before.line = ap lines_of (sym (append-nil front)) ∙ h.cut [] ∙ ap (λ l. h.lines ++ lines_of l) (append-nil before.line) in
+    let all : lines_of front ≡ h.lines ++ lines_of before.line = ap lines_of (sym (append-nil front)) ∙ h.cut [] ∙
+    ap (λ l. h.lines ++ lines_of l) (append-nil before.line) in
     is
     ∙ ap (λ js. js ++ job_at before.lanes before.number (if e then before.line else [])) (h.jobs e)
     ∙ ap (λ k. jobs_of_lines lanes e first h.lines ++ job_at k before.number (if e then before.line else [])) h.same
@@ -353,7 +369,8 @@ jobs_are lanes first front before c e h is =
     ∙ sym (jobs_more lanes e first h.lines (lines_of before.line))
     ∙ ap (jobs_of_lines lanes e first) (sym all)
 
-finished : (lanes first : ℕ) (bytes : List ℕ) (ended : Bool) (c : Cut) → HasRun lanes first bytes c → HasRuns c → AreJobsOfLines lanes first bytes ended (end_batch (flush ended c))
+finished : (lanes first : ℕ) (bytes : List ℕ) (ended : Bool) (c : Cut) → HasRun lanes first bytes c → HasRuns c →
+    AreJobsOfLines lanes first bytes ended (end_batch (flush ended c))
 finished lanes first bytes ended c r runs = record {
   batches = batches_are c ended runs;
   front = r.front;
@@ -370,7 +387,8 @@ finished lanes first bytes ended c r runs = record {
     stops x (inr met) = subst (StopsAt first r.front r.rest) (sym (ap (λ (y : Cut). y.stop) met.1.1.1.1.0)) (met.1.0, (met.1.1.0, (met.1.1.1.0, met.1.1.1.1.1)))
 
     here : (x y : Cut) → x ≡ y → (end_batch (flush ended x)).jobs ≡ y.jobs ++ job_at y.lanes y.number (if ended && not (is_some x.stop) then y.line else [])
-    here x y same = subst (λ (z : Cut). (end_batch (flush ended x)).jobs ≡ z.jobs ++ job_at z.lanes z.number (if ended && not (is_some x.stop) then z.line else [])) same (flushed x ended)
+    here x y same = subst (λ (z : Cut). (end_batch (flush ended x)).jobs ≡ z.jobs ++ job_at z.lanes z.number
+        (if ended && not (is_some x.stop) then z.line else [])) same (flushed x ended)
 
     told : (x : Cut) → EndsAs first r.front r.rest r.before x →
         (end_batch (flush ended x)).jobs ≡ r.before.jobs ++ job_at r.before.lanes r.before.number (if ended && not (is_some x.stop) then r.before.line else [])

@@ -1,6 +1,7 @@
 -- The key that a bad line lacks has the form of a name.
 use Rattle.std.proofs.Common.{refl, subst}
-use Rattle.std.specs.Prelude.{◌≡◌, ℕ, ◌==◌, ◌+◌, nat_lt, nat_le, Bool, true, false, ◌&&◌, List, [], ◌∷◌, ◌++◌, length, Option, Some, None, is_some, codes, nat_eq, option_map, option_and_then, Result, Ok, Err, if◌then◌else◌}
+use Rattle.std.specs.Prelude.{◌≡◌, ℕ, ◌==◌, ◌+◌, nat_lt, nat_le, Bool, true, false, ◌&&◌, List, [], ◌∷◌, ◌++◌, length, Option, Some, None, is_some, codes}
+use Rattle.std.specs.Prelude.{nat_eq, option_map, option_and_then, Result, Ok, Err, if◌then◌else◌}
 use Rattle.std.specs.List.{list_all, find}
 use Rattle.std.specs.Option.{option_or}
 use Rattle.std.specs.Cmp.Lexicographic.{pointwise}
@@ -18,7 +19,8 @@ use Rattle.wf_talk.specs.declared.request.Bad.{Bad}
 use Rattle.wf_talk.specs.declared.request.Bad.TheVariants.{Syntax, Object, Do, Lane, Key, Extra}
 use Rattle.wire_json.specs.declared.request.Asked.{Asked}
 use Rattle.wire_json.specs.Values.{value_of}
-use Rattle.wire_json.specs.Requests.{Row, Reading, rows, edits, row_of, by, the_name, text_at, lane_at, has_form, has_only, request_by, asked_by, change_by, what_if_by, what_if_in, reading_of, request_in, asked, asked_of}
+use Rattle.wire_json.specs.Requests.{Row, Reading, rows, edits, row_of, by, the_name, text_at, lane_at, has_form, has_only, request_by, asked_by, change_by}
+use Rattle.wire_json.specs.Requests.{what_if_by, what_if_in, reading_of, request_in, asked, asked_of}
 use Rattle.line_cutter.specs.Jobs.{Cut, start, without_cr, job_of, end_batch, end_full_batch, next_line, with_job, end_line, step, cut_all, flush, jobs_from}
 use Rattle.wf_talk.specs.Jobs.{IsNamedAsk, IsNamedBad}
 use Rattle.line_cutter.specs.Laws.{AddsNamed, AreNamedJobs, JobsAreNamed}
@@ -65,7 +67,8 @@ ReadsNamed read = (d : Data) (ms : Members) → IsNamed (read d ms)
 by_named : (others keys : List (List ℕ)) (is : Data → Request) → list_all is_name keys ≡ true → ReadsNamed (request_by others keys is)
 unfolding request_by
 by_named others keys is h d ms =
-    then_named (each (λ (_ : Unit {0}) key. check (has_form d key) (Key key)) tt keys) (λ _. check (has_only (others ++ keys) ms) Extra >>= (λ _. Ok (is d))) (keys_named d keys h)
+    then_named (each (λ (_ : Unit {0}) key. check (has_form d key) (Key key)) tt keys)
+    (λ _. check (has_only (others ++ keys) ms) Extra >>= (λ _. Ok (is d))) (keys_named d keys h)
     (λ a is_a. then_named (check (has_only (others ++ keys) ms) Extra) (λ _. Ok (is d)) (check_named (has_only (others ++ keys) ms) Extra tt) (λ b is_b. tt))
 
 -- each request and each edit has keys that are names
@@ -118,7 +121,8 @@ what_if_named d ms =
     (λ r is_r. by_named (codes "do" ∷ codes "lane" ∷ codes "edit" ∷ []) (by ∷ r.keys) (λ d. WhatIf (the_name by d) (r.is d))
     (with_by r (named_edit (text_at (codes "edit") d) r is_r)) d ms)
   where
-    of_word : (found : Option (Row Edit)) (r : Row Edit) → ((x : Row Edit) → found ≡ Some x → has_names x ≡ true) → or_fault found (Key (codes "edit")) ≡ Ok r → has_names r ≡ true
+    of_word : (found : Option (Row Edit)) (r : Row Edit) → ((x : Row Edit) → found ≡ Some x → has_names x ≡ true) →
+        or_fault found (Key (codes "edit")) ≡ Ok r → has_names r ≡ true
     of_word None r h e = cc
     of_word (Some x) r h e = let same : x ≡ r = cc in subst (λ y. has_names y ≡ true) same (h x refl)
 
@@ -131,7 +135,8 @@ abbrev AllNamed : Option Reading → Type 0
 AllNamed None = Unit {0}
 AllNamed (Some read) = ReadsNamed read
 
-mapped_named : {A : Type 0} (by_row : Row A → Reading) (found : Option (Row A)) → ((r : Row A) → found ≡ Some r → ReadsNamed (by_row r)) → AllNamed (option_map by_row found)
+mapped_named : {A : Type 0} (by_row : Row A → Reading) (found : Option (Row A)) → ((r : Row A) → found ≡ Some r → ReadsNamed (by_row r)) →
+    AllNamed (option_map by_row found)
 mapped_named by_row None h = tt
 mapped_named by_row (Some r) h = h r refl
 
@@ -145,7 +150,8 @@ if_named false read others h g = g
 
 word_named : (word : List ℕ) → AllNamed (reading_of word)
 word_named word =
-    if_named (pointwise nat_eq word (codes "what_if")) what_if_in (option_or (option_map asked_by (row_of rows word)) (option_map change_by (row_of edits word))) what_if_named
+    if_named (pointwise nat_eq word (codes "what_if")) what_if_in
+    (option_or (option_map asked_by (row_of rows word)) (option_map change_by (row_of edits word))) what_if_named
     (or_else_named (option_map asked_by (row_of rows word)) (option_map change_by (row_of edits word))
     (mapped_named asked_by (row_of rows word) (λ r is. asked_named r (find_named (λ y. pointwise nat_eq word y.word) rows r rows_named is)))
     (mapped_named change_by (row_of edits word) (λ r is. change_named r (find_named (λ y. pointwise nat_eq word y.word) edits r edits_named is))))
@@ -172,7 +178,8 @@ with_reading lanes d ms read = or_fault (lane_at lanes d) Lane >>= (λ lane. wit
 in_named : (lanes : ℕ) (d : Data) → IsNamedAsk (asked (request_in lanes d)).ask
 unfolding request_in
 in_named lanes d =
-    then_asked (or_fault (as_object d) Object) (λ ms. or_fault (option_and_then reading_of (text_at (codes "do") d)) Do >>= (λ read. with_reading lanes d ms read))
+    then_asked (or_fault (as_object d) Object)
+    (λ ms. or_fault (option_and_then reading_of (text_at (codes "do") d)) Do >>= (λ read. with_reading lanes d ms read))
     (or_named (as_object d) Object tt) (λ ms is_ms.
     then_asked (or_fault (option_and_then reading_of (text_at (codes "do") d)) Do) (λ read. with_reading lanes d ms read)
     (or_named (option_and_then reading_of (text_at (codes "do") d)) Do tt) (λ read is_read.

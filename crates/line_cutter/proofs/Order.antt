@@ -7,7 +7,8 @@ use Rattle.wf_names.specs.declared.limits.TheConstants.{LINE_LIMIT, SESSION_LINE
 use Rattle.wf_talk.specs.declared.job.Job.{Job}
 use Rattle.wf_talk.specs.Jobs.{AreOfLanes}
 use Rattle.wire_json.proofs.RequestLaws.{lane_below}
-use Rattle.line_cutter.specs.Jobs.{Cut, start, without_cr, job_of, end_batch, end_full_batch, next_line, with_job, end_line, step, cut_all, flush, jobs_from, last_or, next_input}
+use Rattle.line_cutter.specs.Jobs.{Cut, start, without_cr, job_of, end_batch, end_full_batch, next_line, with_job, end_line, step, cut_all, flush, jobs_from}
+use Rattle.line_cutter.specs.Jobs.{last_or, next_input}
 use Rattle.line_cutter.proofs.CutLaws.{finished_stop}
 use Rattle.line_cutter.specs.Laws.{AreLinesBelow, AscendFrom, LeadTo, AreInOrder, GoesOn, InputsGoOn, JobsAreInOrder}
 
@@ -39,7 +40,8 @@ lanes_push : (lanes : ℕ) (jobs : List Job) (job : Job) → AreOfLanes lanes jo
 lanes_push lanes [] job all below = (below, tt)
 lanes_push lanes (j ∷ js) job all below = (all.0, lanes_push lanes js job all.1 below)
 
-lead_push : (before total end : ℕ) (ends : List ℕ) → LeadTo before ends total → total < end → end ≤ total + BATCH_LINE_LIMIT → LeadTo before (ends ++ end ∷ []) end
+lead_push : (before total end : ℕ) (ends : List ℕ) → LeadTo before ends total → total < end → end ≤ total + BATCH_LINE_LIMIT →
+    LeadTo before (ends ++ end ∷ []) end
 lead_push before total end [] lead above within = (omega (arith, lead), omega (arith, lead), refl)
 lead_push before total end (e ∷ es) lead above within = (lead.0, lead.1, lead_push e total end es lead.2 above within)
 
@@ -56,7 +58,8 @@ pub record Keeps (lanes spare : ℕ) (c : Cut) : Type 0 where
   pub begins : c.from ≤ length c.jobs
   pub batch : length c.jobs < c.from + BATCH_LINE_LIMIT + spare
 
-keeps_if : (lanes spare : ℕ) (b : Bool) (c d : Cut) → (b ≡ true → Keeps lanes spare c) → (b ≡ false → Keeps lanes spare d) → Keeps lanes spare (if b then c else d)
+keeps_if : (lanes spare : ℕ) (b : Bool) (c d : Cut) → (b ≡ true → Keeps lanes spare c) → (b ≡ false → Keeps lanes spare d) →
+    Keeps lanes spare (if b then c else d)
 keeps_if lanes spare true c d first second = first refl
 keeps_if lanes spare false c d first second = second refl
 
@@ -119,7 +122,8 @@ keeps_next lanes c k within = record {
   batch = let h = k.batch in omega arith;
 }
 
-keeps_job : (lanes : ℕ) (c : Cut) (job : Job) → Keeps lanes 0 c → c.number < SESSION_LINE_LIMIT → job.lane < lanes → job.line ≡ c.number → Keeps lanes 1 (with_job c job)
+keeps_job : (lanes : ℕ) (c : Cut) (job : Job) → Keeps lanes 0 c → c.number < SESSION_LINE_LIMIT → job.lane < lanes → job.line ≡ c.number →
+    Keeps lanes 1 (with_job c job)
 keeps_job lanes c job k within lane line =
     let size : length (c.jobs ++ job ∷ []) ≡ length c.jobs + 1 = length-append c.jobs (job ∷ []) in
     record {
@@ -144,7 +148,8 @@ unfolding end_line
 keeps_line lanes c some k within =
     keeps_if lanes 0 (length (without_cr c.line) == 0) (end_batch (next_line c)) (end_full_batch (with_job c (job_of c.lanes c.number (without_cr c.line))))
     (λ empty. keeps_end lanes (next_line c) (keeps_next lanes c k within))
-    (λ full. keeps_full lanes (with_job c (job_of c.lanes c.number (without_cr c.line))) (keeps_job lanes c (job_of c.lanes c.number (without_cr c.line)) k within (job_below lanes c (without_cr c.line) k.same some) refl))
+    (λ full. keeps_full lanes (with_job c (job_of c.lanes c.number (without_cr c.line)))
+    (keeps_job lanes c (job_of c.lanes c.number (without_cr c.line)) k within (job_below lanes c (without_cr c.line) k.same some) refl))
 
 keeps_still : (lanes : ℕ) (c d : Cut) → Keeps lanes 0 c → d.lanes ≡ c.lanes → d.number ≡ c.number → d.jobs ≡ c.jobs → d.ends ≡ c.ends → d.from ≡ c.from
     → (0 < length d.line → c.number < SESSION_LINE_LIMIT) → Keeps lanes 0 d
@@ -228,7 +233,8 @@ done_if : (lanes : ℕ) (b : Bool) (c d : Cut) → (b ≡ true → IsDone lanes 
 done_if lanes true c d first second = first refl
 done_if lanes false c d first second = second refl
 
-done_job : (lanes : ℕ) (c : Cut) (job : Job) → Keeps lanes 0 c → 0 < length c.line → job.lane < lanes → job.line ≡ c.number → IsDone lanes (record c { jobs = c.jobs ++ job ∷ [] })
+done_job : (lanes : ℕ) (c : Cut) (job : Job) → Keeps lanes 0 c → 0 < length c.line → job.lane < lanes → job.line ≡ c.number →
+    IsDone lanes (record c { jobs = c.jobs ++ job ∷ [] })
 done_job lanes c job k some lane line =
     let more : Keeps lanes 1 (with_job c job) = keeps_job lanes c job k (k.within some) lane line in
     record {
@@ -310,7 +316,8 @@ next_keeps lanes c some k going = elim (bool_cases (nat_eq (length c.line) 0)) [
   | inl empty ↦
       let same = next_empty c going (grind (arith, common_steps)) in
       let kept = keeps_end lanes c (keeps_one lanes c k) in
-      subst (Keeps lanes 0) (sym same) (keeps_still lanes (end_batch c) (record (end_batch c) { line = [] }) kept refl refl refl refl refl (λ line. absurd (omega (arith, line))))
+      subst (Keeps lanes 0) (sym same)
+      (keeps_still lanes (end_batch c) (record (end_batch c) { line = [] }) kept refl refl refl refl refl (λ line. absurd (omega (arith, line))))
   | inr other ↦
       let full : 0 < length c.line = grind (arith, common_steps) in
       let same = next_full c going full in
@@ -319,7 +326,8 @@ next_keeps lanes c some k going = elim (bool_cases (nat_eq (length c.line) 0)) [
 ]
 
 -- so are the jobs behind what was cut before, if that keeps what every cutting does
-pub in_order_from : (lanes : ℕ) (c : Cut) (bytes : List ℕ) (ended : Bool) → 0 < lanes → Keeps lanes 0 c → AreInOrder lanes (jobs_from c bytes ended).jobs (jobs_from c bytes ended).ends
+pub in_order_from : (lanes : ℕ) (c : Cut) (bytes : List ℕ) (ended : Bool) → 0 < lanes → Keeps lanes 0 c →
+    AreInOrder lanes (jobs_from c bytes ended).jobs (jobs_from c bytes ended).ends
 unfolding jobs_from
 in_order_from lanes c bytes ended some k =
     in_order_end lanes (flush ended (cut_all c bytes)) (done_flush lanes (cut_all c bytes) ended some (keeps_all lanes c bytes some k))
@@ -376,4 +384,5 @@ of_more_lanes lanes more (j ∷ js) within all = (let h = all.0 in omega (arith,
 
 -- jobs that are in order for some lanes are so for more
 pub order_within : (lanes more : ℕ) (jobs : List Job) (batch_ends : List ℕ) → lanes ≤ more → AreInOrder lanes jobs batch_ends → AreInOrder more jobs batch_ends
-order_within lanes more jobs batch_ends within h = record { few = h.few; lines = h.lines; below = h.below; of_lanes = of_more_lanes lanes more jobs within h.of_lanes; ends = h.ends }
+order_within lanes more jobs batch_ends within h =
+    record { few = h.few; lines = h.lines; below = h.below; of_lanes = of_more_lanes lanes more jobs within h.of_lanes; ends = h.ends }

@@ -22,7 +22,16 @@ pub record Cut : Type 0 where
 
 -- before the first byte, where lines are counted from a number on
 abbrev pub start_at : ℕ → ℕ → Cut
-start_at lanes number = record { lanes = lanes; line = []; number = number; jobs = []; from = 0; ends = []; stop = None }
+start_at lanes number = record {
+  lanes = lanes;
+  line = [];
+  number = number;
+  jobs = [];
+  from =
+      0;
+  ends = [];
+  stop = None;
+}
 
 -- and where nothing was read before
 abbrev pub start : ℕ → Cut
@@ -30,16 +39,19 @@ start lanes = start_at lanes 0
 
 -- a line without one CR at its end
 unfoldable pub without_cr : List ℕ → List ℕ
-without_cr line = if slice_index_or line (length line - 1) 0 == 13 then take (length line - 1) line else line
+without_cr line =
+    if slice_index_or line (length line - 1) 0 == 13 then take (length line - 1) line else line
 
 -- the job of a line with its number: what it asks, and of which of the lanes
 abbrev pub job_of : ℕ → ℕ → List ℕ → Job
-job_of lanes number line = record { lane = (asked_of lanes line).lane; line = number; ask = (asked_of lanes line).ask }
+job_of lanes number line =
+    record { lane = (asked_of lanes line).lane; line = number; ask = (asked_of lanes line).ask }
 
 -- the open batch ends, if it has a job
 unfoldable pub end_batch : Cut → Cut
 end_batch c =
-    if nat_lt c.from (length c.jobs) then record c { from = length c.jobs; ends = c.ends ++ length c.jobs ∷ [] } else c
+    if nat_lt c.from (length c.jobs) then record c
+    { from = length c.jobs; ends = c.ends ++ length c.jobs ∷ [] } else c
 
 -- a batch ends at its greatest number of lines; each of its lines is a job
 unfoldable pub end_full_batch : Cut → Cut

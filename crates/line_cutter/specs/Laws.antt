@@ -27,7 +27,8 @@ AreLinesBelow limit (job ∷ jobs) = (job.line < limit) × AreLinesBelow limit j
 -- them than it may have lines
 abbrev pub LeadTo : ℕ → List ℕ → ℕ → Type 0
 LeadTo before [] total = before ≡ total
-LeadTo before (end ∷ ends) total = (before < end) × (end ≤ before + BATCH_LINE_LIMIT) × LeadTo end ends total
+LeadTo before (end ∷ ends) total = (before < end) × (end ≤ before + BATCH_LINE_LIMIT) ×
+    LeadTo end ends total
 
 -- jobs and ends of batches as those of an input are
 pub record AreInOrder (lanes : ℕ) (jobs : List Job) (batch_ends : List ℕ) : Type 0 where
@@ -40,7 +41,8 @@ pub record AreInOrder (lanes : ℕ) (jobs : List Job) (batch_ends : List ℕ) : 
 -- the jobs of every input are in order
 abbrev pub JobsAreInOrder : ℕ → Type 0
 JobsAreInOrder lanes =
-    (bytes : List ℕ) (ended : Bool) → AreInOrder lanes (jobs_of_input bytes ended lanes).jobs (jobs_of_input bytes ended lanes).ends
+    (bytes : List ℕ) (ended : Bool) → AreInOrder lanes (jobs_of_input bytes ended lanes).jobs
+    (jobs_of_input bytes ended lanes).ends
 
 -- an input goes on behind what was cut: a cutting that begins at the next line's number goes on
 -- from there, where all jobs are handed over; they reach to the last end of a batch; and whatever
@@ -49,12 +51,14 @@ pub record GoesOn (lanes : ℕ) (c : Cut) : Type 0 where
   pub begins : after_handing c.jobs c.ends (start_at lanes (next_input c).number) ≡ next_input c
   pub closed : last_or 0 c.ends ≡ length c.jobs
   pub order : (bytes : List ℕ) (ended : Bool) →
-      AreInOrder lanes (jobs_from (next_input c) bytes ended).jobs (jobs_from (next_input c) bytes ended).ends
+      AreInOrder lanes (jobs_from (next_input c) bytes ended).jobs
+      (jobs_from (next_input c) bytes ended).ends
 
 -- behind every text that meets no limit an input goes on
 abbrev pub InputsGoOn : ℕ → Type 0
 InputsGoOn lanes =
-    (text : List ℕ) → (jobs_of_input text true lanes).stop ≡ None → GoesOn lanes (jobs_of_input text true lanes)
+    (text : List ℕ) → (jobs_of_input text true lanes).stop ≡ None →
+    GoesOn lanes (jobs_of_input text true lanes)
 
 -- the user whom an edit adds has a name of a name's form
 abbrev pub IsNamedEdit : Edit → Type 0
@@ -72,4 +76,5 @@ AreNamedJobs (j ∷ js) = (IsNamedAsk j.ask × AddsNamed j.ask) × AreNamedJobs 
 
 -- so it has in the jobs of every input
 abbrev pub JobsAreNamed : ℕ → Type 0
-JobsAreNamed lanes = (bytes : List ℕ) (ended : Bool) → AreNamedJobs (jobs_of_input bytes ended lanes).jobs
+JobsAreNamed lanes = (bytes : List ℕ) (ended : Bool) →
+    AreNamedJobs (jobs_of_input bytes ended lanes).jobs

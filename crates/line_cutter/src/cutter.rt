@@ -42,7 +42,16 @@ impl Model for Cutter {
 
     ghost Value = { Cut };
 
-    ghost view = { λ c. record { lanes = c.lanes; line = c.line; number = c.number; jobs = c.jobs; from = c.from; ends = c.ends; stop = c.stop } };
+    ghost view = { λ c. record {
+      lanes = c.lanes;
+      line = c.line;
+      number = c.number;
+      jobs =
+          c.jobs;
+      from = c.from;
+      ends = c.ends;
+      stop = c.stop;
+    } };
 }
 
 impl Cutter {

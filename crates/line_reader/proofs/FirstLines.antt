@@ -61,7 +61,8 @@ pub record GoesOn (front bytes : List ℕ) : Type 0 where
   pub ended : has_end (front ++ bytes) ≡ has_end bytes
   pub counted : line_length (front ++ bytes) ≡ length front + line_length bytes
 
-goes_step : (b : ℕ) (front bytes : List ℕ) (x : Bool) → (b == 10) ≡ x → has_end (b ∷ front) ≡ false → (has_end front ≡ false → GoesOn front bytes) → GoesOn (b ∷ front) bytes
+goes_step : (b : ℕ) (front bytes : List ℕ) (x : Bool) → (b == 10) ≡ x → has_end (b ∷ front) ≡ false → (has_end front ≡ false → GoesOn front bytes) →
+    GoesOn (b ∷ front) bytes
 goes_step b front bytes true is none rest = let no : true ≡ false = rw is at none in absurd cc
 goes_step b front bytes false is none rest =
     let left : has_end front ≡ false = rw is at none in
@@ -78,7 +79,8 @@ goes_on (b ∷ front) bytes none = goes_step b front bytes (b == 10) refl none (
 first_now : (b : ℕ) (bs : List ℕ) → (b == 10) ≡ true → lines_of (b ∷ bs) ≡ first_line (b ∷ bs) ∷ lines_of (behind_line (b ∷ bs))
 first_now b bs is = rw is refl
 
-first_later : (b : ℕ) (bs : List ℕ) → (b == 10) ≡ false → lines_of bs ≡ first_line bs ∷ lines_of (behind_line bs) → lines_of (b ∷ bs) ≡ first_line (b ∷ bs) ∷ lines_of (behind_line (b ∷ bs))
+first_later : (b : ℕ) (bs : List ℕ) → (b == 10) ≡ false → lines_of bs ≡ first_line bs ∷ lines_of (behind_line bs) →
+    lines_of (b ∷ bs) ≡ first_line (b ∷ bs) ∷ lines_of (behind_line (b ∷ bs))
 first_later b bs is h = rw is (ap (before_lines b) h)
 
 first_alone : (b : ℕ) → (b == 10) ≡ false → lines_of (b ∷ []) ≡ first_line (b ∷ []) ∷ lines_of (behind_line (b ∷ []))
@@ -108,7 +110,8 @@ pub record HasBehind (bytes more : List ℕ) : Type 0 where
   pub line : first_line (bytes ++ more) ≡ first_line bytes
   pub behind : behind_line (bytes ++ more) ≡ behind_line bytes ++ more
 
-behind_step : (b : ℕ) (bs more : List ℕ) (x : Bool) → (b == 10) ≡ x → has_end (b ∷ bs) ≡ true → (has_end bs ≡ true → HasBehind bs more) → HasBehind (b ∷ bs) more
+behind_step : (b : ℕ) (bs more : List ℕ) (x : Bool) → (b == 10) ≡ x → has_end (b ∷ bs) ≡ true → (has_end bs ≡ true → HasBehind bs more) →
+    HasBehind (b ∷ bs) more
 behind_step b bs more true is ended rest = record { line = rw is refl; behind = rw is refl }
 behind_step b bs more false is ended rest =
     let left : has_end bs ≡ true = rw is at ended in
@@ -128,7 +131,8 @@ pub record IsAlone (bytes : List ℕ) : Type 0 where
   pub within : line_length bytes ≤ length (first_line bytes)
 
 alone_step : (b : ℕ) (bs : List ℕ) (x : Bool) → (b == 10) ≡ x → IsAlone bs → IsAlone (b ∷ bs)
-alone_step b bs true is h = record { line = rw (is, is) refl; behind = rw (is, is) refl; ended = rw (is, is) refl; counted = rw (is, is) refl; within = rw is (omega arith) }
+alone_step b bs true is h =
+    record { line = rw (is, is) refl; behind = rw (is, is) refl; ended = rw (is, is) refl; counted = rw (is, is) refl; within = rw is (omega arith) }
 alone_step b bs false is h = record {
   line = rw (is, is) (ap (λ xs. b ∷ xs) h.line);
   behind = rw (is, is) h.behind;
@@ -142,7 +146,8 @@ line_alone [] = record { line = refl; behind = refl; ended = refl; counted = ref
 line_alone (b ∷ bs) = alone_step b bs (b == 10) refl (line_alone bs)
 
 -- more bytes make the first line no shorter
-longer_step : (b : ℕ) (bs more : List ℕ) (x : Bool) → (b == 10) ≡ x → line_length bs ≤ line_length (bs ++ more) → line_length (b ∷ bs) ≤ line_length (b ∷ (bs ++ more))
+longer_step : (b : ℕ) (bs more : List ℕ) (x : Bool) → (b == 10) ≡ x → line_length bs ≤ line_length (bs ++ more) →
+    line_length (b ∷ bs) ≤ line_length (b ∷ (bs ++ more))
 longer_step b bs more true is h = rw is (omega arith)
 longer_step b bs more false is h = rw is (omega (arith, h))
 

@@ -21,14 +21,16 @@ handed_pending r handed = rw handed refl
 pub seen_here : (left : Option (List ℕ)) (r : ReaderShape) (bytes : List ℕ) → bytes ≡ pending r → HasSeen left left r bytes
 seen_here left r bytes is = record { more = []; taken = nothing_taken left; whole = is ∙ sym (append-nil (pending r)) }
 
-pub seen_on : (before middle after : Option (List ℕ)) (r s : ReaderShape) (bytes : List ℕ) → HasSeen before middle r (pending s) → HasSeen middle after s bytes → HasSeen before after r bytes
+pub seen_on : (before middle after : Option (List ℕ)) (r s : ReaderShape) (bytes : List ℕ) → HasSeen before middle r (pending s) →
+    HasSeen middle after s bytes → HasSeen before after r bytes
 seen_on before middle after r s bytes first second = record {
   more = first.more ++ second.more;
   taken = more_taken before middle after first.more second.more first.taken second.taken;
   whole = second.whole ∙ ap (λ xs. xs ++ second.more) first.whole ∙ append_assoc (pending r) first.more second.more;
 }
 
-pub reads_on : (before middle after : Option (List ℕ)) (r s t : ReaderShape) (read : Read) → HasSeen before middle r (pending s) → s.limit ≡ r.limit → s.room ≡ r.room
+pub reads_on : (before middle after : Option (List ℕ)) (r s t : ReaderShape) (read : Read) → HasSeen before middle r (pending s) → s.limit ≡ r.limit →
+    s.room ≡ r.room
     → ReadsTo middle after s t read → ReadsTo before after r t read
 reads_on before middle after r s t Line seen limit room h = record {
   bytes = h.bytes;
@@ -55,7 +57,8 @@ reads_on before middle after r s t TooLong seen limit room h = record {
 reads_on before middle after r s t NoMemory seen limit room h = seen_on before middle after r s (pending t) seen h
 
 -- a line ends in what is there
-pub line_ends : (left : Option (List ℕ)) (r s : ReaderShape) (n : ℕ) → r.handed ≡ false → has_end r.line ≡ false → length r.line ≤ r.limit → length r.ahead ≤ r.room
+pub line_ends : (left : Option (List ℕ)) (r s : ReaderShape) (n : ℕ) → r.handed ≡ false → has_end r.line ≡ false → length r.line ≤ r.limit →
+    length r.ahead ≤ r.room
     → HasEndAt r.ahead n → n ≤ r.limit - length r.line → s ≡ record r { line = r.line ++ take (n + 1) r.ahead; handed = true; ahead = drop (n + 1) r.ahead }
     → HasReadLine left left r s
 line_ends left r s n kept going short less h fits is =
@@ -102,7 +105,8 @@ line_passes left r kept going short less long =
 pub long_end : (bytes : List ℕ) (n limit size : ℕ) → size ≤ limit → HasEndAt bytes n → ¬ (n ≤ limit - size) → limit < size + line_length bytes
 long_end bytes n limit size within h above = let e = h.counted in omega (arith, e, above, within)
 
-pub long_open : (bytes : List ℕ) (count limit size : ℕ) → size ≤ limit → has_end bytes ≡ false → count ≡ length bytes → ¬ (count ≤ limit - size) → limit < size + line_length bytes
+pub long_open : (bytes : List ℕ) (count limit size : ℕ) → size ≤ limit → has_end bytes ≡ false → count ≡ length bytes → ¬ (count ≤ limit - size) →
+    limit < size + line_length bytes
 long_open bytes count limit size within none is above = let e = (open_line bytes none).counted in omega (arith, e, is, above, within)
 
 -- no memory for what is there
@@ -110,7 +114,8 @@ pub nothing_read : (left : Option (List ℕ)) (r s : ReaderShape) → s ≡ r �
 nothing_read left r s is = rw is (seen_here left r (pending r) refl)
 
 -- the input has ended: nothing of a line is there
-pub input_ends : (before after : Option (List ℕ)) (r : ReaderShape) → r.handed ≡ false → r.ahead ≡ [] → length r.line ≡ 0 → HasTaken before after [] → IsAtEnd after → HasEnded before after r r
+pub input_ends : (before after : Option (List ℕ)) (r : ReaderShape) → r.handed ≡ false → r.ahead ≡ [] → length r.line ≡ 0 → HasTaken before after [] →
+    IsAtEnd after → HasEnded before after r r
 input_ends before after r kept none empty taken ended =
     let no_line : r.line ≡ [] = grind (arith, common_steps) in
     let nothing : pending r ≡ [] = open_pending r kept ∙ ap (λ xs. xs ++ r.ahead) no_line ∙ none in
@@ -139,7 +144,8 @@ line_is_last before after r s kept going short room none some is taken ended =
     })
 
 -- a piece was taken
-pub piece_taken : (before after : Option (List ℕ)) (r s : ReaderShape) → r.handed ≡ false → r.ahead ≡ [] → s ≡ record r { ahead = s.ahead } → HasTaken before after s.ahead
+pub piece_taken : (before after : Option (List ℕ)) (r s : ReaderShape) → r.handed ≡ false → r.ahead ≡ [] → s ≡ record r { ahead = s.ahead } →
+    HasTaken before after s.ahead
     → 0 < length s.ahead → HasGoneOn before after r s × (steps_left s < steps_left r)
 piece_taken before after r s kept none is taken some =
     let open_s : s.handed ≡ false = ap (λ (x : ReaderShape). x.handed) is ∙ kept in
@@ -150,7 +156,8 @@ piece_taken before after r s kept none is taken some =
         seen = record {
           more = s.ahead;
           taken = taken;
-          whole = open_pending s open_s ∙ ap (λ xs. xs ++ s.ahead) (line_s ∙ sym (append-nil r.line) ∙ ap (λ xs. r.line ++ xs) (sym none) ∙ sym (open_pending r kept));
+          whole = open_pending s open_s ∙
+              ap (λ xs. xs ++ s.ahead) (line_s ∙ sym (append-nil r.line) ∙ ap (λ xs. r.line ++ xs) (sym none) ∙ sym (open_pending r kept));
         };
         kept = open_s;
         limit = limit_s;
@@ -207,7 +214,8 @@ front_between piece at filled count begun within =
 pub read_whole : (r : ReaderShape) (line after : List ℕ) (handed : Bool) (at filled limit : ℕ) (piece : List ℕ)
     → record { line = line; handed = handed; ahead = drop at (take filled piece); limit = limit; room = length piece } ≡ r → at ≤ filled
     → after ≡ line ++ take (filled - at) (drop at piece)
-    → record { line = after; handed = handed; ahead = drop filled (take filled piece); limit = limit; room = length piece } ≡ record r { line = r.line ++ r.ahead; ahead = [] }
+    → record { line = after; handed = handed; ahead = drop filled (take filled piece); limit = limit; room = length piece } ≡ record r
+    { line = r.line ++ r.ahead; ahead = [] }
 read_whole r line after handed at filled limit piece is begun grown =
     let none : drop filled (take filled piece) ≡ [] = drop_all filled (take filled piece) (omega (arith, length-take filled piece)) in
     let all : after ≡ line ++ drop at (take filled piece) = grown ∙ ap (λ xs. line ++ xs) (between piece at filled begun) in
@@ -215,14 +223,16 @@ read_whole r line after handed at filled limit piece is begun grown =
 
 -- the front of the piece is taken into the line, which is handed over
 pub read_front : (r : ReaderShape) (line after : List ℕ) (handed : Bool) (at filled limit count : ℕ) (piece : List ℕ)
-    → record { line = line; handed = handed; ahead = drop at (take filled piece); limit = limit; room = length piece } ≡ r → at ≤ filled → count ≤ length r.ahead
+    → record { line = line; handed = handed; ahead = drop at (take filled piece); limit = limit; room = length piece } ≡ r → at ≤ filled →
+    count ≤ length r.ahead
     → after ≡ line ++ take ((at + count) - at) (drop at piece)
     → record { line = after; handed = true; ahead = drop (at + count) (take filled piece); limit = limit; room = length piece }
     ≡ record r { line = r.line ++ take count r.ahead; handed = true; ahead = drop count r.ahead }
 read_front r line after handed at filled limit count piece is begun within grown =
     let few : count ≤ length (drop at (take filled piece)) = omega (arith, within, ap (λ (s : ReaderShape). length s.ahead) is) in
     let all : after ≡ line ++ take count (drop at (take filled piece)) = grown ∙ ap (λ xs. line ++ xs) (front_between piece at filled count begun few) in
-    rw (all, sym (drop-drop count at (take filled piece))) (ap (λ (s : ReaderShape). record s { line = s.line ++ take count s.ahead; handed = true; ahead = drop count s.ahead }) is)
+    rw (all, sym (drop-drop count at (take filled piece)))
+    (ap (λ (s : ReaderShape). record s { line = s.line ++ take count s.ahead; handed = true; ahead = drop count s.ahead }) is)
 
 -- the sizes of a reader's parts
 pub sizes : (r : ReaderShape) (line : List ℕ) (handed : Bool) (at filled limit : ℕ) (piece : List ℕ)
@@ -242,14 +252,16 @@ none_ahead r line handed at filled limit piece is done =
     sym (ap (λ (s : ReaderShape). s.ahead) is) ∙ drop_all at (take filled piece) (omega (arith, done, length-take filled piece))
 
 -- one step more of reading a line
-pub steps_on : (before middle after : Option (List ℕ)) (r s t : ReaderShape) (result : Option Read) (read : Read) → HasSeen before middle r (pending s) → s.limit ≡ r.limit → s.room ≡ r.room
+pub steps_on : (before middle after : Option (List ℕ)) (r s t : ReaderShape) (result : Option Read) (read : Read) → HasSeen before middle r (pending s) →
+    s.limit ≡ r.limit → s.room ≡ r.room
     → StepsTo middle after s t result → result ≡ Some read → ReadsTo before after r t read
 steps_on before middle after r s t None read seen limit room steps is = cc
 steps_on before middle after r s t (Some x) read seen limit room steps is =
     let same : x ≡ read = cc in
     reads_on before middle after r s t read seen limit room (subst (λ (y : Read). ReadsTo middle after s t y) same steps)
 
-pub goes_further : (before middle after : Option (List ℕ)) (r s t : ReaderShape) (result : Option Read) → HasSeen before middle r (pending s) → StepsTo middle after s t result → result ≡ None
+pub goes_further : (before middle after : Option (List ℕ)) (r s t : ReaderShape) (result : Option Read) → HasSeen before middle r (pending s) →
+    StepsTo middle after s t result → result ≡ None
     → HasSeen before after r (pending t) × (t.handed ≡ false) × (steps_left t < steps_left s)
 goes_further before middle after r s t None seen steps is = (seen_on before middle after r s (pending t) seen steps.0.seen, steps.0.kept, steps.1)
 goes_further before middle after r s t (Some x) seen steps is = cc
@@ -258,7 +270,8 @@ pub counts_still : (result : Option Read) (before after : ℕ) → CountsStep re
 counts_still None before after counts is = counts
 counts_still (Some x) before after counts is = cc
 
-pub counts_on : (result : Option Read) (read : Read) (first before after : ℕ) → CountsStep result before after → result ≡ Some read → before ≡ first → CountsAs read first after
+pub counts_on : (result : Option Read) (read : Read) (first before after : ℕ) → CountsStep result before after → result ≡ Some read → before ≡ first →
+    CountsAs read first after
 counts_on None read first before after counts is same = cc
 counts_on (Some x) read first before after counts is same =
     let e : x ≡ read = cc in

@@ -1,5 +1,7 @@
--- Reading an input line by line: the lines of a text, what was taken of the input, and what is handed over.
-use Rattle.std.specs.Prelude.{◌≡◌, ℕ, suc, ◌+◌, ◌==◌, ◌<◌, ◌≤◌, Bool, true, false, List, [], ◌∷◌, ◌++◌, length, Option, if◌then◌else◌}
+-- Reading an input line by line: the lines of a text, what was taken of the input, and what is
+-- handed over.
+use Rattle.std.specs.Prelude.{◌≡◌, ℕ, suc, ◌+◌, ◌==◌, ◌<◌, ◌≤◌, Bool, true, false, List, [], ◌∷◌}
+use Rattle.std.specs.Prelude.{◌++◌, length, Option, if◌then◌else◌}
 use Rattle.wf_outside.specs.Outside.{Rose, HasTaken, IsAtEnd}
 use Rattle.line_reader.specs.declared.read.Read.{Read}
 use Rattle.line_reader.specs.declared.read.Read.TheVariants.{Line, End, Failed, TooLong, NoMemory}
@@ -29,13 +31,15 @@ abbrev pub before_lines : ℕ → List (List ℕ) → List (List ℕ)
 before_lines b [] = (b ∷ []) ∷ []
 before_lines b (line ∷ lines) = (b ∷ line) ∷ lines
 
--- the lines of a text, each with its LF; what stands behind the last LF is a line too, unless it is empty
+-- the lines of a text, each with its LF; what stands behind the last LF is a line too, unless it is
+-- empty
 abbrev pub lines_of : List ℕ → List (List ℕ)
 lines_of [] = []
 lines_of (b ∷ bs) = if b == 10 then (b ∷ []) ∷ lines_of bs else before_lines b (lines_of bs)
 
--- a reader: the last line that it read, or the front of the next one where it has not been handed over; the bytes that were
--- taken behind it; how many bytes a line may have without its LF, and how many are taken at once at most
+-- a reader: the last line that it read, or the front of the next one where it has not been handed
+-- over; the bytes that were taken behind it; how many bytes a line may have without its LF, and how
+-- many are taken at once at most
 pub record ReaderShape : Type 0 where
   pub line : List ℕ
   pub handed : Bool
@@ -47,14 +51,16 @@ pub record ReaderShape : Type 0 where
 abbrev pub pending : ReaderShape → List ℕ
 pending r = if r.handed then r.ahead else r.line ++ r.ahead
 
--- these bytes are all that was pending, and what the source gave behind it, which had `before` left and has `after` left
-pub record HasSeen (before after : Option (List ℕ)) (r : ReaderShape) (bytes : List ℕ) : Type 0 where
+-- these bytes are all that was pending, and what the source gave behind it, which had `before` left
+-- and has `after` left
+pub record HasSeen (before after : Option (List ℕ)) (r : ReaderShape) (bytes : List ℕ) : Type
+    0 where
   pub more : List ℕ
   pub taken : HasTaken before after more
   pub whole : bytes ≡ pending r ++ more
 
--- the first line of what was seen is handed over, and is not too long; where it has no LF the input has ended; less than one
--- piece is taken behind it
+-- the first line of what was seen is handed over, and is not too long; where it has no LF the input
+-- has ended; less than one piece is taken behind it
 pub record HasReadLine (before after : Option (List ℕ)) (r s : ReaderShape) : Type 0 where
   pub bytes : List ℕ
   pub seen : HasSeen before after r bytes
@@ -78,7 +84,8 @@ pub record HasStopped (before after : Option (List ℕ)) (r s : ReaderShape) : T
   pub going : has_end (pending s) ≡ false
   pub fits : length (pending s) ≤ r.limit
 
--- all that was seen is pending: a line that is too long, of which at most one piece was taken behind the limit
+-- all that was seen is pending: a line that is too long, of which at most one piece was taken
+-- behind the limit
 pub record HasPassed (before after : Option (List ℕ)) (r s : ReaderShape) : Type 0 where
   pub seen : HasSeen before after r (pending s)
   pub long : r.limit < line_length (pending s)

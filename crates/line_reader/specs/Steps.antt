@@ -1,7 +1,9 @@
 -- Inside: how reading a line goes on, step by step.
-use Rattle.std.specs.Prelude.{◌≡◌, ℕ, suc, ◌+◌, ◌-◌, ◌*◌, ◌<◌, true, false, List, length, take, drop, Option, None, Some}
+use Rattle.std.specs.Prelude.{◌≡◌, ℕ, suc, ◌+◌, ◌-◌, ◌*◌, ◌<◌, true, false, List, length, take}
+use Rattle.std.specs.Prelude.{drop, Option, None, Some}
 use Rattle.line_reader.specs.declared.read.Read.{Read}
-use Rattle.line_reader.specs.Lines.{ReaderShape, HasSeen, pending, first_line, behind_line, has_end, line_length, ReadsTo, CountsAs}
+use Rattle.line_reader.specs.Lines.{ReaderShape, HasSeen, pending, first_line, behind_line, has_end}
+use Rattle.line_reader.specs.Lines.{line_length, ReadsTo, CountsAs}
 
 -- the line has not ended yet, and some of it is read
 pub record HasGoneOn (before after : Option (List ℕ)) (r s : ReaderShape) : Type 0 where
@@ -10,12 +12,14 @@ pub record HasGoneOn (before after : Option (List ℕ)) (r s : ReaderShape) : Ty
   pub limit : s.limit ≡ r.limit
   pub room : s.room ≡ r.room
 
--- how much is left to do at most: the line grows up to its limit, and takes a piece where none is left
+-- how much is left to do at most: the line grows up to its limit, and takes a piece where none is
+-- left
 abbrev pub steps_left : ReaderShape → ℕ
 steps_left r = 2 * (r.limit - length r.line) + (1 - length r.ahead)
 
 -- one step goes on, or ends reading
-abbrev pub StepsTo : Option (List ℕ) → Option (List ℕ) → ReaderShape → ReaderShape → Option Read → Type 0
+abbrev pub StepsTo : Option (List ℕ) → Option (List ℕ) → ReaderShape → ReaderShape →
+    Option Read → Type 0
 StepsTo before after r s None = HasGoneOn before after r s × (steps_left s < steps_left r)
 StepsTo before after r s (Some read) = ReadsTo before after r s read
 

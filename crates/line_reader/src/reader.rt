@@ -1,5 +1,6 @@
 //! A reader of lines.
-ghost use Rattle.std.specs.Prelude.{◌≡◌, ◌≤◌, ◌<◌, ◌+◌, ◌++◌, ℕ, List, [], length, take, drop, Option, None, Some, true, false, Ok, IfOk, OnOk, OnErr};
+ghost use Rattle.std.specs.Prelude.{◌≡◌, ◌≤◌, ◌<◌, ◌+◌, ◌++◌, ℕ, List, [], length, take, drop};
+ghost use Rattle.std.specs.Prelude.{Option, None, Some, true, false, Ok, IfOk, OnOk, OnErr};
 ghost use Rattle.wf_outside.specs.Outside.{Rose, HasTaken, IsAtEnd};
 ghost use Rattle.line_reader.specs.Lines.{has_end, pending, ReadsTo, CountsAs};
 ghost use Rattle.line_reader.specs.Steps.{StepsTo, CountsStep, FindsEnd};
@@ -31,15 +32,24 @@ impl Model for LineReader {
 
     ghost Value = { ReaderShape };
 
-    ghost view = { λ r. record { line = r.line; handed = r.handed; ahead = drop r.at (take r.filled r.piece.items); limit = r.limit; room = length r.piece.items } };
+    ghost view = { λ r. record {
+      line = r.line;
+      handed = r.handed;
+      ahead = drop r.at
+          (take r.filled r.piece.items);
+      limit = r.limit;
+      room = length r.piece.items;
+    } };
 
-    ghost invariant = { λ r. (r.at ≤ r.filled) × (r.filled ≤ length r.piece.items) × (0 < length r.piece.items)
-        × (r.handed ≡ false → length r.line ≤ r.limit) × (r.handed ≡ false → has_end r.line ≡ false) };
+    ghost invariant = { λ r. (r.at ≤ r.filled) × (r.filled ≤ length r.piece.items) ×
+        (0 < length r.piece.items)
+        × (r.handed ≡ false → length r.line ≤ r.limit) ×
+        (r.handed ≡ false → has_end r.line ≡ false) };
 }
 
 impl LineReader {
-    /// A reader before the first byte, of lines of at most `limit` bytes without their line ends. It
-    /// takes at most `room` bytes at once.
+    /// A reader before the first byte, of lines of at most `limit` bytes without their line ends.
+    /// It takes at most `room` bytes at once.
     pub fn new(alloc: Global, room: usize, limit: usize) -> Result<LineReader, AllocError>
         requires { 0 < room }
         ensures { IfOk result (λ r. r ≡ record

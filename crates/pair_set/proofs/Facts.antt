@@ -28,7 +28,8 @@ held pairs s is pair i place = ap (λ t. set.contains t pair) (sym is) ∙ held_
 pub free : (pairs : List (ℕ × ℕ)) (s : Pairs) → set.from_list pairs ≡ s → (pair : ℕ × ℕ) (i : ℕ) → IsGapFor pairs pair i → set.contains s pair ≡ false
 free pairs s is pair i gap = ap (λ t. set.contains t pair) (sym is) ∙ free_at pairs pair i gap
 
-pub tells : (pairs : List (ℕ × ℕ)) (s : Pairs) → set.from_list pairs ≡ s → (pair : ℕ × ℕ) (r : Result ℕ ℕ) → IfOk r (IsPlaceOf pairs pair) → IfErr r (IsGapFor pairs pair) → is_ok r ≡ set.contains s pair
+pub tells : (pairs : List (ℕ × ℕ)) (s : Pairs) → set.from_list pairs ≡ s → (pair : ℕ × ℕ) (r : Result ℕ ℕ) → IfOk r (IsPlaceOf pairs pair) →
+    IfErr r (IsGapFor pairs pair) → is_ok r ≡ set.contains s pair
 tells pairs s is pair (Ok i) place _ = sym (held pairs s is pair i place)
 tells pairs s is pair (Err i) _ gap = sym (free pairs s is pair i gap)
 
@@ -38,10 +39,12 @@ ascending_insert pairs pair i s gap = sorted_insert pair_cmp_total pairs pair i 
 pub ascending_remove : (pairs : List (ℕ × ℕ)) (pair : ℕ × ℕ) (i : ℕ) → IsAscending pairs → IsPlaceOf pairs pair i → IsAscending (remove pairs i)
 ascending_remove pairs pair i s place = sorted_remove pair_cmp_total pairs i pair s place.in_range
 
-pub set_after_insert : (pairs : List (ℕ × ℕ)) (s : Pairs) → set.from_list pairs ≡ s → (pair : ℕ × ℕ) (i : ℕ) → set.from_list {R = pair_cmp} (insert pairs i pair) ≡ set.insert s pair
+pub set_after_insert : (pairs : List (ℕ × ℕ)) (s : Pairs) → set.from_list pairs ≡ s → (pair : ℕ × ℕ) (i : ℕ) →
+    set.from_list {R = pair_cmp} (insert pairs i pair) ≡ set.insert s pair
 set_after_insert pairs s is pair i = from_list-insert pair_cmp_total pair_cmp-IsAntisymmetric pairs i pair ∙ ap (λ t. set.insert t pair) is
 
-pub set_after_remove : (pairs : List (ℕ × ℕ)) (s : Pairs) → set.from_list pairs ≡ s → (pair : ℕ × ℕ) (i : ℕ) → IsAscending pairs → IsPlaceOf pairs pair i → set.from_list {R = pair_cmp} (remove pairs i) ≡ set.remove s pair
+pub set_after_remove : (pairs : List (ℕ × ℕ)) (s : Pairs) → set.from_list pairs ≡ s → (pair : ℕ × ℕ) (i : ℕ) → IsAscending pairs → IsPlaceOf pairs pair i →
+    set.from_list {R = pair_cmp} (remove pairs i) ≡ set.remove s pair
 set_after_remove pairs s is pair i up place =
     from_list-remove pair_cmp_total pair_cmp-IsAntisymmetric pairs i pair up place.in_range
     ∙ (λ j. set.remove (is j) (place.is j))
@@ -55,7 +58,11 @@ set_free pairs s is pair i gap = sym (remove_absent pair_cmp_total pair_cmp-IsAn
 pub set_len : (pairs : List (ℕ × ℕ)) (s : Pairs) → set.from_list pairs ≡ s → IsAscending pairs → set.len s ≡ length pairs
 set_len pairs s is up = ap set.len (sym is) ∙ len-from_list pair_cmp_total pair_cmp-IsAntisymmetric pairs up
 
-pub empty_tells : (pairs : List (ℕ × ℕ)) (s : Pairs) → set.from_list pairs ≡ s → IsAscending pairs → (b : Bool) → b ≡ (length pairs == 0) → (IsTrue b → s ≡ set.empty) × (s ≡ set.empty → IsTrue b)
+pub empty_tells : (pairs : List (ℕ × ℕ)) (s : Pairs) → set.from_list pairs ≡ s → IsAscending pairs → (b : Bool) → b ≡ (length pairs == 0) →
+    (IsTrue b → s ≡ set.empty) × (s ≡ set.empty → IsTrue b)
 empty_tells pairs s is up b e =
-    let count : set.len s ≡ length pairs = set_len pairs s is up in
-    (λ yes. set.empty_of_len s (count ∙ eqb-true (length pairs) 0 (sym e ∙ yes)), λ none. e ∙ eq-eqb (length pairs) 0 (sym count ∙ ap set.len none ∙ set.len-empty pair_cmp))
+    let count : set.len s ≡ length pairs = set_len pairs s is up in (
+      λ yes. set.empty_of_len s (count ∙ eqb-true (length pairs) 0 (sym e ∙ yes)),
+      λ none. e ∙
+          eq-eqb (length pairs) 0 (sym count ∙ ap set.len none ∙ set.len-empty pair_cmp),
+    )

@@ -32,7 +32,8 @@ module _ {K : Type 0} {R : K → K → Ordering} (o : IsTotalOrder R) (exact : I
       ∙ list_any-IsPermutation (eq_by_cmp R q) xs (x ∷ remove xs i) (IsPermutation-remove xs i x in_range (get_or_default xs i d x in_range))
       ∙ sym (set.contains-from_list o (x ∷ remove xs i) q))
 
-  pub from_list-remove : (xs : List K) (i : ℕ) (d : K) → IsStrictlySortedBy R xs → i < length xs → set.from_list {R = R} (remove xs i) ≡ set.remove (set.from_list xs) (get_or xs i d)
+  pub from_list-remove : (xs : List K) (i : ℕ) (d : K) → IsStrictlySortedBy R xs → i < length xs →
+      set.from_list {R = R} (remove xs i) ≡ set.remove (set.from_list xs) (get_or xs i d)
   from_list-remove xs i d s in_range =
       let x = get_or xs i d in
       sym (ap (λ t. set.remove t x) (with_removed xs i d in_range)

@@ -1,7 +1,8 @@
 //! A finite set of pairs of numbers, kept as an ascending list.
 #![tactic(auto)]
 
-ghost use Rattle.std.specs.Prelude.{◌≡◌, ◌==◌, true, false, not, OnOk, IfErr, OnErr, IfOk, IsTrue, ◌↔◌};
+ghost use Rattle.std.specs.Prelude.{◌≡◌, ◌==◌, true, false, not, OnOk, IfErr, OnErr, IfOk, IsTrue};
+ghost use Rattle.std.specs.Prelude.{◌↔◌};
 ghost use Rattle.std.specs.FinSet as set;
 ghost use Rattle.pair_set.specs.Pairs.{Pairs, pairs_code, pair_cmp, IsAscending};
 ghost use Rattle.pair_set.specs.Places.{IsPlaceOf, IsGapFor};

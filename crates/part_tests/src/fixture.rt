@@ -68,7 +68,8 @@ pub(crate) enum Look {
     Uncalled,
 }
 
-/// Whether all is right under the policy of three clerks with these rules over the steps a, b and c.
+/// Whether all is right under the policy of three clerks with these rules over the steps a, b and
+/// c.
 pub(crate) fn is_right_in_trio(alloc: Global, rules: &str, look: Look) -> Result<bool, Fail> {
     let text = format!(in alloc; "{TRIO}{rules}]\n")?;
     is_right(alloc, text.as_str(), look)

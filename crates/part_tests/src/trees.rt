@@ -13,8 +13,8 @@ use std::test::Fail;
 use wire_json::tree_value;
 use wsp_solver::trim;
 
-// A tree that tries each user for the second step, which no rule names, then for the first, and then
-// for the third: who has the first falsifies the second rule, and anybody else the first one.
+// A tree that tries each user for the second step, which no rule names, then for the first, and
+// then for the third: who has the first falsifies the second rule, and anybody else the first one.
 const TREE: &str = r#"{"step":"b","users":[
   ["kim",{"step":"a","users":[
     ["kim",{"step":"c","users":[["kim",{"rule":1}],["lee",{"rule":0}],["max",{"rule":0}]]}],

@@ -7,8 +7,8 @@ use crate::work::Work;
 use constraint_forms::Assign;
 use wf_names::{RULE_LIMIT, STEP_LIMIT, StepId};
 
-/// A step that is not assigned: few candidates and rules of much weight speak for a step, and before
-/// all that it has no candidate.
+/// A step that is not assigned: few candidates and rules of much weight speak for a step, and
+/// before all that it has no candidate.
 pub(crate) fn advised(problem: &Problem, work: &mut Work, a: &Assign) -> Option<StepId> {
     let open = open_steps(problem, a);
     let mut best = None;
@@ -37,7 +37,8 @@ pub(crate) fn advised(problem: &Problem, work: &mut Work, a: &Assign) -> Option<
     best
 }
 
-/// At most so many steps that are not assigned, chosen by their candidates and the weight of their rules.
+/// At most so many steps that are not assigned, chosen by their candidates and the weight of their
+/// rules.
 pub(crate) fn best_roots(problem: &Problem, work: &mut Work, a: &Assign, most: u32) -> u32 {
     let open = open_steps(problem, a);
     let mut shares = [(0u32, 1u32); STEP_LIMIT];
@@ -103,7 +104,8 @@ fn weight_of(problem: &Problem, work: &Work, open: u32, s: u8) -> u32 {
     weight
 }
 
-// How many authorised users a step may be given to without falsifying a rule. The rule that leaves nobody is blamed.
+// How many authorised users a step may be given to without falsifying a rule. The rule that leaves
+// nobody is blamed.
 fn count_candidates(problem: &Problem, work: &mut Work, a: &Assign, open: u32, s: u8) -> u32 {
     put(work.spare.row_mut(0), problem.allowed.row(s as usize));
     let mut left = problem.laws_of(s);
@@ -253,7 +255,8 @@ fn keep_only(work: &mut Work, u: u16) {
     }
 }
 
-// Some member of the group is to be related to the user of the rule's step: looked at where all its other steps are assigned.
+// Some member of the group is to be related to the user of the rule's step: looked at where all its
+// other steps are assigned.
 fn restrict_some(problem: &Problem, work: &mut Work, law: &Law, a: &Assign, s: u8) {
     if !are_assigned(a, law.scope & !bit(s)) {
         return;
@@ -304,7 +307,8 @@ fn are_related(problem: &Problem, over: Over, u: u16, v: u16) -> bool {
     }
 }
 
-// Those stay to whom some user of the group is related, or who are related to themselves where the step is in the group.
+// Those stay to whom some user of the group is related, or who are related to themselves where the
+// step is in the group.
 fn restrict_some_last(problem: &Problem, work: &mut Work, law: &Law, a: &Assign) {
     clear(work.taken.row_mut(0));
     let mut group = law.group;

@@ -65,7 +65,8 @@ impl Node {
         }
     }
 
-    // The next option of a step. Every other run tries a new block last, and of the blocks the one with the most users first.
+    // The next option of a step. Every other run tries a new block last, and of the blocks the one
+    // with the most users first.
     fn take_option(&mut self, s: u8, run: u8) -> Option<u8> {
         let new_first = run & 1 == 0;
         if new_first && self.options & NEW != 0 {

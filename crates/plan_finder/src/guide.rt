@@ -9,8 +9,8 @@ const FIRST_LIMIT: u32 = 1_000;
 /// The most tries of a run.
 const GREATEST_LIMIT: u32 = 1 << 30;
 
-/// After so many tries a short run of one more root ends, where its tree seems to become more than so
-/// many times as large as that of another root.
+/// After so many tries a short run of one more root ends, where its tree seems to become more than
+/// so many times as large as that of another root.
 const LOOK: u32 = 500;
 
 const TIMES: u64 = 2;
@@ -119,7 +119,8 @@ impl Guide {
         self.tried = Cells::all(0);
     }
 
-    // The bound of a longer run: about twice what its tree seems to take, but not much more than before.
+    // The bound of a longer run: about twice what its tree seems to take, but not much more than
+    // before.
     fn next_limit(&self) -> u32 {
         let size = match self.root {
             Some(root) => self.sizes.at(root).saturating_mul(2),
@@ -188,8 +189,8 @@ impl Guide {
         least
     }
 
-    // Notes how large the tree of the last run seems to become. Where that is more than a shorter run
-    // told, trees of roots that only had shorter runs seem to become larger too.
+    // Notes how large the tree of the last run seems to become. Where that is more than a shorter
+    // run told, trees of roots that only had shorter runs seem to become larger too.
     fn note(&mut self) {
         let Some(root) = self.root else { return };
         let Some(size) = self.size() else { return };

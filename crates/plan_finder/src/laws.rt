@@ -14,7 +14,8 @@ use wf_names::RULE_LIMIT;
 /// How often blocks are looked at again after one step of the search, at most.
 const PASSES: u32 = 4_096;
 
-/// Follows the change of some blocks to what the rules leave. Tells whether everything can still be met.
+/// Follows the change of some blocks to what the rules leave. Tells whether everything can still be
+/// met.
 pub(crate) fn settle(problem: &Problem, state: &mut State, work: &mut Work, changed: u32) -> bool {
     let mut changed = Changed {
         blocks: changed,
@@ -175,7 +176,8 @@ fn follow_each(
     true
 }
 
-// Some member of the group is to have the step's user, or another one: looked at where at most one step is open.
+// Some member of the group is to have the step's user, or another one: looked at where at most one
+// step is open.
 fn follow_some_plain(state: &mut State, law: &Law, same: bool) -> bool {
     let mut open = law.scope & state.open;
     let Some(t) = pop(&mut open) else {

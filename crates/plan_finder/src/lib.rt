@@ -1,8 +1,9 @@
-//! A quick search for a plan. It promises nothing of what it finds: whoever asks it checks the plan.
+//! A quick search for a plan. It promises nothing of what it finds: whoever asks it checks the
+//! plan.
 //!
-//! Steps of one user form a block. The search joins free steps to blocks or opens new ones, and keeps
-//! for each block the users who may still stand for it; users are chosen late. Every run is bounded by
-//! counted work, so that the same question has the same answer on every machine.
+//! Steps of one user form a block. The search joins free steps to blocks or opens new ones, and
+//! keeps for each block the users who may still stand for it; users are chosen late. Every run is
+//! bounded by counted work, so that the same question has the same answer on every machine.
 #![tactic(auto)]
 
 mod advice;

@@ -56,8 +56,8 @@ impl Changed {
     }
 }
 
-/// The user of the first step is to be related to that of the second. Tells whether that can still be;
-/// blocks that lose users come to be among those that changed.
+/// The user of the first step is to be related to that of the second. Tells whether that can still
+/// be; blocks that lose users come to be among those that changed.
 pub(crate) fn make_related(
     problem: &Problem,
     link: Link<'_>,
@@ -89,9 +89,9 @@ pub(crate) fn make_related(
     }
 }
 
-// Into the spare row go those to whom some user of a step's block is related, of the users of another
-// step at least. Tells whether that was done: where the block did not change, the other step has been
-// left those alone before.
+// Into the spare row go those to whom some user of a step's block is related, of the users of
+// another step at least. Tells whether that was done: where the block did not change, the other
+// step has been left those alone before.
 fn reach_ahead(
     problem: &Problem,
     link: Link<'_>,
@@ -116,8 +116,8 @@ fn spend_on(problem: &Problem, from: &[u64], work: &mut Work) {
     let _ = work.spend((count(from) as usize).saturating_mul(problem.width));
 }
 
-/// To the spare row come those to whom some user of a step's block is related, of the users of another
-/// step at least.
+/// To the spare row come those to whom some user of a step's block is related, of the users of
+/// another step at least.
 pub(crate) fn add_ahead(
     problem: &Problem,
     link: Link<'_>,
@@ -138,8 +138,8 @@ pub(crate) fn add_ahead(
     );
 }
 
-// Into the spare row go those who are related to some user of a step's block, of the users of another
-// step at least. Tells whether that was done, as above.
+// Into the spare row go those who are related to some user of a step's block, of the users of
+// another step at least. Tells whether that was done, as above.
 fn reach_back(
     problem: &Problem,
     link: Link<'_>,

@@ -14,7 +14,8 @@ struct Given {
     seats: u32,
 }
 
-/// Whether the blocks can have different users; looked at where one has fewer than there are blocks.
+/// Whether the blocks can have different users; looked at where one has fewer than there are
+/// blocks.
 pub(crate) fn can_match(state: &State) -> bool {
     let seats = block_seats(state);
     are_wide(state, seats) || reach(state, seats) == seats.count_ones()
@@ -26,7 +27,8 @@ pub(crate) fn can_reach(state: &State, steps: u32, least: u32) -> bool {
     (seats.count_ones() >= least && are_wide(state, seats)) || reach(state, seats) >= least
 }
 
-/// The plan that gives each step a user of its block, all blocks different ones, where there is one.
+/// The plan that gives each step a user of its block, all blocks different ones, where there is
+/// one.
 pub(crate) fn matched(state: &State, steps: u8) -> Option<Plan> {
     let seats = block_seats(state);
     let given = give_all(state, seats);
@@ -134,8 +136,8 @@ fn give_one(state: &State, given: &mut Given, start: u8) {
     }
 }
 
-// A user of a seat who was given to none. Each seat before it can have taken one user, so one of the
-// first so many is free, if any is.
+// A user of a seat who was given to none. Each seat before it can have taken one user, so one of
+// the first so many is free, if any is.
 fn free_user(state: &State, given: &Given, seat: u8) -> Option<u16> {
     for place in 0..33u32 {
         let user = nth_user(users_of(state, seat), place)?;

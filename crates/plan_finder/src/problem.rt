@@ -113,8 +113,8 @@ impl<'p> Source<'p> {
     }
 }
 
-/// A declared relation: for each user whose rows were read those to whom they are related, and those
-/// who are related to them; and which of these users are related to themselves.
+/// A declared relation: for each user whose rows were read those to whom they are related, and
+/// those who are related to them; and which of these users are related to themselves.
 #[derive(Drop)]
 pub(crate) struct Relation {
     rho: RelId,

@@ -12,8 +12,8 @@ use wf_names::{RULE_LIMIT, STEP_LIMIT, StepId};
 /// The number that stands where no rule is known.
 pub(crate) const NO_RULE: u8 = 0xff;
 
-/// For each depth of a search a rule for each user, which keeps the user from the step that is given
-/// there; and the depth at which each step was given.
+/// For each depth of a search a rule for each user, which keeps the user from the step that is
+/// given there; and the depth at which each step was given.
 #[derive(Drop)]
 pub(crate) struct Reasons {
     rules: Vec<u8>,
@@ -84,8 +84,8 @@ impl Reasons {
         }
     }
 
-    /// Finds the rules that keep users from a step at a depth. Of two rules the one whose steps were
-    /// given earlier is taken, so that a tree mentions few of the later ones.
+    /// Finds the rules that keep users from a step at a depth. Of two rules the one whose steps
+    /// were given earlier is taken, so that a tree mentions few of the later ones.
     pub(crate) fn find(
         &mut self,
         problem: &Problem,

@@ -54,7 +54,8 @@ pub struct Finder {
 }
 
 impl Finder {
-    /// A finder for a workflow, which has learned nothing yet. A run keeps at most so many branches.
+    /// A finder for a workflow, which has learned nothing yet. A run keeps at most so many
+    /// branches.
     pub fn new(alloc: Global, p: &Policy, f: FlowId, most: u32) -> Result<Finder, AllocError>
         requires { f < length p.now.flows }
     {
@@ -77,8 +78,8 @@ impl Finder {
 
     /// Looks for a plan that extends an assignment, where the finished steps need no authorised
     /// user any more, in one more run, which may go further than the one before. The plan is to be
-    /// checked; where none is found there may be one all the same. Each call is to be about the same
-    /// policy, workflow, assignment and finished steps.
+    /// checked; where none is found there may be one all the same. Each call is to be about the
+    /// same policy, workflow, assignment and finished steps.
     pub fn find(
         &mut self,
         alloc: Global,
@@ -146,8 +147,8 @@ impl Finder {
         self.guide.is_spent()
     }
 
-    /// A step that is not assigned, which is a good one to try next at a depth of a search; it may be
-    /// another one all the same. None is advised where memory is wanted.
+    /// A step that is not assigned, which is a good one to try next at a depth of a search; it may
+    /// be another one all the same. None is advised where memory is wanted.
     pub fn next_step(&mut self, p: &Policy, a: &Assign, depth: u8) -> Option<StepId> {
         if self.problem.learn_given(p, a).is_err() {
             return None;
@@ -280,7 +281,8 @@ impl Space {
     }
 }
 
-// Where every run starts: a block for each user who has a step already. Tells whether everything can still be met.
+// Where every run starts: a block for each user who has a step already. Tells whether everything
+// can still be met.
 fn start(problem: &Problem, root: &mut State, work: &mut Work, a: &Assign, done: &StepSet) -> bool {
     for s in 0..problem.steps {
         if !open_step(problem, root, s, a.at(StepId(s)), done.has(StepId(s))) {
@@ -294,7 +296,8 @@ fn start(problem: &Problem, root: &mut State, work: &mut Work, a: &Assign, done:
     settle(problem, root, work, blocks)
 }
 
-// Opens a step for those who are authorised, or puts it into the block of the user who has it. Tells whether somebody can have it.
+// Opens a step for those who are authorised, or puts it into the block of the user who has it.
+// Tells whether somebody can have it.
 fn open_step(
     problem: &Problem,
     root: &mut State,

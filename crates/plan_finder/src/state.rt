@@ -11,7 +11,8 @@ use std::alloc::{AllocError, Global};
 /// A state of the search.
 #[derive(Drop)]
 pub(crate) struct State {
-    /// The users who may still have each step, and behind them those who may still stand for each block.
+    /// The users who may still have each step, and behind them those who may still stand for each
+    /// block.
     rows: Rows,
     /// How many steps there are.
     steps: u8,
@@ -96,7 +97,8 @@ impl State {
         self.members.set(b, self.members.at(b) | bit(s));
     }
 
-    /// Opens a block for those who may have a step and stand for no other block; None where there is no room.
+    /// Opens a block for those who may have a step and stand for no other block; None where there
+    /// is no room.
     pub(crate) fn open_block(&mut self, s: u8, work: &mut Work) -> Option<u8> {
         let b = self.blocks;
         if b >= self.steps {

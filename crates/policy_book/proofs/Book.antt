@@ -15,7 +15,8 @@ pub whole : (n : ℕ) (xs ys : List DutyShape) → length xs ≡ n → take n (x
 whole n xs ys long = ap (λ k. take k (xs ++ ys)) (sym long) ∙ take-append_seam xs ys
 
 -- other memberships
-stored_with_members : (roster : RosterShape) (m : Pairs) (rs : List RelationShape) (names : Table) (flows : List WorkflowShape) (admin : ℕ) → IsStored roster rs names flows admin
+stored_with_members : (roster : RosterShape) (m : Pairs) (rs : List RelationShape) (names : Table) (flows : List WorkflowShape) (admin : ℕ) →
+    IsStored roster rs names flows admin
     → IsStored (record roster { members = m }) rs names flows admin
 stored_with_members roster m rs names flows admin old = record {
   limit = old.limit;
@@ -31,7 +32,8 @@ stored_with_members roster m rs names flows admin old = record {
 }
 
 -- a membership of one user more or less, where the user is put right
-pub book_settled : (roster : RosterShape) (m : Pairs) (rs : List RelationShape) (names : Table) (flows : List WorkflowShape) (admin u r : ℕ) (ds es : List DutyShape)
+pub book_settled : (roster : RosterShape) (m : Pairs) (rs : List RelationShape) (names : Table) (flows : List WorkflowShape) (admin u r : ℕ)
+    (ds es : List DutyShape)
     → IsBook roster rs names flows admin ds → DiffersAt u r roster (record roster { members = m }) → AreSettled (record roster { members = m }) flows u r ds es
     → IsBook (record roster { members = m }) rs names flows admin es
 book_settled roster m rs names flows admin u r ds es old differs settled = record {

@@ -1,5 +1,6 @@
 -- What a policy keeps under each of its changes.
-use Rattle.std.proofs.Common.{◌≡◌, ◌≢◌, ℕ, ◌+◌, ◌<◌, ◌≤◌, true, false, List, [], ◌∷◌, ◌++◌, length, Option, Some, None, ◌⊎◌, inl, inr, refl, sym, ap, subst, ◌∙◌, arith, length-append}
+use Rattle.std.proofs.Common.{◌≡◌, ◌≢◌, ℕ, ◌+◌, ◌<◌, ◌≤◌, true, false, List, [], ◌∷◌, ◌++◌, length, Option, Some, None, ◌⊎◌, inl, inr, refl, sym, ap, subst}
+use Rattle.std.proofs.Common.{◌∙◌, arith, length-append}
 use Prim.Native.Nat.{zero, suc}
 use Rattle.std.specs.Prelude.{slice_index_or, slice_set}
 use Rattle.std.specs.FinSet as set
@@ -21,14 +22,16 @@ abbrev kind_at : List RelationShape → ℕ → Option RelationKind
 kind_at rs n = kind_of rs (suc (suc n))
 
 -- after a change of kind at n, the relation at m is as it was, or has the new kind
-changed_at : (rs : List RelationShape) (n m : ℕ) (kind : RelationKind) → (kind_at (change_kind rs n kind) m ≡ kind_at rs m) ⊎ (kind_at (change_kind rs n kind) m ≡ Some kind)
+changed_at : (rs : List RelationShape) (n m : ℕ) (kind : RelationKind) → (kind_at (change_kind rs n kind) m ≡ kind_at rs m) ⊎
+    (kind_at (change_kind rs n kind) m ≡ Some kind)
 changed_at [] n m kind = inl refl
 changed_at (r ∷ rs) zero zero kind = inr refl
 changed_at (r ∷ rs) zero (suc m) kind = inl refl
 changed_at (r ∷ rs) (suc n) zero kind = inl refl
 changed_at (r ∷ rs) (suc n) (suc m) kind = changed_at rs n m kind
 
-kind_changed : (rs : List RelationShape) (rho sigma : ℕ) (kind : RelationKind) → (kind_of (with_kind rs rho kind) sigma ≡ kind_of rs sigma) ⊎ (kind_of (with_kind rs rho kind) sigma ≡ Some kind)
+kind_changed : (rs : List RelationShape) (rho sigma : ℕ) (kind : RelationKind) → (kind_of (with_kind rs rho kind) sigma ≡ kind_of rs sigma) ⊎
+    (kind_of (with_kind rs rho kind) sigma ≡ Some kind)
 kind_changed rs zero sigma kind = inl refl
 kind_changed rs (suc zero) sigma kind = inl refl
 kind_changed rs (suc (suc n)) zero kind = inl refl
@@ -57,7 +60,8 @@ pub below_or_at : (a n : ℕ) → a < n + 1 → (a < n) ⊎ (a ≡ n)
 below_or_at a n h = elim (nat_eq_or a n) [ inl e ↦ inr e | inr ne ↦ inl (omega arith) ]
 
 -- where the new pairs are of users, all pairs are
-pub of_users_with : (n : ℕ) (rs : List RelationShape) (rho : ℕ) (pairs : Pairs) → AreOfUsers n rs → AllPairs (λ u v. (u < n) × (v < n)) pairs → AreOfUsers n (with_kind rs rho (listed pairs))
+pub of_users_with : (n : ℕ) (rs : List RelationShape) (rho : ℕ) (pairs : Pairs) → AreOfUsers n rs → AllPairs (λ u v. (u < n) × (v < n)) pairs →
+    AreOfUsers n (with_kind rs rho (listed pairs))
 of_users_with n rs rho pairs old new sigma found e =
     elim (kind_changed rs rho sigma (listed pairs)) [
       | inl same ↦ old sigma found (sym same ∙ e)
@@ -65,7 +69,8 @@ of_users_with n rs rho pairs old new sigma found e =
     ]
 
 -- the pairs of a kind of relation, given what is known of those that it lists
-listed_of_users : (n : ℕ) (kind : Option RelationKind) → ((pairs : Pairs) → kind ≡ Some (listed pairs) → AllPairs (λ u v. (u < n) × (v < n)) pairs) → AllPairs (λ u v. (u < n) × (v < n)) (listed_pairs kind)
+listed_of_users : (n : ℕ) (kind : Option RelationKind) → ((pairs : Pairs) → kind ≡ Some (listed pairs) → AllPairs (λ u v. (u < n) × (v < n)) pairs) →
+    AllPairs (λ u v. (u < n) × (v < n)) (listed_pairs kind)
 listed_of_users n None old = none_of_users n
 listed_of_users n (Some (listed pairs)) old = old pairs refl
 listed_of_users n (Some (complement m)) old = none_of_users n
@@ -74,7 +79,8 @@ listed_of_users n (Some (complement m)) old = none_of_users n
 pub pairs_of_users : (n : ℕ) (rs : List RelationShape) (rho : ℕ) → AreOfUsers n rs → AllPairs (λ u v. (u < n) × (v < n)) (pairs_of rs rho)
 pairs_of_users n rs rho old = listed_of_users n (kind_of rs rho) (old rho)
 
-pub all_inserted : (n : ℕ) (s : Pairs) (u v : ℕ) → AllPairs (λ u v. (u < n) × (v < n)) s → u < n → v < n → AllPairs (λ u v. (u < n) × (v < n)) (set.insert s (u, v))
+pub all_inserted : (n : ℕ) (s : Pairs) (u v : ℕ) → AllPairs (λ u v. (u < n) × (v < n)) s → u < n → v < n →
+    AllPairs (λ u v. (u < n) × (v < n)) (set.insert s (u, v))
 all_inserted n s u v old hu hv = record {
   each = λ a b here. elim (either_inserted pair_cmp_total pair_cmp-IsAntisymmetric s (u, v) (a, b) here) [
     | inl same ↦ (subst (λ (x : ℕ × ℕ). x.0 < n) (sym same) hu, subst (λ (x : ℕ × ℕ). x.1 < n) (sym same) hv)
@@ -87,7 +93,8 @@ all_removed n s u v old = record { each = λ a b here. old.each a b (was_there p
 
 -- more users are no loss
 pub of_more_users : (n m : ℕ) (rs : List RelationShape) → n ≤ m → AreOfUsers n rs → AreOfUsers m rs
-of_more_users n m rs le old sigma pairs e = record { each = λ a b here. let h : (a < n) × (b < n) = (old sigma pairs e).each a b here in (omega (arith, h.0), omega (arith, h.1)) }
+of_more_users n m rs le old sigma pairs e =
+    record { each = λ a b here. let h : (a < n) × (b < n) = (old sigma pairs e).each a b here in (omega (arith, h.0), omega (arith, h.1)) }
 
 module _ (r : RosterShape) (rs : List RelationShape) (names : Table) (flows : List WorkflowShape) (admin : ℕ) (old : IsStored r rs names flows admin) where
   -- another user
@@ -108,7 +115,8 @@ module _ (r : RosterShape) (rs : List RelationShape) (names : Table) (flows : Li
       }
 
   -- other pairs in one relation
-  pub stored_with_pairs : (rho : ℕ) (pairs : Pairs) → AllPairs (λ u v. (u < length r.users) × (v < length r.users)) pairs → IsStored r (with_kind rs rho (listed pairs)) names flows admin
+  pub stored_with_pairs : (rho : ℕ) (pairs : Pairs) → AllPairs (λ u v. (u < length r.users) × (v < length r.users)) pairs →
+      IsStored r (with_kind rs rho (listed pairs)) names flows admin
   stored_with_pairs rho pairs new =
       let same : length (with_kind rs rho (listed pairs)) ≡ length rs = length-with_kind rs rho (listed pairs) in
       record {
@@ -126,10 +134,12 @@ module _ (r : RosterShape) (rs : List RelationShape) (names : Table) (flows : Li
 
   -- the workflow at a place is sound
   pub sound_at : (f : ℕ) (w : WorkflowShape) → f < length flows → w ≡ slice_index_or flows f w → IsSoundWorkflow (length r.roles) (length rs) w
-  sound_at f w h e = subst (λ (x : WorkflowShape). IsSoundWorkflow (length r.roles) (length rs) x) (sym (e ∙ get_or_default flows f w no_workflow h)) (old.sound.flows f h)
+  sound_at f w h e =
+      subst (λ (x : WorkflowShape). IsSoundWorkflow (length r.roles) (length rs) x) (sym (e ∙ get_or_default flows f w no_workflow h)) (old.sound.flows f h)
 
   -- another workflow at a number
-  pub stored_with_flow : (f : ℕ) (w : WorkflowShape) → f < length flows → IsSoundWorkflow (length r.roles) (length rs) w → IsStored r rs names (slice_set flows f w) admin
+  pub stored_with_flow : (f : ℕ) (w : WorkflowShape) → f < length flows → IsSoundWorkflow (length r.roles) (length rs) w →
+      IsStored r rs names (slice_set flows f w) admin
   stored_with_flow f w h new =
       let same : length (slice_set flows f w) ≡ length flows = length-set flows f w in
       record {
@@ -142,8 +152,10 @@ module _ (r : RosterShape) (rs : List RelationShape) (names : Table) (flows : Li
           few = omega (arith, same, old.sound.few);
           related = old.sound.related;
           flows = λ g below. elim (nat_eq_or g f) [
-            | inl here ↦ subst (λ (x : WorkflowShape). IsSoundWorkflow (length r.roles) (length rs) x) (sym (ap (λ n. slice_index_or (slice_set flows f w) n no_workflow) here ∙ get_or-set_same flows f w no_workflow h)) new
-            | inr other ↦ subst (λ (x : WorkflowShape). IsSoundWorkflow (length r.roles) (length rs) x) (sym (get_or-set_other flows f g w no_workflow other)) (old.sound.flows g (omega (arith, same, below)))
+            | inl here ↦ subst (λ (x : WorkflowShape). IsSoundWorkflow (length r.roles) (length rs) x)
+                (sym (ap (λ n. slice_index_or (slice_set flows f w) n no_workflow) here ∙ get_or-set_same flows f w no_workflow h)) new
+            | inr other ↦ subst (λ (x : WorkflowShape). IsSoundWorkflow (length r.roles) (length rs) x)
+                (sym (get_or-set_other flows f g w no_workflow other)) (old.sound.flows g (omega (arith, same, below)))
           ];
         };
       }
@@ -164,8 +176,10 @@ module _ (r : RosterShape) (rs : List RelationShape) (names : Table) (flows : Li
           few = omega (arith, longer, room, old.sound.named);
           related = old.sound.related;
           flows = λ g below. elim (below_or_at g (length flows) (omega (arith, longer, below))) [
-            | inl before ↦ subst (λ (x : WorkflowShape). IsSoundWorkflow (length r.roles) (length rs) x) (sym (get_or_append_left flows (w ∷ []) no_workflow g before)) (old.sound.flows g before)
-            | inr last ↦ subst (λ (x : WorkflowShape). IsSoundWorkflow (length r.roles) (length rs) x) (sym (ap (λ n. slice_index_or (flows ++ w ∷ []) n no_workflow) last ∙ get_or_push flows w no_workflow (length flows) refl)) new
+            | inl before ↦ subst (λ (x : WorkflowShape). IsSoundWorkflow (length r.roles) (length rs) x)
+                (sym (get_or_append_left flows (w ∷ []) no_workflow g before)) (old.sound.flows g before)
+            | inr last ↦ subst (λ (x : WorkflowShape). IsSoundWorkflow (length r.roles) (length rs) x)
+                (sym (ap (λ n. slice_index_or (flows ++ w ∷ []) n no_workflow) last ∙ get_or_push flows w no_workflow (length flows) refl)) new
           ];
         };
       }

@@ -3,7 +3,8 @@ use Rattle.std.proofs.Common.{◌≡◌, ℕ, suc, ◌+◌, ◌-◌, ◌<◌, Bo
 use Rattle.policy_book.specs.Refuting.{passing}
 
 -- the first of them is the next, or not
-pub passing_at : (test : ℕ → Bool) (k n : ℕ) → k < n → passing test k (n - k) ≡ (if test k then k ∷ passing test (k + 1) (n - (k + 1)) else passing test (k + 1) (n - (k + 1)))
+pub passing_at : (test : ℕ → Bool) (k n : ℕ) → k < n →
+    passing test k (n - k) ≡ (if test k then k ∷ passing test (k + 1) (n - (k + 1)) else passing test (k + 1) (n - (k + 1)))
 passing_at test k n below =
     let more : n - k ≡ suc (n - (k + 1)) = omega arith in
     ap (passing test k) more

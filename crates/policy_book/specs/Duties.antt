@@ -1,5 +1,6 @@
 -- Who is authorised for what, as a policy keeps it for each workflow.
-use Rattle.std.specs.Prelude.{◌≡◌, ℕ, zero, suc, ◌<◌, ◌≤◌, Bool, true, ◌&&◌, ◌==◌, List, [], length, refl, if◌then◌else◌, slice_index_or, slice_set}
+use Rattle.std.specs.Prelude.{◌≡◌, ℕ, zero, suc, ◌<◌, ◌≤◌, Bool, true, ◌&&◌, ◌==◌, List, [], length}
+use Rattle.std.specs.Prelude.{refl, if◌then◌else◌, slice_index_or, slice_set}
 use Rattle.std.specs.Coded.{Coded, code_by, coded×, coded_list, coded_ℕ}
 use Rattle.std.specs.FinSet as set
 use Rattle.wf_names.specs.Table.{Table}
@@ -16,7 +17,8 @@ use Rattle.policy_book.specs.Stored.{IsStored}
 -- the steps below n that pass a test
 abbrev pub steps_below : ℕ → (ℕ → Bool) → List Bool
 steps_below zero test = no_steps
-steps_below (suc n) test = if test n then slice_set (steps_below n test) n true else steps_below n test
+steps_below (suc n) test =
+    if test n then slice_set (steps_below n test) n true else steps_below n test
 
 -- the steps for which a user is authorised
 abbrev pub duties_of : Problem → ℕ → List Bool
@@ -30,7 +32,8 @@ pub record DutyShape : Type 0 where
 
 -- by which values that hold duties are told apart
 abbrev pub duty_code : Coded DutyShape
-duty_code = code_by (List (List ℕ) × ℕ) (coded× (coded_list (coded_list coded_ℕ)) coded_ℕ) (λ d. (d.rows, d.users)) (λ p. record { rows = p.0; users = p.1 }) (λ _. refl)
+duty_code = code_by (List (List ℕ) × ℕ) (coded× (coded_list (coded_list coded_ℕ)) coded_ℕ)
+    (λ d. (d.rows, d.users)) (λ p. record { rows = p.0; users = p.1 }) (λ _. refl)
 
 -- the row of a step has a user
 abbrev pub row_has : List (List ℕ) → ℕ → ℕ → Bool
@@ -50,7 +53,8 @@ AreGathered rows sets = (u : ℕ) → u < length sets → set_at sets u ≡ step
 
 -- some role is held by a user and permitted for a step
 abbrev pub may_do : RosterShape → FlowShape → ℕ → ℕ → Bool
-may_do roster flow s u = any_below (length roster.roles) (λ r. has_role roster u r && set.contains flow.permits (r, s))
+may_do roster flow s u = any_below (length roster.roles)
+    (λ r. has_role roster u r && set.contains flow.permits (r, s))
 
 -- each step has its row, with the users who are authorised, and no user is left out of the sets
 pub record AreDuties (roster : RosterShape) (flow : FlowShape) (d : DutyShape) : Type 0 where
@@ -67,26 +71,34 @@ abbrev pub duties_at : List DutyShape → ℕ → DutyShape
 duties_at duties f = slice_index_or duties f no_duties
 
 -- what is kept of each workflow is right
-pub record AreKept (roster : RosterShape) (flows : List WorkflowShape) (duties : List DutyShape) : Type 0 where
+pub record AreKept (roster : RosterShape) (flows : List WorkflowShape)
+    (duties : List DutyShape) : Type 0 where
   pub count : length duties ≡ length flows
-  pub each : (f : ℕ) → f < length flows → AreDuties roster (slice_index_or flows f no_workflow).flow (duties_at duties f)
+  pub each : (f : ℕ) → f < length flows →
+      AreDuties roster (slice_index_or flows f no_workflow).flow (duties_at duties f)
 
 -- the parts are those of a policy, and so is what is kept beside
-pub record IsBook (roster : RosterShape) (relations : List RelationShape) (names : Table) (flows : List WorkflowShape) (admin : ℕ) (duties : List DutyShape) : Type 0 where
+pub record IsBook (roster : RosterShape) (relations : List RelationShape) (names : Table)
+    (flows : List WorkflowShape) (admin : ℕ) (duties : List DutyShape) : Type 0 where
   pub stored : IsStored roster relations names flows admin
   pub kept : AreKept roster flows duties
 
 -- a user's bits are right again in the rows of the steps that a role is permitted for, and else
 -- nothing has changed
-pub record IsSettled (roster : RosterShape) (flow : FlowShape) (u r : ℕ) (before after : List (List ℕ)) : Type 0 where
+pub record IsSettled (roster : RosterShape) (flow : FlowShape) (u r : ℕ)
+    (before after : List (List ℕ)) : Type 0 where
   pub count : length after ≡ length before
-  pub each : (s v : ℕ) → s < length before → row_has after s v ≡ (if v == u && set.contains flow.permits (r, s) then may_do roster flow s v else row_has before s v)
+  pub each : (s v : ℕ) → s < length before → row_has after s v ≡ (if v == u &&
+      set.contains flow.permits (r, s) then may_do roster flow s v else row_has before s v)
 
 -- the same of each workflow
-pub record AreSettled (roster : RosterShape) (flows : List WorkflowShape) (u r : ℕ) (before after : List DutyShape) : Type 0 where
+pub record AreSettled (roster : RosterShape) (flows : List WorkflowShape) (u r : ℕ)
+    (before after : List DutyShape) : Type 0 where
   pub count : length after ≡ length before
   pub users : (f : ℕ) → (duties_at after f).users ≡ (duties_at before f).users
-  pub each : (f : ℕ) → f < length flows → IsSettled roster (slice_index_or flows f no_workflow).flow u r (duties_at before f).rows (duties_at after f).rows
+  pub each : (f : ℕ) → f < length flows →
+      IsSettled roster (slice_index_or flows f no_workflow).flow u r (duties_at before f).rows
+      (duties_at after f).rows
 
 -- the same rows stand beside as many sets or more
 pub record AreGrown (before after : List DutyShape) : Type 0 where

@@ -1,19 +1,23 @@
 -- What every policy keeps.
-use Rattle.std.specs.Prelude.{◌≡◌, ℕ, ◌+◌, ◌<◌, ◌≤◌, Bool, true, List, length, Some, slice_get, IsTrue}
+use Rattle.std.specs.Prelude.{◌≡◌, ℕ, ◌+◌, ◌<◌, ◌≤◌, Bool, true, List, length, Some, slice_get}
+use Rattle.std.specs.Prelude.{IsTrue}
 use Rattle.std.specs.FinSet as set
-use Rattle.wf_names.specs.declared.limits.TheConstants.{FLOW_LIMIT, ROLE_LIMIT, RULE_LIMIT, USER_LIMIT}
+use Rattle.wf_names.specs.declared.limits.TheConstants.{FLOW_LIMIT, ROLE_LIMIT, RULE_LIMIT}
+use Rattle.wf_names.specs.declared.limits.TheConstants.{USER_LIMIT}
 use Rattle.workflow_schema.specs.Flows.{FlowShape}
 use Rattle.pair_set.specs.Pairs.{Pairs, AllPairs}
 use Rattle.user_relations.specs.Relations.{RelationShape, listed, kind_of}
 use Rattle.constraint_forms.specs.declared.rule.Rule.{Rule}
-use Rattle.constraint_forms.specs.declared.rule.Rule.TheVariants.{Pair, SomeOf, AllOf, SomeTo, AllTo, AtMost, AtLeast}
+use Rattle.constraint_forms.specs.declared.rule.Rule.TheVariants.{Pair, SomeOf, AllOf, SomeTo}
+use Rattle.constraint_forms.specs.declared.rule.Rule.TheVariants.{AllTo, AtMost, AtLeast}
 use Rattle.constraint_forms.specs.Rules.{any_from, count_members, reads, IsRuleOf}
 use Rattle.policy_book.specs.Shapes.{PolicyShape, WorkflowShape}
 use Rattle.policy_book.specs.Policies.{flow_at}
 
 -- each pair of a listed relation is of users among the first so many
 abbrev pub AreOfUsers : ℕ → List RelationShape → Type 0
-AreOfUsers users relations = (rho : ℕ) (pairs : Pairs) → kind_of relations rho ≡ Some (listed pairs) → AllPairs (λ u v. (u < users) × (v < users)) pairs
+AreOfUsers users relations = (rho : ℕ) (pairs : Pairs) → kind_of relations rho ≡ Some
+    (listed pairs) → AllPairs (λ u v. (u < users) × (v < users)) pairs
 
 -- a number of users that a group can have: from 1 to the number of its steps
 abbrev pub IsWithinGroup : ℕ → List Bool → Type 0
@@ -37,7 +41,8 @@ pub record IsSoundRule (steps relations : ℕ) (rule : Rule) : Type 0 where
 
 -- each of some rules is such a rule
 abbrev pub AreSoundRules : ℕ → ℕ → List Rule → Type 0
-AreSoundRules steps relations rules = (k : ℕ) (rule : Rule) → slice_get rules k ≡ Some rule → IsSoundRule steps relations rule
+AreSoundRules steps relations rules = (k : ℕ) (rule : Rule) → slice_get rules k ≡ Some rule →
+    IsSoundRule steps relations rule
 
 -- a workflow permits its steps to no role but the first so many
 abbrev pub PermitsRolesBelow : ℕ → FlowShape → Type 0
@@ -57,4 +62,5 @@ pub record IsSoundPolicy (p : PolicyShape) : Type 0 where
   pub named : length p.flow_names ≡ length p.flows
   pub few : length p.flows ≤ FLOW_LIMIT
   pub related : AreOfUsers (length p.roster.users) p.relations
-  pub flows : (f : ℕ) → f < length p.flows → IsSoundWorkflow (length p.roster.roles) (length p.relations) (flow_at p f)
+  pub flows : (f : ℕ) → f < length p.flows →
+      IsSoundWorkflow (length p.roster.roles) (length p.relations) (flow_at p f)

@@ -1,6 +1,7 @@
 -- Lean trees: refuting trees without a branch that is not needed.
 use Rattle.std.specs.Prelude.{ℕ, Bool, true, not, ◌&&◌, List, [], ◌∷◌, Option, Some, slice_set}
-use Rattle.refutation_tree.specs.Shapes.{Shape, Kids, holder, rule, node, no_kids, tree_kid, twin_kid}
+use Rattle.refutation_tree.specs.Shapes.{Shape, Kids, holder, rule, node, no_kids, tree_kid}
+use Rattle.refutation_tree.specs.Shapes.{twin_kid}
 use Rattle.policy_book.specs.Plans.{Problem}
 use Rattle.policy_book.specs.Refuting.{mentions}
 use Rattle.policy_book.specs.Twins.{has_twin}
@@ -17,5 +18,7 @@ abbrev mutual
   pub are_lean : Problem → List (Option ℕ) → ℕ → List ℕ → Kids → Bool
   are_lean p assigned s earlier no_kids = true
   are_lean p assigned s earlier (tree_kid u t kids) =
-      (is_lean p (slice_set assigned s (Some u)) t && (mentions p.rules s t && not (has_twin p assigned u earlier))) && are_lean p assigned s (u ∷ earlier) kids
+      (is_lean p (slice_set assigned s (Some u)) t &&
+      (mentions p.rules s t && not (has_twin p assigned u earlier))) &&
+      are_lean p assigned s (u ∷ earlier) kids
   are_lean p assigned s earlier (twin_kid u v kids) = are_lean p assigned s earlier kids

@@ -1,5 +1,6 @@
 -- What the plans of a workflow must meet.
-use Rattle.std.specs.Prelude.{◌≡◌, ℕ, ◌<◌, Bool, false, List, length, Option, Some, slice_get, IsTrue}
+use Rattle.std.specs.Prelude.{◌≡◌, ℕ, ◌<◌, Bool, false, List, length, Option, Some, slice_get}
+use Rattle.std.specs.Prelude.{IsTrue}
 use Rattle.constraint_forms.specs.declared.rule.Rule.{Rule}
 use Rattle.constraint_forms.specs.Assigned.{user_at, planned, is_member}
 use Rattle.constraint_forms.specs.Rules.{Relating, is_satisfied, IsRuleOf}
@@ -19,16 +20,19 @@ abbrev pub IsWellFormed : Problem → Type 0
 IsWellFormed p = (k : ℕ) (rule : Rule) → slice_get p.rules k ≡ Some rule → IsRuleOf p.steps rule
 
 -- a plan is valid for an assignment and the finished steps
-pub record IsValidPlan (p : Problem) (assigned : List (Option ℕ)) (finished : List Bool) (plan : List ℕ) : Type 0 where
+pub record IsValidPlan (p : Problem) (assigned : List (Option ℕ)) (finished : List Bool)
+    (plan : List ℕ) : Type 0 where
   -- it has a user for each step
   pub whole : length plan ≡ p.steps
   pub known : (s : ℕ) → s < p.steps → planned plan s < p.users
   -- it keeps what is assigned
   pub keeps : IsExtension (user_at assigned) (λ s. Some (planned plan s))
   -- each step that is not finished goes to a user who is authorised for it
-  pub allowed : (s : ℕ) → s < p.steps → is_member finished s ≡ false → IsTrue (p.authorised s (planned plan s))
+  pub allowed : (s : ℕ) → s < p.steps → is_member finished s ≡ false →
+      IsTrue (p.authorised s (planned plan s))
   -- each rule is satisfied
-  pub obeyed : (k : ℕ) (rule : Rule) → slice_get p.rules k ≡ Some rule → IsTrue (is_satisfied p.related rule (planned plan))
+  pub obeyed : (k : ℕ) (rule : Rule) → slice_get p.rules k ≡ Some rule →
+      IsTrue (is_satisfied p.related rule (planned plan))
 
 -- some plan is valid
 abbrev pub IsCompletable : Problem → List (Option ℕ) → List Bool → Type 0
@@ -41,4 +45,5 @@ pub record IsWithin (p : Problem) (assigned : List (Option ℕ)) : Type 0 where
 
 -- each finished step is assigned
 abbrev pub AreAssigned : List Bool → List (Option ℕ) → Type 0
-AreAssigned finished assigned = (s : ℕ) → IsTrue (is_member finished s) → (u : ℕ) × (user_at assigned s ≡ Some u)
+AreAssigned finished assigned = (s : ℕ) → IsTrue (is_member finished s) → (u : ℕ) ×
+    (user_at assigned s ≡ Some u)

@@ -1,5 +1,6 @@
 -- What a policy says.
-use Rattle.std.specs.Prelude.{ℕ, zero, suc, Bool, false, ◌&&◌, ◌||◌, [], length, slice_index_or, slice_set}
+use Rattle.std.specs.Prelude.{ℕ, zero, suc, Bool, false, ◌&&◌, ◌||◌, [], length, slice_index_or}
+use Rattle.std.specs.Prelude.{slice_set}
 use Rattle.std.specs.FinSet as set
 use Rattle.rbac_state.specs.Rosters.{RosterShape, has_role}
 use Rattle.user_relations.specs.Relations.{is_related, with_kind, listed}
@@ -9,7 +10,12 @@ use Rattle.policy_book.specs.Plans.{Problem}
 
 -- a workflow without steps, which stands where there is none
 abbrev pub no_workflow : WorkflowShape
-no_workflow = record { flow = record { steps = []; order = set.empty; permits = set.empty }; rules = []; retired = false }
+no_workflow = record {
+  flow =
+      record { steps = []; order = set.empty; permits = set.empty };
+  rules = [];
+  retired = false;
+}
 
 -- the workflow with a number
 abbrev pub flow_at : PolicyShape → ℕ → WorkflowShape
@@ -23,7 +29,8 @@ any_below (suc n) test = any_below n test || test n
 -- a user is authorised for a step where some role is held by the user and permitted for the step
 abbrev pub is_authorised : PolicyShape → ℕ → ℕ → ℕ → Bool
 is_authorised p f s u =
-    any_below (length p.roster.roles) (λ r. has_role p.roster u r && set.contains (flow_at p f).flow.permits (r, s))
+    any_below (length p.roster.roles)
+    (λ r. has_role p.roster u r && set.contains (flow_at p f).flow.permits (r, s))
 
 -- all that a policy says of one of its workflows
 abbrev pub problem_of : PolicyShape → ℕ → Problem
@@ -49,4 +56,5 @@ with_flow p f w = record p { flows = slice_set p.flows f w }
 
 -- a policy with other permissions in one of its workflows
 abbrev pub with_permits : PolicyShape → ℕ → Pairs → PolicyShape
-with_permits p f permits = with_flow p f (record (flow_at p f) { flow = record (flow_at p f).flow { permits = permits } })
+with_permits p f permits = with_flow p f
+    (record (flow_at p f) { flow = record (flow_at p f).flow { permits = permits } })

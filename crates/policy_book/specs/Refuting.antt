@@ -1,9 +1,12 @@
 -- Trees that refute: why an assignment to a workflow's steps cannot be completed.
-use Rattle.std.specs.Prelude.{ℕ, zero, suc, ◌+◌, Bool, true, false, not, ◌&&◌, ◌||◌, ◌==◌, nat_lt, List, [], ◌∷◌, Option, None, Some, is_some, if◌then◌else◌, slice_get, slice_set}
+use Rattle.std.specs.Prelude.{ℕ, zero, suc, ◌+◌, Bool, true, false, not, ◌&&◌, ◌||◌, ◌==◌, nat_lt}
+use Rattle.std.specs.Prelude.{List, [], ◌∷◌, Option, None, Some, is_some, if◌then◌else◌, slice_get}
+use Rattle.std.specs.Prelude.{slice_set}
 use Rattle.constraint_forms.specs.declared.rule.Rule.{Rule}
 use Rattle.constraint_forms.specs.Assigned.{user_at, is_member}
 use Rattle.constraint_forms.specs.Rules.{is_falsified, names}
-use Rattle.refutation_tree.specs.Shapes.{Shape, Kids, holder, rule, node, no_kids, tree_kid, twin_kid}
+use Rattle.refutation_tree.specs.Shapes.{Shape, Kids, holder, rule, node, no_kids, tree_kid}
+use Rattle.refutation_tree.specs.Shapes.{twin_kid}
 use Rattle.policy_book.specs.Plans.{Problem}
 use Rattle.policy_book.specs.Twins.{are_twins, is_one_of}
 
@@ -43,21 +46,26 @@ abbrev mutual
   -- a tree refutes an assignment with these finished steps
   pub refutes : Problem → List (Option ℕ) → List Bool → Shape → Bool
   -- a step is held by a user who is not authorised for it
-  refutes p assigned finished (holder s) = nat_lt s p.steps && is_misheld p finished s (user_at assigned s)
+  refutes p assigned finished (holder s) = nat_lt s p.steps &&
+      is_misheld p finished s (user_at assigned s)
   -- a rule is falsified
   refutes p assigned finished (rule k) = is_broken p assigned (slice_get p.rules k)
-  -- a step is free, and whichever authorised user gets it, the user's branch refutes what then is assigned
+  -- a step is free, and whichever authorised user gets it, the user's branch refutes what then is
+  -- assigned
   refutes p assigned finished (node s kids) =
-      is_unassigned p assigned s && (have_users (authorised_users p s) kids && all_refute p assigned finished s [] kids)
+      is_unassigned p assigned s &&
+      (have_users (authorised_users p s) kids && all_refute p assigned finished s [] kids)
 
   -- each branch of a step refutes, where earlier branches of these users have trees: by its own
   -- tree, or as that of a twin of one of these users
   pub all_refute : Problem → List (Option ℕ) → List Bool → ℕ → List ℕ → Kids → Bool
   all_refute p assigned finished s earlier no_kids = true
   all_refute p assigned finished s earlier (tree_kid u t kids) =
-      refutes p (slice_set assigned s (Some u)) finished t && all_refute p assigned finished s (u ∷ earlier) kids
+      refutes p (slice_set assigned s (Some u)) finished t &&
+      all_refute p assigned finished s (u ∷ earlier) kids
   all_refute p assigned finished s earlier (twin_kid u v kids) =
-      (is_one_of earlier v && are_twins p assigned u v) && all_refute p assigned finished s earlier kids
+      (is_one_of earlier v && are_twins p assigned u v) &&
+      all_refute p assigned finished s earlier kids
 
 -- there is a rule, and it names a step
 abbrev pub is_rule_naming : ℕ → Option Rule → Bool

@@ -5,7 +5,8 @@ use Rattle.rbac_state.specs.Rosters.{RosterShape, roster_code}
 use Rattle.user_relations.specs.Relations.{RelationShape, relations_code}
 use Rattle.workflow_schema.specs.Flows.{FlowShape, flow_code}
 use Rattle.constraint_forms.specs.declared.rule.Rule.{Rule}
-use Rattle.constraint_forms.specs.declared.rule.Rule.TheVariants.{Pair, SomeOf, AllOf, SomeTo, AllTo, AtMost, AtLeast}
+use Rattle.constraint_forms.specs.declared.rule.Rule.TheVariants.{Pair, SomeOf, AllOf, SomeTo}
+use Rattle.constraint_forms.specs.declared.rule.Rule.TheVariants.{AllTo, AtMost, AtLeast}
 use Rattle.std.proofs.Common.{◌⊎◌, inl, inr}
 
 -- a workflow: its steps with their order and permissions, its rules, and whether it is retired
@@ -33,7 +34,8 @@ abbrev CountParts : Type 0
 CountParts = ℕ × List Bool
 
 abbrev RuleParts : Type 0
-RuleParts = PairParts ⊎ (GroupParts ⊎ (GroupParts ⊎ (GroupParts ⊎ (GroupParts ⊎ (CountParts ⊎ CountParts)))))
+RuleParts = PairParts ⊎
+    (GroupParts ⊎ (GroupParts ⊎ (GroupParts ⊎ (GroupParts ⊎ (CountParts ⊎ CountParts)))))
 
 abbrev pub rule_as_sum : Rule → RuleParts
 rule_as_sum (Pair rho first second) = inl (rho, (first, second))
@@ -74,17 +76,28 @@ count_code = coded× coded_ℕ (coded_list coded_bool)
 abbrev pub rule_code : Coded Rule
 rule_code =
     code_by RuleParts
-    (coded⊎ pair_code (coded⊎ group_code (coded⊎ group_code (coded⊎ group_code (coded⊎ group_code (coded⊎ count_code count_code))))))
+    (coded⊎ pair_code (coded⊎ group_code (coded⊎
+    group_code (coded⊎ group_code (coded⊎ group_code (coded⊎ count_code count_code))))))
     rule_as_sum rule_of_sum rule_comes_back
 
 abbrev pub workflow_code : Coded WorkflowShape
 workflow_code =
-    code_by (FlowShape × (List Rule × Bool)) (coded× flow_code (coded× (coded_list rule_code) coded_bool))
-    (λ w. (w.flow, (w.rules, w.retired))) (λ p. record { flow = p.0; rules = p.1.0; retired = p.1.1 }) (λ _. refl)
+    code_by (FlowShape × (List Rule × Bool))
+    (coded× flow_code (coded× (coded_list rule_code) coded_bool))
+    (λ w. (w.flow, (w.rules, w.retired)))
+    (λ p. record { flow = p.0; rules = p.1.0; retired = p.1.1 }) (λ _. refl)
 
 abbrev pub policy_code : Coded PolicyShape
 policy_code =
     code_by (RosterShape × (List RelationShape × (List (List ℕ) × (List WorkflowShape × ℕ))))
-    (coded× roster_code (coded× relations_code (coded× (coded_list (coded_list coded_ℕ)) (coded× (coded_list workflow_code) coded_ℕ))))
+    (coded× roster_code (coded× relations_code
+    (coded× (coded_list (coded_list coded_ℕ)) (coded× (coded_list workflow_code) coded_ℕ))))
     (λ p. (p.roster, (p.relations, (p.flow_names, (p.flows, p.admin)))))
-    (λ q. record { roster = q.0; relations = q.1.0; flow_names = q.1.1.0; flows = q.1.1.1.0; admin = q.1.1.1.1 }) (λ _. refl)
+    (λ q. record {
+      roster = q.0;
+      relations = q.1.0;
+      flow_names = q.1.1.0;
+      flows =
+          q.1.1.1.0;
+      admin = q.1.1.1.1;
+    }) (λ _. refl)

@@ -8,11 +8,20 @@ use Rattle.policy_book.specs.Shapes.{PolicyShape, WorkflowShape}
 use Rattle.policy_book.specs.Facts.{IsSoundPolicy}
 
 -- the policy with these parts
-abbrev pub shape_of : RosterShape → List RelationShape → Table → List WorkflowShape → ℕ → PolicyShape
+abbrev pub shape_of : RosterShape → List RelationShape → Table → List WorkflowShape → ℕ →
+    PolicyShape
 shape_of roster relations names flows admin =
-    record { roster = roster; relations = relations; flow_names = names.names; flows = flows; admin = admin }
+    record {
+      roster = roster;
+      relations = relations;
+      flow_names = names.names;
+      flows =
+          flows;
+      admin = admin;
+    }
 
 -- the parts are those of a policy
-pub record IsStored (roster : RosterShape) (relations : List RelationShape) (names : Table) (flows : List WorkflowShape) (admin : ℕ) : Type 0 where
+pub record IsStored (roster : RosterShape) (relations : List RelationShape) (names : Table)
+    (flows : List WorkflowShape) (admin : ℕ) : Type 0 where
   pub limit : names.limit ≡ FLOW_LIMIT
   pub sound : IsSoundPolicy (shape_of roster relations names flows admin)

@@ -1,5 +1,6 @@
 -- Twins: users who can be exchanged wherever what is not assigned yet is given to them.
-use Rattle.std.specs.Prelude.{ℕ, zero, suc, Bool, true, false, not, ◌&&◌, ◌||◌, ◌==◌, List, [], ◌∷◌, length, Option, None, Some, slice_get}
+use Rattle.std.specs.Prelude.{ℕ, zero, suc, Bool, true, false, not, ◌&&◌, ◌||◌, ◌==◌, List, [], ◌∷◌}
+use Rattle.std.specs.Prelude.{length, Option, None, Some, slice_get}
 use Rattle.constraint_forms.specs.declared.rule.Rule.{Rule}
 use Rattle.constraint_forms.specs.Assigned.{user_at}
 use Rattle.constraint_forms.specs.Rules.{all_read}
@@ -35,7 +36,8 @@ is_alike_to holds u v w = agree (holds u w) (holds v w) && agree (holds w u) (ho
 -- a relation treats two of so many users alike: towards every other one, and between themselves
 abbrev pub treats_alike : ℕ → (ℕ → ℕ → Bool) → ℕ → ℕ → Bool
 treats_alike users holds u v =
-    all_below users (λ w. (w == u || w == v) || is_alike_to holds u v w) && (agree (holds u u) (holds v v) && agree (holds u v) (holds v u))
+    all_below users (λ w. (w == u || w == v) || is_alike_to holds u v w) &&
+    (agree (holds u u) (holds v v) && agree (holds u v) (holds v u))
 
 -- there is no rule, or every relation that it reads treats two users alike
 abbrev pub is_rule_alike : Problem → ℕ → ℕ → Option Rule → Bool
@@ -44,12 +46,15 @@ is_rule_alike p u v (Some rule) = all_read rule (λ rho. treats_alike p.users (p
 
 -- every relation that a rule reads treats two users alike
 abbrev pub are_related_alike : Problem → ℕ → ℕ → Bool
-are_related_alike p u v = all_below (length p.rules) (λ k. is_rule_alike p u v (slice_get p.rules k))
+are_related_alike p u v =
+    all_below (length p.rules) (λ k. is_rule_alike p u v (slice_get p.rules k))
 
--- two users have no step, are authorised for the same steps, and every relation that a rule reads treats them alike
+-- two users have no step, are authorised for the same steps, and every relation that a rule reads
+-- treats them alike
 abbrev pub are_twins : Problem → List (Option ℕ) → ℕ → ℕ → Bool
 are_twins p assigned u v =
-    (has_no_step assigned u && has_no_step assigned v) && (may_do_the_same p u v && are_related_alike p u v)
+    (has_no_step assigned u && has_no_step assigned v) &&
+    (may_do_the_same p u v && are_related_alike p u v)
 
 -- a user is one of a list
 abbrev pub is_one_of : List ℕ → ℕ → Bool

@@ -1,10 +1,12 @@
 //! Who is authorised for what in one workflow: the users of each step, and the steps of each user.
-ghost use Rattle.std.specs.Prelude.{◌≡◌, ◌<◌, ◌≤◌, ℕ, ◌==◌, ◌&&◌, [], length, true, if◌then◌else◌, slice_index_or, slice_set, IfOk, OnOk, OnErr};
+ghost use Rattle.std.specs.Prelude.{◌≡◌, ◌<◌, ◌≤◌, ℕ, ◌==◌, ◌&&◌, [], length, true, if◌then◌else◌};
+ghost use Rattle.std.specs.Prelude.{slice_index_or, slice_set, IfOk, OnOk, OnErr};
 ghost use Rattle.std.specs.FinSet as set;
 ghost use Rattle.wf_names.specs.declared.limits.TheConstants.{STEP_LIMIT, USER_LIMIT};
 ghost use Rattle.wf_names.specs.UserSets.{has_user};
 ghost use Rattle.constraint_forms.specs.Assigned.{is_member};
-ghost use Rattle.policy_book.specs.Duties.{AreDuties, AreGathered, IsSettled, may_do, row_has, set_at, steps_below, steps_in};
+ghost use Rattle.policy_book.specs.Duties.{AreDuties, AreGathered, IsSettled, may_do, row_has};
+ghost use Rattle.policy_book.specs.Duties.{set_at, steps_below, steps_in};
 
 use crate::authority::{holders_of_some, some_role};
 use constraint_forms::StepSet;
@@ -34,7 +36,8 @@ impl Model for Duties {
 
     ghost view = { λ d. record { rows = d.rows.items; users = length d.sets.items } };
 
-    ghost invariant = { λ d. (length d.rows.items ≤ STEP_LIMIT) × (length d.sets.items ≤ USER_LIMIT) × AreGathered d.rows.items d.sets.items };
+    ghost invariant = { λ d. (length d.rows.items ≤ STEP_LIMIT) ×
+        (length d.sets.items ≤ USER_LIMIT) × AreGathered d.rows.items d.sets.items };
 }
 
 impl Duties {

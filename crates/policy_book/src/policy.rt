@@ -1,5 +1,7 @@
 //! The policy over its parts.
-ghost use Rattle.std.specs.Prelude.{◌≡◌, ◌<◌, ◌≤◌, ◌+◌, ◌↔◌, ℕ, List, [], ◌∷◌, ◌++◌, length, is_some, true, false, IfOk, IfSome, OnOk, OnErr, IsErrOf, IsTrue, not};
+ghost use Rattle.std.specs.Prelude.{◌≡◌, ◌<◌, ◌≤◌, ◌+◌, ◌↔◌, ℕ, List, [], ◌∷◌, ◌++◌, length};
+ghost use Rattle.std.specs.Prelude.{is_some, true, false, IfOk, IfSome, OnOk, OnErr, IsErrOf};
+ghost use Rattle.std.specs.Prelude.{IsTrue, not};
 ghost use Rattle.std.specs.FinSet as set;
 ghost use Rattle.wf_names.specs.declared.limits.TheConstants.{FLOW_LIMIT, RULE_LIMIT, USER_LIMIT};
 ghost use Rattle.rbac_state.specs.Rosters.{has_role};
@@ -7,13 +9,15 @@ ghost use Rattle.wf_names.specs.Table.{place_of};
 ghost use Rattle.wf_names.specs.UserSets.{has_user};
 ghost use Rattle.user_relations.specs.Relations.{pairs_of};
 ghost use Rattle.user_relations.specs.Faults.{AnswersFault, relate_fault, unrelate_fault};
-ghost use Rattle.policy_book.specs.Policies.{flow_at, is_authorised, problem_of, with_roster, with_pairs, with_permits, with_flow};
+ghost use Rattle.policy_book.specs.Policies.{flow_at, is_authorised, problem_of, with_roster};
+ghost use Rattle.policy_book.specs.Policies.{with_pairs, with_permits, with_flow};
 ghost use Rattle.policy_book.specs.Plans.{IsWellFormed};
 ghost use Rattle.policy_book.specs.Refuting.{is_unassigned};
 ghost use Rattle.policy_book.specs.Candidates.{is_candidate};
 ghost use Rattle.constraint_forms.specs.Assigned.{is_member};
 ghost use Rattle.policy_book.specs.Duties.{AreDuties, duties_of};
-ghost use Rattle.policy_book.specs.Facts.{AreOfUsers, AreSoundRules, IsSoundPolicy, PermitsRolesBelow};
+ghost use Rattle.policy_book.specs.Facts.{AreOfUsers, AreSoundRules, IsSoundPolicy};
+ghost use Rattle.policy_book.specs.Facts.{PermitsRolesBelow};
 
 use crate::authority::holders_of_some;
 use crate::candidates::keep_unbroken;
@@ -56,7 +60,8 @@ impl Model for Policy {
 
     ghost view = { λ p. shape_of p.roster p.relations p.names p.flows.items p.admin };
 
-    ghost invariant = { λ p. IsBook p.roster p.relations p.names p.flows.items p.admin p.duties.items };
+    ghost invariant = { λ p. IsBook p.roster p.relations p.names p.flows.items p.admin
+        p.duties.items };
 }
 
 impl Policy {

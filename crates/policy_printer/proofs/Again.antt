@@ -1,9 +1,13 @@
 -- A policy is read from the document that it is written as.
-use Rattle.std.proofs.Common.{◌≡◌, ℕ, zero, suc, ◌<◌, Bool, true, false, List, [], ◌∷◌, length, refl, sym, ap, ◌∙◌, ◌⊎◌, inl, inr, arith, codes, Some, Ok, slice_index_or}
-use Rattle.policy_printer.proofs.Words.{AllByRecursion, Members, get_member, IsDecided, PolicyShape, WorkflowShape, no_workflow, any_below, ◌>>=◌, File, written_format, needs_second, form_of, flow_at, file_keys, IsPrintable, name_at, names_data, users_data, relations_data, flows_data, IsNamedPolicy, Format, format_number, string, integer}
+use Rattle.std.proofs.Common.{◌≡◌, ℕ, zero, suc, ◌<◌, Bool, true, false, List, [], ◌∷◌, length, refl, sym, ap, ◌∙◌, ◌⊎◌, inl, inr, arith, codes, Some, Ok}
+use Rattle.std.proofs.Common.{slice_index_or}
+use Rattle.policy_printer.proofs.Words.{AllByRecursion, Members, get_member, IsDecided, PolicyShape, WorkflowShape, no_workflow, any_below, ◌>>=◌, File}
+use Rattle.policy_printer.proofs.Words.{written_format, needs_second, form_of, flow_at, file_keys, IsPrintable, name_at, names_data, users_data, relations_data}
+use Rattle.policy_printer.proofs.Words.{flows_data, IsNamedPolicy, Format, format_number, string, integer}
 use Rattle.policy_reader.specs.Grammars.{today}
 use Rattle.policy_reader.specs.Parts.{value_at, text_in, name_in, text_name_in, no_others, known_key}
-use Rattle.policy_reader.specs.Files.{document_in, format_of, admin_of, start_over, related_over, staff_of, start_with, start_named, start_of, rest_of, policy_by, policy_in, policy_of_file}
+use Rattle.policy_reader.specs.Files.{document_in, format_of, admin_of, start_over, related_over, staff_of, start_with, start_named, start_of, rest_of}
+use Rattle.policy_reader.specs.Files.{policy_by, policy_in, policy_of_file}
 use Rattle.policy_printer.specs.Documents.{document_of, table_of}
 use Rattle.std.specs.Prelude.{pos}
 use Rattle.policy_printer.proofs.Readings.{form_at, number_back}
@@ -43,7 +47,8 @@ forms_known p f lt = at (bool_cases (any_below (length p.flows) test))
 
     at : (any_below (length p.flows) test ≡ true) ⊎ (any_below (length p.flows) test ≡ false) → HaveForms (written_format p) (flow_at p f).rules
     at (inl some) = rw some (λ k r is. refl)
-    at (inr none) = rw none (first_known (flow_at p f).rules (not_true (test f) (λ here. differ (any_below (length p.flows) test) (any_below-at (length p.flows) f test lt here) none)))
+    at (inr none) = rw none (first_known (flow_at p f).rules
+        (not_true (test f) (λ here. differ (any_below (length p.flows) test) (any_below-at (length p.flows) f test lt here) none)))
 
 module _ (decided : IsDecided) (p : PolicyShape) (h : IsNamedPolicy p) (is : IsPrintable p) where
   abbrev doc : Members
@@ -70,8 +75,10 @@ module _ (decided : IsDecided) (p : PolicyShape) (h : IsNamedPolicy p) (is : IsP
   format_back Second = (refl, refl)
 
   -- what stands at the keys
-  written : (format_of today doc ≡ Ok (written_format p)) × (no_others File 0 (file_keys (written_format p)) doc ≡ Ok tt) × (get_member (codes "users") doc ≡ Some (users_data p.roster))
-      × (get_member (codes "roles") doc ≡ Some (names_data p.roster.roles)) × (get_member (codes "relations") doc ≡ Some (relations_data p.roster.users p.relations)) × (get_member (codes "flows") doc ≡ Some (flows_data p))
+  written : (format_of today doc ≡ Ok (written_format p)) × (no_others File 0 (file_keys (written_format p)) doc ≡ Ok tt) ×
+      (get_member (codes "users") doc ≡ Some (users_data p.roster))
+      × (get_member (codes "roles") doc ≡ Some (names_data p.roster.roles)) ×
+      (get_member (codes "relations") doc ≡ Some (relations_data p.roster.users p.relations)) × (get_member (codes "flows") doc ≡ Some (flows_data p))
   unfolding document_of
   written = let known = format_back (written_format p) in (known.0, known.1, refl, refl, refl, refl)
 
@@ -91,7 +98,8 @@ module _ (decided : IsDecided) (p : PolicyShape) (h : IsNamedPolicy p) (is : IsP
   policy_back = rw (
     written.0,
     start_back,
-    flows_back decided p h.roles h.related h.flow_names h.sound.named h.flows h.sound.flows (λ f lt. active_at p.flows f is.active lt) (written_format p) (forms_known p) doc is.flows is.some h.sound.few written.5,
+    flows_back decided p h.roles h.related h.flow_names h.sound.named h.flows h.sound.flows (λ f lt. active_at p.flows f is.active lt) (written_format p)
+        (forms_known p) doc is.flows is.some h.sound.few written.5,
     written.1,
   ) refl
 

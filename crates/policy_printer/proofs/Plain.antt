@@ -1,7 +1,12 @@
 -- A document that a policy is written as has no dates and few levels.
-use Rattle.std.proofs.Common.{◌≡◌, ℕ, zero, suc, ◌+◌, ◌≤◌, Bool, true, List, [], ◌∷◌, map, length, Less, Equal, Greater, refl, arith, Option, Some, None, max, pos}
+use Rattle.std.proofs.Common.{◌≡◌, ℕ, zero, suc, ◌+◌, ◌≤◌, Bool, true, List, [], ◌∷◌, map, length, Less, Equal, Greater, refl, arith, Option, Some, None, max}
+use Rattle.std.proofs.Common.{pos}
 use Rattle.constraint_forms.specs.declared.rule.Rule.TheVariants as rule
-use Rattle.policy_printer.proofs.Words.{nat_cmp, match_ordering, slice_cmp, and_both, and_from, Data, string, integer, array, table, Members, no_members, member, depth, items_depth, members_depth, has_valid_dates, members_have_valid_dates, items_of, Rule, has_role, RelationShape, complement_of, PolicyShape, WorkflowShape, flow_at, format_number, written_format, first_declared, with_member, table_below, name_at, names_where, pair_data, pairs_data, relation_entry, rule_data, flow_entry, permit_entry, user_entry, Pairs}
+use Rattle.policy_printer.proofs.Words.{nat_cmp, match_ordering, slice_cmp, and_both, and_from, Data, string, integer, array, table, Members, no_members}
+use Rattle.policy_printer.proofs.Words.{member, depth, items_depth, members_depth, has_valid_dates, members_have_valid_dates, items_of, Rule, has_role}
+use Rattle.policy_printer.proofs.Words.{RelationShape, complement_of, PolicyShape, WorkflowShape, flow_at, format_number, written_format, first_declared}
+use Rattle.policy_printer.proofs.Words.{with_member, table_below, name_at, names_where, pair_data, pairs_data, relation_entry, rule_data, flow_entry}
+use Rattle.policy_printer.proofs.Words.{permit_entry, user_entry, Pairs}
 use Rattle.policy_reader.specs.declared.form.Form.{Form}
 use Rattle.policy_printer.specs.Documents.{kind_members, grouped_members, rule_members, workflow_members, document_of, counting_members}
 
@@ -72,7 +77,8 @@ unfolding kind_members
 kind_plain users relations rho None = pairs_plain 1 users _ & none 3
 kind_plain users relations rho (Some n) = text 3 _ & none 3
 
-grouped_plain : (form : Form) (relations : List RelationShape) (steps : List (List ℕ)) (rho : ℕ) (group : List Bool) (step : ℕ) → ArePlain 1 (grouped_members form relations steps rho group step)
+grouped_plain : (form : Form) (relations : List RelationShape) (steps : List (List ℕ)) (rho : ℕ) (group : List Bool) (step : ℕ) → ArePlain
+    1 (grouped_members form relations steps rho group step)
 unfolding grouped_members
 grouped_plain form relations steps rho group step = text 1 _ & names_plain 0 steps _ & text 1 _ & text 1 _ & none 1
 
@@ -109,7 +115,8 @@ document_plain p =
     text 5 _
     & below_plain 4 (length p.flows) (flow_entry p) (λ f. plain_table 3 _ (workflow_plain p.roster.roles p.relations (flow_at p f)))
     & format
-    & below_plain 4 (length p.relations) (λ n. relation_entry p.roster.users p.relations (first_declared + n)) (λ n. plain_table 3 _ (kind_plain p.roster.users p.relations _ (complement_of p.relations (first_declared + n))))
+    & below_plain 4 (length p.relations) (λ n. relation_entry p.roster.users p.relations (first_declared + n))
+    (λ n. plain_table 3 _ (kind_plain p.roster.users p.relations _ (complement_of p.relations (first_declared + n))))
     & plain_array 4 string p.roster.roles (text 4)
     & below_plain 4 (length p.roster.users) (user_entry p.roster) (λ u. names_plain 3 p.roster.roles (has_role p.roster u))
     & none 5

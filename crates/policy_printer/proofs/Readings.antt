@@ -1,6 +1,8 @@
 -- Lists that are read back from what they are written as.
-use Rattle.std.proofs.Common.{◌≡◌, ℕ, zero, suc, ◌+◌, ◌<◌, ◌≤◌, Bool, true, false, List, [], ◌∷◌, ◌++◌, length, map, take, refl, sym, ap, ◌∙◌, append_assoc, arith, Result, Ok, Err, slice_get, slice_index_or, Some, if◌then◌else◌}
-use Rattle.policy_printer.proofs.Words.{list_any, append-nil, map-append, length-append, take_more, slice_get-get_or, or_left, or_right, eq_above, le_yes, Data, string, items_of, ◌>>=◌, each, PolicyPart, items, among, name_at, chosen, is_name, place_of, AreNames}
+use Rattle.std.proofs.Common.{◌≡◌, ℕ, zero, suc, ◌+◌, ◌<◌, ◌≤◌, Bool, true, false, List, [], ◌∷◌, ◌++◌, length, map, take, refl, sym, ap, ◌∙◌, append_assoc}
+use Rattle.std.proofs.Common.{arith, Result, Ok, Err, slice_get, slice_index_or, Some, if◌then◌else◌}
+use Rattle.policy_printer.proofs.Words.{list_any, append-nil, map-append, length-append, take_more, slice_get-get_or, or_left, or_right, eq_above, le_yes, Data}
+use Rattle.policy_printer.proofs.Words.{string, items_of, ◌>>=◌, each, PolicyPart, items, among, name_at, chosen, is_name, place_of, AreNames}
 use Rattle.std.specs.List.{IsDistinct}
 use Rattle.policy_reader.specs.Parts.{number_in, at_least_one, at_most}
 
@@ -19,12 +21,14 @@ abbrev pub upto : ℕ → List ℕ
 upto n = chosen n (λ _. true)
 
 -- reading one item more
-each_push : {S D F : Type 0} (read : S → D → Result S F) (s : S) (xs : List D) (y : D) → each read s (xs ++ y ∷ []) ≡ (each read s xs >>= (λ t. each read t (y ∷ [])))
+each_push : {S D F : Type 0} (read : S → D → Result S F) (s : S) (xs : List D) (y : D) →
+    each read s (xs ++ y ∷ []) ≡ (each read s xs >>= (λ t. each read t (y ∷ [])))
 each_push read s [] y = refl
-each_push read s (x ∷ xs) y = elim (read s x) as (λ r. (r >>= (λ t. each read t (xs ++ y ∷ []))) ≡ ((r >>= (λ t. each read t xs)) >>= (λ t. each read t (y ∷ [])))) [
-  | Ok t ↦ each_push read t xs y
-  | Err f ↦ refl
-]
+each_push read s (x ∷ xs) y =
+    elim (read s x) as (λ r. (r >>= (λ t. each read t (xs ++ y ∷ []))) ≡ ((r >>= (λ t. each read t xs)) >>= (λ t. each read t (y ∷ [])))) [
+      | Ok t ↦ each_push read t xs y
+      | Err f ↦ refl
+    ]
 
 -- the same of what is written by the numbers that pass a test
 module _ {S D F : Type 0} (read : S → D → Result S F) (write : ℕ → D) (state : ℕ → S) (test : ℕ → Bool) (bound : ℕ)
@@ -41,7 +45,8 @@ module _ {S D F : Type 0} (read : S → D → Result S F) (write : ℕ → D) (s
       ] refl
 
 -- the same of what is written by all numbers
-pub count_back : {S D F : Type 0} (read : S → D → Result S F) (write : ℕ → D) (state : ℕ → S) (bound : ℕ) → ((n : ℕ) → n < bound → read (state n) (write n) ≡ Ok (state (suc n)))
+pub count_back : {S D F : Type 0} (read : S → D → Result S F) (write : ℕ → D) (state : ℕ → S) (bound : ℕ) →
+    ((n : ℕ) → n < bound → read (state n) (write n) ≡ Ok (state (suc n)))
     → each read (state 0) (map write (upto bound)) ≡ Ok (state bound)
 count_back read write state bound step = chosen_back read write state (λ _. true) bound (λ n lt e. step n lt) (λ n lt e. cc) bound (omega arith)
 
@@ -54,10 +59,12 @@ upto_length (suc n) = omega (arith, length-append (upto n) (n ∷ []), upto_leng
 first_number : {Y : Type 0} (n : ℕ) (f : ℕ → Y) → map f (upto (suc n)) ≡ f 0 ∷ map (λ i. f (suc i)) (upto n)
 first_number zero f = refl
 first_number (suc n) f =
-    map-append f (upto (suc n)) (suc n ∷ []) ∙ ap (λ ys. ys ++ f (suc n) ∷ []) (first_number n f) ∙ ap (λ ys. f 0 ∷ ys) (sym (map-append (λ i. f (suc i)) (upto n) (n ∷ [])))
+    map-append f (upto (suc n)) (suc n ∷ []) ∙ ap (λ ys. ys ++ f (suc n) ∷ []) (first_number n f) ∙
+    ap (λ ys. f 0 ∷ ys) (sym (map-append (λ i. f (suc i)) (upto n) (n ∷ [])))
 
 -- what is written by numbers of a list's items
-pub upto_map : {X Y : Type 0} (xs : List X) (f : ℕ → Y) (g : X → Y) → ((i : ℕ) (x : X) → slice_get xs i ≡ Some x → f i ≡ g x) → map f (upto (length xs)) ≡ map g xs
+pub upto_map : {X Y : Type 0} (xs : List X) (f : ℕ → Y) (g : X → Y) → ((i : ℕ) (x : X) → slice_get xs i ≡ Some x → f i ≡ g x) →
+    map f (upto (length xs)) ≡ map g xs
 upto_map [] f g h = refl
 upto_map (x ∷ xs) f g h = let rest = upto_map xs (λ i. f (suc i)) g (λ i y e. h (suc i) y e) in first_number (length xs) f ∙ (λ i. h 0 x refl i ∷ rest i)
 
@@ -69,7 +76,8 @@ pub middle : {X : Type 0} (same : X → X → Bool) (before : List X) (x : X) (a
 middle same [] x after e = or_left (same x x) _ e
 middle same (y ∷ before) x after e = or_right (same x y) _ (middle same before x after e)
 
-pub new_middle : {X : Type 0} (same : X → X → Bool) → ((x y : X) → same x y ≡ same y x) → (before : List X) (x : X) (after : List X) → IsDistinct same (before ++ x ∷ after) → list_any (same x) before ≡ false
+pub new_middle : {X : Type 0} (same : X → X → Bool) → ((x y : X) → same x y ≡ same y x) → (before : List X) (x : X) (after : List X) →
+    IsDistinct same (before ++ x ∷ after) → list_any (same x) before ≡ false
 unfolding IsDistinct
 new_middle same flips [] x after h = refl
 new_middle same flips (y ∷ before) x after h = rw (flips x y, among (λ z. same y z ≡ false) before x after h.0) (new_middle same flips before x after h.1)

@@ -1,9 +1,12 @@
 -- The pairs of a set, row by row: they ascend, and are those of the set.
-use Rattle.std.proofs.Common.{◌≡◌, ℕ, zero, suc, ◌<◌, Bool, true, false, ◌||◌, ◌&&◌, cond, List, [], ◌∷◌, ◌++◌, map, Less, Equal, refl, sym, ap, subst, ◌∙◌, append_assoc, arith, length, nat_lt, if◌then◌else◌, Some, None, T, Ok}
+use Rattle.std.proofs.Common.{◌≡◌, ℕ, zero, suc, ◌<◌, Bool, true, false, ◌||◌, ◌&&◌, cond, List, [], ◌∷◌, ◌++◌, map, Less, Equal, refl, sym, ap, subst, ◌∙◌}
+use Rattle.std.proofs.Common.{append_assoc, arith, length, nat_lt, if◌then◌else◌, Some, None, T, Ok}
 use Rattle.std.specs.FinSet as set
 use Rattle.policy_reader.proofs.Grown.{push_all}
 use Rattle.policy_printer.proofs.Sets as part
-use Rattle.policy_printer.proofs.Words.{eq_by_cmp, nat_cmp, ordering_then, nat_cmp_is, eq_by_cmp_equiv, list_any, AllByRecursion, IsDistinct, find, is_sorted, append-nil, Pairs, pair_cmp, IsAscending, AllPairs, pair_cmp_total, pair_cmp-IsAntisymmetric, ascending_none, row, rows, pair_data, IsDistinct-from_sorted, AreNames, each, PolicyPart, lt_yes, lt_no}
+use Rattle.policy_printer.proofs.Words.{eq_by_cmp, nat_cmp, ordering_then, nat_cmp_is, eq_by_cmp_equiv, list_any, AllByRecursion, IsDistinct, find, is_sorted}
+use Rattle.policy_printer.proofs.Words.{append-nil, Pairs, pair_cmp, IsAscending, AllPairs, pair_cmp_total, pair_cmp-IsAntisymmetric, ascending_none, row, rows}
+use Rattle.policy_printer.proofs.Words.{pair_data, IsDistinct-from_sorted, AreNames, each, PolicyPart, lt_yes, lt_no}
 use Rattle.std.specs.List.Sorted.{IsStrictlySortedBy}
 use Rattle.std.specs.FinMap.Entries.{below_all, same_entries}
 use Rattle.pair_set.proofs.SetOfList.{len-from_list}
@@ -46,22 +49,35 @@ reached_row pairs s before h zero = subst (IsReached pairs s 0) (sym (append-nil
 reached_row pairs s before h (suc t) =
     let so_far = reached_row pairs s before h t in
     let ps : List (ℕ × ℕ) = before ++ row s t pairs in
-    elim (set.contains pairs (s, t)) as (λ b. set.contains pairs (s, t) ≡ b → IsReached pairs s (suc t) (before ++ (if b then row s t pairs ++ (s, t) ∷ [] else row s t pairs))) [
+    elim (set.contains pairs (s, t)) as
+    (λ b. set.contains pairs (s, t) ≡ b → IsReached pairs s (suc t) (before ++ (if b then row s t pairs ++ (s, t) ∷ [] else row s t pairs))) [
       | true ↦ λ here. subst (IsReached pairs s (suc t)) (append_assoc before (row s t pairs) ((s, t) ∷ [])) (record {
-        whole = set.from_list_push pair_cmp_total pair_cmp-IsAntisymmetric ps (s, t) ∙ ap (λ some. set.insert some (s, t)) so_far.whole ∙ sym (part.row_more by_first pairs (λ m. nat_lt m s) s (lt_no s s (omega arith)) t here);
+        whole = set.from_list_push pair_cmp_total pair_cmp-IsAntisymmetric ps (s, t) ∙ ap (λ some. set.insert some (s, t)) so_far.whole ∙
+            sym (part.row_more by_first pairs (λ m. nat_lt m s) s (lt_no s s (omega arith)) t here);
         ascend = push_ascend ps (s, t) so_far.ascend so_far.below;
         below = push_all (λ p. pair_cmp p (s, suc t) ≡ Less) ps (s, t) (further (s, t) (s, suc t) ps (pair_next s t) so_far.below) (pair_next s t);
       })
-      | false ↦ λ none. record { whole = so_far.whole ∙ part.row_skip by_first pairs (λ m. nat_lt m s) s (lt_no s s (omega arith)) t none; ascend = so_far.ascend; below = further (s, t) (s, suc t) ps (pair_next s t) so_far.below }
+      | false ↦ λ none. record {
+        whole = so_far.whole ∙ part.row_skip by_first pairs (λ m. nat_lt m s) s (lt_no s s (omega arith)) t none;
+        ascend =
+            so_far.ascend;
+        below = further (s, t) (s, suc t) ps (pair_next s t) so_far.below;
+      }
     ] refl
 
 module _ (n : ℕ) (pairs : Pairs) (within : AllPairs (λ a b. (a < n) × (b < n)) pairs) where
   reached : (m : ℕ) → IsReached pairs m 0 (rows m n pairs)
-  reached zero = record { whole = sym (part.no_part pairs (λ q. nat_lt q.0 0) (λ q. lt_no q.0 0 (omega arith))) ∙ row_begins 0 pairs; ascend = ascending_none; below = tt }
+  reached zero = record {
+    whole = sym (part.no_part pairs (λ q. nat_lt q.0 0) (λ q. lt_no q.0 0 (omega arith))) ∙ row_begins 0 pairs;
+    ascend =
+        ascending_none;
+    below = tt;
+  }
   reached (suc m) =
       let row = reached_row pairs m (rows m n pairs) (reached m) n in
       record {
-        whole = row.whole ∙ part.row_all by_first pairs (λ k. nat_lt k m) m (lt_no m m (omega arith)) n (λ q here. (within.each q.0 q.1 here).1) ∙ part.next_line pairs m ∙ row_begins (suc m) pairs;
+        whole = row.whole ∙ part.row_all by_first pairs (λ k. nat_lt k m) m (lt_no m m (omega arith)) n (λ q here. (within.each q.0 q.1 here).1) ∙
+            part.next_line pairs m ∙ row_begins (suc m) pairs;
         ascend = row.ascend;
         below = further (m, n) (suc m, 0) _ (pair_below (m, n) (suc m, 0) (omega arith)) row.below;
       }
@@ -93,34 +109,44 @@ sorted_paired (p ∷ ps) h = both _ _ (less_paired p ps h.0) (sorted_paired ps h
 
 find_paired : (q : ℕ × ℕ) (ps : List (ℕ × ℕ)) → find pair_cmp q (paired ps) ≡ cond (list_any (eq_by_cmp pair_cmp q) ps) (Some tt) None
 find_paired q [] = refl
-find_paired q (p ∷ ps) = elim (eq_by_cmp pair_cmp q p) as (λ b. cond b (Some tt) (find pair_cmp q (paired ps)) ≡ cond (b || list_any (eq_by_cmp pair_cmp q) ps) (Some tt) None) [ true ↦ refl | false ↦ find_paired q ps ]
+find_paired q (p ∷ ps) = elim (eq_by_cmp pair_cmp q p) as (λ b. cond b (Some tt) (find pair_cmp q (paired ps)) ≡ cond
+    (b || list_any (eq_by_cmp pair_cmp q) ps) (Some tt) None) [ true ↦ refl | false ↦ find_paired q ps ]
 
 unpaired : (ps : List (ℕ × ℕ)) → map (λ e. e.0) (paired ps) ≡ ps
 unpaired [] = refl
 unpaired (p ∷ ps) = ap (λ qs. p ∷ qs) (unpaired ps)
 
 -- an ascending list of the pairs of a set is the one row by row
-pub listed_rows : (n : ℕ) (pairs : Pairs) (ps : List (ℕ × ℕ)) → IsAscending ps → set.from_list ps ≡ pairs → AllPairs (λ a b. (a < n) × (b < n)) pairs → ps ≡ rows n n pairs
+pub listed_rows : (n : ℕ) (pairs : Pairs) (ps : List (ℕ × ℕ)) → IsAscending ps → set.from_list ps ≡ pairs → AllPairs (λ a b. (a < n) × (b < n)) pairs →
+    ps ≡ rows n n pairs
 listed_rows n pairs ps ascend all within =
-    let same : paired ps ≡ paired (rows n n pairs) = same_entries pair_cmp pair_cmp_total pair_cmp-IsAntisymmetric (paired ps) (paired (rows n n pairs)) (sorted_paired ps ascend) (sorted_paired (rows n n pairs) (rows_ascend n pairs within))
-    (λ q. find_paired q ps ∙ ap (λ b. cond b (Some tt) None) (sym (set.contains-from_list pair_cmp_total ps q) ∙ ap (λ (s : Pairs). set.contains s q) (all ∙ sym (rows_whole n pairs within)) ∙ set.contains-from_list pair_cmp_total (rows n n pairs) q) ∙ sym (find_paired q (rows n n pairs))) in
+    let same : paired ps ≡ paired (rows n n pairs) = same_entries pair_cmp pair_cmp_total pair_cmp-IsAntisymmetric (paired ps) (paired (rows n n pairs))
+    (sorted_paired ps ascend) (sorted_paired (rows n n pairs) (rows_ascend n pairs within))
+    (λ q. find_paired q ps ∙ ap (λ b. cond b (Some tt) None) (sym (set.contains-from_list pair_cmp_total ps q) ∙ ap (λ (s : Pairs). set.contains s q)
+    (all ∙ sym (rows_whole n pairs within)) ∙ set.contains-from_list pair_cmp_total (rows n n pairs) q) ∙ sym (find_paired q (rows n n pairs))) in
     sym (unpaired ps) ∙ ap (map (λ e. e.0)) same ∙ unpaired (rows n n pairs)
 
 -- ---- pairs are read from what they are written as
 
-module _ (t : PolicyPart) (f : ℕ) (names : List (List ℕ)) (whole : Pairs) (named : AreNames names) (within : AllPairs (λ a b. (a < length names) × (b < length names)) whole) where
+module _ (t : PolicyPart) (f : ℕ) (names : List (List ℕ)) (whole : Pairs) (named : AreNames names)
+    (within : AllPairs (λ a b. (a < length names) × (b < length names)) whole) where
   abbrev all : List (ℕ × ℕ)
   all = rows (length names) (length names) whole
 
-  pair_again : (some : Pairs) (p : ℕ × ℕ) → set.contains whole p ≡ true → set.contains some p ≡ false → next_pair t f names some (pair_data names p) ≡ Ok (set.insert some p)
+  pair_again : (some : Pairs) (p : ℕ × ℕ) → set.contains whole p ≡ true → set.contains some p ≡ false →
+      next_pair t f names some (pair_data names p) ≡ Ok (set.insert some p)
   unfolding next_pair named_pair_in numbers_in once
-  pair_again some p here fresh = let both = within.each p.0 p.1 here in rw (number_back t f names p.0 named both.0, number_back t f names p.1 named both.1, fresh) refl
+  pair_again some p here fresh = let both = within.each p.0 p.1 here in
+      rw (number_back t f names p.0 named both.0, number_back t f names p.1 named both.1, fresh) refl
 
-  step : (before : List (ℕ × ℕ)) (p : ℕ × ℕ) (after : List (ℕ × ℕ)) → all ≡ before ++ p ∷ after → next_pair t f names (set.from_list before) (pair_data names p) ≡ Ok (set.from_list (before ++ p ∷ []))
+  step : (before : List (ℕ × ℕ)) (p : ℕ × ℕ) (after : List (ℕ × ℕ)) → all ≡ before ++ p ∷ after →
+      next_pair t f names (set.from_list before) (pair_data names p) ≡ Ok (set.from_list (before ++ p ∷ []))
   step before p after e =
-      let here = ap (λ (s : Pairs). set.contains s p) (sym (rows_whole (length names) whole within)) ∙ set.contains-from_list pair_cmp_total all p ∙ ap (list_any (eq_by_cmp pair_cmp p)) e ∙ middle (eq_by_cmp pair_cmp) before p after (itself p) in
+      let here = ap (λ (s : Pairs). set.contains s p) (sym (rows_whole (length names) whole within)) ∙ set.contains-from_list pair_cmp_total all p ∙
+      ap (list_any (eq_by_cmp pair_cmp p)) e ∙ middle (eq_by_cmp pair_cmp) before p after (itself p) in
       let distinct = subst (IsDistinct (eq_by_cmp pair_cmp)) e (IsDistinct-from_sorted pair_cmp all (rows_ascend (length names) whole within)) in
-      pair_again (set.from_list before) p here (set.contains-from_list pair_cmp_total before p ∙ new_middle (eq_by_cmp pair_cmp) (λ p q. (eq_by_cmp_equiv pair_cmp_total).symm p q) before p after distinct)
+      pair_again (set.from_list before) p here (set.contains-from_list pair_cmp_total before p ∙
+      new_middle (eq_by_cmp pair_cmp) (λ p q. (eq_by_cmp_equiv pair_cmp_total).symm p q) before p after distinct)
       ∙ ap Ok (sym (set.from_list_push pair_cmp_total pair_cmp-IsAntisymmetric before p))
 
   -- pairs are read from what they are written as
@@ -128,4 +154,5 @@ module _ (t : PolicyPart) (f : ℕ) (names : List (List ℕ)) (whole : Pairs) (n
   pairs_back = list_back (next_pair t f names) (pair_data names) (λ ps. set.from_list ps) all step ∙ ap Ok (rows_whole (length names) whole within)
 
   pub pairs_count : length all ≡ set.len whole
-  pairs_count = sym (len-from_list pair_cmp_total pair_cmp-IsAntisymmetric all (rows_ascend (length names) whole within)) ∙ ap set.len (rows_whole (length names) whole within)
+  pairs_count = sym (len-from_list pair_cmp_total pair_cmp-IsAntisymmetric all (rows_ascend (length names) whole within)) ∙
+      ap set.len (rows_whole (length names) whole within)

@@ -1,11 +1,15 @@
 -- The rules of a workflow are read from what they are written as.
-use Rattle.std.proofs.Common.{◌≡◌, ℕ, zero, suc, ◌+◌, ◌<◌, ◌≤◌, Bool, true, false, cond, nat_eq, List, [], ◌∷◌, ◌++◌, length, map, refl, sym, ap, ◌∙◌, arith, codes, Some, Ok, slice_set, slice_get, replicate}
+use Rattle.std.proofs.Common.{◌≡◌, ℕ, zero, suc, ◌+◌, ◌<◌, ◌≤◌, Bool, true, false, cond, nat_eq, List, [], ◌∷◌, ◌++◌, length, map, refl, sym, ap, ◌∙◌, arith}
+use Rattle.std.proofs.Common.{codes, Some, Ok, slice_set, slice_get, replicate}
 use Rattle.constraint_forms.specs.declared.rule.Rule.TheVariants as rule
-use Rattle.policy_printer.proofs.Words.{length-map, not_true, or_left, or_right, eq_same, each, string, Members, get_member, AreNames, STEP_LIMIT, RULE_LIMIT, RelationShape, known_names, is_member, Rule, IsSoundRule, AreSoundRules, Flows, name_at, names_where, chosen, rule_data, rules_data, HasFlags, HaveFlags, Format, form_of, has_form, le_yes}
+use Rattle.policy_printer.proofs.Words.{length-map, not_true, or_left, or_right, eq_same, each, string, Members, get_member, AreNames, STEP_LIMIT, RULE_LIMIT}
+use Rattle.policy_printer.proofs.Words.{RelationShape, known_names, is_member, Rule, IsSoundRule, AreSoundRules, Flows, name_at, names_where, chosen, rule_data}
+use Rattle.policy_printer.proofs.Words.{rules_data, HasFlags, HaveFlags, Format, form_of, has_form, le_yes}
 use Rattle.constraint_forms.specs.Assigned.{no_steps}
 use Rattle.constraint_forms.specs.Rules.{any_from, count_members}
 use Rattle.policy_reader.specs.Parts.{value_at, array_in, table_in, text_in, named_in, once, no_others, known_key}
-use Rattle.policy_reader.specs.Rules.{relation_in, step_in, next_member, group_in, relation_at, step_at, group_at, limit_at, limit_in, key_in, keys_in, counting_keys_in, counting_in, pair_in, grouped_in, form_in, rule_of_form, rule_in, next_rule, rules_in, rules_of}
+use Rattle.policy_reader.specs.Rules.{relation_in, step_in, next_member, group_in, relation_at, step_at, group_at, limit_at, limit_in, key_in, keys_in}
+use Rattle.policy_reader.specs.Rules.{counting_keys_in, counting_in, pair_in, grouped_in, form_in, rule_of_form, rule_in, next_rule, rules_in, rules_of}
 use Rattle.policy_printer.specs.Documents.{rule_members, counting_members, grouped_members}
 use Rattle.policy_printer.proofs.Readings.{list_back, chosen_back, got_middle, items_back, text_at, number_back, at_least-ok, at_most-ok}
 
@@ -70,19 +74,25 @@ module _ (f : ℕ) (steps : List (List ℕ)) (named : AreNames steps) where
     all_again =
         ap (λ g. each (next_member f steps) g (map (text_at steps) members)) (sym start)
         ∙ chosen_back (next_member f steps) (text_at steps) (λ k. first_of k whole) (is_member whole) (length steps)
-        (λ k lt here. member_again (first_of k whole) k lt (first_fresh k whole) ∙ ap Ok (first_more k whole true here)) (λ k lt none. first_more k whole false none) (length steps) (omega arith)
+        (λ k lt here. member_again (first_of k whole) k lt (first_fresh k whole) ∙ ap Ok (first_more k whole true here))
+        (λ k lt none. first_more k whole false none) (length steps) (omega arith)
         ∙ ap Ok (first_all (length steps) whole within)
 
     -- the group that has some step has a first one
     some_again : any_from 0 whole (λ _. true) ≡ true → (ss : List ℕ) → each (next_member f steps) no_steps (map (text_at steps) ss) ≡ Ok whole → 0 < length ss
     unfolding no_steps
-    some_again some [] e = let none : any_from 0 no_steps (λ _. true) ≡ false = refl in let no : whole ≡ no_steps = cc in let bad = sym (ap (λ g. any_from 0 g (λ _. true)) no ∙ none) ∙ some in cc
+    some_again some [] e = let none : any_from 0 no_steps (λ _. true) ≡ false = refl in let no : whole ≡ no_steps = cc in let bad =
+        sym (ap (λ g. any_from 0 g (λ _. true)) no ∙ none) ∙ some in cc
     some_again some (s ∷ ss) e = omega arith
 
     pub group_again : any_from 0 whole (λ _. true) ≡ true → group_in f steps (names_where steps (is_member whole)) ≡ Ok whole
     unfolding group_in array_in
     group_again some =
-        rw (items_back (map (text_at steps) members), length-map members (text_at steps), at_least-ok Flows f (length members) (some_again some members all_again)) all_again
+        rw (
+          items_back (map (text_at steps) members),
+          length-map members (text_at steps),
+          at_least-ok Flows f (length members) (some_again some members all_again),
+        ) all_again
 
   -- ---- rules
 
@@ -100,37 +110,82 @@ module _ (f : ℕ) (steps : List (List ℕ)) (named : AreNames steps) where
     unfolding step_in named_in text_in
     step_again s lt = number_back Flows f steps s named lt
 
-    rule_again : (format : Format) (r : Rule) → IsSoundRule (length steps) (length relations) r → HasFlags r → has_form format (form_of r) ≡ true → rule_in format f relations steps (rule_data relations steps r) ≡ Ok r
-    unfolding rule_in form_in rule_of_form keys_in key_in relation_at step_at group_at limit_at limit_in counting_keys_in counting_in pair_in grouped_in value_at table_in no_others known_key rule_members grouped_members counting_members
-    rule_again format (rule.Pair rho s t) h flags known = rw (known, relation_again rho (h.known rho (eq_same rho)), step_again s (h.names s (or_left (nat_eq s s) _ (eq_same s))), step_again t (h.names t (or_right (nat_eq t s) _ (eq_same t)))) refl
+    rule_again : (format : Format) (r : Rule) → IsSoundRule (length steps) (length relations) r → HasFlags r → has_form format (form_of r) ≡ true → rule_in
+        format f relations steps (rule_data relations steps r) ≡ Ok r
+    unfolding rule_in form_in rule_of_form keys_in key_in relation_at step_at group_at limit_at limit_in counting_keys_in counting_in pair_in grouped_in
+        value_at table_in no_others known_key rule_members grouped_members counting_members
+    rule_again format (rule.Pair rho s t) h flags known = rw (
+      known,
+      relation_again rho (h.known rho (eq_same rho)),
+      step_again
+          s (h.names s (or_left (nat_eq s s) _ (eq_same s))),
+      step_again t (h.names t (or_right (nat_eq t s) _ (eq_same t))),
+    ) refl
     rule_again format (rule.SomeOf rho g s) h flags known =
-        rw (known, relation_again rho (h.known rho (eq_same rho)), step_again s (h.names s (or_left (nat_eq s s) _ (eq_same s))), group_again g flags (λ x here. h.names x (or_right (nat_eq x s) _ here)) h.members) refl
+        rw (
+          known,
+          relation_again rho (h.known rho (eq_same rho)),
+          step_again s (h.names s (or_left (nat_eq s s) _ (eq_same s))),
+          group_again
+              g flags (λ x here. h.names x (or_right (nat_eq x s) _ here)) h.members,
+        ) refl
     rule_again format (rule.AllOf rho g s) h flags known =
-        rw (known, relation_again rho (h.known rho (eq_same rho)), step_again s (h.names s (or_left (nat_eq s s) _ (eq_same s))), group_again g flags (λ x here. h.names x (or_right (nat_eq x s) _ here)) h.members) refl
+        rw (
+          known,
+          relation_again rho (h.known rho (eq_same rho)),
+          step_again s (h.names s (or_left (nat_eq s s) _ (eq_same s))),
+          group_again
+              g flags (λ x here. h.names x (or_right (nat_eq x s) _ here)) h.members,
+        ) refl
     rule_again format (rule.SomeTo rho s g) h flags known =
-        rw (known, relation_again rho (h.known rho (eq_same rho)), step_again s (h.names s (or_left (nat_eq s s) _ (eq_same s))), group_again g flags (λ x here. h.names x (or_right (nat_eq x s) _ here)) h.members) refl
+        rw (
+          known,
+          relation_again rho (h.known rho (eq_same rho)),
+          step_again s (h.names s (or_left (nat_eq s s) _ (eq_same s))),
+          group_again
+              g flags (λ x here. h.names x (or_right (nat_eq x s) _ here)) h.members,
+        ) refl
     rule_again format (rule.AllTo rho s g) h flags known =
-        rw (known, relation_again rho (h.known rho (eq_same rho)), step_again s (h.names s (or_left (nat_eq s s) _ (eq_same s))), group_again g flags (λ x here. h.names x (or_right (nat_eq x s) _ here)) h.members) refl
+        rw (
+          known,
+          relation_again rho (h.known rho (eq_same rho)),
+          step_again s (h.names s (or_left (nat_eq s s) _ (eq_same s))),
+          group_again
+              g flags (λ x here. h.names x (or_right (nat_eq x s) _ here)) h.members,
+        ) refl
     rule_again format (rule.AtMost limit g) h flags known =
-        rw (known, group_again g flags h.names (some_of_count 0 g (omega (arith, h.members.0, h.members.1))), le_yes 1 limit (omega (arith, h.members.0)), le_yes limit (count_members g) h.members.1) refl
+        rw (
+          known,
+          group_again g flags h.names (some_of_count 0 g (omega (arith, h.members.0, h.members.1))),
+          le_yes 1 limit (omega (arith, h.members.0)),
+          le_yes limit (count_members g) h.members.1,
+        ) refl
     rule_again format (rule.AtLeast limit g) h flags known =
-        rw (known, group_again g flags h.names (some_of_count 0 g (omega (arith, h.members.0, h.members.1))), le_yes 1 limit (omega (arith, h.members.0)), le_yes limit (count_members g) h.members.1) refl
+        rw (
+          known,
+          group_again g flags h.names (some_of_count 0 g (omega (arith, h.members.0, h.members.1))),
+          le_yes 1 limit (omega (arith, h.members.0)),
+          le_yes limit (count_members g) h.members.1,
+        ) refl
 
-    rule_step : (format : Format) (rules : List Rule) → AreSoundRules (length steps) (length relations) rules → HaveFlags rules → HaveForms format rules → (before : List Rule) (r : Rule) (after : List Rule) → rules ≡ before ++ r ∷ after
+    rule_step : (format : Format) (rules : List Rule) → AreSoundRules (length steps) (length relations) rules → HaveFlags rules → HaveForms format rules →
+        (before : List Rule) (r : Rule) (after : List Rule) → rules ≡ before ++ r ∷ after
         → next_rule format f relations steps before (rule_data relations steps r) ≡ Ok (before ++ r ∷ [])
     unfolding next_rule
     rule_step format rules sound flags known before r after e =
         let at = ap (λ rs. slice_get rs (length before)) e ∙ got_middle before r after in
         rw (rule_again format r (sound (length before) r at) (flags (length before) r at) (known (length before) r at)) refl
 
-    in_again : (format : Format) (rules : List Rule) → AreSoundRules (length steps) (length relations) rules → HaveFlags rules → HaveForms format rules → length rules ≤ RULE_LIMIT → rules_in format f relations steps (rules_data relations steps rules) ≡ Ok rules
+    in_again : (format : Format) (rules : List Rule) → AreSoundRules (length steps) (length relations) rules → HaveFlags rules → HaveForms format rules →
+        length rules ≤ RULE_LIMIT → rules_in format f relations steps (rules_data relations steps rules) ≡ Ok rules
     unfolding rules_in array_in
     in_again format rules sound flags known few =
         rw (items_back (map (rule_data relations steps) rules), length-map rules (rule_data relations steps), at_most-ok Flows f (length rules) RULE_LIMIT few)
         (list_back (next_rule format f relations steps) (rule_data relations steps) (λ rs. rs) rules (rule_step format rules sound flags known))
 
     -- the rules of a workflow are read from what they are written as
-    pub rules_back : (format : Format) (again : Members) (rules : List Rule) → AreSoundRules (length steps) (length relations) rules → HaveFlags rules → HaveForms format rules → length rules ≤ RULE_LIMIT
+    pub rules_back : (format : Format) (again : Members) (rules : List Rule) → AreSoundRules (length steps) (length relations) rules → HaveFlags rules →
+        HaveForms format rules → length rules ≤ RULE_LIMIT
         → get_member (codes "rules") again ≡ Some (rules_data relations steps rules) → rules_of format f relations steps again ≡ Ok rules
     unfolding rules_of
     rules_back format again rules sound flags known few there = rw (rules_of, there) (in_again format rules sound flags known few)

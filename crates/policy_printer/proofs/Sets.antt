@@ -1,7 +1,8 @@
 -- Parts of a set of pairs, as they are read or written line by line.
 use Rattle.std.proofs.Common.{◌≡◌, ℕ, suc, ◌<◌, Bool, true, false, ◌||◌, ◌&&◌, nat_eq, nat_lt, map, refl, sym, ap, ◌∙◌, arith, Result, Ok}
 use Rattle.std.specs.FinSet as set
-use Rattle.policy_printer.proofs.Words.{eq_by_cmp, is_eq, tied_itself, and_same, and_swap, and-false, or-false, eq_same, eq_back, lt_yes, lt_no, Pairs, pair_cmp, pair_cmp_total, pair_cmp-IsAntisymmetric, each, chosen}
+use Rattle.policy_printer.proofs.Words.{eq_by_cmp, is_eq, tied_itself, and_same, and_swap, and-false, or-false, eq_same, eq_back, lt_yes, lt_no, Pairs}
+use Rattle.policy_printer.proofs.Words.{pair_cmp, pair_cmp_total, pair_cmp-IsAntisymmetric, each, chosen}
 use Rattle.std.proofs.lemmas.Map.Views.{tells_apart}
 use Rattle.policy_reader.proofs.PairSets.{same_pairs}
 use Rattle.policy_printer.proofs.Readings.{chosen_back}
@@ -28,11 +29,13 @@ module _ (whole : Pairs) where
   no_part t h = same_pairs (part t) set.empty (λ q. in_part t q ∙ ap (λ b. set.contains whole q && b) (h q) ∙ and-false _ ∙ sym (set.contains-empty pair_cmp q))
 
   -- a part with one pair more
-  part_more : (s t : ℕ × ℕ → Bool) (p : ℕ × ℕ) → set.contains whole p ≡ true → t p ≡ true → ((q : ℕ × ℕ) → (q ≡ p → ⊥) → s q ≡ t q) → part t ≡ set.insert (part s) p
+  part_more : (s t : ℕ × ℕ → Bool) (p : ℕ × ℕ) → set.contains whole p ≡ true → t p ≡ true → ((q : ℕ × ℕ) → (q ≡ p → ⊥) → s q ≡ t q) →
+      part t ≡ set.insert (part s) p
   part_more s t p here passes others = same_pairs (part t) (set.insert (part s) p) (λ q.
       elim (eq_by_cmp pair_cmp q p) as (λ b. eq_by_cmp pair_cmp q p ≡ b → set.contains (part t) q ≡ (b || set.contains (part s) q)) [
         | true ↦ λ e. let same : q ≡ p = tells_apart pair_cmp-IsAntisymmetric q p e in ap (set.contains (part t)) same ∙ in_part t p ∙ rw (here, passes) refl
-        | false ↦ λ e. in_part t q ∙ ap (λ b. set.contains whole q && b) (sym (others q (λ same. let yes = ap (eq_by_cmp pair_cmp q) (sym same) ∙ itself q in cc))) ∙ sym (in_part s q)
+        | false ↦ λ e. in_part t q ∙ ap (λ b. set.contains whole q && b)
+            (sym (others q (λ same. let yes = ap (eq_by_cmp pair_cmp q) (sym same) ∙ itself q in cc))) ∙ sym (in_part s q)
       ] refl ∙ sym (set.contains-insert pair_cmp_total (part s) p q))
 
 -- ---- lines
@@ -72,7 +75,8 @@ module _ (layout : Layout) (whole : Pairs) where
     row r = part whole (below r)
 
     others : (r : ℕ) (q : ℕ × ℕ) → (q ≡ layout.mk s r → ⊥) → below r q ≡ below (suc r) q
-    others r q apart = ap (λ b. done (layout.line q) || b) (and_same (nat_eq (layout.line q) s) _ _ (λ e. next_lt (layout.place q) r (λ same. apart (layout.is q ∙ (λ i. layout.mk (eq_back (layout.line q) s e i) (same i))))))
+    others r q apart = ap (λ b. done (layout.line q) || b) (and_same (nat_eq (layout.line q) s) _ _
+        (λ e. next_lt (layout.place q) r (λ same. apart (layout.is q ∙ (λ i. layout.mk (eq_back (layout.line q) s e i) (same i))))))
 
     not_yet : (r : ℕ) → below r (layout.mk s r) ≡ false
     not_yet r = rw (layout.line_is s r, layout.place_is s r, new, lt_no r r (omega arith)) (and-false _)
@@ -82,7 +86,8 @@ module _ (layout : Layout) (whole : Pairs) where
 
     pub row_none : lines done ≡ row 0
     row_none = same_part whole (λ q. done (layout.line q)) (below 0) (λ q h.
-        sym (ap (λ b. done (layout.line q) || (nat_eq (layout.line q) s && b)) (lt_no (layout.place q) 0 (omega arith)) ∙ ap (λ b. done (layout.line q) || b) (and-false _) ∙ or-false _))
+        sym (ap (λ b. done (layout.line q) || (nat_eq (layout.line q) s && b)) (lt_no (layout.place q) 0 (omega arith)) ∙
+        ap (λ b. done (layout.line q) || b) (and-false _) ∙ or-false _))
 
     pub row_more : (r : ℕ) → at s r ≡ true → row (suc r) ≡ set.insert (row r) (layout.mk s r)
     row_more r here = part_more whole (below r) (below (suc r)) (layout.mk s r) here (now r) (others r)
@@ -96,16 +101,19 @@ module _ (layout : Layout) (whole : Pairs) where
     module _ (count : ℕ) (within : (q : ℕ × ℕ) → set.contains whole q ≡ true → layout.place q < count) where
       pub row_all : row count ≡ lines (λ m. done m || nat_eq m s)
       row_all = same_part whole (below count) (λ q. done (layout.line q) || nat_eq (layout.line q) s) (λ q h.
-          ap (λ b. done (layout.line q) || (nat_eq (layout.line q) s && b)) (lt_yes (layout.place q) count (within q h)) ∙ ap (λ b. done (layout.line q) || b) (and_swap _ true))
+          ap (λ b. done (layout.line q) || (nat_eq (layout.line q) s && b)) (lt_yes (layout.place q) count (within q h)) ∙
+          ap (λ b. done (layout.line q) || b) (and_swap _ true))
 
       -- the line s is read, its numbers one by one
       pub line_back : {S D F : Type 0} (read : S → D → Result S F) (write : ℕ → D) (put : Pairs → S)
-          → ((r : ℕ) (some : Pairs) → r < count → set.contains some (layout.mk s r) ≡ false → read (put some) (write r) ≡ Ok (put (set.insert some (layout.mk s r))))
+          → ((r : ℕ) (some : Pairs) → r < count → set.contains some (layout.mk s r) ≡ false →
+          read (put some) (write r) ≡ Ok (put (set.insert some (layout.mk s r))))
           → each read (put (lines done)) (map write (chosen count (at s))) ≡ Ok (put (lines (λ m. done m || nat_eq m s)))
       line_back read write put again =
           ap (λ some. each read (put some) (map write (chosen count (at s)))) row_none
           ∙ chosen_back read write (λ r. put (row r)) (at s) count
-          (λ r lt here. again r (row r) lt (row_fresh r) ∙ ap (λ some. Ok (put some)) (sym (row_more r here))) (λ r lt none. ap put (row_skip r none)) count (omega arith)
+          (λ r lt here. again r (row r) lt (row_fresh r) ∙ ap (λ some. Ok (put some)) (sym (row_more r here))) (λ r lt none. ap put (row_skip r none)) count
+          (omega arith)
           ∙ ap (λ some. Ok (put some)) row_all
 
 -- the lines below the next number

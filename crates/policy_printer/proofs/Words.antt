@@ -1,6 +1,11 @@
 -- The words that the proofs of this crate cite most, passed on from one place. Declares nothing.
-pub use Rattle.std.proofs.Common.{Err, Some, [], ap, arith, false, length, map, nat_eq, refl, slice_get, string_bytes, subst, sym, take, true, ℕ, ◌++◌, ◌+◌, ◌<◌, ◌∙◌, ◌∷◌, ◌≡◌}
-pub use Rattle.policy_reader.proofs.Words.{length-map, map-append, append-nil, length-append, slice_cmp, nat_list_cmp_total, pointwise, nat_list_eq_equiv, AllByRecursion, All, list_any, eq_by_cmp, ordering_reverse, eq_same, or_left, or_right, not_true, ◌>>=◌, each, pair_cmp_total, pair_cmp-IsAntisymmetric, all_empty, Pairs, pair_cmp, AllPairs, IsAscending, AreOfUsers, IsSoundRule, AreSoundRules, any_below, entries, items, IsPrintable, Ascend, first_declared, names_of, is_complement, entry_of, Members, Data, view, members_view, table_view, FlowShape, is_before}
+pub use Rattle.std.proofs.Common.{Err, Some, [], ap, arith, false, length, map, nat_eq, refl, slice_get, string_bytes, subst, sym, take, true, ℕ, ◌++◌, ◌+◌}
+pub use Rattle.std.proofs.Common.{◌<◌, ◌∙◌, ◌∷◌, ◌≡◌}
+pub use Rattle.policy_reader.proofs.Words.{length-map, map-append, append-nil, length-append, slice_cmp, nat_list_cmp_total, pointwise, nat_list_eq_equiv}
+pub use Rattle.policy_reader.proofs.Words.{AllByRecursion, All, list_any, eq_by_cmp, ordering_reverse, eq_same, or_left, or_right, not_true, ◌>>=◌, each}
+pub use Rattle.policy_reader.proofs.Words.{pair_cmp_total, pair_cmp-IsAntisymmetric, all_empty, Pairs, pair_cmp, AllPairs, IsAscending, AreOfUsers, IsSoundRule}
+pub use Rattle.policy_reader.proofs.Words.{AreSoundRules, any_below, entries, items, IsPrintable, Ascend, first_declared, names_of, is_complement, entry_of}
+pub use Rattle.policy_reader.proofs.Words.{Members, Data, view, members_view, table_view, FlowShape, is_before}
 pub use Rattle.std.proofs.lemmas.List.{get_or_default, take_more, length-take-le, take_all}
 pub use Rattle.std.proofs.lemmas.Map.Keys.{Less-from_sorted, IsDistinct-cons, IsDistinct-IsPermutation, IsDistinct-from_sorted}
 pub use Rattle.std.proofs.lemmas.Option.{get_or_from_slice_get, slice_get_past, slice_get_within, slice_get-map, slice_get-get_or}
@@ -15,7 +20,9 @@ pub use Rattle.pair_set.specs.PairLaws.{ascending_none}
 pub use Rattle.policy_book.specs.Facts.{IsSoundWorkflow}
 pub use Rattle.policy_book.specs.Policies.{no_workflow, flow_at}
 pub use Rattle.policy_book.specs.Shapes.{PolicyShape, WorkflowShape}
-pub use Rattle.policy_printer.specs.Documents.{name_at, names_data, users_data, relations_data, flows_data, chosen, with_member, table_below, row, rows, pair_data, pairs_data, relation_entry, user_entry, names_where, rule_data, flow_entry, permit_entry, permits_data, rules_data, document_of}
+pub use Rattle.policy_printer.specs.Documents.{name_at, names_data, users_data, relations_data, flows_data, chosen, with_member, table_below, row, rows}
+pub use Rattle.policy_printer.specs.Documents.{pair_data, pairs_data, relation_entry, user_entry, names_where, rule_data, flow_entry, permit_entry}
+pub use Rattle.policy_printer.specs.Documents.{permits_data, rules_data, document_of}
 pub use Rattle.policy_printer.specs.Named.{IsNamedPolicy, HasFlags, HaveFlags, IsNamedWorkflow}
 pub use Rattle.policy_reader.proofs.Fresh.{none_cons, among}
 pub use Rattle.policy_reader.proofs.Orders.{least_none, all_below}
@@ -27,9 +34,11 @@ pub use Rattle.policy_reader.specs.Relations.{is_built_in}
 pub use Rattle.policy_reader.specs.declared.fault.PolicyPart.{PolicyPart}
 pub use Rattle.policy_reader.specs.declared.fault.PolicyPart.TheVariants.{File, Relations, Users, Roles, Flows}
 pub use Rattle.rbac_state.specs.Rosters.{RosterShape, has_role, IsSoundRoster}
-pub use Rattle.toml.specs.Data.{get_member, member, no_members, string, table, integer, array, depth, items_depth, members_depth, has_valid_dates, members_have_valid_dates}
+pub use Rattle.toml.specs.Data.{get_member, member, no_members, string, table, integer, array, depth, items_depth, members_depth, has_valid_dates}
+pub use Rattle.toml.specs.Data.{members_have_valid_dates}
 pub use Rattle.toml.specs.View.{items_of}
-pub use Rattle.user_relations.specs.Relations.{RelationShape, RelationKind, listed, complement, kind_of, known_names, has_list, is_listed, complemented, complement_of, listed_pairs, pairs_of}
+pub use Rattle.user_relations.specs.Relations.{RelationShape, RelationKind, listed, complement, kind_of, known_names, has_list, is_listed, complemented}
+pub use Rattle.user_relations.specs.Relations.{complement_of, listed_pairs, pairs_of}
 pub use Rattle.user_relations.specs.Soundness.{AreSound}
 pub use Rattle.wf_names.specs.Names.{is_name}
 pub use Rattle.wf_names.specs.Table.{AreNames, place_of}

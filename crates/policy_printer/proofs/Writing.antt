@@ -1,7 +1,12 @@
 -- Values and tables as they are built.
-use Rattle.std.proofs.Common.{◌≡◌, ℕ, suc, ◌+◌, ◌<◌, ◌≤◌, Bool, true, false, List, [], ◌∷◌, ◌++◌, length, map, take, get_or, IsTrue, String, Global, Vec, Ordering, Less, Equal, Greater, string_bytes, refl, sym, ap, ◌∙◌, append_assoc, arith, Result, Ok, Err, OnOk, slice_get, Option, Some, None, option_map, zero, subst, inl, inr}
+use Rattle.std.proofs.Common.{◌≡◌, ℕ, suc, ◌+◌, ◌<◌, ◌≤◌, Bool, true, false, List, [], ◌∷◌, ◌++◌, length, map, take, get_or, IsTrue, String, Global, Vec}
+use Rattle.std.proofs.Common.{Ordering, Less, Equal, Greater, string_bytes, refl, sym, ap, ◌∙◌, append_assoc, arith, Result, Ok, Err, OnOk, slice_get, Option}
+use Rattle.std.proofs.Common.{Some, None, option_map, zero, subst, inl, inr}
 use Rattle.std.specs.FinSet as set
-use Rattle.policy_printer.proofs.Words.{All, get_or_from_slice_get, slice_get_past, slice_get_within, AreNames, first_declared, RELATION_LIMIT, Pairs, RelationShape, RelationKind, listed, complement, kind_of, known_names, has_list, is_listed, complemented, complement_of, AreSound, match_ordering, get_or_default, length-map, map-append, take_more, take_all, Data, Members, member, view, members_view, with_member, table_below, chosen, name_at, row, rows, string, array, items_of, pair_data}
+use Rattle.policy_printer.proofs.Words.{All, get_or_from_slice_get, slice_get_past, slice_get_within, AreNames, first_declared, RELATION_LIMIT, Pairs}
+use Rattle.policy_printer.proofs.Words.{RelationShape, RelationKind, listed, complement, kind_of, known_names, has_list, is_listed, complemented, complement_of}
+use Rattle.policy_printer.proofs.Words.{AreSound, match_ordering, get_or_default, length-map, map-append, take_more, take_all, Data, Members, member, view}
+use Rattle.policy_printer.proofs.Words.{members_view, with_member, table_below, chosen, name_at, row, rows, string, array, items_of, pair_data}
 use Rattle.std.proofs.lemmas.Bool.{cases_lt}
 use Rattle.wf_names.specs.Names.{is_name}
 use Rattle.wf_names.proofs.Places.{are_names}
@@ -13,13 +18,15 @@ use Rattle.policy_reader.proofs.Fresh.{Entry}
 
 placed : (o : Ordering) (k : String Global) (v : Value) (e : Entry) (es rest : List Entry) (ms : Members) → members_view rest ≡ ms
     → members_view (match_ordering o ((k, v) ∷ e ∷ es) ((e.0, v) ∷ es) (e ∷ rest))
-    ≡ match_ordering o (member (string_bytes k) (view v) (members_view (e ∷ es))) (member (string_bytes e.0) (view v) (members_view es)) (member (string_bytes e.0) (view e.1) ms)
+    ≡ match_ordering o (member (string_bytes k) (view v) (members_view (e ∷ es))) (member (string_bytes e.0) (view v) (members_view es))
+    (member (string_bytes e.0) (view e.1) ms)
 placed Less k v e es rest ms same = refl
 placed Equal k v e es rest ms same = refl
 placed Greater k v e es rest ms same = ap (member (string_bytes e.0) (view e.1)) same
 
 -- an insert into the map of a table, seen as members
-pub insert_view : (es : List Entry) (k : String Global) (v : Value) → members_view (insert_entry string_cmp es k v) ≡ with_member (string_bytes k) (view v) (members_view es)
+pub insert_view : (es : List Entry) (k : String Global) (v : Value) →
+    members_view (insert_entry string_cmp es k v) ≡ with_member (string_bytes k) (view v) (members_view es)
 insert_view [] k v = refl
 insert_view (e ∷ es) k v = placed (string_cmp k e.0) k v e es _ _ (insert_view es k v)
 
@@ -27,7 +34,8 @@ insert_view (e ∷ es) k v = placed (string_cmp k e.0) k v e es _ _ (insert_view
 pub written_to : (ds : ℕ → List Data) (v : Vec Value Global) (n m : ℕ) → map view v.items ≡ ds n → n ≡ m → view (Array v) ≡ array (items_of (ds m))
 written_to ds v n m e same = view-Array v ∙ ap (λ xs. array (items_of xs)) (e ∙ ap ds same)
 
-pub all_written : {X : Type 0} (f : X → Data) (v : Vec Value Global) (n : ℕ) (xs : List X) → map view v.items ≡ map f (take n xs) → length xs ≤ n → view (Array v) ≡ array (items_of (map f xs))
+pub all_written : {X : Type 0} (f : X → Data) (v : Vec Value Global) (n : ℕ) (xs : List X) → map view v.items ≡ map f (take n xs) → length xs ≤ n →
+    view (Array v) ≡ array (items_of (map f xs))
 all_written f v n xs e le = view-Array v ∙ ap (λ ds. array (items_of ds)) (e ∙ ap (map f) (take_all n xs le))
 
 one_more : (n : ℕ) → n + 1 ≡ suc n
@@ -44,13 +52,16 @@ pub table_more : (n : ℕ) (entry : ℕ → List ℕ × Data) → table_below (n
 table_more n entry = rw (one_more n) refl
 
 -- one item more under a map
-pub map_take_more : {X Y : Type 0} (f : X → Y) (xs : List X) (n : ℕ) (d : X) → n < length xs → map f (take (n + 1) xs) ≡ map f (take n xs) ++ f (get_or xs n d) ∷ []
+pub map_take_more : {X Y : Type 0} (f : X → Y) (xs : List X) (n : ℕ) (d : X) → n < length xs →
+    map f (take (n + 1) xs) ≡ map f (take n xs) ++ f (get_or xs n d) ∷ []
 map_take_more f xs n d lt = ap (map f) (take_more xs n d lt) ∙ map-append f (take n xs) (get_or xs n d ∷ [])
 
-pub names_more : (names : List (List ℕ)) (n : ℕ) → n < length names → map string (take (n + 1) names) ≡ map string (take n names) ++ string (name_at names n) ∷ []
+pub names_more : (names : List (List ℕ)) (n : ℕ) → n < length names →
+    map string (take (n + 1) names) ≡ map string (take n names) ++ string (name_at names n) ∷ []
 names_more names n lt = map_take_more string names n [] lt
 
-pub pairs_more : (names : List (List ℕ)) (pairs : List (ℕ × ℕ)) (n : ℕ) → n < length pairs → map (pair_data names) (take (n + 1) pairs) ≡ map (pair_data names) (take n pairs) ++ pair_data names (get_or pairs n (0, 0)) ∷ []
+pub pairs_more : (names : List (List ℕ)) (pairs : List (ℕ × ℕ)) (n : ℕ) → n < length pairs →
+    map (pair_data names) (take (n + 1) pairs) ≡ map (pair_data names) (take n pairs) ++ pair_data names (get_or pairs n (0, 0)) ∷ []
 pairs_more names pairs n lt = map_take_more (pair_data names) pairs n (0, 0) lt
 
 pub map_take_got : {X Y : Type 0} (f : X → Y) (xs : List X) (n : ℕ) (x : X) → slice_get xs n ≡ Some x → map f (take (n + 1) xs) ≡ map f (take n xs) ++ f x ∷ []
@@ -59,9 +70,11 @@ map_take_got f xs n x e = map_take_more f xs n x (slice_get_within xs n x e) ∙
 -- the pairs of a set, row by row
 pub row_more : {Y : Type 0} (f : ℕ × ℕ → Y) (before : List Y) (s t : ℕ) (pairs : Pairs) → set.contains pairs (s, t) ≡ true
     → before ++ map f (row s (t + 1) pairs) ≡ (before ++ map f (row s t pairs)) ++ f (s, t) ∷ []
-row_more f before s t pairs here = rw (one_more t, here, map-append f (row s t pairs) ((s, t) ∷ [])) (sym (append_assoc before (map f (row s t pairs)) (f (s, t) ∷ [])))
+row_more f before s t pairs here =
+    rw (one_more t, here, map-append f (row s t pairs) ((s, t) ∷ [])) (sym (append_assoc before (map f (row s t pairs)) (f (s, t) ∷ [])))
 
-pub row_skip : {Y : Type 0} (f : ℕ × ℕ → Y) (before : List Y) (s t : ℕ) (pairs : Pairs) → set.contains pairs (s, t) ≡ false → before ++ map f (row s (t + 1) pairs) ≡ before ++ map f (row s t pairs)
+pub row_skip : {Y : Type 0} (f : ℕ × ℕ → Y) (before : List Y) (s t : ℕ) (pairs : Pairs) → set.contains pairs (s, t) ≡ false →
+    before ++ map f (row s (t + 1) pairs) ≡ before ++ map f (row s t pairs)
 row_skip f before s t pairs none = rw (one_more t, none) refl
 
 pub rows_more : {Y : Type 0} (f : ℕ × ℕ → Y) (s n : ℕ) (pairs : Pairs) → map f (rows (s + 1) n pairs) ≡ map f (rows s n pairs) ++ map f (row s n pairs)
@@ -87,7 +100,8 @@ one_further P n h here m lt = elim (cases_lt m n) [
 -- ---- relations
 
 -- the names of the built-in relations and of the declared ones
-pub known_named : (relations : List RelationShape) → AreSound relations → ((n : ℕ) → n < length relations → is_name (name_at (known_names relations) (first_declared + n)) ≡ true) → AreNames (known_names relations)
+pub known_named : (relations : List RelationShape) → AreSound relations →
+    ((n : ℕ) → n < length relations → is_name (name_at (known_names relations) (first_declared + n)) ≡ true) → AreNames (known_names relations)
 unfolding is_name
 known_named relations sound h = are_names (known_names relations) sound.names all
   where
@@ -96,7 +110,8 @@ known_named relations sound h = are_names (known_names relations) sound.names al
     all (suc zero) d lt = refl
     all (suc (suc n)) d lt =
         let same : first_declared + n ≡ suc (suc n) = omega arith in
-        ap is_name (get_or_default (known_names relations) (suc (suc n)) d [] lt) ∙ ap (λ k. is_name (name_at (known_names relations) k)) (sym same) ∙ h n (omega (arith, lt, length-map relations (λ r. r.name)))
+        ap is_name (get_or_default (known_names relations) (suc (suc n)) d [] lt) ∙ ap (λ k. is_name (name_at (known_names relations) k)) (sym same) ∙
+        h n (omega (arith, lt, length-map relations (λ r. r.name)))
 
 pub number_fits : (relations : List RelationShape) (n : ℕ) → AreSound relations → n < length relations → n < RELATION_LIMIT
 number_fits relations n sound lt = omega (arith, sound.count, lt)
@@ -111,7 +126,8 @@ listed_within relations zero e = cc
 listed_within relations (suc zero) e = cc
 listed_within relations (suc (suc n)) e = elim (cases_lt n (length relations)) [
   | inl lt ↦ omega (arith, lt)
-  | inr past ↦ let none = ap (λ o. has_list (option_map (λ (r : RelationShape). r.kind) o)) (slice_get_past relations n past) in let no : true ≡ false = sym e ∙ none in cc
+  | inr past ↦ let none = ap (λ o. has_list (option_map (λ (r : RelationShape). r.kind) o)) (slice_get_past relations n past) in let no : true ≡ false =
+      sym e ∙ none in cc
 ]
 
 -- the relation whose complement one is, is there

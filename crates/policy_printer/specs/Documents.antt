@@ -27,7 +27,8 @@ use Rattle.policy_reader.specs.Relations.{first_declared}
 -- a table with one more key, at its place in the order of the keys
 abbrev pub with_member : List ℕ → Data → Members → Members
 with_member k d no_members = member k d no_members
-with_member k d (member l e ms) = match_ordering (slice_cmp nat_cmp k l) (member k d (member l e ms)) (member l d ms) (member l e (with_member k d ms))
+with_member k d (member l e ms) = match_ordering (slice_cmp nat_cmp k l)
+    (member k d (member l e ms)) (member l d ms) (member l e (with_member k d ms))
 
 -- the table of the entries
 abbrev pub table_of : List (List ℕ × Data) → Members
@@ -50,7 +51,8 @@ name_at names n = slice_index_or names n []
 
 -- an array of the names whose numbers pass
 abbrev pub names_where : List (List ℕ) → (ℕ → Bool) → Data
-names_where names test = array (items_of (map (λ n. string (name_at names n)) (chosen (length names) test)))
+names_where names test =
+    array (items_of (map (λ n. string (name_at names n)) (chosen (length names) test)))
 
 -- an array of names
 abbrev pub names_data : List (List ℕ) → Data
@@ -63,7 +65,8 @@ pair_data names p = array (items_of (string (name_at names p.0) ∷ string (name
 -- the pairs of a set from s to the numbers below n, ascending
 abbrev pub row : ℕ → ℕ → Pairs → List (ℕ × ℕ)
 row s zero pairs = []
-row s (suc n) pairs = if set.contains pairs (s, n) then row s n pairs ++ (s, n) ∷ [] else row s n pairs
+row s (suc n) pairs =
+    if set.contains pairs (s, n) then row s n pairs ++ (s, n) ∷ [] else row s n pairs
 
 -- the pairs of a set from the numbers below m to those below n, ascending
 abbrev pub rows : ℕ → ℕ → Pairs → List (ℕ × ℕ)
@@ -87,25 +90,33 @@ users_data roster = table (table_below (length roster.users) (user_entry roster)
 
 -- a table of the pairs of a relation, or of the name of the one whose complement it is
 unfoldable pub kind_members : List (List ℕ) → List RelationShape → ℕ → Option ℕ → Members
-kind_members users relations rho None = table_of ((codes "pairs", pairs_data users (pairs_of relations rho)) ∷ [])
-kind_members users relations rho (Some n) = table_of ((codes "complement", string (name_at (known_names relations) n)) ∷ [])
+kind_members users relations rho None =
+    table_of ((codes "pairs", pairs_data users (pairs_of relations rho)) ∷ [])
+kind_members users relations rho (Some n) =
+    table_of ((codes "complement", string (name_at (known_names relations) n)) ∷ [])
 
 -- a relation, with the table that says what it is
 abbrev pub relation_entry : List (List ℕ) → List RelationShape → ℕ → List ℕ × Data
-relation_entry users relations rho = (name_at (known_names relations) rho, table (kind_members users relations rho (complement_of relations rho)))
+relation_entry users relations rho = (
+  name_at (known_names relations) rho,
+  table (kind_members users relations rho (complement_of relations rho)),
+)
 
 abbrev pub relations_data : List (List ℕ) → List RelationShape → Data
-relations_data users relations = table (table_below (length relations) (λ n. relation_entry users relations (first_declared + n)))
+relations_data users relations = table
+    (table_below (length relations) (λ n. relation_entry users relations (first_declared + n)))
 
 -- a step with an array of the roles that it is permitted to
 abbrev pub permit_entry : List (List ℕ) → FlowShape → ℕ → List ℕ × Data
-permit_entry roles flow s = (name_at flow.steps s, names_where roles (λ r. set.contains flow.permits (r, s)))
+permit_entry roles flow s =
+    (name_at flow.steps s, names_where roles (λ r. set.contains flow.permits (r, s)))
 
 abbrev pub permits_data : List (List ℕ) → FlowShape → Data
 permits_data roles flow = table (table_below (length flow.steps) (permit_entry roles flow))
 
 -- a rule over a group of steps and a step, of this form
-unfoldable pub grouped_members : Form → List RelationShape → List (List ℕ) → ℕ → List Bool → ℕ → Members
+unfoldable pub grouped_members : Form → List RelationShape → List (List ℕ) → ℕ → List Bool → ℕ →
+    Members
 grouped_members rule_form relations steps rho group step = table_of (
     (codes "form", string (form_word rule_form))
     ∷ (codes "group", names_where steps (is_member group))
@@ -137,7 +148,8 @@ needs_second rules = list_any (λ r. not (is_first_form (form_of r))) rules
 
 -- the format that a policy is written in: the first one, where it has the forms of all rules
 abbrev pub written_format : PolicyShape → Format
-written_format p = if any_below (length p.flows) (λ f. needs_second (flow_at p f).rules) then Second else First
+written_format p =
+    if any_below (length p.flows) (λ f. needs_second (flow_at p f).rules) then Second else First
 
 unfoldable pub rule_members : List RelationShape → List (List ℕ) → Rule → Members
 rule_members relations steps (rule.Pair rho first second) = table_of (
@@ -146,12 +158,18 @@ rule_members relations steps (rule.Pair rho first second) = table_of (
     ∷ (codes "relation", string (name_at (known_names relations) rho))
     ∷ (codes "second", string (name_at steps second))
     ∷ [])
-rule_members relations steps (rule.SomeOf rho group step) = grouped_members form.SomeOf relations steps rho group step
-rule_members relations steps (rule.AllOf rho group step) = grouped_members form.AllOf relations steps rho group step
-rule_members relations steps (rule.SomeTo rho step group) = grouped_members form.SomeTo relations steps rho group step
-rule_members relations steps (rule.AllTo rho step group) = grouped_members form.AllTo relations steps rho group step
-rule_members relations steps (rule.AtMost limit group) = counting_members form.AtMost steps limit group
-rule_members relations steps (rule.AtLeast limit group) = counting_members form.AtLeast steps limit group
+rule_members relations steps (rule.SomeOf rho group step) =
+    grouped_members form.SomeOf relations steps rho group step
+rule_members relations steps (rule.AllOf rho group step) =
+    grouped_members form.AllOf relations steps rho group step
+rule_members relations steps (rule.SomeTo rho step group) =
+    grouped_members form.SomeTo relations steps rho group step
+rule_members relations steps (rule.AllTo rho step group) =
+    grouped_members form.AllTo relations steps rho group step
+rule_members relations steps (rule.AtMost limit group) =
+    counting_members form.AtMost steps limit group
+rule_members relations steps (rule.AtLeast limit group) =
+    counting_members form.AtLeast steps limit group
 
 abbrev pub rule_data : List RelationShape → List (List ℕ) → Rule → Data
 rule_data relations steps r = table (rule_members relations steps r)
@@ -169,7 +187,8 @@ workflow_members roles relations w = table_of (
     ∷ [])
 
 abbrev pub flow_entry : PolicyShape → ℕ → List ℕ × Data
-flow_entry p f = (name_at p.flow_names f, table (workflow_members p.roster.roles p.relations (flow_at p f)))
+flow_entry p f =
+    (name_at p.flow_names f, table (workflow_members p.roster.roles p.relations (flow_at p f)))
 
 abbrev pub flows_data : PolicyShape → Data
 flows_data p = table (table_below (length p.flows) (flow_entry p))

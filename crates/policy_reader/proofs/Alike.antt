@@ -14,7 +14,8 @@ use Rattle.policy_reader.specs.declared.format.Format.{Format}
 use Rattle.policy_reader.specs.Faults.{Reading, fault}
 use Rattle.policy_reader.specs.Formats.{format_with}
 use Rattle.policy_reader.specs.Grammars.{earlier, first_with, today}
-use Rattle.policy_reader.specs.Parts.{at_least_one, at_most, array_at, count_in, entries, entries_at, items, items_at, name_in, no_others, number_in, table_at, table_in, value_at}
+use Rattle.policy_reader.specs.Parts.{at_least_one, at_most, array_at, count_in, entries, entries_at, items, items_at, name_in, no_others, number_in, table_at}
+use Rattle.policy_reader.specs.Parts.{table_in, value_at}
 use Rattle.policy_reader.specs.Rosters.{roles_of, roster_of}
 use Rattle.policy_reader.specs.Flows.{flow_in, flows_of, next_flow, ruled_in, steps_of, workflow_in}
 use Rattle.policy_reader.specs.Files.{admin_of, document_in, format_of, policy_by, policy_in, rest_of, staff_of, start_named, start_of, start_over, start_with}
@@ -42,20 +43,23 @@ check_grows false b x h u e = absurd (cc)
 more : (t : PolicyPart) (i m n count : ℕ) → m ≤ n → Grows (count_in t i m count) (count_in t i n count)
 unfolding count_in at_most
 more t i m n count le =
-    and_then (at_least_one t i count) (at_least_one t i count) (λ _. check (nat_le count m) (fault kind.TooMany t i)) (λ _. check (nat_le count n) (fault kind.TooMany t i)) (same (at_least_one t i count))
+    and_then (at_least_one t i count) (at_least_one t i count) (λ _. check (nat_le count m) (fault kind.TooMany t i))
+    (λ _. check (nat_le count n) (fault kind.TooMany t i)) (same (at_least_one t i count))
     (λ _. check_grows (nat_le count m) (nat_le count n) (fault kind.TooMany t i) (λ few. le_yes count n (omega (arith, le, le_back count m few))))
 
 items_grow : (t : PolicyPart) (i m n : ℕ) (key : List ℕ) (ms : Members) → m ≤ n → Grows (items_at t i m key ms) (items_at t i n key ms)
 unfolding items_at
 items_grow t i m n key ms le =
     and_then (array_at t i key ms) (array_at t i key ms) _ _ (same (array_at t i key ms))
-    (λ ds. and_then (count_in t i m (length (items ds))) (count_in t i n (length (items ds))) (λ _. Ok ds) (λ _. Ok ds) (more t i m n (length (items ds)) le) (λ _. same (Ok ds)))
+    (λ ds. and_then (count_in t i m (length (items ds))) (count_in t i n (length (items ds))) (λ _. Ok ds) (λ _. Ok ds)
+    (more t i m n (length (items ds)) le) (λ _. same (Ok ds)))
 
 entries_grow : (t : PolicyPart) (i m n : ℕ) (key : List ℕ) (ms : Members) → m ≤ n → Grows (entries_at t i m key ms) (entries_at t i n key ms)
 unfolding entries_at
 entries_grow t i m n key ms le =
     and_then (table_at t i key ms) (table_at t i key ms) _ _ (same (table_at t i key ms))
-    (λ es. and_then (count_in t i m (length (entries es))) (count_in t i n (length (entries es))) (λ _. Ok es) (λ _. Ok es) (more t i m n (length (entries es)) le) (λ _. same (Ok es)))
+    (λ es. and_then (count_in t i m (length (entries es))) (count_in t i n (length (entries es))) (λ _. Ok es) (λ _. Ok es)
+    (more t i m n (length (entries es)) le) (λ _. same (Ok es)))
 
 -- ---- what a grammar bears on
 
@@ -71,32 +75,38 @@ format_grows : (file : Members) → Grows (format_of earlier file) (format_of to
 unfolding format_of
 format_grows file =
     and_then (value_at File 0 (codes "format") file) (value_at File 0 (codes "format") file) _ _ (same (value_at File 0 (codes "format") file))
-    (λ d. and_then (or_fault (as_integer d) (fault kind.Shape File 0)) (or_fault (as_integer d) (fault kind.Shape File 0)) _ _ (same (or_fault (as_integer d) (fault kind.Shape File 0)))
+    (λ d. and_then (or_fault (as_integer d) (fault kind.Shape File 0)) (or_fault (as_integer d) (fault kind.Shape File 0)) _ _
+    (same (or_fault (as_integer d) (fault kind.Shape File 0)))
     (λ n. with_more n (fault kind.Version File 0)))
 
 roster_grows : (roles : List (List ℕ)) (file : Members) → Grows (roster_of earlier roles file) (roster_of today roles file)
 unfolding roster_of
 roster_grows roles file =
-    and_then (entries_at Users 0 earlier.users (codes "users") file) (entries_at Users 0 today.users (codes "users") file) _ _ (entries_grow Users 0 earlier.users today.users (codes "users") file (omega arith)) (λ users. same _)
+    and_then (entries_at Users 0 earlier.users (codes "users") file) (entries_at Users 0 today.users (codes "users") file) _ _
+    (entries_grow Users 0 earlier.users today.users (codes "users") file (omega arith)) (λ users. same _)
 
 staff_grows : (roles : List (List ℕ)) (name : List ℕ) (file : Members) → Grows (staff_of earlier roles name file) (staff_of today roles name file)
 unfolding staff_of
 staff_grows roles name file =
     and_then (number_in File 0 roles name) (number_in File 0 roles name) _ _ (same (number_in File 0 roles name))
-    (λ admin. and_then (roster_of earlier roles file) (roster_of today roles file) (λ roster. Ok (admin, roster)) (λ roster. Ok (admin, roster)) (roster_grows roles file) (λ roster. same (Ok (admin, roster))))
+    (λ admin. and_then (roster_of earlier roles file) (roster_of today roles file) (λ roster. Ok (admin, roster)) (λ roster. Ok (admin, roster))
+    (roster_grows roles file) (λ roster. same (Ok (admin, roster))))
 
 start_grows : (file : Members) → Grows (start_of earlier file) (start_of today file)
 unfolding start_of start_named start_with
 start_grows file =
     and_then (admin_of file) (admin_of file) (λ name. start_named earlier name file) (λ name. start_named today name file) (same (admin_of file))
-    (λ name. and_then (roles_of file) (roles_of file) (λ roles. start_with earlier roles name file) (λ roles. start_with today roles name file) (same (roles_of file))
-    (λ roles. and_then (staff_of earlier roles name file) (staff_of today roles name file) (λ staff. start_over staff.1 staff.0 file) (λ staff. start_over staff.1 staff.0 file) (staff_grows roles name file)
+    (λ name. and_then (roles_of file) (roles_of file) (λ roles. start_with earlier roles name file) (λ roles. start_with today roles name file)
+    (same (roles_of file))
+    (λ roles. and_then (staff_of earlier roles name file) (staff_of today roles name file) (λ staff. start_over staff.1 staff.0 file)
+    (λ staff. start_over staff.1 staff.0 file) (staff_grows roles name file)
     (λ staff. same (start_over staff.1 staff.0 file))))
 
 steps_grow : (f : ℕ) (ms : Members) → Grows (steps_of earlier f ms) (steps_of today f ms)
 unfolding steps_of
 steps_grow f ms =
-    and_then (items_at Flows f earlier.steps (codes "steps") ms) (items_at Flows f today.steps (codes "steps") ms) _ _ (items_grow Flows f earlier.steps today.steps (codes "steps") ms (omega arith)) (λ steps. same _)
+    and_then (items_at Flows f earlier.steps (codes "steps") ms) (items_at Flows f today.steps (codes "steps") ms) _ _
+    (items_grow Flows f earlier.steps today.steps (codes "steps") ms (omega arith)) (λ steps. same _)
 
 flow_grows : (f : ℕ) (roles : List (List ℕ)) (ms : Members) → Grows (flow_in earlier f roles ms) (flow_in today f roles ms)
 unfolding flow_in
@@ -108,7 +118,8 @@ workflow_grows format p ms =
     let f = length p.flows in
     let keys = codes "order" ∷ codes "permit" ∷ codes "rules" ∷ codes "steps" ∷ [] in
     and_then (no_others Flows f keys ms) (no_others Flows f keys ms) _ _ (same (no_others Flows f keys ms))
-    (λ _. and_then (flow_in earlier f p.roster.roles ms) (flow_in today f p.roster.roles ms) (λ flow. ruled_in format p f flow ms) (λ flow. ruled_in format p f flow ms) (flow_grows f p.roster.roles ms) (λ flow. same (ruled_in format p f flow ms)))
+    (λ _. and_then (flow_in earlier f p.roster.roles ms) (flow_in today f p.roster.roles ms) (λ flow. ruled_in format p f flow ms)
+    (λ flow. ruled_in format p f flow ms) (flow_grows f p.roster.roles ms) (λ flow. same (ruled_in format p f flow ms)))
 
 next_grows : (format : Format) (p : PolicyShape) (entry : List ℕ × _) → Grows (next_flow earlier format p entry) (next_flow today format p entry)
 unfolding next_flow
@@ -121,7 +132,8 @@ next_grows format p entry =
 flows_grow : (format : Format) (p : PolicyShape) (file : Members) → Grows (flows_of earlier format p file) (flows_of today format p file)
 unfolding flows_of
 flows_grow format p file =
-    and_then (entries_at Flows 0 FLOW_LIMIT (codes "flows") file) (entries_at Flows 0 FLOW_LIMIT (codes "flows") file) _ _ (same (entries_at Flows 0 FLOW_LIMIT (codes "flows") file))
+    and_then (entries_at Flows 0 FLOW_LIMIT (codes "flows") file) (entries_at Flows 0 FLOW_LIMIT (codes "flows") file) _ _
+    (same (entries_at Flows 0 FLOW_LIMIT (codes "flows") file))
     (λ flows. each_grows (next_flow earlier format) (next_flow today format) (next_grows format) p (entries flows))
 
 rest_grows : (format : Format) (p : PolicyShape) (file : Members) → Grows (rest_of earlier format p file) (rest_of today format p file)
@@ -132,7 +144,8 @@ policy_grows : (file : Members) → Grows (policy_in earlier file) (policy_in to
 unfolding policy_in
 policy_grows file =
     and_then (format_of earlier file) (format_of today file) _ _ (format_grows file)
-    (λ format. and_then (start_of earlier file) (start_of today file) (λ start. rest_of earlier format start file) (λ start. rest_of today format start file) (start_grows file) (λ start. rest_grows format start file))
+    (λ format. and_then (start_of earlier file) (start_of today file) (λ start. rest_of earlier format start file)
+    (λ start. rest_of today format start file) (start_grows file) (λ start. rest_grows format start file))
 
 pub old_format_reads_alike : OldFormatReadsAlike
 unfolding policy_by

@@ -1,6 +1,8 @@
 -- A loop over a table: its keys ascend, so none is among the names that were read from those before it.
-use Rattle.std.proofs.Common.{◌≡◌, ℕ, Bool, false, List, [], ◌∷◌, ◌++◌, map, String, Global, string_bytes, refl, sym, ap, ◌∙◌, length, Ok, subst, append_assoc, arith, nat_cmp, is_eq, is_some, nat_eq, position, Less}
-use Rattle.policy_reader.proofs.Words.{length-map, map-append, append-nil, ordering_reverse, slice_cmp, pointwise, nat_list_cmp_total, texts_ties, AllByRecursion, Value, Data, view, members_view, ◌>>=◌, each, Reading, entries, is_among, Ascend}
+use Rattle.std.proofs.Common.{◌≡◌, ℕ, Bool, false, List, [], ◌∷◌, ◌++◌, map, String, Global, string_bytes, refl, sym, ap, ◌∙◌, length, Ok, subst, append_assoc}
+use Rattle.std.proofs.Common.{arith, nat_cmp, is_eq, is_some, nat_eq, position, Less}
+use Rattle.policy_reader.proofs.Words.{length-map, map-append, append-nil, ordering_reverse, slice_cmp, pointwise, nat_list_cmp_total, texts_ties}
+use Rattle.policy_reader.proofs.Words.{AllByRecursion, Value, Data, view, members_view, ◌>>=◌, each, Reading, entries, is_among, Ascend}
 use Rattle.std.proofs.lemmas.Grind.{common_steps}
 use Rattle.std.specs.List.Sorted.{IsStrictlySortedBy}
 use Rattle.std.specs.Map.{keys_of}
@@ -17,7 +19,8 @@ texts es = map (λ e. string_bytes e.0) es
 abbrev pub IsNew : List (List ℕ) → Entry → Type 0
 IsNew names e = is_some (place_of names (string_bytes e.0)) ≡ false
 
-first_below : (k : String Global) (es : List Entry) → AllByRecursion (λ y. string_cmp k y ≡ Less) (keys_of es) → AllByRecursion (λ y. slice_cmp nat_cmp (string_bytes k) y ≡ Less) (texts es)
+first_below : (k : String Global) (es : List Entry) → AllByRecursion (λ y. string_cmp k y ≡ Less) (keys_of es) →
+    AllByRecursion (λ y. slice_cmp nat_cmp (string_bytes k) y ≡ Less) (texts es)
 first_below k [] h = tt
 first_below k (e ∷ es) h = (h.0, first_below k es h.1)
 
@@ -39,7 +42,8 @@ among P (x ∷ xs) y ys h = among P xs y ys h.1
 new_in : (names : List (List ℕ)) (k : List ℕ) (ks : List (List ℕ)) → Ascend (names ++ k ∷ ks) → is_some (place_of names k) ≡ false
 unfolding IsStrictlySortedBy
 new_in [] k ks h = refl
-new_in (n ∷ names) k ks h = none_cons (pointwise nat_eq k) n names (differs n k (among (λ y. slice_cmp nat_cmp n y ≡ Less) names k ks h.0)) (new_in names k ks h.1)
+new_in (n ∷ names) k ks h =
+    none_cons (pointwise nat_eq k) n names (differs n k (among (λ y. slice_cmp nat_cmp n y ≡ Less) names k ks h.0)) (new_in names k ks h.1)
 
 none_in : (names : List (List ℕ)) (k : List ℕ) (ks : List (List ℕ)) → Ascend (names ++ k ∷ ks) → is_among names k ≡ false
 unfolding IsStrictlySortedBy
@@ -47,7 +51,8 @@ none_in [] k ks h = refl
 none_in (n ∷ names) k ks h = rw (differs n k (among (λ y. slice_cmp nat_cmp n y ≡ Less) names k ks h.0)) (none_in names k ks h.1)
 
 -- a loop over a table read its first entries: what is left gives the whole
-pub record IsLeft {S : Type 0} (read : S → List ℕ × Data → Reading S) (names : S → List (List ℕ)) (all : List Entry) (whole : Reading S) (so_far : S) (es : List Entry) : Type 0 where
+pub record IsLeft {S : Type 0} (read : S → List ℕ × Data → Reading S) (names : S → List (List ℕ)) (all : List Entry) (whole : Reading S) (so_far : S)
+    (es : List Entry) : Type 0 where
   pub before : List Entry
   pub split : all ≡ before ++ es
   pub named : names so_far ≡ texts before
@@ -58,7 +63,8 @@ pub texts_count : (es : List Entry) → length (texts es) ≡ length es
 texts_count es = length-map es (λ (e : Entry). string_bytes e.0)
 
 module _ {S : Type 0} (read : S → List ℕ × Data → Reading S) (names : S → List (List ℕ)) (all : List Entry) (whole : Reading S) where
-  pub left_next : (s t : S) (left : List Entry) (e : Entry) (es : List Entry) → left ≡ e ∷ es → IsLeft read names all whole s left → read s (string_bytes e.0, view e.1) ≡ Ok t
+  pub left_next : (s t : S) (left : List Entry) (e : Entry) (es : List Entry) → left ≡ e ∷ es → IsLeft read names all whole s left →
+      read s (string_bytes e.0, view e.1) ≡ Ok t
       → names t ≡ names s ++ string_bytes e.0 ∷ [] → IsLeft read names all whole t es
   left_next s t left e es steps h given named =
       let at : IsLeft read names all whole s (e ∷ es) = subst (λ x. IsLeft read names all whole s x) steps h in
@@ -71,10 +77,12 @@ module _ {S : Type 0} (read : S → List ℕ × Data → Reading S) (names : S �
         reads = subst (λ r. (r >>= (λ next. each read next (entries (members_view es)))) ≡ whole) given reads;
       }
 
-  parts : (s : S) (left : List Entry) (e : Entry) (es : List Entry) → left ≡ e ∷ es → (h : IsLeft read names all whole s left) → texts all ≡ texts h.before ++ string_bytes e.0 ∷ texts es
+  parts : (s : S) (left : List Entry) (e : Entry) (es : List Entry) → left ≡ e ∷ es → (h : IsLeft read names all whole s left) →
+      texts all ≡ texts h.before ++ string_bytes e.0 ∷ texts es
   parts s left e es steps h = ap texts (h.split ∙ ap (λ x. h.before ++ x) steps) ∙ map-append (λ (x : Entry). string_bytes x.0) h.before (e ∷ es)
 
-  pub left_none : (s : S) (left : List Entry) (e : Entry) (es : List Entry) → left ≡ e ∷ es → IsLeft read names all whole s left → is_among (names s) (string_bytes e.0) ≡ false
+  pub left_none : (s : S) (left : List Entry) (e : Entry) (es : List Entry) → left ≡ e ∷ es → IsLeft read names all whole s left →
+      is_among (names s) (string_bytes e.0) ≡ false
   left_none s left e es steps h = rw h.named (none_in (texts h.before) (string_bytes e.0) (texts es) (subst Ascend (parts s left e es steps h) h.ascend))
 
   pub left_new : (s : S) (left : List Entry) (e : Entry) (es : List Entry) → left ≡ e ∷ es → IsLeft read names all whole s left → IsNew (names s) e
@@ -90,6 +98,7 @@ module _ {S : Type 0} (read : S → List ℕ × Data → Reading S) (names : S �
   pub left_count : (s : S) (left : List Entry) → left ≡ [] → IsLeft read names all whole s left → length (names s) ≡ length all
   left_count s left none h = ap length (left_all s left none h) ∙ texts_count all
 
-pub left_start : {S : Type 0} (read : S → List ℕ × Data → Reading S) (names : S → List (List ℕ)) (s : S) (all : List Entry) → names s ≡ [] → IsStrictlySortedBy string_cmp (keys_of all)
+pub left_start : {S : Type 0} (read : S → List ℕ × Data → Reading S) (names : S → List (List ℕ)) (s : S) (all : List Entry) → names s ≡ [] →
+    IsStrictlySortedBy string_cmp (keys_of all)
     → IsLeft read names all (each read s (entries (members_view all))) s all
 left_start read names s all none sorted = record { before = []; split = refl; named = none; ascend = texts_ascend all sorted; reads = refl }

@@ -18,7 +18,8 @@ use Rattle.policy_reader.specs.declared.fault.PolicyKind.TheVariants as kind
 use Rattle.policy_reader.specs.Bounds.{AreBelow}
 use Rattle.policy_reader.specs.Faults.{Reading, fault, fault_about}
 use Rattle.policy_reader.specs.FilePolicies.{AreOfForm}
-use Rattle.policy_reader.specs.Parts.{array_at, at_least_one, at_most, count_in, entries, entries_at, first_said, items, items_at, name_in, named_in, named_pair_in, next_name, next_pair, number_in, numbers_in, once, table_at, text_in, text_name_in, two_texts}
+use Rattle.policy_reader.specs.Parts.{array_at, at_least_one, at_most, count_in, entries, entries_at, first_said, items, items_at, name_in, named_in}
+use Rattle.policy_reader.specs.Parts.{named_pair_in, next_name, next_pair, number_in, numbers_in, once, table_at, text_in, text_name_in, two_texts}
 
 -- P of what a reading gives, where it gives something
 abbrev pub Gets : {A : Type 0} → (A → Type 0) → Reading A → Type 0

@@ -20,7 +20,8 @@ use Rattle.policy_reader.specs.Parts.{array_in, entries, entries_at, items, item
 use Rattle.policy_reader.specs.Relations.{relations_of}
 use Rattle.policy_reader.specs.Rosters.{next_held, next_role, next_user, roles_of, roster_of, some_user_has}
 use Rattle.policy_reader.specs.Flows.{flows_of}
-use Rattle.policy_reader.specs.Files.{admin_of, document_in, format_of, policy_by, policy_in, related_over, rest_of, staff_of, start_named, start_of, start_over, start_with}
+use Rattle.policy_reader.specs.Files.{admin_of, document_in, format_of, policy_by, policy_in, related_over, rest_of, staff_of, start_named, start_of}
+use Rattle.policy_reader.specs.Files.{start_over, start_with}
 use Rattle.policy_reader.proofs.Gets.{AreFew, Gets, after, and_so, each_gets, few_entries, few_items, formed, got, next_few, numbered, push_form}
 use Rattle.policy_reader.proofs.GetsFlows.{AreRelations, IsReadPolicy, flows_read, related, relations_read}
 

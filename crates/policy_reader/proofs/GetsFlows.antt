@@ -1,5 +1,6 @@
 -- The relations and the workflows that are read from a file are sound.
-use Rattle.std.proofs.Common.{◌≡◌, ℕ, zero, suc, ◌+◌, ◌<◌, ◌≤◌, false, List, [], ◌∷◌, ◌++◌, length, Ok, Err, ◌⊎◌, inl, inr, refl, sym, ap, ◌∙◌, subst, arith, not, length-append}
+use Rattle.std.proofs.Common.{◌≡◌, ℕ, zero, suc, ◌+◌, ◌<◌, ◌≤◌, false, List, [], ◌∷◌, ◌++◌, length, Ok, Err, ◌⊎◌, inl, inr, refl, sym, ap, ◌∙◌, subst, arith}
+use Rattle.std.proofs.Common.{not, length-append}
 use Rattle.std.specs.Prelude.{codes, Option, Some, None, IsTrue, slice_index_or}
 use Rattle.std.specs.FinSet as set
 use Rattle.std.proofs.lemmas.Bool.{cases_lt}
@@ -22,11 +23,15 @@ use Rattle.policy_reader.specs.Bounds.{AreBelow}
 use Rattle.policy_reader.specs.Faults.{Reading, fault, fault_about}
 use Rattle.policy_reader.specs.Grammars.{today}
 use Rattle.policy_reader.specs.FilePolicies.{AreOfForm}
-use Rattle.policy_reader.specs.Parts.{array_in, at_most, entries, entries_at, items, items_at, name_in, named_in, next_name, next_pair, no_others, number_in, once, said, table_at, table_in, text_in}
-use Rattle.policy_reader.specs.Relations.{complement_in, entry_of, first_declared, free_name_in, has_one, is_built_in, kind_at, kind_in, listed_in, names_of, next_relation, relations_in, relations_of}
+use Rattle.policy_reader.specs.Parts.{array_in, at_most, entries, entries_at, items, items_at, name_in, named_in, next_name, next_pair, no_others, number_in}
+use Rattle.policy_reader.specs.Parts.{once, said, table_at, table_in, text_in}
+use Rattle.policy_reader.specs.Relations.{complement_in, entry_of, first_declared, free_name_in, has_one, is_built_in, kind_at, kind_in, listed_in, names_of}
+use Rattle.policy_reader.specs.Relations.{next_relation, relations_in, relations_of}
 use Rattle.policy_reader.specs.Rules.{rules_of}
-use Rattle.policy_reader.specs.Flows.{flow_in, flows_of, next_flow, next_permit, next_permitted, no_cycle, order_pairs, ordered_in, permits_of, ruled_in, steps_of, workflow_in}
-use Rattle.policy_reader.proofs.Gets.{AreFew, Gets, after, and_so, each_gets, few_entries, few_items, formed, named_number, next_below, next_few, push_form, weaker}
+use Rattle.policy_reader.specs.Flows.{flow_in, flows_of, next_flow, next_permit, next_permitted, no_cycle, order_pairs, ordered_in, permits_of, ruled_in}
+use Rattle.policy_reader.specs.Flows.{steps_of, workflow_in}
+use Rattle.policy_reader.proofs.Gets.{AreFew, Gets, after, and_so, each_gets, few_entries, few_items, formed, named_number, next_below, next_few, push_form}
+use Rattle.policy_reader.proofs.Gets.{weaker}
 use Rattle.policy_reader.proofs.GetsRules.{rules_sound}
 use Rattle.policy_reader.proofs.Orders.{permits_insert}
 use Rattle.policy_reader.proofs.Relating.{kind_pushed, names_push}

@@ -1,5 +1,6 @@
 -- The rules that are read from a file are sound.
-use Rattle.std.proofs.Common.{◌≡◌, ◌≢◌, ℕ, zero, suc, ◌+◌, ◌<◌, ◌≤◌, Bool, true, false, List, [], ◌∷◌, ◌++◌, length, Ok, ◌⊎◌, inl, inr, refl, sym, ◌∙◌, subst, arith, not, nat_le, nat_eq, ◌&&◌, ◌||◌, length-append}
+use Rattle.std.proofs.Common.{◌≡◌, ◌≢◌, ℕ, zero, suc, ◌+◌, ◌<◌, ◌≤◌, Bool, true, false, List, [], ◌∷◌, ◌++◌, length, Ok, ◌⊎◌, inl, inr, refl, sym, ◌∙◌, subst}
+use Rattle.std.proofs.Common.{arith, not, nat_le, nat_eq, ◌&&◌, ◌||◌, length-append}
 use Rattle.std.specs.Prelude.{codes, ℤ, pos, negsuc, Some, None, IsTrue, slice_set, if◌then◌else◌, ◌==◌}
 use Rattle.std.proofs.lemmas.List.{get_or-set_other, length-map, length-replicate}
 use Rattle.std.proofs.Math.ListN.{length-set}
@@ -23,7 +24,8 @@ use Rattle.policy_reader.specs.declared.form.Form.TheVariants as form
 use Rattle.policy_reader.specs.Faults.{fault}
 use Rattle.policy_reader.specs.Kept.{HasStepsBelow}
 use Rattle.policy_reader.specs.Parts.{array_in, at_least_one, at_most, items, named_in, number_in, once, said, table_in, text_in, value_at}
-use Rattle.policy_reader.specs.Rules.{counting_in, counting_keys_in, form_in, group_at, group_in, grouped_in, keys_in, limit_at, limit_in, next_member, next_rule, number_up_to, pair_in, relation_at, relation_in, rule_in, rule_of_form, rules_in, rules_of, step_at, step_in}
+use Rattle.policy_reader.specs.Rules.{counting_in, counting_keys_in, form_in, group_at, group_in, grouped_in, keys_in, limit_at, limit_in, next_member}
+use Rattle.policy_reader.specs.Rules.{next_rule, number_up_to, pair_in, relation_at, relation_in, rule_in, rule_of_form, rules_in, rules_of, step_at, step_in}
 use Rattle.policy_reader.proofs.Gets.{Gets, after, and_so, checked, each_gets, few, found, named_number, numbered, weaker}
 use Rattle.policy_reader.proofs.Held.{any_set}
 use Rattle.policy_reader.proofs.RuleLists.{push_sound}

@@ -1,9 +1,13 @@
 -- The order of a workflow, read as a set of pairs: the list of its pairs, and the least step before itself.
-use Rattle.std.proofs.Common.{◌≡◌, ℕ, zero, suc, ◌<◌, ◌≤◌, Bool, true, false, List, [], ◌∷◌, Option, None, Some, refl, ap, subst, ◌∙◌, inl, inr, arith, length, Ok, Err, Less, slice_index_or}
+use Rattle.std.proofs.Common.{◌≡◌, ℕ, zero, suc, ◌<◌, ◌≤◌, Bool, true, false, List, [], ◌∷◌, Option, None, Some, refl, ap, subst, ◌∙◌, inl, inr, arith, length}
+use Rattle.std.proofs.Common.{Ok, Err, Less, slice_index_or}
 use Rattle.std.specs.FinSet as set
 use Rattle.policy_reader.specs.declared.fault.ReadFault.TheVariants as read
 use Rattle.policy_reader.specs.declared.fault.PolicyKind.TheVariants as kind
-use Rattle.policy_reader.proofs.Words.{cases_lt, list_any, All, AllByRecursion, eq_by_cmp, sorted_head, sorted_tail, not_true, or_right, STEP_LIMIT, Pairs, pair_cmp, IsAscending, pair_cmp_total, pair_cmp-IsAntisymmetric, all_insert, contains_inserted, Precedes, next, through, is_before, IsLeastCycle, has_twice, AreBelow, least_below, found_or, cycle_at, Fails, Flows, fault_of, fault_about, IsCycleOrMemory}
+use Rattle.policy_reader.proofs.Words.{cases_lt, list_any, All, AllByRecursion, eq_by_cmp, sorted_head, sorted_tail, not_true, or_right, STEP_LIMIT, Pairs}
+use Rattle.policy_reader.proofs.Words.{pair_cmp, IsAscending, pair_cmp_total, pair_cmp-IsAntisymmetric, all_insert, contains_inserted, Precedes, next, through}
+use Rattle.policy_reader.proofs.Words.{is_before, IsLeastCycle, has_twice, AreBelow, least_below, found_or, cycle_at, Fails, Flows, fault_of, fault_about}
+use Rattle.policy_reader.proofs.Words.{IsCycleOrMemory}
 use Rattle.std.proofs.lemmas.List.Elements.{All-from_recursion}
 use Rattle.workflow_schema.specs.Laws.{IsDecided}
 use Rattle.policy_reader.specs.Flows.{no_cycle}
@@ -66,7 +70,8 @@ first_below n order s t within (next pair) = (within.each s _ pair).0
 first_below n order s t within (through pair more) = (within.each s _ pair).0
 
 -- the least step before itself is the one that the search finds
-pub cycle_found : IsDecided → (n : ℕ) (order : Pairs) (s : ℕ) → n ≤ STEP_LIMIT → AreBelow n order → IsLeastCycle order s → least_below n (λ t. is_before order t t) ≡ Some s
+pub cycle_found : IsDecided → (n : ℕ) (order : Pairs) (s : ℕ) → n ≤ STEP_LIMIT → AreBelow n order → IsLeastCycle order s →
+    least_below n (λ t. is_before order t t) ≡ Some s
 cycle_found decided n order s few within h =
     least_is n (λ t. is_before order t t) s (first_below n order s s within h.cycle)
     ((decided order s s (λ a b pair. omega (arith, few, (within.each a b pair).1))).1 h.cycle)
@@ -75,29 +80,36 @@ cycle_found decided n order s few within h =
 least_cycle : IsDecided → (n : ℕ) (order : Pairs) (s : ℕ) → n ≤ STEP_LIMIT → AreBelow n order → IsLeast n (λ t. is_before order t t) s → IsLeastCycle order s
 least_cycle decided n order s few within h = record {
   cycle = (decided order s s (λ a b pair. omega (arith, few, (within.each a b pair).1))).0 h.here;
-  least = λ t lt chain. let yes : is_before order t t ≡ true = (decided order t t (λ a b pair. omega (arith, few, (within.each a b pair).1))).1 chain in let no = h.before t lt in cc;
+  least = λ t lt chain. let yes : is_before order t t ≡ true = (decided order t t (λ a b pair. omega (arith, few, (within.each a b pair).1))).1 chain in
+      let no = h.before t lt in cc;
 }
 
-none_found : IsDecided → (n : ℕ) (order : Pairs) (o : Option ℕ) → n ≤ STEP_LIMIT → AreBelow n order → ((s : ℕ) → IsLeastCycle order s → ⊥) → Tells n (λ t. is_before order t t) o → o ≡ None
+none_found : IsDecided → (n : ℕ) (order : Pairs) (o : Option ℕ) → n ≤ STEP_LIMIT → AreBelow n order → ((s : ℕ) → IsLeastCycle order s → ⊥) →
+    Tells n (λ t. is_before order t t) o → o ≡ None
 none_found decided n order None few within free h = refl
 none_found decided n order (Some s) few within free h = absurd (free s (least_cycle decided n order s few within h))
 
 -- where no step is the least before itself, the search finds none
-pub no_cycle_found : IsDecided → (n : ℕ) (order : Pairs) → n ≤ STEP_LIMIT → AreBelow n order → ((s : ℕ) → IsLeastCycle order s → ⊥) → least_below n (λ t. is_before order t t) ≡ None
+pub no_cycle_found : IsDecided → (n : ℕ) (order : Pairs) → n ≤ STEP_LIMIT → AreBelow n order → ((s : ℕ) → IsLeastCycle order s → ⊥) →
+    least_below n (λ t. is_before order t t) ≡ None
 no_cycle_found decided n order few within free = none_found decided n order _ few within free (least_tells n (λ t. is_before order t t))
 
 pub cycle_within : (n : ℕ) (order : Pairs) (s : ℕ) → AreBelow n order → IsLeastCycle order s → s < n
 cycle_within n order s within h = first_below n order s s within h.cycle
 
 -- the roles of permissions, with one more
-pub permits_insert : (n : ℕ) (permits : Pairs) (r s : ℕ) → ((a b : ℕ) → set.contains permits (a, b) ≡ true → a < n) → r < n → (a b : ℕ) → set.contains (set.insert permits (r, s)) (a, b) ≡ true → a < n
+pub permits_insert : (n : ℕ) (permits : Pairs) (r s : ℕ) → ((a b : ℕ) → set.contains permits (a, b) ≡ true → a < n) → r < n → (a b : ℕ) →
+    set.contains (set.insert permits (r, s)) (a, b) ≡ true → a < n
 permits_insert n permits r s old here = (all_insert (λ a b. a < n) permits r s here (record { each = old })).each
 
 below_each : (n : ℕ) (ps : List (ℕ × ℕ)) → AreBelow n (set.from_list ps) → AllByRecursion (λ p. (p.0 < n) × (p.1 < n)) ps
 below_each n [] h = tt
 below_each n (p ∷ ps) h = (
   h.each p.0 p.1 (contains_inserted pair_cmp_total pair_cmp-IsAntisymmetric (set.from_list ps) p),
-  below_each n ps (record { each = λ a b here. h.each a b (set.contains-insert pair_cmp_total (set.from_list ps) p (a, b) ∙ or_right (eq_by_cmp pair_cmp (a, b) p) _ here) }),
+  below_each n ps (record {
+    each =
+        λ a b here. h.each a b (set.contains-insert pair_cmp_total (set.from_list ps) p (a, b) ∙ or_right (eq_by_cmp pair_cmp (a, b) p) _ here);
+  }),
 )
 
 -- the pairs of a list whose set is below n
@@ -109,7 +121,8 @@ below_limit n m pairs le h = record { each = λ a b here. let both = h.each a b 
 
 -- ---- what a workflow that was refused tells of its order
 
-pub no_cycle-ok : (f : ℕ) (steps : List (List ℕ)) (order : Pairs) → least_below (length steps) (λ s. is_before order s s) ≡ None → no_cycle f steps order ≡ Ok tt
+pub no_cycle-ok : (f : ℕ) (steps : List (List ℕ)) (order : Pairs) → least_below (length steps) (λ s. is_before order s s) ≡ None →
+    no_cycle f steps order ≡ Ok tt
 unfolding no_cycle
 no_cycle-ok f steps order e = ap (cycle_at f steps) e
 

@@ -21,7 +21,8 @@ as_name text = if is_name text then Some text else None
 
 -- a fault that is about a text
 abbrev pub fault_about : PolicyKind → PolicyPart → ℕ → List ℕ → PolicyFault
-fault_about kind table index text = record { kind = kind; table = table; index = index; name = as_name text }
+fault_about kind table index text =
+    record { kind = kind; table = table; index = index; name = as_name text }
 
 -- the fault of the file where an error is one; want of memory is none
 abbrev pub fault_of : ReadFault → Option PolicyFault

@@ -24,7 +24,8 @@ document_in_text text = or_fault (parse_document text) (fault kind.Syntax File 0
 
 -- the TOML document that bytes are, which have to be UTF-8
 unfoldable pub document_in : List ℕ → Reading Members
-document_in bytes = if utf8_valid_len bytes == length bytes then document_in_text bytes else Err (fault kind.Syntax File 0)
+document_in bytes = if utf8_valid_len bytes == length bytes then document_in_text bytes else Err
+    (fault kind.Syntax File 0)
 
 -- the format that a file names
 unfoldable pub format_of : Grammar → Members → Reading Format

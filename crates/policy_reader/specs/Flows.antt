@@ -1,5 +1,6 @@
 -- The workflows of a policy file. Their faults carry the workflow's number.
-use Rattle.std.specs.Prelude.{codes, ℕ, zero, suc, Bool, true, false, List, [], ◌∷◌, ◌++◌, length, Option, None, Some, Ok, Err, slice_index_or}
+use Rattle.std.specs.Prelude.{codes, ℕ, zero, suc, Bool, true, false, List, [], ◌∷◌, ◌++◌, length}
+use Rattle.std.specs.Prelude.{Option, None, Some, Ok, Err, slice_index_or}
 use Rattle.std.specs.FinSet as set
 use Rattle.toml.specs.Data.{Data, Members, get_member}
 use Rattle.wf_names.specs.declared.limits.TheConstants.{FLOW_LIMIT}
@@ -12,7 +13,9 @@ use Rattle.policy_reader.specs.declared.fault.PolicyPart.TheVariants.{Flows}
 use Rattle.policy_reader.specs.declared.fault.PolicyKind.TheVariants as kind
 use Rattle.policy_reader.specs.declared.format.Format.{Format}
 use Rattle.policy_reader.specs.Faults.{Reading, fault_about}
-use Rattle.policy_reader.specs.Parts.{items, entries, array_in, table_in, table_at, items_at, entries_at, name_in, number_in, named_in, said, once, next_name, next_pair, no_others}
+use Rattle.policy_reader.specs.Parts.{items, entries, array_in, table_in, table_at, items_at}
+use Rattle.policy_reader.specs.Parts.{entries_at, name_in, number_in, named_in, said, once}
+use Rattle.policy_reader.specs.Parts.{next_name, next_pair, no_others}
 use Rattle.policy_reader.specs.Rules.{rules_of}
 
 -- the steps of a workflow: an array of distinct names
@@ -104,7 +107,8 @@ workflow_in g format p ms = do
 
 -- the policy with a workflow that was read
 abbrev pub with_workflow : PolicyShape → List ℕ → Reading WorkflowShape → Reading PolicyShape
-with_workflow p name read = read >>= (λ workflow. Ok (record p { flow_names = p.flow_names ++ name ∷ []; flows = p.flows ++ workflow ∷ [] }))
+with_workflow p name read = read >>= (λ workflow. Ok
+    (record p { flow_names = p.flow_names ++ name ∷ []; flows = p.flows ++ workflow ∷ [] }))
 
 -- the next workflow: a name, and a table
 unfoldable pub next_flow : Grammar → Format → PolicyShape → List ℕ × Data → Reading PolicyShape

@@ -1,5 +1,6 @@
 -- The formats of a policy file, with their numbers and their keys.
-use Rattle.std.specs.Prelude.{codes, ℕ, ℤ, pos, negsuc, ◌==◌, List, [], ◌∷◌, Option, None, Some, if◌then◌else◌}
+use Rattle.std.specs.Prelude.{codes, ℕ, ℤ, pos, negsuc, ◌==◌, List, [], ◌∷◌, Option, None, Some}
+use Rattle.std.specs.Prelude.{if◌then◌else◌}
 use Rattle.policy_reader.specs.declared.format.Format.{Format}
 use Rattle.policy_reader.specs.declared.format.Format.TheVariants.{First, Second}
 
@@ -10,10 +11,13 @@ format_number Second = 2
 
 -- the format with a number
 abbrev pub format_with : ℤ → Option Format
-format_with (pos n) = if n == format_number First then Some First else if n == format_number Second then Some Second else None
+format_with (pos n) = if n == format_number First then Some First else if n == format_number
+    Second then Some Second else None
 format_with (negsuc n) = None
 
 -- the keys of the file
 abbrev pub file_keys : Format → List (List ℕ)
-file_keys First = codes "admin" ∷ codes "flows" ∷ codes "format" ∷ codes "relations" ∷ codes "roles" ∷ codes "users" ∷ []
-file_keys Second = codes "admin" ∷ codes "flows" ∷ codes "format" ∷ codes "relations" ∷ codes "roles" ∷ codes "users" ∷ []
+file_keys First = codes "admin" ∷ codes "flows" ∷ codes "format" ∷ codes "relations" ∷ codes
+    "roles" ∷ codes "users" ∷ []
+file_keys Second = codes "admin" ∷ codes "flows" ∷ codes "format" ∷ codes "relations" ∷ codes
+    "roles" ∷ codes "users" ∷ []

@@ -1,8 +1,10 @@
 -- The forms of a rule, with the words for them and their keys.
-use Rattle.std.specs.Prelude.{codes, ℕ, Bool, true, false, nat_eq, List, [], ◌∷◌, Option, None, Some, if◌then◌else◌}
+use Rattle.std.specs.Prelude.{codes, ℕ, Bool, true, false, nat_eq, List, [], ◌∷◌, Option, None}
+use Rattle.std.specs.Prelude.{Some, if◌then◌else◌}
 use Rattle.std.specs.Cmp.Lexicographic.{pointwise}
 use Rattle.policy_reader.specs.declared.form.Form.{Form}
-use Rattle.policy_reader.specs.declared.form.Form.TheVariants.{Pair, SomeOf, AllOf, SomeTo, AllTo, AtMost, AtLeast}
+use Rattle.policy_reader.specs.declared.form.Form.TheVariants.{Pair, SomeOf, AllOf, SomeTo, AllTo}
+use Rattle.policy_reader.specs.declared.form.Form.TheVariants.{AtMost, AtLeast}
 use Rattle.policy_reader.specs.declared.format.Format.{Format}
 use Rattle.policy_reader.specs.declared.format.Format.TheVariants.{First, Second}
 

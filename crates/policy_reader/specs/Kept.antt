@@ -3,7 +3,8 @@ use Rattle.std.specs.Prelude.{◌≡◌, ℕ, ◌<◌, Bool, true, false, List, 
 use Rattle.std.specs.List.{AllByRecursion}
 use Rattle.policy_book.specs.Shapes.{PolicyShape}
 use Rattle.workflow_schema.specs.declared.fault.FlowFault.{FlowFault}
-use Rattle.workflow_schema.specs.declared.fault.FlowFault.TheVariants.{TooMany, Twice, Cycle, NoMemory}
+use Rattle.workflow_schema.specs.declared.fault.FlowFault.TheVariants.{TooMany, Twice, Cycle}
+use Rattle.workflow_schema.specs.declared.fault.FlowFault.TheVariants.{NoMemory}
 use Rattle.constraint_forms.specs.Assigned.{is_member}
 use Rattle.policy_reader.specs.Printable.{IsBegun}
 
@@ -29,4 +30,5 @@ pub record IsGrown (before after : PolicyShape) : Type 0 where
   pub roster : after.roster ≡ before.roster
   pub relations : after.relations ≡ before.relations
   pub admin : after.admin ≡ before.admin
-  pub active : AllByRecursion (λ w. w.retired ≡ false) before.flows → AllByRecursion (λ w. w.retired ≡ false) after.flows
+  pub active : AllByRecursion (λ w. w.retired ≡ false) before.flows →
+      AllByRecursion (λ w. w.retired ≡ false) after.flows

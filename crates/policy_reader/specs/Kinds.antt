@@ -1,18 +1,22 @@
 -- Inside: what is true of the relations as they are read.
-use Rattle.std.specs.Prelude.{◌≡◌, ℕ, ◌+◌, ◌<◌, ◌≤◌, Bool, true, false, List, [], ◌∷◌, length, nat_eq, if◌then◌else◌, Some}
+use Rattle.std.specs.Prelude.{◌≡◌, ℕ, ◌+◌, ◌<◌, ◌≤◌, Bool, true, false, List, [], ◌∷◌, length}
+use Rattle.std.specs.Prelude.{nat_eq, if◌then◌else◌, Some}
 use Rattle.std.specs.List.{IsDistinct}
 use Rattle.std.specs.Cmp.Lexicographic.{pointwise}
 use Rattle.std.specs.FinSet as set
 use Rattle.toml.specs.Data.{Data}
-use Rattle.user_relations.specs.Relations.{RelationKind, listed, complement, RelationShape, kind_of, known_names}
+use Rattle.user_relations.specs.Relations.{RelationKind, listed, complement, RelationShape, kind_of}
+use Rattle.user_relations.specs.Relations.{known_names}
 use Rattle.wf_names.specs.declared.limits.TheConstants.{PAIR_LIMIT}
 use Rattle.policy_reader.specs.Bounds.{AreBelow}
 use Rattle.policy_reader.specs.Relations.{first_declared, is_complement}
 
--- the value of the entry with number m is that of a complement, where the entries are numbered from n
+-- the value of the entry with number m is that of a complement, where the entries are numbered from
+-- n
 abbrev pub is_marked : ℕ → List (List ℕ × Data) → ℕ → Bool
 is_marked n [] m = false
-is_marked n (entry ∷ more) m = if nat_eq n m then is_complement entry.1 else is_marked (n + 1) more m
+is_marked n (entry ∷ more) m =
+    if nat_eq n m then is_complement entry.1 else is_marked (n + 1) more m
 
 -- the entry with number m is there, and is not that of a complement
 pub record IsTarget (all : List (List ℕ × Data)) (m : ℕ) : Type 0 where
@@ -25,7 +29,10 @@ abbrev pub IsReadKind : ℕ → List (List ℕ × Data) → Bool → RelationKin
 IsReadKind users all marked (listed pairs) = (set.len pairs ≤ PAIR_LIMIT) × AreBelow users pairs
 IsReadKind users all marked (complement m) = (marked ≡ true) × IsTarget all m
 
--- the names of the relations that were read are known once, and each kind is that of the entry with its number
-pub record AreReadRelations (users : ℕ) (all : List (List ℕ × Data)) (relations : List RelationShape) : Type 0 where
+-- the names of the relations that were read are known once, and each kind is that of the entry with
+-- its number
+pub record AreReadRelations (users : ℕ) (all : List (List ℕ × Data))
+    (relations : List RelationShape) : Type 0 where
   pub names : IsDistinct (pointwise nat_eq) (known_names relations)
-  pub kinds : (rho : ℕ) (kind : RelationKind) → kind_of relations rho ≡ Some kind → IsReadKind users all (is_marked first_declared all rho) kind
+  pub kinds : (rho : ℕ) (kind : RelationKind) → kind_of relations rho ≡ Some kind →
+      IsReadKind users all (is_marked first_declared all rho) kind

@@ -1,9 +1,13 @@
--- What the readings of all tables have in common. Each takes the table and the number that its faults carry.
-use Rattle.std.specs.Prelude.{ℕ, ◌==◌, Bool, not, nat_le, nat_eq, List, [], ◌∷◌, ◌++◌, length, Option, None, Some, is_some, option_and_then, option_map, unwrap_or, Ok}
+-- What the readings of all tables have in common. Each takes the table and the number that its
+-- faults carry.
+use Rattle.std.specs.Prelude.{ℕ, ◌==◌, Bool, not, nat_le, nat_eq, List, [], ◌∷◌, ◌++◌, length}
+use Rattle.std.specs.Prelude.{Option, None, Some, is_some, option_and_then, option_map, unwrap_or}
+use Rattle.std.specs.Prelude.{Ok}
 use Rattle.std.specs.List.{list_any}
 use Rattle.std.specs.Cmp.Lexicographic.{pointwise}
 use Rattle.std.specs.FinSet as set
-use Rattle.toml.specs.Data.{Data, string, Items, no_items, item, Members, no_members, member, get_member, as_str, as_array, as_table}
+use Rattle.toml.specs.Data.{Data, string, Items, no_items, item, Members, no_members, member}
+use Rattle.toml.specs.Data.{get_member, as_str, as_array, as_table}
 use Rattle.wf_names.specs.Names.{is_name}
 use Rattle.wf_names.specs.Table.{place_of}
 use Rattle.pair_set.specs.Pairs.{Pairs}
@@ -150,7 +154,8 @@ module _ (table : PolicyPart) (index : ℕ) where
 
   -- a key that is one of these
   unfoldable pub known_key : List (List ℕ) → Unit {0} → List ℕ × Data → Reading (Unit {0})
-  known_key keys _ entry = check (is_among keys entry.0) (fault_about kind.Extra table index entry.0)
+  known_key keys _ entry =
+      check (is_among keys entry.0) (fault_about kind.Extra table index entry.0)
 
   -- no other keys than these; the least one is at fault
   unfoldable pub no_others : List (List ℕ) → Members → Reading (Unit {0})

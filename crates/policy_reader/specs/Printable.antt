@@ -1,5 +1,6 @@
--- What a policy is that a file gave: it can be printed and read again. The rest that a file needs every policy keeps:
--- distinct names of a name's form, numbers in range, limits, groups with a step, and for a complement its listed relation.
+-- What a policy is that a file gave: it can be printed and read again. The rest that a file needs
+-- every policy keeps: distinct names of a name's form, numbers in range, limits, groups with a
+-- step, and for a complement its listed relation.
 use Rattle.std.specs.Prelude.{◌≡◌, ℕ, ◌<◌, true, false, List, length, map}
 use Rattle.std.specs.Ordering.{nat_cmp}
 use Rattle.std.specs.Cmp.Lexicographic.{slice_cmp}

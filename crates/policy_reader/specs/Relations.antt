@@ -1,5 +1,7 @@
 -- The relations of a policy file.
-use Rattle.std.specs.Prelude.{codes, ℕ, ◌+◌, Bool, false, not, nat_eq, ◌&&◌, ◌==◌, List, [], ◌∷◌, ◌++◌, length, map, Option, None, Some, is_some, if◌then◌else◌, Ok, Err}
+use Rattle.std.specs.Prelude.{codes, ℕ, ◌+◌, Bool, false, not, nat_eq, ◌&&◌, ◌==◌, List, [], ◌∷◌}
+use Rattle.std.specs.Prelude.{◌++◌, length, map, Option, None, Some, is_some, if◌then◌else◌, Ok}
+use Rattle.std.specs.Prelude.{Err}
 use Rattle.std.specs.FinSet as set
 use Rattle.std.specs.Cmp.Lexicographic.{pointwise}
 use Rattle.toml.specs.Data.{Data, Members, get_member, as_table}
@@ -10,7 +12,8 @@ use Rattle.first_fault.specs.Reading.{◌>>=◌, or_fault, check, each}
 use Rattle.policy_reader.specs.declared.fault.PolicyPart.TheVariants.{Relations}
 use Rattle.policy_reader.specs.declared.fault.PolicyKind.TheVariants as kind
 use Rattle.policy_reader.specs.Faults.{Reading, fault, fault_about}
-use Rattle.policy_reader.specs.Parts.{items, entries, text_in, array_in, table_in, at_most, name_in, next_pair, is_among}
+use Rattle.policy_reader.specs.Parts.{items, entries, text_in, array_in, table_in, at_most, name_in}
+use Rattle.policy_reader.specs.Parts.{next_pair, is_among}
 
 -- the names of relations, in order
 abbrev pub names_of : List RelationShape → List (List ℕ)
@@ -41,10 +44,12 @@ passes test (Some ms) = test ms
 abbrev pub is_complement : Data → Bool
 is_complement d = passes is_complement_table (as_table d)
 
--- the number of the entry with a key and whether it is a complement, where the entries are numbered from n
+-- the number of the entry with a key and whether it is a complement, where the entries are numbered
+-- from n
 abbrev pub entry_of : ℕ → List ℕ → List (List ℕ × Data) → Option (ℕ × Bool)
 entry_of n key [] = None
-entry_of n key (entry ∷ more) = if pointwise nat_eq key entry.0 then Some (n, is_complement entry.1) else entry_of (n + 1) key more
+entry_of n key (entry ∷ more) = if pointwise nat_eq key entry.0 then Some
+    (n, is_complement entry.1) else entry_of (n + 1) key more
 
 -- the pairs of the relation with number n: an array of distinct pairs of users
 unfoldable pub listed_in : List (List ℕ) → ℕ → Data → Reading RelationKind
@@ -54,12 +59,14 @@ listed_in users n d = do
   set ← each (next_pair Relations n users) set.empty (items pairs)
   Ok (listed set)
 
--- the relation whose complement the relation with number n is: one of the table's that is no complement itself
+-- the relation whose complement the relation with number n is: one of the table's that is no
+-- complement itself
 unfoldable pub complement_in : Members → ℕ → Data → Reading RelationKind
 complement_in all n d = do
   text ← text_in Relations n d
   _ ← check (is_name text) (fault kind.Unknown Relations n)
-  other ← or_fault (entry_of first_declared text (entries all)) (fault_about kind.Unknown Relations n text)
+  other ← or_fault (entry_of first_declared text (entries all))
+      (fault_about kind.Unknown Relations n text)
   _ ← check (not other.1) (fault_about kind.Chain Relations n text)
   Ok (complement other.0)
 
@@ -88,7 +95,8 @@ free_name_in n text = do
   check (not (is_built_in text)) (fault_about kind.Reserved Relations n text)
 
 -- the next relation of the table
-unfoldable pub next_relation : List (List ℕ) → Members → List RelationShape → List ℕ × Data → Reading (List RelationShape)
+unfoldable pub next_relation : List (List ℕ) → Members → List RelationShape → List ℕ × Data →
+    Reading (List RelationShape)
 next_relation users all so_far entry = do
   let n = first_declared + length so_far
   _ ← free_name_in n entry.0

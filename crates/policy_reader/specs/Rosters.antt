@@ -9,7 +9,8 @@ use Rattle.policy_book.specs.Policies.{any_below}
 use Rattle.first_fault.specs.Reading.{◌>>=◌, each}
 use Rattle.policy_reader.specs.declared.fault.PolicyPart.TheVariants.{Roles, Users}
 use Rattle.policy_reader.specs.Faults.{Reading}
-use Rattle.policy_reader.specs.Parts.{items, entries, array_in, items_at, entries_at, name_in, named_in, said, once, next_name}
+use Rattle.policy_reader.specs.Parts.{items, entries, array_in, items_at, entries_at, name_in}
+use Rattle.policy_reader.specs.Parts.{named_in, said, once, next_name}
 
 -- the next role; its faults carry its own number
 unfoldable pub next_role : List (List ℕ) → Data → Reading (List (List ℕ))

@@ -1,5 +1,7 @@
 -- The rules of a workflow in a policy file. Their faults carry the workflow's number.
-use Rattle.std.specs.Prelude.{codes, ℕ, ℤ, pos, negsuc, nat_le, ◌&&◌, if◌then◌else◌, Bool, true, List, Option, [], ◌∷◌, ◌++◌, length, slice_set, None, Some, option_and_then, Ok}
+use Rattle.std.specs.Prelude.{codes, ℕ, ℤ, pos, negsuc, nat_le, ◌&&◌, if◌then◌else◌, Bool, true}
+use Rattle.std.specs.Prelude.{List, Option, [], ◌∷◌, ◌++◌, length, slice_set, None, Some}
+use Rattle.std.specs.Prelude.{option_and_then, Ok}
 use Rattle.toml.specs.Data.{Data, Members, as_integer, get_member, as_str}
 use Rattle.wf_names.specs.declared.limits.TheConstants.{RULE_LIMIT}
 use Rattle.user_relations.specs.Relations.{RelationShape, known_names}
@@ -15,7 +17,8 @@ use Rattle.policy_reader.specs.declared.form.Form.{Form}
 use Rattle.policy_reader.specs.declared.form.Form.TheVariants as form
 use Rattle.policy_reader.specs.Forms.{form_keys, form_of_word}
 use Rattle.policy_reader.specs.Faults.{Reading, fault}
-use Rattle.policy_reader.specs.Parts.{items, value_at, text_in, array_in, table_in, at_most, at_least_one, number_in, named_in, said, once, no_others}
+use Rattle.policy_reader.specs.Parts.{items, value_at, text_in, array_in, table_in, at_most}
+use Rattle.policy_reader.specs.Parts.{at_least_one, number_in, named_in, said, once, no_others}
 
 -- the relation that a value names: `same`, `other` or a declared one
 unfoldable pub relation_in : ℕ → List RelationShape → Data → Reading ℕ
@@ -75,7 +78,8 @@ pair_in f relations steps ms = do
   Ok (rule.Pair rho s t)
 
 -- a relation, a group of steps and a step, in a rule of a form
-unfoldable pub grouped_in : Form → ℕ → List RelationShape → List (List ℕ) → Members → Reading (ℕ × (List Bool × ℕ))
+unfoldable pub grouped_in : Form → ℕ → List RelationShape → List (List ℕ) → Members →
+    Reading (ℕ × (List Bool × ℕ))
 grouped_in rule_form f relations steps ms = do
   _ ← keys_in rule_form (codes "group") (codes "step") f ms
   rho ← relation_at f relations ms
@@ -116,16 +120,23 @@ counting_in rule_form f steps ms = do
 -- the rule of a form
 unfoldable pub rule_of_form : Form → ℕ → List RelationShape → List (List ℕ) → Members → Reading Rule
 rule_of_form form.Pair f relations steps ms = pair_in f relations steps ms
-rule_of_form form.SomeOf f relations steps ms = grouped_in form.SomeOf f relations steps ms >>= (λ g. Ok (rule.SomeOf g.0 g.1.0 g.1.1))
-rule_of_form form.AllOf f relations steps ms = grouped_in form.AllOf f relations steps ms >>= (λ g. Ok (rule.AllOf g.0 g.1.0 g.1.1))
-rule_of_form form.SomeTo f relations steps ms = grouped_in form.SomeTo f relations steps ms >>= (λ g. Ok (rule.SomeTo g.0 g.1.1 g.1.0))
-rule_of_form form.AllTo f relations steps ms = grouped_in form.AllTo f relations steps ms >>= (λ g. Ok (rule.AllTo g.0 g.1.1 g.1.0))
-rule_of_form form.AtMost f relations steps ms = counting_in form.AtMost f steps ms >>= (λ g. Ok (rule.AtMost g.0 g.1))
-rule_of_form form.AtLeast f relations steps ms = counting_in form.AtLeast f steps ms >>= (λ g. Ok (rule.AtLeast g.0 g.1))
+rule_of_form form.SomeOf f relations steps ms = grouped_in form.SomeOf f relations steps ms >>=
+    (λ g. Ok (rule.SomeOf g.0 g.1.0 g.1.1))
+rule_of_form form.AllOf f relations steps ms = grouped_in form.AllOf f relations steps ms >>=
+    (λ g. Ok (rule.AllOf g.0 g.1.0 g.1.1))
+rule_of_form form.SomeTo f relations steps ms = grouped_in form.SomeTo f relations steps ms >>=
+    (λ g. Ok (rule.SomeTo g.0 g.1.1 g.1.0))
+rule_of_form form.AllTo f relations steps ms = grouped_in form.AllTo f relations steps ms >>=
+    (λ g. Ok (rule.AllTo g.0 g.1.1 g.1.0))
+rule_of_form form.AtMost f relations steps ms = counting_in form.AtMost f steps ms >>=
+    (λ g. Ok (rule.AtMost g.0 g.1))
+rule_of_form form.AtLeast f relations steps ms = counting_in form.AtLeast f steps ms >>=
+    (λ g. Ok (rule.AtLeast g.0 g.1))
 
 -- the form that a value names, in a file of a format
 unfoldable pub form_in : Format → ℕ → Data → Reading Form
-form_in format f d = or_fault (option_and_then (form_of_word format) (as_str d)) (fault kind.Form Flows f)
+form_in format f d =
+    or_fault (option_and_then (form_of_word format) (as_str d)) (fault kind.Form Flows f)
 
 -- the rule in a table, by its form
 unfoldable pub rule_in : Format → ℕ → List RelationShape → List (List ℕ) → Data → Reading Rule
@@ -136,20 +147,23 @@ rule_in format f relations steps d = do
   rule_of_form form f relations steps ms
 
 -- the next rule
-unfoldable pub next_rule : Format → ℕ → List RelationShape → List (List ℕ) → List Rule → Data → Reading (List Rule)
+unfoldable pub next_rule : Format → ℕ → List RelationShape → List (List ℕ) → List Rule → Data →
+    Reading (List Rule)
 next_rule format f relations steps so_far d = do
   rule ← rule_in format f relations steps d
   Ok (so_far ++ rule ∷ [])
 
 -- the rules in an array of them
-unfoldable pub rules_in : Format → ℕ → List RelationShape → List (List ℕ) → Data → Reading (List Rule)
+unfoldable pub rules_in : Format → ℕ → List RelationShape → List (List ℕ) → Data →
+    Reading (List Rule)
 rules_in format f relations steps d = do
   rules ← array_in Flows f d
   _ ← at_most Flows f RULE_LIMIT (length (items rules))
   each (next_rule format f relations steps) [] (items rules)
 
 -- the rules of a workflow's table, where there are any
-unfoldable pub rules_of : Format → ℕ → List RelationShape → List (List ℕ) → Members → Reading (List Rule)
+unfoldable pub rules_of : Format → ℕ → List RelationShape → List (List ℕ) → Members →
+    Reading (List Rule)
 rules_of format f relations steps ms = elim (get_member (codes "rules") ms) [
   | None ↦ Ok []
   | Some d ↦ rules_in format f relations steps d

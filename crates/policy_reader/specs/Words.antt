@@ -38,4 +38,5 @@ name_part (Some name) = codes " " ++ name
 
 -- kind, table and index, with the name where there is one
 abbrev pub fault_text : PolicyFault → List ℕ
-fault_text fault = kind_word fault.kind ++ codes " " ++ part_word fault.table ++ codes " " ++ decimal fault.index ++ name_part fault.name
+fault_text fault = kind_word fault.kind ++ codes " " ++ part_word fault.table ++ codes
+    " " ++ decimal fault.index ++ name_part fault.name

@@ -1,5 +1,6 @@
 //! Reads a policy file.
-ghost use Rattle.std.specs.Prelude.{◌≡◌, ◌<◌, ◌≤◌, Bool, true, [], length, Option, option_map, IfOk, OnOk, IfErr, MatchResult, Some, None};
+ghost use Rattle.std.specs.Prelude.{◌≡◌, ◌<◌, ◌≤◌, Bool, true, [], length, Option, option_map};
+ghost use Rattle.std.specs.Prelude.{IfOk, OnOk, IfErr, MatchResult, Some, None};
 ghost use Rattle.std.specs.FinSet as set;
 ghost use Rattle.toml.specs.View.{table_view};
 ghost use Rattle.policy_reader.specs.declared.fault.ReadFault.TheVariants.{NoMemory};

@@ -1,5 +1,6 @@
 //! Reads the workflows of a policy file. Their faults carry the workflow's number.
-ghost use Rattle.std.specs.Prelude.{◌≡◌, ◌<◌, ◌≤◌, ◌++◌, ◌∷◌, [], length, is_some, IfErr, IfOk, OnOk, false, true};
+ghost use Rattle.std.specs.Prelude.{◌≡◌, ◌<◌, ◌≤◌, ◌++◌, ◌∷◌, [], length, is_some, IfErr, IfOk};
+ghost use Rattle.std.specs.Prelude.{OnOk, false, true};
 ghost use Rattle.toml.specs.View.{view, table_view};
 ghost use Rattle.wf_names.specs.declared.limits.TheConstants.{FLOW_LIMIT, ROLE_LIMIT, RULE_LIMIT};
 ghost use Rattle.wf_names.specs.Table.{place_of};

@@ -1,5 +1,6 @@
 //! Reads the roles and the users of a policy file.
-ghost use Rattle.std.specs.Prelude.{◌≡◌, ◌<◌, ◌≤◌, ◌+◌, ◌++◌, ◌∷◌, [], length, IfOk, OnOk, string_bytes, is_some, false};
+ghost use Rattle.std.specs.Prelude.{◌≡◌, ◌<◌, ◌≤◌, ◌+◌, ◌++◌, ◌∷◌, [], length, IfOk, OnOk};
+ghost use Rattle.std.specs.Prelude.{string_bytes, is_some, false};
 ghost use Rattle.std.specs.FinSet as set;
 ghost use Rattle.toml.specs.View.{view, table_view, items_view};
 ghost use Rattle.wf_names.specs.declared.limits.TheConstants.{ROLE_LIMIT, USER_LIMIT};

@@ -1,5 +1,6 @@
 //! Reads the rules of a workflow. Their faults carry the workflow's number.
-ghost use Rattle.std.specs.Prelude.{◌≡◌, ◌<◌, ◌≤◌, ◌+◌, ◌++◌, ◌∷◌, length, IfErr, map, IfOk, IfSome, OnOk, IsTrue, true, []};
+ghost use Rattle.std.specs.Prelude.{◌≡◌, ◌<◌, ◌≤◌, ◌+◌, ◌++◌, ◌∷◌, length, IfErr, map, IfOk};
+ghost use Rattle.std.specs.Prelude.{IfSome, OnOk, IsTrue, true, []};
 ghost use Rattle.toml.specs.View.{view, items_view, table_view};
 ghost use Rattle.wf_names.specs.declared.limits.TheConstants.{STEP_LIMIT, RULE_LIMIT};
 ghost use Rattle.constraint_forms.specs.Rules.{any_from};

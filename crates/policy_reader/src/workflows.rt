@@ -1,6 +1,7 @@
 //! Reads the steps, the order and the permissions of a workflow. Their faults carry the
 //! workflow's number.
-ghost use Rattle.std.specs.Prelude.{◌≡◌, ◌<◌, ◌≤◌, ℕ, ◌↔◌, false, length, slice_index_or, IsErrOf, IfErr, IfOk, OnOk, true, []};
+ghost use Rattle.std.specs.Prelude.{◌≡◌, ◌<◌, ◌≤◌, ℕ, ◌↔◌, false, length, slice_index_or, IsErrOf};
+ghost use Rattle.std.specs.Prelude.{IfErr, IfOk, OnOk, true, []};
 ghost use Rattle.std.specs.List.{All};
 ghost use Rattle.std.specs.FinSet as set;
 ghost use Rattle.toml.specs.View.{view, items_view, table_view};

@@ -1,5 +1,6 @@
 -- The pairs of rows, and how they change with a row.
-use Rattle.std.proofs.Common.{◌≡◌, ℕ, ◌<◌, ◌≤◌, ◌%◌, inl, inr, Bool, true, false, not, ◌&&◌, ◌||◌, nat_eq, nat_lt, List, [], length, cond, slice_index_or, slice_set, replicate, refl, sym, ap, subst, ◌∙◌, arith, get_or-set_same, get_or-set_other}
+use Rattle.std.proofs.Common.{◌≡◌, ℕ, ◌<◌, ◌≤◌, ◌%◌, inl, inr, Bool, true, false, not, ◌&&◌, ◌||◌, nat_eq, nat_lt, List, [], length, cond, slice_index_or}
+use Rattle.std.proofs.Common.{slice_set, replicate, refl, sym, ap, subst, ◌∙◌, arith, get_or-set_same, get_or-set_other}
 use Rattle.std.specs.FinSet as sets
 use Rattle.std.proofs.lemmas.Bool.{cases_eq, cases_lt, eq-eqb, ne_eqb, eqb-true, lt-ltb}
 use Rattle.std.proofs.lemmas.List.{get_or-replicate, get_or_past, length-replicate}
@@ -60,7 +61,8 @@ pub memberships_of-insert : (rows : List (List ℕ)) (u r : ℕ) (w : List ℕ) 
 unfolding memberships_of
 memberships_of-insert rows u r w within user role more =
     set_of_insert (row_has rows) (row_has (slice_set rows r w)) USER_LIMIT ROLE_LIMIT u r user role
-    (λ x y. with_row rows r w within x y ∙ ap (λ h. cond (nat_eq y r) h (row_has rows x y)) (more x) ∙ one_more (nat_eq x u) (nat_eq y r) (row_has rows x r) (row_has rows x y) (at_itself rows r x y))
+    (λ x y. with_row rows r w within x y ∙ ap (λ h. cond (nat_eq y r) h (row_has rows x y)) (more x) ∙
+    one_more (nat_eq x u) (nat_eq y r) (row_has rows x r) (row_has rows x y) (at_itself rows r x y))
 
 -- and where one row has one user less, the pairs have one pair less
 pub memberships_of-remove : (rows : List (List ℕ)) (u r : ℕ) (w : List ℕ) → r < length rows
@@ -68,7 +70,8 @@ pub memberships_of-remove : (rows : List (List ℕ)) (u r : ℕ) (w : List ℕ) 
 unfolding memberships_of
 memberships_of-remove rows u r w within less =
     set_of_remove (row_has rows) (row_has (slice_set rows r w)) USER_LIMIT ROLE_LIMIT u r
-    (λ x y. with_row rows r w within x y ∙ ap (λ h. cond (nat_eq y r) h (row_has rows x y)) (less x) ∙ one_less (nat_eq x u) (nat_eq y r) (row_has rows x r) (row_has rows x y) (at_itself rows r x y))
+    (λ x y. with_row rows r w within x y ∙ ap (λ h. cond (nat_eq y r) h (row_has rows x y)) (less x) ∙
+    one_less (nat_eq x u) (nat_eq y r) (row_has rows x r) (row_has rows x y) (at_itself rows r x y))
 
 -- with a row of users within the limit for a role within it, the rows are within the limits still
 pub with_row_within : (rows : List (List ℕ)) (r : ℕ) (w : List ℕ) → r < length rows → r < ROLE_LIMIT
@@ -91,7 +94,8 @@ pub memberships_of-has : (rows : List (List ℕ)) (u r : ℕ) → AreWithinLimit
 unfolding memberships_of
 memberships_of-has rows u r within =
     contains_set_of (row_has rows) USER_LIMIT ROLE_LIMIT u r
-    ∙ both_hold (nat_lt u USER_LIMIT) (nat_lt r ROLE_LIMIT) (row_has rows u r) (λ h. let both = within.each u r h in (lt-ltb u USER_LIMIT both.0, lt-ltb r ROLE_LIMIT both.1))
+    ∙ both_hold (nat_lt u USER_LIMIT) (nat_lt r ROLE_LIMIT) (row_has rows u r)
+    (λ h. let both = within.each u r h in (lt-ltb u USER_LIMIT both.0, lt-ltb r ROLE_LIMIT both.1))
 
 -- and none where there is no row
 pub memberships_of-past : (rows : List (List ℕ)) (u r : ℕ) → AreWithinLimits rows → length rows ≤ r → sets.contains (memberships_of rows) (u, r) ≡ false

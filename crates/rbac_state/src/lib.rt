@@ -1,7 +1,8 @@
 //! Who the users are, which roles there are, and who has which role.
 #![tactic(auto)]
 
-ghost use Rattle.std.specs.Prelude.{◌≡◌, ◌<◌, ◌≤◌, ◌↔◌, ℕ, List, [], ◌∷◌, ◌++◌, length, is_some, IfOk, OnOk, OnErr, IsErrOf, true, false};
+ghost use Rattle.std.specs.Prelude.{◌≡◌, ◌<◌, ◌≤◌, ◌↔◌, ℕ, List, [], ◌∷◌, ◌++◌, length, is_some};
+ghost use Rattle.std.specs.Prelude.{IfOk, OnOk, OnErr, IsErrOf, true, false};
 ghost use Rattle.std.specs.FinSet as set;
 ghost use Rattle.wf_names.specs.declared.limits.TheConstants.{ROLE_LIMIT, USER_LIMIT};
 ghost use Rattle.wf_names.specs.Table.{place_of};
@@ -44,9 +45,11 @@ impl Model for Roster {
 
     ghost coded = { roster_code };
 
-    ghost view = { λ r. record { users = r.users.names; roles = r.roles.names; members = r.members } };
+    ghost view = { λ r.
+        record { users = r.users.names; roles = r.roles.names; members = r.members } };
 
-    ghost invariant = { λ r. (r.users.limit ≡ USER_LIMIT) × IsSoundRoster (record { users = r.users.names; roles = r.roles.names; members = r.members }) };
+    ghost invariant = { λ r. (r.users.limit ≡ USER_LIMIT) × IsSoundRoster
+        (record { users = r.users.names; roles = r.roles.names; members = r.members }) };
 }
 
 impl Roster {

@@ -16,8 +16,10 @@ most_sizes (b ∷ bs) = omega (arith, most_sizes bs)
 
 below : (s : ℕ) (kids : Kids) (bs : List Branch) → kids ≡ kids_of_items bs → most (λ b. size-Branch b) bs < 4 * deep-Tree (Step s kids)
 below s kids bs items =
-    let small : most (λ b. deep-Branch b) bs ≤ size_of_kids kids = subst (λ k. most (λ b. deep-Branch b) bs ≤ size_of_kids k) (sym items) (omega (arith, falls bs)) in
+    let small : most (λ b. deep-Branch b) bs ≤ size_of_kids kids =
+    subst (λ k. most (λ b. deep-Branch b) bs ≤ size_of_kids k) (sym items) (omega (arith, falls bs)) in
     omega (arith, most_sizes bs, small)
 
-pub branches_below : (tree : Tree) (s : ℕ) (kids : Kids) (bs : List Branch) → tree ≡ Step s kids → kids ≡ kids_of_items bs → most (λ b. size-Branch b) bs < 4 * deep-Tree tree
+pub branches_below : (tree : Tree) (s : ℕ) (kids : Kids) (bs : List Branch) → tree ≡ Step s kids → kids ≡ kids_of_items bs →
+    most (λ b. size-Branch b) bs < 4 * deep-Tree tree
 branches_below tree s kids bs is items = subst (λ t. most (λ b. size-Branch b) bs < 4 * deep-Tree t) (sym is) (below s kids bs items)

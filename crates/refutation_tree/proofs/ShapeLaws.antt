@@ -46,12 +46,14 @@ kids_from-items (suc i) [] = refl
 kids_from-items (suc i) (b ∷ bs) = kid_onto-from b.kid b.user i (kids_of_items bs) ∙ kids_from-items i bs
 
 -- the list from a place on begins with the branch there
-pub kids_of_items-drop : (bs : List Branch) (i : ℕ) (b : Branch) → i < length bs → b ≡ get_or bs i b → kids_of_items (drop i bs) ≡ branch_onto b (kids_of_items (drop (i + 1) bs))
+pub kids_of_items-drop : (bs : List Branch) (i : ℕ) (b : Branch) → i < length bs → b ≡ get_or bs i b →
+    kids_of_items (drop i bs) ≡ branch_onto b (kids_of_items (drop (i + 1) bs))
 kids_of_items-drop bs i b below is = ap kids_of_items (drop_more bs i b below) ∙ ap (λ x. branch_onto x (kids_of_items (drop (i + 1) bs))) (sym is)
 
 kid_onto-nodes : (kid : Kid) (u : ℕ) (rest : Kids) → nodes_of_kids (kid_onto kid u rest) ≡ nodes_of_kids (kid_onto kid u no_kids) + nodes_of_kids rest
 kid_onto-nodes (Tree_kid t) u rest = omega arith
 kid_onto-nodes (Twin v) u rest = omega arith
 
-pub nodes-drop : (bs : List Branch) (i : ℕ) (b : Branch) → i < length bs → b ≡ get_or bs i b → nodes_of_kids (kids_of_items (drop i bs)) ≡ nodes_of_kids (branch_onto b no_kids) + nodes_of_kids (kids_of_items (drop (i + 1) bs))
+pub nodes-drop : (bs : List Branch) (i : ℕ) (b : Branch) → i < length bs → b ≡ get_or bs i b →
+    nodes_of_kids (kids_of_items (drop i bs)) ≡ nodes_of_kids (branch_onto b no_kids) + nodes_of_kids (kids_of_items (drop (i + 1) bs))
 nodes-drop bs i b below is = ap nodes_of_kids (kids_of_items-drop bs i b below is) ∙ kid_onto-nodes b.kid b.user (kids_of_items (drop (i + 1) bs))

@@ -48,7 +48,8 @@ mutual
   pub kids_same : (k : Kids) → kids_back (code_kids k) ≡ k
   kids_same no_kids = refl
   kids_same (twin_kid u v rest) = ap (twin_kid u v) (kids_same rest)
-  kids_same (tree_kid u t rest) = ap (λ x. tree_kid u x (kids_back (code_kids rest))) (tree_same t) ∙ ap (tree_kid u t) (kids_same rest)
+  kids_same (tree_kid u t rest) = ap (λ x. tree_kid u x (kids_back (code_kids rest)))
+      (tree_same t) ∙ ap (tree_kid u t) (kids_same rest)
 
 pub kids_inj : (x y : Kids) → code_kids x ≡ code_kids y → x ≡ y
 kids_inj x y p = sym (kids_same x) ∙ ap kids_back p ∙ kids_same y

@@ -1,5 +1,6 @@
 -- The batch in which a session stopped, and those before it.
-use Rattle.std.proofs.Common.{◌≡◌, ℕ, zero, suc, ◌+◌, ◌-◌, ◌<◌, ◌≤◌, nat_le, nat_lt, true, false, inl, inr, List, [], ◌∷◌, ◌++◌, length, take, drop, map, slice_index_or, refl, sym, ap, subst, ◌∙◌, arith}
+use Rattle.std.proofs.Common.{◌≡◌, ℕ, zero, suc, ◌+◌, ◌-◌, ◌<◌, ◌≤◌, nat_le, nat_lt, true, false, inl, inr, List, [], ◌∷◌, ◌++◌, length, take, drop, map}
+use Rattle.std.proofs.Common.{slice_index_or, refl, sym, ap, subst, ◌∙◌, arith}
 use Rattle.std.proofs.lemmas.Grind.{common_steps}
 use Rattle.std.proofs.Common.{◌⊎◌}
 use Rattle.std.proofs.lemmas.Bool.{le-ltb, lt-ltb}
@@ -102,7 +103,8 @@ stops_from before (x ∷ xs) total n lead begun within =
 abbrev IsNextEnd : (ends : List ℕ) (start stop : ℕ) → Type 0
 IsNextEnd ends start stop = (start ≡ stop) ⊎ ((start < stop) × (ends_to stop ends ≡ suc (ends_to start ends)))
 
-next_end : (before : ℕ) (ends : List ℕ) (total n : ℕ) → LeadTo before ends total → before ≤ n → n ≤ total → IsNextEnd ends (start_at before n ends) (end_at n ends)
+next_end : (before : ℕ) (ends : List ℕ) (total n : ℕ) → LeadTo before ends total → before ≤ n → n ≤ total →
+    IsNextEnd ends (start_at before n ends) (end_at n ends)
 next_end before [] total n lead begun within = inl (omega (arith, lead, begun, within))
 next_end before (x ∷ xs) total n lead begun within =
     let first = lead.0 in
@@ -159,7 +161,8 @@ front_rests : (s s2 e e2 from : ℕ) (es : List Entry) → s2 ≡ s → e2 ≡ e
 front_rests s s2 e e2 from es is_s is_e le_s le_e rests = rw (is_s, is_e) (rw (take-take s from es le_s, take-take e from es le_e) rests)
 
 -- the entries before a batch fill the jobs before it
-earlier_filled : (es : List Entry) (jobs : List Job) (ends : List ℕ) (k : ℕ) → LeadTo 0 ends (length jobs) → FillsPart es jobs ends → k ≤ length ends → batch_start ends k ≤ length es →
+earlier_filled : (es : List Entry) (jobs : List Job) (ends : List ℕ) (k : ℕ) → LeadTo 0 ends (length jobs) → FillsPart es jobs ends → k ≤ length ends →
+    batch_start ends k ≤ length es →
     FillsJobs (take (batch_start ends k) es) (take (batch_start ends k) jobs) (take k ends)
 earlier_filled es jobs ends k lead part known begun =
     let from = batch_start ends k in
@@ -230,13 +233,16 @@ stands_here es jobs ends lead part =
       earlier_jobs = take from jobs;
       earlier_ends = take k ends;
       begun = begun;
-      fills = subst (λ m. FillsJobs (take m es) (take m jobs) (take k ends)) same (earlier_filled es jobs ends k lead part first.known (omega (arith, same, begun)));
-      at_end = subst (EndAt (take k ends)) (same ∙ sym (length-take-le from jobs (omega (arith, begun, few)))) (first_ends ends (length jobs) k lead first.known);
+      fills = subst (λ m. FillsJobs (take m es) (take m jobs) (take k ends)) same
+          (earlier_filled es jobs ends k lead part first.known (omega (arith, same, begun)));
+      at_end = subst (EndAt (take k ends)) (same ∙ sym (length-take-le from jobs (omega (arith, begun, few))))
+          (first_ends ends (length jobs) k lead first.known);
       all_jobs = jobs_here from (end_at n ends) jobs (bounds_order ends (length jobs) n lead few);
       all_ends = ends_here ends jobs n lead few;
     }
 
-pub stands : (s : Session) (es : List Entry) (next : ℕ) (d : DeskShape) → LeadTo 0 s.batch_ends (length s.jobs) → FillsPart es s.jobs s.batch_ends → GoesOnAt s es next d →
+pub stands : (s : Session) (es : List Entry) (next : ℕ) (d : DeskShape) → LeadTo 0 s.batch_ends (length s.jobs) → FillsPart es s.jobs s.batch_ends →
+    GoesOnAt s es next d →
     StandsAt d.entries d.start d.jobs (take next s.jobs) (take (ends_to next s.batch_ends) s.batch_ends)
 stands s es next d lead part goes =
     let jobs = s.jobs in
@@ -244,7 +250,8 @@ stands s es next d lead part goes =
     subst (λ xs. StandsAt xs d.start d.jobs (take next jobs) (take (ends_to next ends) ends)) (sym goes.entries)
     (subst (λ js. StandsAt es d.start js (take next jobs) (take (ends_to next ends) ends)) (sym goes.jobs)
     (subst (λ m. StandsAt es m (jobs_between m next jobs) (take next jobs) (take (ends_to next ends) ends)) (sym goes.start)
-    (subst (λ e. StandsAt es (start_at 0 (length es) ends) (jobs_between (start_at 0 (length es) ends) e jobs) (take e jobs) (take (ends_to e ends) ends)) (sym goes.next)
+    (subst (λ e. StandsAt es (start_at 0 (length es) ends) (jobs_between (start_at 0 (length es) ends) e jobs) (take e jobs) (take (ends_to e ends) ends))
+    (sym goes.next)
     (stands_here es jobs ends lead part))))
 
 -- the batches up to the place where the batch ends
@@ -253,10 +260,12 @@ pub record ReachesTo (s : Session) (next : ℕ) : Type 0 where
   pub there : batch_start s.batch_ends (ends_to next s.batch_ends) ≡ next
   pub within : next ≤ length s.jobs
 
-pub reaches : (s : Session) (es : List Entry) (next : ℕ) (d : DeskShape) → LeadTo 0 s.batch_ends (length s.jobs) → FillsPart es s.jobs s.batch_ends → GoesOnAt s es next d → ReachesTo s next
+pub reaches : (s : Session) (es : List Entry) (next : ℕ) (d : DeskShape) → LeadTo 0 s.batch_ends (length s.jobs) → FillsPart es s.jobs s.batch_ends →
+    GoesOnAt s es next d → ReachesTo s next
 reaches s es next d lead part goes =
     let last = stops_from 0 s.batch_ends (length s.jobs) (length es) lead (omega arith) part.few in
-    subst (ReachesTo s) (sym goes.next) (record { known = last.known; there = last.there; within = bounds_within s.batch_ends (length s.jobs) (length es) lead part.few })
+    subst (ReachesTo s) (sym goes.next)
+    (record { known = last.known; there = last.there; within = bounds_within s.batch_ends (length s.jobs) (length es) lead part.few })
 
 pub desk_lanes : (s : Session) (es : List Entry) (next : ℕ) (d : DeskShape) → AreOfLanes s.lanes s.jobs → GoesOnAt s es next d → AreOfLanes s.lanes d.jobs
 desk_lanes s es next d of_lanes goes = subst (AreOfLanes s.lanes) (sym goes.jobs) (lanes_between s.lanes d.start next s.jobs of_lanes)

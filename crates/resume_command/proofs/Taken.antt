@@ -32,7 +32,8 @@ pub record IsMadeOf (s : Session) (next : ℕ) (r : ReaderShape) (b : Beginning)
   pub ends : b.ends ≡ take b.count s.batch_ends
   pub reader : b.reader ≡ r
 
-begun_at : (s : Session) (cut : Cut) (transcript : List ℕ) (next : ℕ) (r : ReaderShape) (b : Beginning) → IsSoundPolicy s.policy → AreInOrder s.lanes s.jobs s.batch_ends
+begun_at : (s : Session) (cut : Cut) (transcript : List ℕ) (next : ℕ) (r : ReaderShape) (b : Beginning) → IsSoundPolicy s.policy →
+    AreInOrder s.lanes s.jobs s.batch_ends
     → s.jobs ≡ cut.jobs → s.batch_ends ≡ cut.ends → GoesOn s.lanes cut → HasResumed s transcript next b.desk → IsMadeOf s next r b
     → r ≡ record { cut = start_at s.lanes (next_input cut).number; pending = []; room = PIECE } → HasBegun s cut transcript b
 begun_at s cut transcript next r b sound order jobs ends goes resumed made reads =
@@ -64,7 +65,8 @@ begun_at s cut transcript next r b sound order jobs ends goes resumed made reads
     }
 
 -- a session that was taken up behind the requests of a file
-pub has_begun : (p : PolicyShape) (lanes rounds : ℕ) (requests transcript : List ℕ) (text : CutText) (next : ℕ) (r : ReaderShape) (b : Beginning) → IsSoundPolicy p
+pub has_begun : (p : PolicyShape) (lanes rounds : ℕ) (requests transcript : List ℕ) (text : CutText) (next : ℕ) (r : ReaderShape) (b : Beginning) →
+    IsSoundPolicy p
     → AreInOrder lanes text.batch.jobs text.batch.ends → InputsGoOn lanes → IsCutOf requests lanes text → text.stop ≡ None
     → HasResumed (record { policy = p; lanes = lanes; rounds = rounds; jobs = text.batch.jobs; batch_ends = text.batch.ends }) transcript next b.desk
     → IsMadeOf (record { policy = p; lanes = lanes; rounds = rounds; jobs = text.batch.jobs; batch_ends = text.batch.ends }) next r b
@@ -94,7 +96,8 @@ refused_at p lanes rounds requests transcript text e is refused =
     not_begun (session_of p lanes rounds cut) cut transcript e (subst (λ (x : Session). RefusesBy x transcript e) same refused)
 
 -- how far the batch reaches
-pub next_within : (s : Session) (transcript : List ℕ) (next : ℕ) (d : DeskShape) → AreInOrder s.lanes s.jobs s.batch_ends → HasResumed s transcript next d → next ≤ length s.jobs
+pub next_within : (s : Session) (transcript : List ℕ) (next : ℕ) (d : DeskShape) → AreInOrder s.lanes s.jobs s.batch_ends → HasResumed s transcript next d →
+    next ≤ length s.jobs
 next_within s transcript next d order resumed = (reaches s d.entries next d order.ends resumed.taken.part resumed.goes_on).within
 
 -- the answer of a call that failed so
@@ -102,11 +105,13 @@ pub stopped : (result : Result Beginning Refusal) (fault : RunFault) → IsErrAn
 stopped (Ok b) fault is = absurd is
 stopped (Err e) fault is = ap Err is
 
-pub lacked : (s : Session) (cut : Cut) (transcript : List ℕ) (result : Result Beginning Refusal) → IsErrAnd result (λ x. x ≡ Ends run.NoMemory) → BeginsBy s cut transcript result
+pub lacked : (s : Session) (cut : Cut) (transcript : List ℕ) (result : Result Beginning Refusal) → IsErrAnd result (λ x. x ≡ Ends run.NoMemory) →
+    BeginsBy s cut transcript result
 lacked s cut transcript (Ok b) is = absurd is
 lacked s cut transcript (Err e) is = subst (λ x. BeginsBy s cut transcript (Err x)) (sym is) refl
 
-pub refused_so : (p : PolicyShape) (lanes rounds : ℕ) (requests transcript : List ℕ) (text : CutText) (e : AuditFault) (result : Result Beginning Refusal) → IsCutOf requests lanes text
+pub refused_so : (p : PolicyShape) (lanes rounds : ℕ) (requests transcript : List ℕ) (text : CutText) (e : AuditFault) (result : Result Beginning Refusal) →
+    IsCutOf requests lanes text
     → RefusesBy (record { policy = p; lanes = lanes; rounds = rounds; jobs = text.batch.jobs; batch_ends = text.batch.ends }) transcript e
     → IsErrAnd result (λ x. x ≡ refused_by e)
     → BeginsBy (session_of p lanes rounds (jobs_of_input requests true lanes)) (jobs_of_input requests true lanes) transcript result

@@ -1,5 +1,6 @@
 -- A session that goes on behind the entries of an earlier one.
-use Rattle.std.specs.Prelude.{◌≡◌, ℕ, suc, ◌≤◌, nat_le, List, [], ◌∷◌, ◌++◌, length, take, Result, Ok, Err, if◌then◌else◌}
+use Rattle.std.specs.Prelude.{◌≡◌, ℕ, suc, ◌≤◌, nat_le, List, [], ◌∷◌, ◌++◌, length, take, Result}
+use Rattle.std.specs.Prelude.{Ok, Err, if◌then◌else◌}
 use Rattle.policy_book.specs.Shapes.{PolicyShape}
 use Rattle.policy_book.specs.Facts.{IsSoundPolicy}
 use Rattle.wf_talk.specs.declared.entry.Entry.{Entry}
@@ -31,7 +32,8 @@ ends_to place (end ∷ ends) = if nat_le end place then suc (ends_to place ends)
 
 -- entries stop in a batch, of which those from a place on are: the jobs of the batches before it
 -- are answered, and with its own they are all these
-pub record StandsAt (entries : List Entry) (start : ℕ) (batch jobs : List Job) (batch_ends : List ℕ) : Type 0 where
+pub record StandsAt (entries : List Entry) (start : ℕ) (batch jobs : List Job)
+    (batch_ends : List ℕ) : Type 0 where
   pub earlier_jobs : List Job
   pub earlier_ends : List ℕ
   pub begun : start ≤ length entries
@@ -60,7 +62,12 @@ pub record HasBegun (s : Session) (cut : Cut) (transcript : List ℕ) (b : Begin
   pub first_jobs : b.jobs ≡ take (batch_start s.batch_ends b.count) s.jobs
   pub first_ends : b.ends ≡ take b.count s.batch_ends
   pub goes_on : GoesOn s.lanes cut
-  pub reader : b.reader ≡ record { cut = start_at s.lanes (next_input cut).number; pending = []; room = PIECE }
+  pub reader : b.reader ≡ record {
+    cut = start_at s.lanes (next_input cut).number;
+    pending =
+        [];
+    room = PIECE;
+  }
 
 -- what becomes of a transcript of which no line is too long: a session goes on behind its entries,
 -- or it has a first line that is none of such a session, or there is no memory

@@ -1,6 +1,7 @@
 -- The files that a session goes on from, in the order in which they are loaded: at each of them a
 -- run stops, or goes on.
-use Rattle.std.specs.Prelude.{◌≡◌, ℕ, ◌<◌, ◌≤◌, true, List, length, Option, None, Some, Result, Ok, Err}
+use Rattle.std.specs.Prelude.{◌≡◌, ℕ, ◌<◌, ◌≤◌, true, List, length, Option, None, Some, Result, Ok}
+use Rattle.std.specs.Prelude.{Err}
 use Rattle.std.proofs.Common.{◌⊎◌}
 use Rattle.wf_names.specs.declared.limits.TheConstants.{REQUESTS_FILE_LIMIT}
 use Rattle.wf_outside.specs.Outside.{Filed, told, missing, untold}
@@ -34,13 +35,15 @@ OverFiled Stops Over (told file) = Over file
 -- stops so; or it goes on with the policy
 abbrev pub OverPolicy : (RunFault → Type 0) → (PolicyShape → Type 0) → List ℕ → Type 0
 OverPolicy Stops Goes file =
-    ((fault : RunFault) × (PolicyOf file (Err fault) × Stops fault)) ⊎ ((p : PolicyShape) × (PolicyOf file (Ok p) × (IsFilePolicy p × Goes p)))
+    ((fault : RunFault) × (PolicyOf file (Err fault) × Stops fault)) ⊎
+    ((p : PolicyShape) × (PolicyOf file (Ok p) × (IsFilePolicy p × Goes p)))
 
 -- a file is longer than its limit, or cannot be loaded, or there is no memory, and a run stops so;
 -- or it goes on with the text
 abbrev pub OverText : ℕ → (RunFault → Type 0) → (List ℕ → Type 0) → List ℕ → Type 0
 OverText limit Stops Goes file =
-    ((fault : RunFault) × (BytesOf limit file (Err fault) × Stops fault)) ⊎ ((length file ≤ limit) × Goes file)
+    ((fault : RunFault) × (BytesOf limit file (Err fault) × Stops fault)) ⊎
+    ((length file ≤ limit) × Goes file)
 
 -- how a run ends that stops at a limit of lines
 abbrev pub ending_at : Stop → RunFault
@@ -60,7 +63,8 @@ OverLong Stops Goes (Some line) = Stops (LineTooLong line)
 -- the requests as they are cut, which meet no limit
 abbrev pub OverRequests : ℕ → (RunFault → Type 0) → (Cut → Type 0) → List ℕ → Type 0
 OverRequests lanes Stops Goes requests =
-    OverStop Stops (Goes (jobs_of_input requests true lanes)) (jobs_of_input requests true lanes).stop
+    OverStop Stops (Goes (jobs_of_input requests true lanes))
+    (jobs_of_input requests true lanes).stop
 
 -- the transcript, of which no whole line is too long
 abbrev pub OverTranscript : (RunFault → Type 0) → (List ℕ → Type 0) → List ℕ → Type 0
@@ -79,10 +83,12 @@ OverBoth lanes Stops Goes requests transcript =
     OverTranscriptFile Stops (Goes cut) transcript))) requests
 
 -- the policy file, behind it that of the requests, and behind that one the file of the transcript
-abbrev pub OverFiles : (List ℕ → Filed) → Names → ℕ → (RunFault → Type 0) → (PolicyShape → Cut → List ℕ → Type 0) → Type 0
+abbrev pub OverFiles : (List ℕ → Filed) → Names → ℕ → (RunFault → Type 0) →
+    (PolicyShape → Cut → List ℕ → Type 0) → Type 0
 OverFiles files names lanes Stops Goes =
     OverFiled Stops (OverPolicy Stops (λ p.
-    OverBoth lanes Stops (Goes p) (files names.requests) (files names.transcript))) (files names.policy)
+    OverBoth lanes Stops (Goes p) (files names.requests) (files names.transcript)))
+    (files names.policy)
 
 -- Inside: the requests of a file as they were cut
 pub record IsCutOf (requests : List ℕ) (lanes : ℕ) (text : CutText) : Type 0 where

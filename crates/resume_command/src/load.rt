@@ -1,6 +1,7 @@
 //! Loading the requests.
 ghost use Rattle.std.specs.Prelude.{◌≡◌, ◌<◌, ◌≤◌, ℕ, List, IfErr, IfOk};
-ghost use Rattle.wf_names.specs.declared.limits.TheConstants.{REQUESTS_FILE_LIMIT, SESSION_LINE_LIMIT};
+ghost use Rattle.wf_names.specs.declared.limits.TheConstants.{REQUESTS_FILE_LIMIT};
+ghost use Rattle.wf_names.specs.declared.limits.TheConstants.{SESSION_LINE_LIMIT};
 ghost use Rattle.line_cutter.specs.Laws.{AreInOrder, AreNamedJobs};
 ghost use Rattle.run_record.specs.Fault.{fault_in, CountsLoads};
 ghost use Rattle.wf_commands.specs.Load.{IsLoadEnding};

@@ -1,11 +1,14 @@
 //! Where a session goes on: its files are loaded, and its transcript is taken up.
 ghost use Rattle.std.specs.Prelude.{◌≡◌, ◌<◌, ◌≤◌, ℕ, true, List, IfOk, length, take, None};
-ghost use Rattle.wf_names.specs.declared.limits.TheConstants.{LANE_LIMIT, ROUND_LIMIT, SESSION_LINE_LIMIT};
+ghost use Rattle.wf_names.specs.declared.limits.TheConstants.{LANE_LIMIT, ROUND_LIMIT};
+ghost use Rattle.wf_names.specs.declared.limits.TheConstants.{SESSION_LINE_LIMIT};
 ghost use Rattle.line_cutter.specs.Jobs.{jobs_of_input};
 ghost use Rattle.line_cutter.specs.Laws.{AreInOrder, AreNamedJobs};
 ghost use Rattle.run_record.specs.Fault.{how_of, refused, CountsLoads};
-ghost use Rattle.resume_command.specs.Loading.{IsCutOf, ending_at, OverBoth, OverFiles, OverTranscript, OverTranscriptFile};
-ghost use Rattle.resume_command.specs.Begun.{BeginsBy, EndsBeginning, EndsLoaded, StopsBy, ends_to, fault_by, session_of};
+ghost use Rattle.resume_command.specs.Loading.{IsCutOf, ending_at, OverBoth, OverFiles};
+ghost use Rattle.resume_command.specs.Loading.{OverTranscript, OverTranscriptFile};
+ghost use Rattle.resume_command.specs.Begun.{BeginsBy, EndsBeginning, EndsLoaded, StopsBy, ends_to};
+ghost use Rattle.resume_command.specs.Begun.{fault_by, session_of};
 
 use crate::Refusal;
 use crate::load::load_requests;
@@ -61,7 +64,8 @@ pub fn begin<V: Decider, F: Shelf>(
     requires lanes { lanes ≤ LANE_LIMIT }
     requires rounds { rounds ≤ ROUND_LIMIT }
     ensures begins { OverFiles (F.file shelf.old)
-        (record { policy = policy.now; requests = requests.now; transcript = transcript.now }) lanes (StopsBy result)
+        (record { policy = policy.now; requests = requests.now; transcript = transcript.now })
+        lanes (StopsBy result)
         (λ p cut transcript. BeginsBy (session_of p lanes rounds cut) cut transcript result) }
     ensures ending { EndsBeginning (how_of (fault_by result)) }
     ensures loads { CountsLoads (fault_by result) (F.faults shelf.old) (F.faults shelf.new) }

@@ -1,5 +1,6 @@
 -- A crowd leaves no plan: different users for its steps are more than there are.
-use Rattle.std.proofs.Common.{◌≡◌, ◌≢◌, refl, sym, ap, ◌∙◌, subst, ℕ, zero, suc, ◌+◌, ◌<◌, ◌≤◌, Bool, true, false, not, ◌&&◌, ◌||◌, ◌==◌, List, [], ◌∷◌, ◌++◌, length, take, drop, ◌-◌, get_or, Option, None, Some, slice_get, if◌then◌else◌, ◌⊎◌, inl, inr, eqb, arith}
+use Rattle.std.proofs.Common.{◌≡◌, ◌≢◌, refl, sym, ap, ◌∙◌, subst, ℕ, zero, suc, ◌+◌, ◌<◌, ◌≤◌, Bool, true, false, not, ◌&&◌, ◌||◌, ◌==◌, List, [], ◌∷◌, ◌++◌}
+use Rattle.std.proofs.Common.{length, take, drop, ◌-◌, get_or, Option, None, Some, slice_get, if◌then◌else◌, ◌⊎◌, inl, inr, eqb, arith}
 use Rattle.std.proofs.lemmas.List.{drop_more, length-drop, take_all}
 use Rattle.std.proofs.lemmas.Bool.{false≢true, eqb-true}
 use Rattle.std.proofs.lemmas.Bool.Decides.{eqb_tells}
@@ -31,7 +32,8 @@ length-without : (k : ℕ) (ks : List ℕ) → is_one_of ks k ≡ true → lengt
 length-without k [] one = absurd (false≢true one)
 length-without k (j ∷ js) one = at (j == k) one (length-without k js) (length-without_most k js)
   where
-    at : (b : Bool) → (b || is_one_of js k) ≡ true → (is_one_of js k ≡ true → length (without k js) + 1 ≤ length js) → length (without k js) ≤ length js → length (if b then without k js else j ∷ without k js) + 1 ≤ suc (length js)
+    at : (b : Bool) → (b || is_one_of js k) ≡ true → (is_one_of js k ≡ true → length (without k js) + 1 ≤ length js) → length (without k js) ≤ length js →
+        length (if b then without k js else j ∷ without k js) + 1 ≤ suc (length js)
     at true one later less = omega (arith, less)
     at false one later less = let fewer = later one in omega (arith, fewer)
 
@@ -57,7 +59,8 @@ pigeons g [] us other within = omega arith
 pigeons g (s ∷ ss) us other within =
     let here = within s (one_here s ss) in
     let fewer = length-without (g s) us here in
-    let rest = pigeons g ss (without (g s) us) other.1 (λ t one. without_keeps (g s) us (g t) (within t (or_right (s == t) (is_one_of ss t) one)) (differs_at g s t ss other.0 one)) in
+    let rest = pigeons g ss (without (g s) us) other.1
+    (λ t one. without_keeps (g s) us (g t) (within t (or_right (s == t) (is_one_of ss t) one)) (differs_at g s t ss other.0 one)) in
     omega (arith, fewer, rest)
 
 -- ---- parted steps
@@ -101,18 +104,29 @@ turned_by p r u v by = (
 -- a rule that a plan satisfies relates the users of its steps
 related_by : (p : Problem) (r : Rule) (g : ℕ → ℕ) (s t : ℕ) → is_satisfied p.related r g ≡ true → relates r s t ≡ true → IsRelatedBy p r (g s) (g t)
 related_by p (Pair rho first second) g s t holds are =
-    let both = and_both (s == first) (t == second) are in
-    (rho, refl, inl (ap (λ x. p.related rho (g x) (g t)) (eqb-true s first both.0) ∙ ap (λ x. p.related rho (g first) (g x)) (eqb-true t second both.1) ∙ holds))
+    let both = and_both (s == first) (t == second) are in (
+      rho,
+      refl,
+      inl (ap (λ x. p.related rho (g x) (g t)) (eqb-true s first both.0) ∙ ap (λ x. p.related rho (g first) (g x)) (eqb-true t second both.1) ∙ holds),
+    )
 related_by p (SomeOf rho group step) g s t holds are = absurd (false≢true are)
 related_by p (AllOf rho group step) g s t holds are =
     let both = and_both (is_member group s) (t == step) are in
-    let same : 0 + s ≡ s = omega arith in
-    (rho, refl, inl (ap (λ x. p.related rho (g s) (g x)) (eqb-true t step both.1) ∙ sym (ap (λ x. p.related rho (g x) (g step)) same) ∙ member_related (λ x. p.related rho (g x) (g step)) 0 group s holds both.0))
+    let same : 0 + s ≡ s = omega arith in (
+      rho,
+      refl,
+      inl (ap (λ x. p.related rho (g s) (g x)) (eqb-true t step both.1) ∙ sym (ap (λ x. p.related rho (g x) (g step)) same) ∙
+          member_related (λ x. p.related rho (g x) (g step)) 0 group s holds both.0),
+    )
 related_by p (SomeTo rho step group) g s t holds are = absurd (false≢true are)
 related_by p (AllTo rho step group) g s t holds are =
     let both = and_both (is_member group s) (t == step) are in
-    let same : 0 + s ≡ s = omega arith in
-    (rho, refl, inr (ap (λ x. p.related rho (g x) (g s)) (eqb-true t step both.1) ∙ sym (ap (λ x. p.related rho (g step) (g x)) same) ∙ member_related (λ x. p.related rho (g step) (g x)) 0 group s holds both.0))
+    let same : 0 + s ≡ s = omega arith in (
+      rho,
+      refl,
+      inr (ap (λ x. p.related rho (g x) (g s)) (eqb-true t step both.1) ∙ sym (ap (λ x. p.related rho (g step) (g x)) same) ∙
+          member_related (λ x. p.related rho (g step) (g x)) 0 group s holds both.0),
+    )
 related_by p (AtMost limit group) g s t holds are = absurd (false≢true are)
 related_by p (AtLeast limit group) g s t holds are = absurd (false≢true are)
 
@@ -128,7 +142,8 @@ none_alone p r u v strict known same by =
       | inr back ↦ sym (ap (λ x. p.related by.0 x u) same) ∙ back
     ])
 
-parted_differ : (p : Problem) (assigned : List (Option ℕ)) (finished : List Bool) (plan : List ℕ) (s t : ℕ) → IsValidPlan p assigned finished plan → s < p.steps → are_parted p s t ≡ true → planned plan t ≢ planned plan s
+parted_differ : (p : Problem) (assigned : List (Option ℕ)) (finished : List Bool) (plan : List ℕ) (s t : ℕ) → IsValidPlan p assigned finished plan →
+    s < p.steps → are_parted p s t ≡ true → planned plan t ≢ planned plan s
 parted_differ p assigned finished plan s t valid below parted same =
     let found = any_one (length p.rules) (λ k. is_parting p s t (slice_get p.rules k)) parted in
     at found.0 (slice_get p.rules found.0) refl found.1
@@ -144,13 +159,15 @@ parted_differ p assigned finished plan s t valid below parted same =
           | inr back ↦ turned_by p r (planned plan s) (planned plan t) (related_by p r (planned plan) t s holds back)
         ])
 
-differ_from : (p : Problem) (assigned : List (Option ℕ)) (finished : List Bool) (plan : List ℕ) (s : ℕ) (ts : List ℕ) → IsValidPlan p assigned finished plan → s < p.steps → is_parted_from p s ts ≡ true → DiffersFrom (planned plan) s ts
+differ_from : (p : Problem) (assigned : List (Option ℕ)) (finished : List Bool) (plan : List ℕ) (s : ℕ) (ts : List ℕ) →
+    IsValidPlan p assigned finished plan → s < p.steps → is_parted_from p s ts ≡ true → DiffersFrom (planned plan) s ts
 differ_from p assigned finished plan s [] valid below parted = tt
 differ_from p assigned finished plan s (t ∷ ts) valid below parted =
     let both = and_both (are_parted p s t) (is_parted_from p s ts) parted in
     (parted_differ p assigned finished plan s t valid below both.0, differ_from p assigned finished plan s ts valid below both.1)
 
-all_differ : (p : Problem) (assigned : List (Option ℕ)) (finished : List Bool) (plan ss : List ℕ) → IsValidPlan p assigned finished plan → ((s : ℕ) → is_one_of ss s ≡ true → s < p.steps) → all_parted p ss ≡ true → AllDiffer (planned plan) ss
+all_differ : (p : Problem) (assigned : List (Option ℕ)) (finished : List Bool) (plan ss : List ℕ) → IsValidPlan p assigned finished plan →
+    ((s : ℕ) → is_one_of ss s ≡ true → s < p.steps) → all_parted p ss ≡ true → AllDiffer (planned plan) ss
 all_differ p assigned finished plan [] valid known parted = tt
 all_differ p assigned finished plan (s ∷ ss) valid known parted =
     let both = and_both (is_parted_from p s ss) (all_parted p ss) parted in (
@@ -164,20 +181,24 @@ those_have : (n : ℕ) (test : ℕ → Bool) (u : ℕ) → u < n → test u ≡ 
 those_have zero test u below passes = absurd (omega (arith, below))
 those_have (suc n) test u below passes = at (test n) refl (eqb_tells u n) (λ apart. those_have n test u (omega (arith, below, apart)) passes)
   where
-    at : (b : Bool) → test n ≡ b → ((eqb u n ≡ true) × (u ≡ n)) ⊎ ((eqb u n ≡ false) × (u ≢ n)) → (u ≢ n → is_one_of (those_below n test) u ≡ true) → is_one_of (if b then n ∷ those_below n test else those_below n test) u ≡ true
+    at : (b : Bool) → test n ≡ b → ((eqb u n ≡ true) × (u ≡ n)) ⊎ ((eqb u n ≡ false) × (u ≢ n)) → (u ≢ n → is_one_of (those_below n test) u ≡ true) →
+        is_one_of (if b then n ∷ those_below n test else those_below n test) u ≡ true
     at true is (inl same) later = subst (λ x. is_one_of (x ∷ those_below n test) u ≡ true) same.1 (one_here u (those_below n test))
     at true is (inr apart) later = or_right (n == u) (is_one_of (those_below n test) u) (later apart.1)
     at false is (inl same) later = absurd (false≢true (sym is ∙ sym (ap test same.1) ∙ passes))
     at false is (inr apart) later = later apart.1
 
-takes_one : (p : Problem) (assigned : List (Option ℕ)) (ss : List ℕ) (s u : ℕ) → is_one_of ss s ≡ true → is_open_to p s u (user_at assigned s) ≡ true → may_take_one p assigned ss u ≡ true
+takes_one : (p : Problem) (assigned : List (Option ℕ)) (ss : List ℕ) (s u : ℕ) → is_one_of ss s ≡ true → is_open_to p s u (user_at assigned s) ≡ true →
+    may_take_one p assigned ss u ≡ true
 takes_one p assigned [] s u one opens = absurd (false≢true one)
 takes_one p assigned (r ∷ rs) s u one opens = elim (or_cases (r == s) (is_one_of rs s) one) [
-  | inl here ↦ or_left (is_open_to p r u (user_at assigned r)) (may_take_one p assigned rs u) (ap (λ x. is_open_to p x u (user_at assigned x)) (eqb-true r s here) ∙ opens)
+  | inl here ↦ or_left (is_open_to p r u (user_at assigned r)) (may_take_one p assigned rs u)
+      (ap (λ x. is_open_to p x u (user_at assigned x)) (eqb-true r s here) ∙ opens)
   | inr later ↦ or_right (is_open_to p r u (user_at assigned r)) (may_take_one p assigned rs u) (takes_one p assigned rs s u later opens)
 ]
 
-planned_open : (p : Problem) (assigned : List (Option ℕ)) (finished : List Bool) (plan : List ℕ) (s : ℕ) → AreAssigned finished assigned → IsValidPlan p assigned finished plan → s < p.steps → is_open_to p s (planned plan s) (user_at assigned s) ≡ true
+planned_open : (p : Problem) (assigned : List (Option ℕ)) (finished : List Bool) (plan : List ℕ) (s : ℕ) → AreAssigned finished assigned →
+    IsValidPlan p assigned finished plan → s < p.steps → is_open_to p s (planned plan s) (user_at assigned s) ≡ true
 planned_open p assigned finished plan s all valid below = at (user_at assigned s) refl
   where
     at : (o : Option ℕ) → user_at assigned s ≡ o → is_open_to p s (planned plan s) o ≡ true
@@ -193,8 +214,10 @@ crowds_block p assigned finished steps all crowd some =
     let plan = some.0 in
     let valid = some.1 in
     let few = crowd.few in
-    let enough = pigeons (planned plan) steps (those_below p.users (may_take_one p assigned steps)) (all_differ p assigned finished plan steps valid crowd.known crowd.parted)
-    (λ s one. those_have p.users (may_take_one p assigned steps) (planned plan s) (valid.known s (crowd.known s one)) (takes_one p assigned steps s (planned plan s) one (planned_open p assigned finished plan s all valid (crowd.known s one)))) in
+    let enough = pigeons (planned plan) steps (those_below p.users (may_take_one p assigned steps))
+    (all_differ p assigned finished plan steps valid crowd.known crowd.parted)
+    (λ s one. those_have p.users (may_take_one p assigned steps) (planned plan s) (valid.known s (crowd.known s one))
+    (takes_one p assigned steps s (planned plan s) one (planned_open p assigned finished plan s all valid (crowd.known s one)))) in
     absurd (omega (arith, few, enough))
 
 -- ---- walks
@@ -207,7 +230,8 @@ one_at (v ∷ vs) u (suc i) below is = or_right (v == u) (is_one_of vs u) (one_a
 pub none_more : (n : ℕ) (test : ℕ → Bool) → any_below n test ≡ false → test n ≡ false → any_below (n + 1) test ≡ false
 none_more n test none fails = let more : n + 1 ≡ suc n = omega arith in ap (λ m. any_below m test) more ∙ ap (λ b. b || test n) none ∙ fails
 
-pub parted_at : (p : Problem) (ss : List ℕ) (i s : ℕ) → i < length ss → s ≡ get_or ss i s → all_parted p (drop i ss) ≡ (is_parted_from p s (drop (i + 1) ss) && all_parted p (drop (i + 1) ss))
+pub parted_at : (p : Problem) (ss : List ℕ) (i s : ℕ) → i < length ss → s ≡ get_or ss i s →
+    all_parted p (drop i ss) ≡ (is_parted_from p s (drop (i + 1) ss) && all_parted p (drop (i + 1) ss))
 parted_at p ss i s below is =
     let rest = drop (i + 1) ss in
     ap (all_parted p) (drop_more ss i s below) ∙ ap (λ x. is_parted_from p x rest && all_parted p rest) (sym is)

@@ -1,7 +1,9 @@
 -- Crowds: steps that want different users, of whom there are too few.
-use Rattle.std.specs.Prelude.{◌≡◌, ℕ, zero, suc, ◌<◌, Bool, true, false, not, ◌&&◌, ◌||◌, ◌==◌, List, [], ◌∷◌, length, Option, None, Some, if◌then◌else◌, slice_get}
+use Rattle.std.specs.Prelude.{◌≡◌, ℕ, zero, suc, ◌<◌, Bool, true, false, not, ◌&&◌, ◌||◌, ◌==◌}
+use Rattle.std.specs.Prelude.{List, [], ◌∷◌, length, Option, None, Some, if◌then◌else◌, slice_get}
 use Rattle.constraint_forms.specs.declared.rule.Rule.{Rule}
-use Rattle.constraint_forms.specs.declared.rule.Rule.TheVariants.{Pair, SomeOf, AllOf, SomeTo, AllTo, AtMost, AtLeast}
+use Rattle.constraint_forms.specs.declared.rule.Rule.TheVariants.{Pair, SomeOf, AllOf, SomeTo}
+use Rattle.constraint_forms.specs.declared.rule.Rule.TheVariants.{AllTo, AtMost, AtLeast}
 use Rattle.constraint_forms.specs.Assigned.{user_at, is_member}
 use Rattle.constraint_forms.specs.Rules.{any_read}
 use Rattle.policy_book.specs.Plans.{Problem, AreAssigned, IsCompletable}
@@ -49,7 +51,8 @@ is_open_to p s u (Some v) = v == u
 -- a user has or may get one of the steps
 abbrev pub may_take_one : Problem → List (Option ℕ) → List ℕ → ℕ → Bool
 may_take_one p assigned [] u = false
-may_take_one p assigned (s ∷ ss) u = is_open_to p s u (user_at assigned s) || may_take_one p assigned ss u
+may_take_one p assigned (s ∷ ss) u = is_open_to p s u (user_at assigned s) ||
+    may_take_one p assigned ss u
 
 -- the numbers below n that pass
 abbrev pub those_below : ℕ → (ℕ → Bool) → List ℕ

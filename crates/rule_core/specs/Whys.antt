@@ -10,5 +10,7 @@ use Rattle.rule_core.specs.declared.search.Why.TheVariants.{Plan, Crowd, Clash}
 -- plan
 abbrev pub IsWhy : Problem → List (Option ℕ) → List Bool → Why → Type 0
 IsWhy p assigned finished (Plan plan) = IsValidPlan p assigned finished plan
-IsWhy p assigned finished (Crowd steps) = IsCrowd p assigned steps × (¬ IsCompletable p assigned finished)
-IsWhy p assigned finished (Clash rules) = IsCore p assigned finished rules × (¬ IsCompletable p assigned finished)
+IsWhy p assigned finished (Crowd steps) = IsCrowd p assigned steps ×
+    (¬ IsCompletable p assigned finished)
+IsWhy p assigned finished (Clash rules) = IsCore p assigned finished rules ×
+    (¬ IsCompletable p assigned finished)

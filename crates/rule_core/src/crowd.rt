@@ -4,7 +4,8 @@ ghost use Rattle.constraint_forms.specs.Assigned.{user_at};
 ghost use Rattle.constraint_forms.specs.Rules.{any_read};
 ghost use Rattle.policy_book.specs.Policies.{problem_of};
 ghost use Rattle.policy_book.specs.Twins.{is_one_of};
-ghost use Rattle.rule_core.specs.Crowds.{all_parted, are_parted, is_open_to, is_parted_from, is_parting, is_strict, may_take_one, relates, those_below};
+ghost use Rattle.rule_core.specs.Crowds.{all_parted, are_parted, is_open_to, is_parted_from};
+ghost use Rattle.rule_core.specs.Crowds.{is_parting, is_strict, may_take_one, relates, those_below};
 
 use basics::List;
 use constraint_forms::Rule;
@@ -20,7 +21,8 @@ pub(crate) fn is_crowd(p: &Policy, f: FlowId, a: &Assign, steps: &StepList) -> b
     requires flow { f < length p.now.flows }
     requires known { (s : ℕ) → is_one_of steps.now s ≡ true → s < (problem_of p.now f).steps }
     ensures { result ≡ (all_parted (problem_of p.now f) steps.now && nat_lt
-        (length (those_below (problem_of p.now f).users (may_take_one (problem_of p.now f) a.now steps.now)))
+        (length (those_below (problem_of p.now f).users
+        (may_take_one (problem_of p.now f) a.now steps.now)))
         (length steps.now)) }
 {
     all_parted(p, f, steps) && takers(p, f, a, steps) < steps.len()

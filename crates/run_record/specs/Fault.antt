@@ -5,7 +5,10 @@ use Rattle.wf_outside.specs.Outside.{Rose}
 use Rattle.policy_reader.specs.declared.fault.ReadFault.{ReadFault}
 use Rattle.policy_reader.specs.declared.fault.ReadFault.TheVariants as reading
 use Rattle.run_record.specs.declared.fault.RunFault.{RunFault}
-use Rattle.run_record.specs.declared.fault.RunFault.TheVariants.{Nothing, Found, Usage, Policy, Read, Write, Load, NoMemory, FileTooLong, LineTooLong, TooManyLines, BadInput, TooLarge}
+use Rattle.run_record.specs.declared.fault.RunFault.TheVariants.{Nothing, Found, Usage, Policy}
+use Rattle.run_record.specs.declared.fault.RunFault.TheVariants.{Read, Write, Load, NoMemory}
+use Rattle.run_record.specs.declared.fault.RunFault.TheVariants.{FileTooLong, LineTooLong}
+use Rattle.run_record.specs.declared.fault.RunFault.TheVariants.{TooManyLines, BadInput, TooLarge}
 use Rattle.run_record.specs.declared.fault.InputFault.TheVariants.{NoFlow}
 
 -- the status of each ending

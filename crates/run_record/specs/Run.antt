@@ -30,7 +30,13 @@ pub record Run : Type 0 where
 abbrev pub streams_of : {S K : Type 0} → (S → Option (List ℕ)) → (S → ℕ) → (K → Option (List ℕ))
     → (K → ℕ) → S → K → Streams
 streams_of left read_faults held write_faults source sink =
-    record { input = left source; output = held sink; read_faults = read_faults source; write_faults = write_faults sink }
+    record {
+      input = left source;
+      output = held sink;
+      read_faults =
+          read_faults source;
+      write_faults = write_faults sink;
+    }
 
 -- the run over a shelf as it tells its files and counts its faults, with a report
 abbrev pub run_of : {F : Type 0} → (F → List ℕ → Filed) → (F → ℕ) → F → F → Streams → Streams

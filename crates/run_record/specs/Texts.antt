@@ -2,7 +2,10 @@
 use Rattle.std.specs.Prelude.{ℕ, List, ◌++◌, codes, decimal}
 use Rattle.policy_reader.specs.Words.{fault_text}
 use Rattle.run_record.specs.declared.fault.RunFault.{RunFault}
-use Rattle.run_record.specs.declared.fault.RunFault.TheVariants.{Nothing, Found, Usage, Policy, Read, Write, Load, NoMemory, FileTooLong, LineTooLong, TooManyLines, BadInput, TooLarge}
+use Rattle.run_record.specs.declared.fault.RunFault.TheVariants.{Nothing, Found, Usage, Policy}
+use Rattle.run_record.specs.declared.fault.RunFault.TheVariants.{Read, Write, Load, NoMemory}
+use Rattle.run_record.specs.declared.fault.RunFault.TheVariants.{FileTooLong, LineTooLong}
+use Rattle.run_record.specs.declared.fault.RunFault.TheVariants.{TooManyLines, BadInput, TooLarge}
 
 -- what is printed of it
 abbrev pub text_of : RunFault → List ℕ

@@ -19,9 +19,12 @@ judged_part policy files answer before after finds part =
     inr (finds.0, (finds.1.0, ends_part (JudgesBytes finds.0) answer.found answer.text.items before after (answer.found, (refl, finds.1.1)) part))
 
 -- a command that answers once reports nothing more
-pub untold_once : (policy : List ℕ) (A : Option (List ℕ) → PolicyShape → RunFault → List ℕ → Type 0) (files : List ℕ → Filed) (loads loads_after : ℕ) (before after : Streams) (report : Told) (fault : RunFault)
-    → RunsOnce None policy A (record { files = files; load_faults = loads; load_faults_after = loads_after; before = before; after = after; told = report; fault = fault })
+pub untold_once : (policy : List ℕ) (A : Option (List ℕ) → PolicyShape → RunFault → List ℕ → Type 0) (files : List ℕ → Filed) (loads loads_after : ℕ)
+    (before after : Streams) (report : Told) (fault : RunFault)
+    → RunsOnce None policy A
+    (record { files = files; load_faults = loads; load_faults_after = loads_after; before = before; after = after; told = report; fault = fault })
     → RunsOnce None policy A (run_to files loads loads_after before after fault)
 untold_once policy A files loads loads_after before after report fault runs =
-    subst (λ (t : Told). RunsOnce None policy A (record { files = files; load_faults = loads; load_faults_after = loads_after; before = before; after = after; told = t; fault = fault }))
+    subst (λ (t : Told). RunsOnce None policy A
+    (record { files = files; load_faults = loads; load_faults_after = loads_after; before = before; after = after; told = t; fault = fault }))
     runs.once.untold runs

@@ -8,7 +8,8 @@ use Rattle.tell_run.specs.Policy.{CanAllBeDone, JudgesFile}
 use Rattle.tell_run.specs.Why.{CanBeDone}
 
 -- where nothing is lacking so far, and not in the next workflow, nothing is lacking up to it
-pub one_more : (p : PolicyShape) (n : ℕ) (some lacks : Bool) → (some ≡ false → CanAllBeDone p n) → (lacks ≡ false → CanBeDone p n) → (some || lacks) ≡ false → CanAllBeDone p (n + 1)
+pub one_more : (p : PolicyShape) (n : ℕ) (some lacks : Bool) → (some ≡ false → CanAllBeDone p n) → (lacks ≡ false → CanBeDone p n) →
+    (some || lacks) ≡ false → CanAllBeDone p (n + 1)
 one_more p n true lacks all one none = absurd (false≢true (sym none))
 one_more p n false true all one none = absurd (false≢true (sym none))
 one_more p n false false all one none = λ f below. at f below (eqb_tells f n)
@@ -18,7 +19,8 @@ one_more p n false false all one none = λ f below. at f below (eqb_tells f n)
     at f below (inr apart) = let other = apart.1 in all refl f (omega (arith, below, other))
 
 -- where no workflow lacks a plan, or something is told, the file is judged rightly
-pub judged : (p : PolicyShape) (file : List ℕ) (lacks tells : Bool) → (lacks ≡ false → CanAllBeDone p (length p.flows)) → policy_of_file file ≡ Ok p → JudgesFile file (lacks || tells)
+pub judged : (p : PolicyShape) (file : List ℕ) (lacks tells : Bool) → (lacks ≡ false → CanAllBeDone p (length p.flows)) → policy_of_file file ≡ Ok p →
+    JudgesFile file (lacks || tells)
 judged p file true tells all is = tt
 judged p file false true all is = tt
 judged p file false false all is = (p, is, all refl)

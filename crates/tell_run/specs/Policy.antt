@@ -19,19 +19,24 @@ CanAllBeDone p n = (f : ℕ) → f < n → CanBeDone p f
 -- where nothing is told of a file, it is a policy, and each of its workflows can be done
 abbrev pub JudgesFile : List ℕ → Bool → Type 0
 JudgesFile file true = Unit {0}
-JudgesFile file false = (p : PolicyShape) × (policy_of_file file ≡ Ok p) × CanAllBeDone p (length p.flows)
+JudgesFile file false = (p : PolicyShape) × (policy_of_file file ≡ Ok p) ×
+    CanAllBeDone p (length p.flows)
 
 -- what is told of the bytes of a file, by how the run ends
 abbrev pub JudgesBytes : List ℕ → RunFault → List ℕ → Type 0
 JudgesBytes file fault text = (found : Bool) × ((fault ≡ ending_with found) × JudgesFile file found)
 
 -- the file cannot be loaded, and nothing is written; or it is told of its bytes
-abbrev pub JudgesFiled : List ℕ → (List ℕ → Filed) → Option (List ℕ) → Option (List ℕ) → RunFault → Type 0
+abbrev pub JudgesFiled : List ℕ → (List ℕ → Filed) → Option (List ℕ) → Option (List ℕ) →
+    RunFault → Type 0
 JudgesFiled policy files before after fault =
-    (IsLoadEnding fault × (GivesBytes POLICY_FILE_LIMIT (files policy) (Err fault) × (after ≡ before)))
-    ⊎ ((file : List ℕ) × (GivesBytes POLICY_FILE_LIMIT (files policy) (Ok file) × Ends (JudgesBytes file) before after fault))
+    (IsLoadEnding fault ×
+    (GivesBytes POLICY_FILE_LIMIT (files policy) (Err fault) × (after ≡ before)))
+    ⊎ ((file : List ℕ) × (GivesBytes POLICY_FILE_LIMIT (files policy) (Ok file) ×
+    Ends (JudgesBytes file) before after fault))
 
 -- Inside: what is found of a file before it is written
 abbrev pub FindsBytes : Filed → Result Answer RunFault → Type 0
-FindsBytes filed (Ok answer) = (file : List ℕ) × (GivesBytes POLICY_FILE_LIMIT filed (Ok file) × JudgesFile file answer.found)
+FindsBytes filed (Ok answer) = (file : List ℕ) ×
+    (GivesBytes POLICY_FILE_LIMIT filed (Ok file) × JudgesFile file answer.found)
 FindsBytes filed (Err fault) = GivesBytes POLICY_FILE_LIMIT filed (Err fault)

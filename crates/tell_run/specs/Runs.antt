@@ -35,7 +35,8 @@ pub record IsCounted (r : Run) : Type 0 where
 
 -- by what is asked: how the run ends, and what it writes
 abbrev pub RunsAsked : Asked → Run → Type 0
-RunsAsked (asked.Policy policy) r = IsCounted r × JudgesFiled policy.now r.files r.before.output r.after.output r.fault
+RunsAsked (asked.Policy policy) r = IsCounted r ×
+    JudgesFiled policy.now r.files r.before.output r.after.output r.fault
 RunsAsked (asked.Why policy flow) r = RunsOnce None policy.now (λ told p. TellsWhy p flow.now) r
 RunsAsked (asked.Told what s) r = IsCounted r × TellsRun r.files
     (record { policy = s.policy.now; requests = s.requests.now; transcript = s.transcript.now })
@@ -46,5 +47,6 @@ RunsAsked (asked.Told what s) r = IsCounted r × TellsRun r.files
 abbrev pub RunsAlone : Run → Type 0
 RunsAlone r =
     ((a : Asked) × (CanTell a × RunsAsked a r))
-    ⊎ (IsCounted r × (((help : List ℕ) × Ends (λ fault text. (fault ≡ Nothing) × (text ≡ help)) r.before.output r.after.output r.fault)
+    ⊎ (IsCounted r × (((help : List ℕ) × Ends (λ fault text. (fault ≡ Nothing) × (text ≡ help))
+    r.before.output r.after.output r.fault)
     ⊎ (((r.fault ≡ Usage) ⊎ (r.fault ≡ NoMemory)) × (r.after.output ≡ r.before.output))))

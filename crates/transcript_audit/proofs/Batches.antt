@@ -1,5 +1,6 @@
 -- Batches among the jobs.
-use Rattle.std.proofs.Common.{◌≡◌, ℕ, zero, suc, ◌+◌, ◌-◌, ◌<◌, ◌≤◌, inl, inr, true, false, nat_le, nat_lt, List, [], ◌∷◌, length, take, drop, slice_index_or, refl, sym, ap, ◌∙◌, arith}
+use Rattle.std.proofs.Common.{◌≡◌, ℕ, zero, suc, ◌+◌, ◌-◌, ◌<◌, ◌≤◌, inl, inr, true, false, nat_le, nat_lt, List, [], ◌∷◌, length, take, drop, slice_index_or}
+use Rattle.std.proofs.Common.{refl, sym, ap, ◌∙◌, arith}
 use Rattle.std.proofs.lemmas.Grind.{common_steps}
 use Rattle.std.proofs.lemmas.List.{drop-take, length-drop, length-take-le}
 use Rattle.basics.proofs.Booleans.{bool_cases}
@@ -197,7 +198,8 @@ start_first before [] k (suc i) within known = absurd (omega (arith, within, kno
 start_first before (x ∷ xs) zero (suc i) within known = absurd (omega (arith, within))
 start_first before (x ∷ xs) (suc k) (suc i) within known = start_first x xs k i (omega (arith, within)) (omega (arith, known))
 
-pub start_rises : (before : ℕ) (ends : List ℕ) (total i k : ℕ) → LeadTo before ends total → i ≤ k → k ≤ length ends → from_start before ends i ≤ from_start before ends k
+pub start_rises : (before : ℕ) (ends : List ℕ) (total i k : ℕ) → LeadTo before ends total → i ≤ k → k ≤ length ends →
+    from_start before ends i ≤ from_start before ends k
 start_rises before ends total zero k lead within known = start_behind before ends total k lead known
 start_rises before ends total (suc i) zero lead within known = absurd (omega (arith, within))
 start_rises before [] total (suc i) (suc k) lead within known = absurd (omega (arith, known))

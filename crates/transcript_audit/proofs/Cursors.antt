@@ -1,5 +1,6 @@
 -- The cursor of an audit stands at the next job of each lane.
-use Rattle.std.proofs.Common.{◌≡◌, ◌≢◌, ℕ, ◌+◌, ◌<◌, ◌≤◌, inl, inr, true, false, nat_eq, nat_lt, List, [], ◌∷◌, ◌++◌, length, take, slice_get, slice_index_or, slice_set, None, Some, refl, sym, ap, subst, ◌∙◌, arith}
+use Rattle.std.proofs.Common.{◌≡◌, ◌≢◌, ℕ, ◌+◌, ◌<◌, ◌≤◌, inl, inr, true, false, nat_eq, nat_lt, List, [], ◌∷◌, ◌++◌, length, take, slice_get, slice_index_or}
+use Rattle.std.proofs.Common.{slice_set, None, Some, refl, sym, ap, subst, ◌∙◌, arith}
 use Rattle.std.proofs.lemmas.Grind.{common_steps}
 use Rattle.std.proofs.lemmas.List.{get_or-set_other, get_or-set_same, length-append, take_more}
 use Rattle.std.proofs.lemmas.Option.{get_or_from_slice_get, slice_get_within}
@@ -62,7 +63,8 @@ desk_place a c lane place is stands = record {
 next_there : (a : AuditShape) (c : Cursor) (lane : ℕ) → IsRecord a c → lane < LANE_LIMIT →
     next_job a lane ≡ slice_get (jobs_in a.jobs a.batch_ends c.batch) (slice_index_or c.places lane 0)
 next_there a c lane is known =
-    next_is a c.batch lane is.sound ∙ next_at (desk_of a c.batch) lane (slice_index_or c.places lane 0) (desk_place a c lane (slice_index_or c.places lane 0) is (is.placed lane known))
+    next_is a c.batch lane is.sound ∙
+    next_at (desk_of a c.batch) lane (slice_index_or c.places lane 0) (desk_place a c lane (slice_index_or c.places lane 0) is (is.placed lane known))
 
 -- a lane's next job stands at its place
 pub next_placed : (a : AuditShape) (c : Cursor) (lane : ℕ) (jobs : List Job) → IsRecord a c → lane < LANE_LIMIT → jobs ≡ present_jobs a →
@@ -86,16 +88,19 @@ next_known a c lane j is next = elim (bool_cases (nat_lt lane LANE_LIMIT)) [
 ]
 
 -- where a lane's next job stands in the batch
-pub place_short : (a : AuditShape) (c : Cursor) (lane : ℕ) (j : Job) → IsRecord a c → next_job a lane ≡ Some j → slice_index_or c.places lane 0 < length (part c.start c.end a.jobs)
+pub place_short : (a : AuditShape) (c : Cursor) (lane : ℕ) (j : Job) → IsRecord a c → next_job a lane ≡ Some j →
+    slice_index_or c.places lane 0 < length (part c.start c.end a.jobs)
 place_short a c lane j is next =
     let known = next_known a c lane j is next in
     let jobs = jobs_in a.jobs a.batch_ends c.batch in
     let there : slice_get jobs (slice_index_or c.places lane 0) ≡ Some j = sym (next_there a c lane is known) ∙ next in
-    subst (λ js. slice_index_or c.places lane 0 < length js) (sym (batch_is a c is ∙ present_is a c is)) (slice_get_within jobs (slice_index_or c.places lane 0) j there)
+    subst (λ js. slice_index_or c.places lane 0 < length js) (sym (batch_is a c is ∙ present_is a c is))
+    (slice_get_within jobs (slice_index_or c.places lane 0) j there)
 
 -- ---- one more entry
 
-own_place : (start : ℕ) (entries : List Entry) (jobs : List Job) (e : Entry) (from place : ℕ) → start ≤ length entries → IsPlaceIn jobs start entries e.lane from →
+own_place : (start : ℕ) (entries : List Entry) (jobs : List Job) (e : Entry) (from place : ℕ) → start ≤ length entries →
+    IsPlaceIn jobs start entries e.lane from →
     slice_get jobs from ≡ Some (job_of_entry e) → IsNextPlace jobs e.lane (from + 1) place → IsPlaceIn jobs start (entries ++ e ∷ []) e.lane place
 own_place start entries jobs e from place begun old stands moved =
     let job = job_of_entry e in
@@ -120,7 +125,8 @@ other_place start entries jobs e lane place begun other old = record {
 -- each lane's place, where one lane goes on
 places_on : (start : ℕ) (entries : List Entry) (jobs : List Job) (places : List ℕ) (e : Entry) (place lane : ℕ) → start ≤ length entries →
     ((lane : ℕ) → lane < LANE_LIMIT → IsPlaceIn jobs start entries lane (slice_index_or places lane 0)) → e.lane < LANE_LIMIT → e.lane < length places →
-    slice_get jobs (slice_index_or places e.lane 0) ≡ Some (job_of_entry e) → IsNextPlace jobs e.lane (slice_index_or places e.lane 0 + 1) place → lane < LANE_LIMIT →
+    slice_get jobs (slice_index_or places e.lane 0) ≡ Some (job_of_entry e) → IsNextPlace jobs e.lane (slice_index_or places e.lane 0 + 1) place →
+    lane < LANE_LIMIT →
     IsPlaceIn jobs start (entries ++ e ∷ []) lane (slice_index_or (slice_set places e.lane place) lane 0)
 places_on start entries jobs places e place lane begun placed own_known sized stands moved known = elim (bool_cases (nat_eq e.lane lane)) [
   | inl own ↦
@@ -134,7 +140,8 @@ places_on start entries jobs places e place lane begun placed own_known sized st
 ]
 
 -- within the batch
-record_within : (a : AuditShape) (c : Cursor) (e : Entry) (place : ℕ) → IsRecord a c → ComesNext a e → length (a.entries ++ e ∷ []) < end_of a.batch_ends c.batch →
+record_within : (a : AuditShape) (c : Cursor) (e : Entry) (place : ℕ) → IsRecord a c → ComesNext a e →
+    length (a.entries ++ e ∷ []) < end_of a.batch_ends c.batch →
     e.lane < length c.places → IsNextPlace (part c.start c.end a.jobs) e.lane (slice_index_or c.places e.lane 0 + 1) place →
     IsRecord (with_entry a e) (record c { places = slice_set c.places e.lane place })
 record_within a c e place is next short sized moved =
@@ -149,7 +156,8 @@ record_within a c e place is next short sized moved =
       placed = λ lane below. places_on c.start a.entries jobs c.places e place lane (cursor_begun a c is) is.placed known sized stands there below;
     }
 
-first_place : (jobs : List Job) (start : ℕ) (entries : List Entry) (lane place : ℕ) → length entries ≤ start → IsNextPlace jobs lane 0 place → IsPlaceIn jobs start entries lane place
+first_place : (jobs : List Job) (start : ℕ) (entries : List Entry) (lane place : ℕ) → length entries ≤ start → IsNextPlace jobs lane 0 place →
+    IsPlaceIn jobs start entries lane place
 first_place jobs start entries lane place past first = record {
   within = first.within;
   before = none_served start entries lane past ∙ sym first.same;
@@ -165,7 +173,8 @@ first_places jobs ends k start entries c begins past first lane known =
     first_place (jobs_in jobs ends k) c.start entries lane (slice_index_or c.places lane 0) (omega (arith, past, own))
     (subst (λ js. IsNextPlace js lane 0 (slice_index_or c.places lane 0)) same (first.placed lane known))
 
-record_first : (a : AuditShape) (k start : ℕ) (c : Cursor) → IsSoundAudit a k → start ≡ batch_start a.batch_ends k → length a.entries ≤ start → IsAtFirst a.jobs a.batch_ends k start c →
+record_first : (a : AuditShape) (k start : ℕ) (c : Cursor) → IsSoundAudit a k → start ≡ batch_start a.batch_ends k → length a.entries ≤ start →
+    IsAtFirst a.jobs a.batch_ends k start c →
     IsRecord a c
 record_first a k start c sound begins past first =
     let batch = first.batch in
@@ -207,7 +216,8 @@ record_more a c e n d is next count gone = elim (bool_cases (nat_eq n c.end)) [
 ]
 
 -- the next batch stands among the jobs
-pub next_begins : (a : AuditShape) (c : Cursor) (lane : ℕ) (j : Job) → IsRecord a c → next_job a lane ≡ Some j → c.end ≤ slice_index_or a.batch_ends (c.batch + 1) c.end
+pub next_begins : (a : AuditShape) (c : Cursor) (lane : ℕ) (j : Job) → IsRecord a c → next_job a lane ≡ Some j →
+    c.end ≤ slice_index_or a.batch_ends (c.batch + 1) c.end
 next_begins a c lane j is next =
     let ahead = next_open a c.batch lane j is.sound next in
     let begins : c.end ≡ batch_start a.batch_ends (c.batch + 1) = is.ends ∙ sym (next_start a.batch_ends c.batch ahead) in
@@ -215,7 +225,8 @@ next_begins a c lane j is next =
     let same = ap (λ s. slice_index_or a.batch_ends (c.batch + 1) s) begins in
     omega (arith, begins, within, same)
 
-pub next_ends : (a : AuditShape) (c : Cursor) (lane : ℕ) (j : Job) → IsRecord a c → next_job a lane ≡ Some j → slice_index_or a.batch_ends (c.batch + 1) c.end ≤ length a.jobs
+pub next_ends : (a : AuditShape) (c : Cursor) (lane : ℕ) (j : Job) → IsRecord a c → next_job a lane ≡ Some j →
+    slice_index_or a.batch_ends (c.batch + 1) c.end ≤ length a.jobs
 next_ends a c lane j is next =
     let ahead = next_open a c.batch lane j is.sound next in
     let begins : c.end ≡ batch_start a.batch_ends (c.batch + 1) = is.ends ∙ sym (next_start a.batch_ends c.batch ahead) in
@@ -224,7 +235,8 @@ next_ends a c lane j is next =
     omega (arith, within, same)
 
 -- the record once its entry is added
-pub added_record : (a : AuditShape) (c d : Cursor) (e : Entry) (entries : List Entry) (n : ℕ) → IsRecord a c → ComesNext a e → entries ≡ a.entries ++ e ∷ [] → n ≡ length entries →
+pub added_record : (a : AuditShape) (c d : Cursor) (e : Entry) (entries : List Entry) (n : ℕ) → IsRecord a c → ComesNext a e →
+    entries ≡ a.entries ++ e ∷ [] → n ≡ length entries →
     HasGoneOn a.jobs a.batch_ends e.lane n c d → IsRecord (record a { entries = entries }) d
 added_record a c d e entries n is next added count gone =
     let size : n ≡ length a.entries + 1 = count ∙ ap length added ∙ length-append a.entries (e ∷ []) in

@@ -38,7 +38,8 @@ on_none (Err d) cause none = refl
 on_step_none : (make : ℕ → CaseShape → ℕ → ℕ → Deed) (b : Book) (n : ℕ) (step user : List ℕ) → ((c : CaseShape) (s u : ℕ) → IsNarrow (Ok (make n c s u))) →
     IsNarrow (on_step make b n step user)
 on_step_none make b n step user none =
-    then_none (open_case_at b n) _ (λ c. then_none (or_fault (step_named b c.flow step) NoStep) _ (λ s. then_none (or_fault (user_named b user) NoUser) _ (λ u. none c s u)))
+    then_none (open_case_at b n) _
+    (λ c. then_none (or_fault (step_named b c.flow step) NoStep) _ (λ s. then_none (or_fault (user_named b user) NoUser) _ (λ u. none c s u)))
 
 resolve_none : (b : Book) (what : Ask) → asks_of_all what ≡ false → IsNarrow (resolve b what)
 resolve_none b (ask.Bad bad) other = refl
@@ -47,7 +48,8 @@ resolve_none b (ask.Request (request.Claim n step user)) other = on_step_none de
 resolve_none b (ask.Request (request.Finish n step user)) other = on_step_none deed.Finish b n step user (λ c s u. refl)
 resolve_none b (ask.Request (request.GiveBack n step user)) other = on_step_none deed.GiveBack b n step user (λ c s u. refl)
 resolve_none b (ask.Request (request.Release by n step)) other =
-    then_none (check (is_admin b.policy by) NotAdmin) _ (λ _. then_none (open_case_at b n) _ (λ c. then_none (or_fault (step_named b c.flow step) NoStep) _ (λ s. refl)))
+    then_none (check (is_admin b.policy by) NotAdmin) _
+    (λ _. then_none (open_case_at b n) _ (λ c. then_none (or_fault (step_named b c.flow step) NoStep) _ (λ s. refl)))
 resolve_none b (ask.Request (request.Withdraw by n)) other =
     then_none (check (is_admin b.policy by) NotAdmin) _ (λ _. then_none (open_case_at b n) _ (λ c. refl))
 resolve_none b (ask.Request (request.Change by edit)) other = absurd (cc)

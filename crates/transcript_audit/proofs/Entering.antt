@@ -1,5 +1,6 @@
 -- A reply that was taken or refused, and what becomes of its line.
-use Rattle.std.proofs.Common.{◌≡◌, ◌↔◌, ℕ, ◌+◌, ◌<◌, ◌≤◌, ◌⊎◌, inl, inr, max, Bool, true, false, ◌&&◌, nat_eq, nat_le, List, length, map, drop, Option, None, Some, Result, Ok, Err, refl, sym, ap, subst, ◌∙◌, arith}
+use Rattle.std.proofs.Common.{◌≡◌, ◌↔◌, ℕ, ◌+◌, ◌<◌, ◌≤◌, ◌⊎◌, inl, inr, max, Bool, true, false, ◌&&◌, nat_eq, nat_le, List, length, map, drop, Option, None}
+use Rattle.std.proofs.Common.{Some, Result, Ok, Err, refl, sym, ap, subst, ◌∙◌, arith}
 use Rattle.std.proofs.lemmas.Grind.{common_steps}
 use Rattle.std.specs.Option.{option_map}
 use Rattle.basics.proofs.Booleans.{and_both, and_from, eq_back, eq_is, same_by}
@@ -70,7 +71,8 @@ pub record MayAgain (a : AuditShape) (what : Ask) (lane n place : ℕ) : Type 0 
   pub undecided : needs_verdict (decision_of (state_now a).book what) ≡ true
   pub rests : rests_on a.entries (present_start a) lane what n place ≡ true
 
-pub again_next : (a : AuditShape) (j : Job) (n place : ℕ) → next_job a j.lane ≡ Some j → MayAgain a j.ask j.lane n place → ComesNext a (entry_next a j (reply.Again n place))
+pub again_next : (a : AuditShape) (j : Job) (n place : ℕ) → next_job a j.lane ≡ Some j → MayAgain a j.ask j.lane n place →
+    ComesNext a (entry_next a j (reply.Again n place))
 again_next a j n place next may =
     let start = present_start a in
     let both = and_both (nat_le n (counted j.ask (drop (max (lane_end j.lane a.entries) start) a.entries))) _ may.rests in
@@ -112,7 +114,8 @@ same_place n m k l same = cc
 pub may_next : (a : AuditShape) (j : Job) (n place : ℕ) → ComesNext a (entry_next a j (reply.Again n place)) → MayAgain a j.ask j.lane n place
 may_next a j n place next = by_right next.right.1
   where
-    by_right : IsStep (state_now a) j.ask (reply.Again n place) ⊎ IsRetry (opening_state a.opening) a.rounds a.entries (entry_next a j (reply.Again n place)) → MayAgain a j.ask j.lane n place
+    by_right : IsStep (state_now a) j.ask (reply.Again n place) ⊎
+        IsRetry (opening_state a.opening) a.rounds a.entries (entry_next a j (reply.Again n place)) → MayAgain a j.ask j.lane n place
     by_right (inl step) = absurd (step_once (state_now a) j.ask (reply.Again n place) step n place refl)
     by_right (inr retry) =
         let may = retry.1.1.1 in
@@ -131,14 +134,16 @@ may_next a j n place next = by_right next.right.1
         }
 
 -- it comes next exactly where it may
-pub again_exactly : (a : AuditShape) (j : Job) (n place : ℕ) (b : Bool) → next_job a j.lane ≡ Some j → (b ≡ true → MayAgain a j.ask j.lane n place) → (MayAgain a j.ask j.lane n place → b ≡ true) →
+pub again_exactly : (a : AuditShape) (j : Job) (n place : ℕ) (b : Bool) → next_job a j.lane ≡ Some j → (b ≡ true → MayAgain a j.ask j.lane n place) →
+    (MayAgain a j.ask j.lane n place → b ≡ true) →
     (b ≡ true) ↔ ComesNext a (entry_next a j (reply.Again n place))
 again_exactly a j n place b next to from = (λ yes. again_next a j n place next (to yes), λ comes. from (may_next a j n place comes))
 
 -- ---- what is read by
 
 -- the policy and the cases of a board are those after the entries
-pub known_now : (Q : PolicyShape → (ℕ → Option ℕ) → Type 0) (b : BoardShape) (a : AuditShape) (p : PolicyShape) (t : CasesShape) → p ≡ b.policy → t ≡ b.cases → state_on b ≡ state_now a →
+pub known_now : (Q : PolicyShape → (ℕ → Option ℕ) → Type 0) (b : BoardShape) (a : AuditShape) (p : PolicyShape) (t : CasesShape) → p ≡ b.policy →
+    t ≡ b.cases → state_on b ≡ state_now a →
     Q p (λ n. option_map (λ (c : CaseShape). c.flow) (numbered_case (map numbered t.rows) n)) → Q (state_now a).book.policy (flows_now a)
 known_now Q b a p t policy cases same is =
     subst (λ (s : State). Q s.book.policy (λ n. option_map (λ (c : CaseShape). c.flow) (numbered_case s.book.cases n))) same
@@ -154,24 +159,29 @@ edits_few b a same few =
 
 -- ---- whether entries count
 
-pub rests_then : (entries : List Entry) (start lane : ℕ) (what : Ask) (n place found last : ℕ) → found ≡ counted what (drop (max (lane_end lane entries) start) entries) → n ≤ found →
+pub rests_then : (entries : List Entry) (start lane : ℕ) (what : Ask) (n place found last : ℕ) →
+    found ≡ counted what (drop (max (lane_end lane entries) start) entries) → n ≤ found →
     last + 1 ≡ counted_end what entries → nat_eq place last ≡ rests_on entries start lane what n place
 rests_then entries start lane what n place found last is enough end =
-    let some : nat_le n (counted what (drop (max (lane_end lane entries) start) entries)) ≡ true = let h : n ≤ counted what (drop (max (lane_end lane entries) start) entries) = omega (arith, is, enough) in grind (arith, common_steps) in
+    let some : nat_le n (counted what (drop (max (lane_end lane entries) start) entries)) ≡ true =
+    let h : n ≤ counted what (drop (max (lane_end lane entries) start) entries) = omega (arith, is, enough) in grind (arith, common_steps) in
     let same : nat_eq place last ≡ nat_eq (place + 1) (counted_end what entries) =
     same_by (nat_eq place last) (nat_eq (place + 1) (counted_end what entries))
     (λ yes. let here = eq_back place last yes in eq_is (place + 1) (counted_end what entries) (omega (arith, here, end)))
     (λ yes. let here = eq_back (place + 1) (counted_end what entries) yes in eq_is place last (omega (arith, here, end))) in
     same ∙ sym (ap (λ b. b && nat_eq (place + 1) (counted_end what entries)) some)
 
-pub rests_else : (entries : List Entry) (start lane : ℕ) (what : Ask) (n place found : ℕ) → found ≡ counted what (drop (max (lane_end lane entries) start) entries) → found < n →
+pub rests_else : (entries : List Entry) (start lane : ℕ) (what : Ask) (n place found : ℕ) →
+    found ≡ counted what (drop (max (lane_end lane entries) start) entries) → found < n →
     false ≡ rests_on entries start lane what n place
 rests_else entries start lane what n place found is short =
-    let none : nat_le n (counted what (drop (max (lane_end lane entries) start) entries)) ≡ false = let h : counted what (drop (max (lane_end lane entries) start) entries) < n = omega (arith, is, short) in grind (arith, common_steps) in
+    let none : nat_le n (counted what (drop (max (lane_end lane entries) start) entries)) ≡ false =
+    let h : counted what (drop (max (lane_end lane entries) start) entries) < n = omega (arith, is, short) in grind (arith, common_steps) in
     sym (ap (λ b. b && nat_eq (place + 1) (counted_end what entries)) none)
 
 -- where some count behind a place, some do
-pub some_count : (what : Ask) (entries : List Entry) (n found rounds : ℕ) → found ≡ counted what (drop n entries) → rounds ≤ found → 1 ≤ rounds → 1 ≤ counted what entries
+pub some_count : (what : Ask) (entries : List Entry) (n found rounds : ℕ) → found ≡ counted what (drop n entries) → rounds ≤ found → 1 ≤ rounds →
+    1 ≤ counted what entries
 some_count what entries n found rounds is enough some =
     let all = count_later (λ e. counts_for e what) entries 0 n (omega arith) in
     omega (arith, is, enough, some, all)
@@ -189,7 +199,8 @@ read_named : (a : AuditShape) (line : List ℕ) (j : Job) (r : Reply) → (read 
 read_named a line j r read = one_place read.reply.place read.place (sym read.reply.named ∙ told_named line read.place read.stands.told)
 
 -- a line whose reply comes next is the text of that entry
-pub read_next : (a : AuditShape) (line : List ℕ) (j : Job) (r : Reply) → HasRead a line j r → ComesNext a (entry_next a j r) → IsNextLine a line (entry_next a j r)
+pub read_next : (a : AuditShape) (line : List ℕ) (j : Job) (r : Reply) → HasRead a line j r → ComesNext a (entry_next a j r) →
+    IsNextLine a line (entry_next a j r)
 read_next a line j r read next =
     let e = entry_next a j r in
     let there : entry_at read.reply.place j.ask r ≡ e = ap (λ p. entry_at p j.ask r) (read_named a line j r read) ∙ entry_there a line j r read in
@@ -204,7 +215,8 @@ read_wrong a line j r read wrong =
     (read.place, (j, (r, (read.stands, (read.due, (read.reply, λ next. wrong (subst (ComesNext a) (entry_there a line j r read) next)))))))
 
 -- what becomes of a line whose reply was taken or refused
-pub tried_of : (before after : AuditShape) (line : List ℕ) (j : Job) (r : Reply) (result : Result (Unit {0}) Flaw) → HasRead before line j r → HasEntered before after j r result →
+pub tried_of : (before after : AuditShape) (line : List ℕ) (j : Job) (r : Reply) (result : Result (Unit {0}) Flaw) → HasRead before line j r →
+    HasEntered before after j r result →
     HasTried before after line result
 tried_of before after line j r (Ok done) read entered = (entry_next before j r, (read_next before line j r read entered.0, entered.1))
 tried_of before after line j r (Err (flaw.Kind kind)) read entered =

@@ -1,12 +1,14 @@
 -- The lines are the texts of entries that come next exactly where they are those of a legal history that answers a part of the
 -- jobs, and where there is one entry for each job it fills them.
-use Rattle.std.proofs.Common.{◌≡◌, ℕ, zero, suc, ◌<◌, ◌≤◌, List, [], ◌∷◌, ◌++◌, length, take, drop, map, slice_get, Some, append_assoc, append-nil, refl, sym, ap, subst, ◌∙◌, arith}
+use Rattle.std.proofs.Common.{◌≡◌, ℕ, zero, suc, ◌<◌, ◌≤◌, List, [], ◌∷◌, ◌++◌, length, take, drop, map, slice_get, Some, append_assoc, append-nil, refl, sym}
+use Rattle.std.proofs.Common.{ap, subst, ◌∙◌, arith}
 use Rattle.std.proofs.lemmas.List.{length-append, length-map, map-append, take-append-drop, take-append-le, take_all}
 use Rattle.wf_names.specs.declared.limits.TheConstants.{LANE_LIMIT}
 use Rattle.policy_book.specs.Shapes.{PolicyShape}
 use Rattle.wf_talk.specs.declared.entry.Entry.{Entry}
 use Rattle.wf_talk.specs.declared.job.Job.{Job}
-use Rattle.wf_board.specs.Histories.{EachAfter, FillsJobs, IsLegal, IsRightAfter, RestsFrom, batch_end, batch_jobs, batch_start, job_of_entry, lane_jobs, state_after}
+use Rattle.wf_board.specs.Histories.{EachAfter, FillsJobs, IsLegal, IsRightAfter, RestsFrom, batch_end, batch_jobs, batch_start, job_of_entry, lane_jobs}
+use Rattle.wf_board.specs.Histories.{state_after}
 use Rattle.wf_board.proofs.HistoryLaws.{after_all, each_later}
 use Rattle.wf_board.specs.States.{State, opening_state}
 use Rattle.wire_json.specs.Replies.{entry_text}
@@ -14,7 +16,8 @@ use Rattle.line_cutter.specs.Laws.{AreInOrder}
 use Rattle.wf_desk.proofs.DocketLaws.{lane_both, lane_own}
 use Rattle.wf_desk.specs.Parts.{FillsPart, lane_answered, lane_asked}
 use Rattle.entry_laws.specs.Transcripts.{texts_of}
-use Rattle.transcript_audit.specs.Audits.{AreNext, AuditShape, ComesNext, IsNextLine, IsTranscript, IsTranscriptPart, audit_of, end_at, next_job, present_start, state_now, with_entry}
+use Rattle.transcript_audit.specs.Audits.{AreNext, AuditShape, ComesNext, IsNextLine, IsTranscript, IsTranscriptPart, audit_of, end_at, next_job, present_start}
+use Rattle.transcript_audit.specs.Audits.{state_now, with_entry}
 use Rattle.transcript_audit.specs.Laws.{AuditIsExact, PartIsExact}
 use Rattle.transcript_audit.specs.Keeping.{IsBatchOf, IsSoundAudit}
 use Rattle.transcript_audit.proofs.Batches.{batch_there, end_is, end_read, start_is}
@@ -25,7 +28,8 @@ use Rattle.transcript_audit.proofs.Sound.{sound_more, sound_start, whole_at_end}
 abbrev pub with_all : AuditShape → List Entry → AuditShape
 with_all a es = record a { entries = a.entries ++ es }
 
-pub all_sound : (a : AuditShape) (k : ℕ) (lines : List (List ℕ)) (es : List Entry) → IsSoundAudit a k → AreNext a lines es → (n : ℕ) × IsSoundAudit (with_all a es) n
+pub all_sound : (a : AuditShape) (k : ℕ) (lines : List (List ℕ)) (es : List Entry) → IsSoundAudit a k → AreNext a lines es → (n : ℕ) ×
+    IsSoundAudit (with_all a es) n
 all_sound a k [] [] sound next = (k, subst (λ es. IsSoundAudit (record a { entries = es }) k) (sym (append-nil a.entries)) sound)
 all_sound a k (line ∷ lines) (e ∷ es) sound next =
     let more = sound_more a k e sound next.0.next in
@@ -35,11 +39,15 @@ all_sound a k [] (e ∷ es) sound next = absurd next
 all_sound a k (line ∷ lines) [] sound next = absurd next
 
 -- one more line behind those that were taken
-pub next_pushed : (a : AuditShape) (lines : List (List ℕ)) (es : List Entry) (line : List ℕ) (e : Entry) → AreNext a lines es → IsNextLine (record a { entries = a.entries ++ es }) line e →
+pub next_pushed : (a : AuditShape) (lines : List (List ℕ)) (es : List Entry) (line : List ℕ) (e : Entry) → AreNext a lines es →
+    IsNextLine (record a { entries = a.entries ++ es }) line e →
     AreNext a (lines ++ line ∷ []) (es ++ e ∷ [])
 next_pushed a [] [] line e next last = (subst (λ xs. IsNextLine (record a { entries = xs }) line e) (append-nil a.entries) last, tt)
-next_pushed a (l ∷ ls) (x ∷ xs) line e next last =
-    (next.0, next_pushed (with_entry a x) ls xs line e next.1 (subst (λ ys. IsNextLine (record a { entries = ys }) line e) (sym (append_assoc a.entries (x ∷ []) xs)) last))
+next_pushed a (l ∷ ls) (x ∷ xs) line e next last = (
+  next.0,
+  next_pushed (with_entry a x) ls xs line e next.1
+      (subst (λ ys. IsNextLine (record a { entries = ys }) line e) (sym (append_assoc a.entries (x ∷ []) xs)) last),
+)
 next_pushed a [] (x ∷ xs) line e next last = absurd next
 next_pushed a (l ∷ ls) [] line e next last = absurd next
 
@@ -100,7 +108,8 @@ get_of_first (suc n) zero (x ∷ xs) y got = got
 get_of_first (suc n) (suc i) (x ∷ xs) y got = get_of_first n i xs y got
 
 -- a part of a list around one that stands in it
-part_at : {A : Type 0} (s e : ℕ) (xs : List A) (y : A) (ys : List A) → s ≤ length xs → length xs < e → (rest : List A) × (drop s (take e (xs ++ y ∷ ys)) ≡ drop s xs ++ y ∷ rest)
+part_at : {A : Type 0} (s e : ℕ) (xs : List A) (y : A) (ys : List A) → s ≤ length xs → length xs < e → (rest : List A) ×
+    (drop s (take e (xs ++ y ∷ ys)) ≡ drop s xs ++ y ∷ rest)
 part_at s zero xs y ys begun short = absurd (omega (arith, short))
 part_at zero (suc e) [] y ys begun short = (take e ys, refl)
 part_at (suc s) (suc e) [] y ys begun short = absurd (omega (arith, begun))
@@ -167,10 +176,12 @@ among_answers a e post is at =
     ∙ ap (lane_jobs lane) part.1
     ∙ lane_both lane (drop start done) (job ∷ part.0)
     ∙ ap (λ js. served ++ js) (lane_both lane (job ∷ []) part.0 ∙ ap (λ js. js ++ lane_jobs lane part.0) (lane_own lane job refl)) in
-    let count : length (lane_jobs lane (map job_of_entry (drop start a.entries))) ≡ length served = ap (λ js. length (lane_jobs lane js)) (map_rest job_of_entry start a.entries) in
+    let count : length (lane_jobs lane (map job_of_entry (drop start a.entries))) ≡ length served =
+    ap (λ js. length (lane_jobs lane js)) (map_rest job_of_entry start a.entries) in
     let first : slice_get (take (length (lane_answered all a.batch_ends at.batch lane)) asked) (length served) ≡ Some job =
     ap (λ js. slice_get js (length served)) (sym (is.part.fronts at.batch at.known lane) ∙ answered) ∙ get_behind served (lane_jobs lane part.0) job in
-    ap (λ s. slice_get (lane_jobs lane (drop s (take (end_at (length a.entries) a.batch_ends) a.jobs))) (length (lane_jobs lane (map job_of_entry (drop s a.entries))))) at.start
+    ap (λ s. slice_get (lane_jobs lane (drop s (take (end_at (length a.entries) a.batch_ends) a.jobs)))
+    (length (lane_jobs lane (map job_of_entry (drop s a.entries))))) at.start
     ∙ ap (λ n. slice_get (lane_jobs lane (drop start (take n a.jobs))) (length (lane_jobs lane (map job_of_entry (drop start a.entries))))) at.end
     ∙ ap (λ n. slice_get (lane_jobs lane (batch_jobs a.batch_ends at.batch a.jobs)) n) count
     ∙ get_of_first (length (lane_answered all a.batch_ends at.batch lane)) (length served) asked job first
@@ -217,12 +228,14 @@ all_next a (e ∷ post) order legal part =
       subst (λ s. AreNext (with_entry a e) (texts_of s post) post) more later,
     )
 
-entries_of : (p : PolicyShape) (rounds : ℕ) (jobs : List Job) (ends : List ℕ) (lines : List (List ℕ)) → AreInOrder LANE_LIMIT jobs ends → IsTranscript p rounds jobs ends lines →
+entries_of : (p : PolicyShape) (rounds : ℕ) (jobs : List Job) (ends : List ℕ) (lines : List (List ℕ)) → AreInOrder LANE_LIMIT jobs ends →
+    IsTranscript p rounds jobs ends lines →
     ((es : List Entry) × (AreNext (audit_of p rounds jobs ends) lines es × (length es ≡ length jobs)))
 entries_of p rounds jobs ends lines order is = (
   is.entries,
   (
-    subst (λ ls. AreNext (audit_of p rounds jobs ends) ls is.entries) (sym is.written) (all_next (audit_of p rounds jobs ends) is.entries order is.legal (part_of_all is.entries jobs ends is.fills)),
+    subst (λ ls. AreNext (audit_of p rounds jobs ends) ls is.entries) (sym is.written)
+        (all_next (audit_of p rounds jobs ends) is.entries order is.legal (part_of_all is.entries jobs ends is.fills)),
     is.fills.whole,
   ),
 )

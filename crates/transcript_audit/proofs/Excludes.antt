@@ -1,5 +1,6 @@
 -- A line that has a fault is the text of no entry that comes next.
-use Rattle.std.proofs.Common.{◌≡◌, ℕ, zero, suc, ◌-◌, ◌<◌, ◌^◌, inl, inr, Bool, true, false, nat_eq, nat_lt, List, [], ◌∷◌, ◌++◌, length, take, drop, slice_get, slice_index_or, Option, None, Some, if◌then◌else◌, refl, sym, ap, subst, ◌∙◌, arith}
+use Rattle.std.proofs.Common.{◌≡◌, ℕ, zero, suc, ◌-◌, ◌<◌, ◌^◌, inl, inr, Bool, true, false, nat_eq, nat_lt, List, [], ◌∷◌, ◌++◌, length, take, drop, slice_get}
+use Rattle.std.proofs.Common.{slice_index_or, Option, None, Some, if◌then◌else◌, refl, sym, ap, subst, ◌∙◌, arith}
 use Rattle.std.proofs.lemmas.Grind.{common_steps}
 use Rattle.std.proofs.lemmas.List.{append-nil, append_assoc, length-append}
 use Rattle.std.proofs.Math.Seq.{get_or-append_seam, take-length}
@@ -24,7 +25,8 @@ use Rattle.entry_reader.proofs.LinesBack.{line_placed, line_reply}
 use Rattle.entry_laws.specs.Laws.{EntriesAreLines, IsLastOf, IsOneLine, TextsAreLines}
 use Rattle.transcript_audit.specs.declared.fault.AuditKind.{AuditKind}
 use Rattle.transcript_audit.specs.declared.fault.AuditKind.TheVariants.{Text, At, Job as WrongJob, Reply as WrongReply, Missing}
-use Rattle.transcript_audit.specs.Audits.{AreNext, AuditShape, ComesNext, HasFault, IsDue, IsNextLine, audit_of, end_at, flows_now, next_job, place_told, present_jobs, present_start, state_now, with_entry}
+use Rattle.transcript_audit.specs.Audits.{AreNext, AuditShape, ComesNext, HasFault, IsDue, IsNextLine, audit_of, end_at, flows_now, next_job, place_told}
+use Rattle.transcript_audit.specs.Audits.{present_jobs, present_start, state_now, with_entry}
 use Rattle.transcript_audit.specs.Laws.{AreOfSession, FaultsExclude, NextIsOne}
 use Rattle.transcript_audit.specs.Keeping.{IsSoundAudit}
 use Rattle.transcript_audit.proofs.Batches.{part_none}
@@ -85,7 +87,8 @@ lane_known : (a : AuditShape) (k lane : ℕ) (j : Job) → IsSoundAudit a k → 
 lane_known a k lane j sound next = elim (bool_cases (nat_lt lane LANE_LIMIT)) [
   | inl known ↦ grind (arith, common_steps)
   | inr past ↦
-      let none = part_none LANE_LIMIT lane (present_start a) (end_at (length a.entries) a.batch_ends) a.jobs sound.order.of_lanes (grind (arith, common_steps)) in
+      let none =
+      part_none LANE_LIMIT lane (present_start a) (end_at (length a.entries) a.batch_ends) a.jobs sound.order.of_lanes (grind (arith, common_steps)) in
       let nothing : next_job a lane ≡ None = ap (λ js. slice_get js (length (served_jobs (present_start a) a.entries lane))) none in
       absurd (let no : None ≡ Some j = sym nothing ∙ next in cc)
 ]
@@ -135,7 +138,8 @@ last_of a k e is next =
     }
 
 -- it is a line of the entry
-line_of : EntriesAreLines → (a : AuditShape) (k : ℕ) (line : List ℕ) (e : Entry) → IsOfSession a k → IsNextLine a line e → IsLineOf (state_now a).book.policy (flows_now a) line e
+line_of : EntriesAreLines → (a : AuditShape) (k : ℕ) (line : List ℕ) (e : Entry) → IsOfSession a k → IsNextLine a line e →
+    IsLineOf (state_now a).book.policy (flows_now a) line e
 line_of law a k line e is next =
     subst (λ text. IsLineOf (state_now a).book.policy (flows_now a) text e) (sym next.written)
     (law a.opening a.rounds a.entries e (last_of a k e is next.next))
@@ -148,7 +152,8 @@ ends_line front =
     let size : length (front ++ 10 ∷ []) - 1 ≡ length front = let long = length-append front (10 ∷ []) in omega (arith, long) in
     ap (λ n. slice_index_or (front ++ 10 ∷ []) n 0) size ∙ get_or-append_seam front 10 [] 0
 
-told_by : (line : List ℕ) (b : Bool) (x : Option Place) → nat_eq (slice_index_or line (length line - 1) 0) 10 ≡ true → place_of_line line ≡ x → place_told line ≡ x
+told_by : (line : List ℕ) (b : Bool) (x : Option Place) → nat_eq (slice_index_or line (length line - 1) 0) 10 ≡ true → place_of_line line ≡ x →
+    place_told line ≡ x
 told_by line b x ends is = rw ends is
 
 -- a line that tells a place names it
@@ -166,7 +171,8 @@ one_job : (x y : Job) → Some x ≡ Some y → x ≡ y
 one_job x y same = cc
 
 -- it tells the entry's place
-told_own : EntriesAreLines → TextsAreLines → (a : AuditShape) (k : ℕ) (line : List ℕ) (e : Entry) → IsOfSession a k → IsNextLine a line e → place_told line ≡ Some (own_place e)
+told_own : EntriesAreLines → TextsAreLines → (a : AuditShape) (k : ℕ) (line : List ℕ) (e : Entry) → IsOfSession a k → IsNextLine a line e →
+    place_told line ≡ Some (own_place e)
 told_own law texts a k line e is next =
     let one : IsOneLine line = subst IsOneLine (sym next.written) (texts _ e) in
     let ends : slice_index_or line (length line - 1) 0 ≡ 10 = ap (λ l. slice_index_or l (length l - 1) 0) one.ends ∙ ends_line one.front in
@@ -174,7 +180,8 @@ told_own law texts a k line e is next =
     (line_placed (state_now a).book.policy (flows_now a) line e is.names (line_of law a k line e is next))
 
 -- and no other
-own_told : EntriesAreLines → TextsAreLines → (a : AuditShape) (k : ℕ) (line : List ℕ) (e : Entry) (place : Place) → IsOfSession a k → IsNextLine a line e → place_told line ≡ Some place →
+own_told : EntriesAreLines → TextsAreLines → (a : AuditShape) (k : ℕ) (line : List ℕ) (e : Entry) (place : Place) → IsOfSession a k → IsNextLine a line e →
+    place_told line ≡ Some place →
     place ≡ own_place e
 own_told law texts a k line e place is next told = one_place place (own_place e) (sym told ∙ told_own law texts a k line e is next)
 
@@ -190,7 +197,8 @@ due_own a e place next same = record {
   line = sym (ap (λ (p : Place). p.line) same);
 }
 
-excluded : EntriesAreLines → TextsAreLines → (a : AuditShape) (k : ℕ) (line : List ℕ) (kind : AuditKind) (e : Entry) → IsOfSession a k → HasFault a line kind → IsNextLine a line e → ⊥
+excluded : EntriesAreLines → TextsAreLines → (a : AuditShape) (k : ℕ) (line : List ℕ) (kind : AuditKind) (e : Entry) → IsOfSession a k →
+    HasFault a line kind → IsNextLine a line e → ⊥
 excluded law texts a k line Text e is (inl none) next =
     let told = told_own law texts a k line e is next in
     let no : None ≡ Some (own_place e) = sym none ∙ told in
@@ -236,10 +244,12 @@ faults_exclude law texts p rounds jobs ends lines es session next line kind e fa
 
 -- ---- one entry
 
-one_next : EntriesAreLines → TextsAreLines → (a : AuditShape) (k : ℕ) (line : List ℕ) (e other : Entry) → IsOfSession a k → IsNextLine a line e → IsNextLine a line other → e ≡ other
+one_next : EntriesAreLines → TextsAreLines → (a : AuditShape) (k : ℕ) (line : List ℕ) (e other : Entry) → IsOfSession a k → IsNextLine a line e →
+    IsNextLine a line other → e ≡ other
 one_next law texts a k line e other is first second =
     let p = (state_now a).book.policy in
-    let place : own_place e ≡ own_place other = one_place (own_place e) (own_place other) (sym (told_own law texts a k line e is first) ∙ told_own law texts a k line other is second) in
+    let place : own_place e ≡ own_place other =
+    one_place (own_place e) (own_place other) (sym (told_own law texts a k line e is first) ∙ told_own law texts a k line other is second) in
     let job : job_of_entry e ≡ job_of_entry other =
     one_job (job_of_entry e) (job_of_entry other) (sym first.next.answers ∙ ap (λ (x : Place). next_job a x.lane) place ∙ second.next.answers) in
     let tells = line_reply p (flows_now a) e.ask line (own_place e) e.reply is.names (line_of law a k line e is first) in

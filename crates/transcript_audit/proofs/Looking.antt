@@ -1,5 +1,6 @@
 -- The last entry of a lane, looked for from the end.
-use Rattle.std.proofs.Common.{◌≡◌, ℕ, ◌+◌, ◌-◌, ◌<◌, ◌≤◌, max, true, false, nat_eq, List, [], ◌∷◌, ◌++◌, length, take, get_or, if◌then◌else◌, sym, ap, ◌∙◌, arith}
+use Rattle.std.proofs.Common.{◌≡◌, ℕ, ◌+◌, ◌-◌, ◌<◌, ◌≤◌, max, true, false, nat_eq, List, [], ◌∷◌, ◌++◌, length, take, get_or, if◌then◌else◌, sym, ap, ◌∙◌}
+use Rattle.std.proofs.Common.{arith}
 use Rattle.std.proofs.lemmas.List.{length-take-le, take_more}
 use Rattle.wf_talk.specs.declared.entry.Entry.{Entry}
 use Rattle.wf_board.specs.Counting.{lane_end}
@@ -13,7 +14,8 @@ ended_at lane entries i e below is =
     ∙ end_more 0 0 (λ x. nat_eq x.lane lane) (take i entries) e
     ∙ ap (λ n. if nat_eq e.lane lane then n else lane_end lane (take i entries)) size
 
-pub own_hit : (lane start : ℕ) (entries : List Entry) (place : ℕ) (e : Entry) → start < place → place ≤ length entries → e ≡ get_or entries (place - 1) e → nat_eq e.lane lane ≡ true →
+pub own_hit : (lane start : ℕ) (entries : List Entry) (place : ℕ) (e : Entry) → start < place → place ≤ length entries → e ≡ get_or entries (place - 1) e →
+    nat_eq e.lane lane ≡ true →
     max (lane_end lane (take place entries)) start ≡ max (lane_end lane entries) start → place ≡ max (lane_end lane entries) start
 own_hit lane start entries place e some within is hit so_far =
     let next : place - 1 + 1 ≡ place = omega (arith, some) in
@@ -22,8 +24,10 @@ own_hit lane start entries place e some within is hit so_far =
     ap (λ n. lane_end lane (take n entries)) (sym next) ∙ ended ∙ ap (λ b. if b then place - 1 + 1 else lane_end lane (take (place - 1) entries)) hit ∙ next in
     omega (arith, here, some, so_far)
 
-pub own_miss : (lane start : ℕ) (entries : List Entry) (place : ℕ) (e : Entry) → start < place → place ≤ length entries → e ≡ get_or entries (place - 1) e → nat_eq e.lane lane ≡ false →
-    max (lane_end lane (take place entries)) start ≡ max (lane_end lane entries) start → max (lane_end lane (take (place - 1) entries)) start ≡ max (lane_end lane entries) start
+pub own_miss : (lane start : ℕ) (entries : List Entry) (place : ℕ) (e : Entry) → start < place → place ≤ length entries → e ≡ get_or entries (place - 1) e →
+    nat_eq e.lane lane ≡ false →
+    max (lane_end lane (take place entries)) start ≡ max (lane_end lane entries) start →
+    max (lane_end lane (take (place - 1) entries)) start ≡ max (lane_end lane entries) start
 own_miss lane start entries place e some within is miss so_far =
     let next : place - 1 + 1 ≡ place = omega (arith, some) in
     let ended = ended_at lane entries (place - 1) e (omega (arith, some, within)) is in

@@ -1,5 +1,6 @@
 -- What an audit has taken so far answers a part of the jobs.
-use Rattle.std.proofs.Common.{◌≡◌, ℕ, zero, suc, ◌+◌, ◌<◌, ◌≤◌, inl, inr, nat_eq, nat_lt, List, [], ◌∷◌, ◌++◌, length, take, drop, map, slice_index_or, refl, sym, ap, subst, ◌∙◌, arith}
+use Rattle.std.proofs.Common.{◌≡◌, ℕ, zero, suc, ◌+◌, ◌<◌, ◌≤◌, inl, inr, nat_eq, nat_lt, List, [], ◌∷◌, ◌++◌, length, take, drop, map, slice_index_or, refl}
+use Rattle.std.proofs.Common.{sym, ap, subst, ◌∙◌, arith}
 use Rattle.std.proofs.lemmas.Grind.{common_steps}
 use Rattle.std.proofs.lemmas.List.{drop_all, length-map, length-take-le, take-take, take_all}
 use Rattle.basics.proofs.Booleans.{bool_cases, eq_back}
@@ -98,7 +99,8 @@ before_rests a k i sound before =
     let rests = sound.filled.rests i is.among in
     subst (λ es. EachAfter (RestsFrom s) es (drop s (take (batch_end a.batch_ends i) a.entries))) (take-take s start a.entries rises)
     (subst (λ es. EachAfter (RestsFrom s) (take s (take start a.entries)) es) (part_before a k i a.entries is)
-    (subst (λ n. EachAfter (RestsFrom n) (take n (take start a.entries)) (drop (batch_start (take k a.batch_ends) i) (take (batch_end (take k a.batch_ends) i) (take start a.entries)))) is.starts rests))
+    (subst (λ n. EachAfter (RestsFrom n) (take n (take start a.entries))
+    (drop (batch_start (take k a.batch_ends) i) (take (batch_end (take k a.batch_ends) i) (take start a.entries)))) is.starts rests))
 
 -- ---- the present batch
 
@@ -108,7 +110,8 @@ here_answered a k lane sound ahead =
     let within = within_end a k sound in
     let read = end_read a.batch_ends k ahead in
     let size = length-map a.entries job_of_entry in
-    ap (λ js. lane_jobs lane (drop (batch_start a.batch_ends k) js)) (take_all (batch_end a.batch_ends k) (map job_of_entry a.entries) (omega (arith, within, read, size)))
+    ap (λ js. lane_jobs lane (drop (batch_start a.batch_ends k) js))
+    (take_all (batch_end a.batch_ends k) (map job_of_entry a.entries) (omega (arith, within, read, size)))
     ∙ ap (lane_jobs lane) (sym (map_rest job_of_entry (batch_start a.batch_ends k) a.entries))
 
 here_asked : (a : AuditShape) (k lane : ℕ) → k < length a.batch_ends → lane_asked a.jobs a.batch_ends k lane ≡ lane_jobs lane (jobs_in a.jobs a.batch_ends k)
@@ -123,7 +126,8 @@ here_rests a k sound ahead =
     let within = within_end a k sound in
     let read = end_read a.batch_ends k ahead in
     let s = batch_start a.batch_ends k in
-    subst (λ es. EachAfter (RestsFrom s) (take s a.entries) (drop s es)) (sym (take_all (batch_end a.batch_ends k) a.entries (omega (arith, within, read)))) sound.rests
+    subst (λ es. EachAfter (RestsFrom s) (take s a.entries) (drop s es)) (sym (take_all (batch_end a.batch_ends k) a.entries (omega (arith, within, read))))
+    sound.rests
 
 -- ---- a batch behind it
 
@@ -155,7 +159,8 @@ part_front a k i lane sound known = elim (bool_cases (nat_lt i k)) [
       let asked = lane_asked a.jobs a.batch_ends i lane in
       subst (λ js. js ≡ take (length js) asked) (sym same) (sym (take_all (length asked) asked (omega arith)))
   | inr late ↦ elim (bool_cases (nat_eq i k)) [
-    | inl here ↦ let same : k ≡ i = sym (eq_back i k here) in subst (λ n. n < length a.batch_ends → lane_answered a.entries a.batch_ends n lane ≡ take (length (lane_answered a.entries a.batch_ends n lane)) (lane_asked a.jobs a.batch_ends n lane)) same (here_front a k lane sound) known
+    | inl here ↦ let same : k ≡ i = sym (eq_back i k here) in subst (λ n. n < length a.batch_ends → lane_answered a.entries a.batch_ends n lane ≡ take
+        (length (lane_answered a.entries a.batch_ends n lane)) (lane_asked a.jobs a.batch_ends n lane)) same (here_front a k lane sound) known
     | inr other ↦
         let past : k < i = grind (arith, common_steps) in
         subst (λ js. js ≡ take (length js) (lane_asked a.jobs a.batch_ends i lane)) (sym (past_answered a k i lane sound past known)) refl
@@ -166,7 +171,8 @@ part_rests : (a : AuditShape) (k i : ℕ) → IsSoundAudit a k → i < length a.
 part_rests a k i sound known = elim (bool_cases (nat_lt i k)) [
   | inl before ↦ before_rests a k i sound (grind (arith, common_steps))
   | inr late ↦ elim (bool_cases (nat_eq i k)) [
-    | inl here ↦ let same : k ≡ i = sym (eq_back i k here) in subst (λ n. n < length a.batch_ends → BatchRests a.batch_ends n a.entries) same (here_rests a k sound) known
+    | inl here ↦ let same : k ≡ i = sym (eq_back i k here) in
+        subst (λ n. n < length a.batch_ends → BatchRests a.batch_ends n a.entries) same (here_rests a k sound) known
     | inr other ↦ past_rests a k i sound (grind (arith, common_steps)) known
   ]
 ]

@@ -1,5 +1,6 @@
 -- An audit stays sound with one more entry that comes next, and at its end the jobs are filled.
-use Rattle.std.proofs.Common.{◌≡◌, ℕ, ◌+◌, ◌<◌, ◌≤◌, inl, inr, nat_eq, nat_lt, List, [], ◌∷◌, ◌++◌, length, take, drop, get_or, map, slice_get, slice_index_or, Some, refl, sym, ap, subst, ◌∙◌, arith}
+use Rattle.std.proofs.Common.{◌≡◌, ℕ, ◌+◌, ◌<◌, ◌≤◌, inl, inr, nat_eq, nat_lt, List, [], ◌∷◌, ◌++◌, length, take, drop, get_or, map, slice_get, slice_index_or}
+use Rattle.std.proofs.Common.{Some, refl, sym, ap, subst, ◌∙◌, arith}
 use Rattle.std.proofs.lemmas.Grind.{common_steps}
 use Rattle.std.proofs.lemmas.List.{drop_all, length-append, length-take-le, take-append-drop, take-append-le, take-take, take_all, take_more}
 use Rattle.std.proofs.lemmas.Option.{slice_get_cases}
@@ -20,7 +21,8 @@ use Rattle.wf_desk.proofs.DocketLaws.{all_done, batch_short, front_more, no_more
 use Rattle.transcript_audit.specs.Audits.{AuditShape, ComesNext, audit_of, end_at, next_job, present_start, with_entry}
 use Rattle.transcript_audit.specs.Outcomes.{IsWhole}
 use Rattle.transcript_audit.specs.Keeping.{IsSoundAudit, end_of, jobs_in}
-use Rattle.transcript_audit.proofs.Batches.{end_is, end_read, ends_within, first_ends, last_start, next_start, part_length, read_behind, start_ahead, start_before_end, start_is, start_within}
+use Rattle.transcript_audit.proofs.Batches.{end_is, end_read, ends_within, first_ends, last_start, next_start, part_length, read_behind, start_ahead}
+use Rattle.transcript_audit.proofs.Batches.{start_before_end, start_is, start_within}
 
 -- a desk with the jobs and the entries of a batch
 abbrev pub desk_of : AuditShape → ℕ → DeskShape
@@ -48,7 +50,8 @@ pub next_is : (a : AuditShape) (k lane : ℕ) → IsSoundAudit a k → next_job 
 next_is a k lane sound =
     let stop = end_at (length a.entries) a.batch_ends in
     ap (λ s. slice_get (lane_jobs lane (drop s (take stop a.jobs))) (length (served_jobs s a.entries lane))) (start_now a k sound)
-    ∙ ap (λ n. slice_get (lane_jobs lane (drop (batch_start a.batch_ends k) (take n a.jobs))) (length (served_jobs (batch_start a.batch_ends k) a.entries lane))) (end_now a k sound)
+    ∙ ap (λ n. slice_get (lane_jobs lane (drop (batch_start a.batch_ends k) (take n a.jobs)))
+    (length (served_jobs (batch_start a.batch_ends k) a.entries lane))) (end_now a k sound)
 
 -- how many jobs there are up to the end of the batch
 batch_size : (a : AuditShape) (k : ℕ) → IsSoundAudit a k → batch_start a.batch_ends k + length (jobs_in a.jobs a.batch_ends k) ≡ end_of a.batch_ends k
@@ -120,7 +123,8 @@ front_one start entries jobs e lane begun front next = elim (bool_cases (nat_eq 
       let more = served_own start entries e lane begun same in
       let here : slice_get (lane_jobs lane jobs) (length (served_jobs start entries lane)) ≡ Some (job_of_entry e) =
       subst (λ n. slice_get (lane_jobs n jobs) (length (served_jobs start entries n)) ≡ Some (job_of_entry e)) same next in
-      subst (λ js. js ≡ take (length js) (lane_jobs lane jobs)) (sym more) (front_more (served_jobs start entries lane) (lane_jobs lane jobs) (job_of_entry e) front here)
+      subst (λ js. js ≡ take (length js) (lane_jobs lane jobs)) (sym more)
+      (front_more (served_jobs start entries lane) (lane_jobs lane jobs) (job_of_entry e) front here)
   | inr other ↦ subst (λ js. js ≡ take (length js) (lane_jobs lane jobs)) (sym (served_other start entries e lane begun other)) front
 ]
 
@@ -128,11 +132,13 @@ front_one start entries jobs e lane begun front next = elim (bool_cases (nat_eq 
 front_next : (a : AuditShape) (k : ℕ) (e : Entry) (lane : ℕ) → IsSoundAudit a k → ComesNext a e →
     IsFront (batch_start a.batch_ends k) (a.entries ++ e ∷ []) (jobs_in a.jobs a.batch_ends k) lane
 front_next a k e lane sound next =
-    front_one (batch_start a.batch_ends k) a.entries (jobs_in a.jobs a.batch_ends k) e lane sound.here.begun (sound.front lane) (sym (next_is a k e.lane sound) ∙ next.answers)
+    front_one (batch_start a.batch_ends k) a.entries (jobs_in a.jobs a.batch_ends k) e lane sound.here.begun (sound.front lane)
+    (sym (next_is a k e.lane sound) ∙ next.answers)
 
 -- what is answered again still rests on entries of the batch
 rests_next : (a : AuditShape) (k : ℕ) (e : Entry) → IsSoundAudit a k → ComesNext a e →
-    EachAfter (RestsFrom (batch_start a.batch_ends k)) (take (batch_start a.batch_ends k) (a.entries ++ e ∷ [])) (drop (batch_start a.batch_ends k) (a.entries ++ e ∷ []))
+    EachAfter (RestsFrom (batch_start a.batch_ends k)) (take (batch_start a.batch_ends k) (a.entries ++ e ∷ []))
+    (drop (batch_start a.batch_ends k) (a.entries ++ e ∷ []))
 rests_next a k e sound next =
     rests_more (batch_start a.batch_ends k) a.entries e sound.here.begun sound.rests (subst (λ s. RestsFrom s a.entries e) (start_now a k sound) next.rests)
 
@@ -187,7 +193,8 @@ take_both : (s e : ℕ) (jobs : List Job) → s ≤ e → take s jobs ++ drop s 
 take_both s e jobs within = ap (λ js. js ++ drop s (take e jobs)) (sym (take-take s e jobs within)) ∙ take-append-drop s (take e jobs)
 
 -- with it one more batch is filled
-filled_more : (a : AuditShape) (k : ℕ) (e : Entry) → IsSoundAudit a k → ComesNext a e → length (a.entries ++ e ∷ []) ≡ end_of a.batch_ends k → k < length a.batch_ends →
+filled_more : (a : AuditShape) (k : ℕ) (e : Entry) → IsSoundAudit a k → ComesNext a e → length (a.entries ++ e ∷ []) ≡ end_of a.batch_ends k →
+    k < length a.batch_ends →
     FillsJobs (a.entries ++ e ∷ []) (take (end_of a.batch_ends k) a.jobs) (take (k + 1) a.batch_ends)
 filled_more a k e sound next full ahead =
     let ends = a.batch_ends in
@@ -198,15 +205,19 @@ filled_more a k e sound next full ahead =
     let known = sound.here.known in
     let jobs = jobs_in a.jobs ends k in
     let begun : start ≤ length new = let begun = sound.here.begun in omega (arith, begun, size_more a.entries e) in
-    let answers = all_done (desk_of (with_entry a e) k) begun (λ lane. front_next a k e lane sound next) (rests_next a k e sound next) (all_answered a k e sound next full) in
+    let answers = all_done (desk_of (with_entry a e) k) begun (λ lane. front_next a k e lane sound next) (rests_next a k e sound next)
+    (all_answered a k e sound next full) in
     let long : length (take start a.jobs) ≡ start = length-take-le start a.jobs (start_within ends total k sound.order.ends known) in
     let at : EndAt (take k ends) (length (take start a.jobs)) = subst (EndAt (take k ends)) (sym long) (first_ends ends total k sound.order.ends known) in
-    let fills = batch_fills (take start new) (drop start new) (take start a.jobs) jobs (take k ends) record { fills = filled_next a k e sound; at_end = at; answers = answers } in
+    let fills = batch_fills (take start new) (drop start new) (take start a.jobs) jobs (take k ends)
+    record { fills = filled_next a k e sound; at_end = at; answers = answers } in
     let size = batch_size a k sound in
     let sum : length (take start a.jobs) + length jobs ≡ get_or ends k 0 = let read = end_read ends k ahead in omega (arith, long, size, read) in
     subst (λ es. FillsJobs es (take end a.jobs) (take (k + 1) ends)) (take-append-drop start new)
-    (subst (λ js. FillsJobs (take start new ++ drop start new) js (take (k + 1) ends)) (take_both start end a.jobs (start_before_end ends total k sound.order.ends known))
-    (subst (λ ns. FillsJobs (take start new ++ drop start new) (take start a.jobs ++ jobs) ns) (ap (λ n. take k ends ++ n ∷ []) sum ∙ sym (take_more ends k 0 ahead)) fills))
+    (subst (λ js. FillsJobs (take start new ++ drop start new) js (take (k + 1) ends))
+    (take_both start end a.jobs (start_before_end ends total k sound.order.ends known))
+    (subst (λ ns. FillsJobs (take start new ++ drop start new) (take start a.jobs ++ jobs) ns)
+    (ap (λ n. take k ends ++ n ∷ []) sum ∙ sym (take_more ends k 0 ahead)) fills))
 
 pub none_served : (start : ℕ) (entries : List Entry) (lane : ℕ) → length entries ≤ start → served_jobs start entries lane ≡ []
 none_served start entries lane past = ap (λ es. lane_jobs lane (map job_of_entry es)) (drop_all start entries past)
@@ -244,7 +255,8 @@ sound_past a k e sound next full =
 none_below : {X : Type 0} (k : ℕ) → k < 0 → X
 none_below k below = absurd (omega (arith, below))
 
-pub sound_start : (p : PolicyShape) (rounds : ℕ) (jobs : List Job) (ends : List ℕ) → AreInOrder LANE_LIMIT jobs ends → IsSoundAudit (audit_of p rounds jobs ends) 0
+pub sound_start : (p : PolicyShape) (rounds : ℕ) (jobs : List Job) (ends : List ℕ) → AreInOrder LANE_LIMIT jobs ends →
+    IsSoundAudit (audit_of p rounds jobs ends) 0
 sound_start p rounds jobs ends order = record {
   order = order;
   legal = tt;

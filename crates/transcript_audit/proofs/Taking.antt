@@ -17,12 +17,14 @@ fault_eta : (a : AuditShape) (kind : AuditKind) → a.fault ≡ Some kind → a 
 fault_eta a kind is = (λ i. record a { fault = is i })
 
 -- after a fault
-pub still_refused : (a b : AuditShape) (line : List ℕ) (n : ℕ) (kind : AuditKind) → b ≡ a → Some kind ≡ a.fault → n ≡ length a.entries → HasTakenLine a b line (Err (At n kind))
+pub still_refused : (a b : AuditShape) (line : List ℕ) (n : ℕ) (kind : AuditKind) → b ≡ a → Some kind ≡ a.fault → n ≡ length a.entries →
+    HasTakenLine a b line (Err (At n kind))
 still_refused a b line n kind same is count =
     (count, (subst (λ f. IsFirstFault f a line kind) is refl, same ∙ fault_eta a kind (sym is)))
 
 -- the first fault
-pub first_refused : (a mid b : AuditShape) (line : List ℕ) (n : ℕ) (kind : AuditKind) → None ≡ a.fault → HasTried a mid line (Err (flaw.Kind kind)) → b ≡ with_fault mid kind →
+pub first_refused : (a mid b : AuditShape) (line : List ℕ) (n : ℕ) (kind : AuditKind) → None ≡ a.fault → HasTried a mid line (Err (flaw.Kind kind)) →
+    b ≡ with_fault mid kind →
     n ≡ length b.entries → HasTakenLine a b line (Err (At n kind))
 first_refused a mid b line n kind none tried kept count =
     let after : b ≡ with_fault a kind = kept ∙ ap (λ x. with_fault x kind) tried.1 in (
@@ -42,7 +44,8 @@ no_memory a b line none tried = (sym none, tried)
 pub end_refused : (a : AuditShape) (n : ℕ) (kind : AuditKind) → Some kind ≡ a.fault → n ≡ length a.entries → HasEnded a (Err (At n kind))
 end_refused a n kind is count = (count, subst (λ f. IsLastFault f a kind) is refl)
 
-pub end_well : (a : AuditShape) (b : Bool) → None ≡ a.fault → b ≡ nat_eq (length a.entries) (length a.jobs) → b ≡ true → (b ≡ true → IsWhole a) → HasEnded a (Ok tt)
+pub end_well : (a : AuditShape) (b : Bool) → None ≡ a.fault → b ≡ nat_eq (length a.entries) (length a.jobs) → b ≡ true → (b ≡ true → IsWhole a) →
+    HasEnded a (Ok tt)
 end_well a b none done is whole = (sym none, (eq_back (length a.entries) (length a.jobs) (sym done ∙ is), whole is))
 
 pub end_missing : (a : AuditShape) (n : ℕ) (b : Bool) → None ≡ a.fault → n ≡ length a.entries → b ≡ nat_eq (length a.entries) (length a.jobs) → b ≡ false →

@@ -1,5 +1,7 @@
 -- Inside: what an audit keeps beside what is said of it.
-use Rattle.std.specs.Prelude.{◌≡◌, ◌≢◌, ℕ, ◌+◌, ◌<◌, ◌≤◌, ◌&&◌, Bool, true, false, nat_eq, nat_le, List, length, take, drop, max, slice_get, slice_index_or, slice_set, IfSome, Option, None, Some, Result, Ok, Err}
+use Rattle.std.specs.Prelude.{◌≡◌, ◌≢◌, ℕ, ◌+◌, ◌<◌, ◌≤◌, ◌&&◌, Bool, true, false, nat_eq, nat_le}
+use Rattle.std.specs.Prelude.{List, length, take, drop, max, slice_get, slice_index_or, slice_set}
+use Rattle.std.specs.Prelude.{IfSome, Option, None, Some, Result, Ok, Err}
 use Rattle.wf_names.specs.declared.limits.TheConstants.{LANE_LIMIT}
 use Rattle.wf_talk.specs.declared.entry.Entry.{Entry}
 use Rattle.wf_talk.specs.declared.job.Job.{Job}
@@ -9,7 +11,8 @@ use Rattle.wf_talk.specs.declared.request.Ask.{Ask}
 use Rattle.wf_talk.specs.declared.request.Ask.TheVariants as ask
 use Rattle.wf_talk.specs.declared.request.Request.TheVariants as request
 use Rattle.wf_board.specs.Counting.{counted, counted_end, lane_end}
-use Rattle.wf_board.specs.Histories.{EachAfter, FillsJobs, IsLegal, RestsFrom, batch_start, lane_jobs}
+use Rattle.wf_board.specs.Histories.{EachAfter, FillsJobs, IsLegal, RestsFrom, batch_start}
+use Rattle.wf_board.specs.Histories.{lane_jobs}
 use Rattle.wf_board.specs.States.{opening_state}
 use Rattle.wf_desk.specs.Desks.{served_jobs}
 use Rattle.wf_desk.specs.Places.{IsNextPlace, entry_for}
@@ -24,7 +27,8 @@ use Rattle.transcript_audit.specs.declared.cursor.Cursor.{Cursor}
 use Rattle.transcript_audit.specs.declared.fault.AuditKind.TheVariants as kinds
 use Rattle.transcript_audit.specs.declared.flaw.Flaw.{Flaw}
 use Rattle.transcript_audit.specs.declared.flaw.Flaw.TheVariants as flaw
-use Rattle.transcript_audit.specs.Audits.{AuditShape, ComesNext, HasFault, IsDue, IsNextLine, StandsAt, flows_now, state_now, with_entry}
+use Rattle.transcript_audit.specs.Audits.{AuditShape, ComesNext, HasFault, IsDue, IsNextLine}
+use Rattle.transcript_audit.specs.Audits.{StandsAt, flows_now, state_now, with_entry}
 
 -- an audit, with the room that is left for more entries
 pub record RecordShape : Type 0 where
@@ -50,19 +54,23 @@ pub record IsBatchOf (ends : List ℕ) (n k : ℕ) : Type 0 where
   pub before : k < length ends → n < slice_index_or ends k 0
   pub behind : k ≡ length ends → n ≡ batch_start ends k
 
--- the entries are a legal history; the batches before this one are filled; each lane's entries of this one answer its
--- first jobs, in order, and what is answered again rests on entries of the batch
+-- the entries are a legal history; the batches before this one are filled; each lane's entries of
+-- this one answer its first jobs, in order, and what is answered again rests on entries of the
+-- batch
 pub record IsSoundAudit (a : AuditShape) (k : ℕ) : Type 0 where
   pub order : AreInOrder LANE_LIMIT a.jobs a.batch_ends
   pub legal : IsLegal (opening_state a.opening) a.rounds a.entries
   pub here : IsBatchOf a.batch_ends (length a.entries) k
   pub front : (lane : ℕ) → let done = served_jobs (batch_start a.batch_ends k) a.entries lane in
       done ≡ take (length done) (lane_jobs lane (jobs_in a.jobs a.batch_ends k))
-  pub rests : let start = batch_start a.batch_ends k in EachAfter (RestsFrom start) (take start a.entries) (drop start a.entries)
-  pub filled : let start = batch_start a.batch_ends k in FillsJobs (take start a.entries) (take start a.jobs) (take k a.batch_ends)
+  pub rests : let start = batch_start a.batch_ends k in
+      EachAfter (RestsFrom start) (take start a.entries) (drop start a.entries)
+  pub filled : let start = batch_start a.batch_ends k in
+      FillsJobs (take start a.entries) (take start a.jobs) (take k a.batch_ends)
 
 -- a lane goes on at a place among the jobs of a batch
-pub record IsPlaceIn (jobs : List Job) (start : ℕ) (entries : List Entry) (lane place : ℕ) : Type 0 where
+pub record IsPlaceIn (jobs : List Job) (start : ℕ) (entries : List Entry) (lane place : ℕ) :
+    Type 0 where
   pub within : place ≤ length jobs
   pub before : served_jobs start entries lane ≡ lane_jobs lane (take place jobs)
   pub here : IfSome (slice_get jobs place) (λ j. j.lane ≡ lane)
@@ -73,7 +81,8 @@ pub record IsRecord (a : AuditShape) (c : Cursor) : Type 0 where
   pub start : c.start ≡ batch_start a.batch_ends c.batch
   pub ends : c.end ≡ end_of a.batch_ends c.batch
   pub placed : (lane : ℕ) → lane < LANE_LIMIT →
-      IsPlaceIn (jobs_in a.jobs a.batch_ends c.batch) c.start a.entries lane (slice_index_or c.places lane 0)
+      IsPlaceIn (jobs_in a.jobs a.batch_ends c.batch) c.start a.entries lane
+      (slice_index_or c.places lane 0)
 
 -- a cursor stands at the first job of each lane in a batch
 pub record IsAtFirst (jobs : List Job) (ends : List ℕ) (k start : ℕ) (c : Cursor) : Type 0 where
@@ -81,24 +90,29 @@ pub record IsAtFirst (jobs : List Job) (ends : List ℕ) (k start : ℕ) (c : Cu
   pub begins : c.start ≡ start
   pub stops : c.end ≡ slice_index_or ends k start
   pub placed : (lane : ℕ) → lane < LANE_LIMIT →
-      IsNextPlace (part start (slice_index_or ends k start) jobs) lane 0 (slice_index_or c.places lane 0)
+      IsNextPlace (part start (slice_index_or ends k start) jobs) lane 0
+      (slice_index_or c.places lane 0)
 
 -- a cursor went on to the next job of a lane
 pub record HasMoved (jobs : List Job) (lane : ℕ) (before after : Cursor) : Type 0 where
   pub place : ℕ
   pub sized : lane < length before.places
   pub kept : after ≡ record before { places = slice_set before.places lane place }
-  pub moved : IsNextPlace (part before.start before.end jobs) lane (slice_index_or before.places lane 0 + 1) place
+  pub moved : IsNextPlace (part before.start before.end jobs) lane
+      (slice_index_or before.places lane 0 + 1) place
 
--- a cursor went on after an entry of a lane, with so many entries there: to the lane's next job, or to the next batch
-pub record HasGoneOn (jobs : List Job) (ends : List ℕ) (lane n : ℕ) (before after : Cursor) : Type 0 where
+-- a cursor went on after an entry of a lane, with so many entries there: to the lane's next job, or
+-- to the next batch
+pub record HasGoneOn (jobs : List Job) (ends : List ℕ) (lane n : ℕ) (before after : Cursor) :
+    Type 0 where
   pub within : n ≢ before.end → HasMoved jobs lane before after
   pub past : n ≡ before.end → IsAtFirst jobs ends (before.batch + 1) before.end after
 
 -- a count of entries rests on those of the batch, and the place is that of the last that counts
 abbrev pub rests_on : List Entry → ℕ → ℕ → Ask → ℕ → ℕ → Bool
 rests_on entries start lane what n place =
-    nat_le n (counted what (drop (max (lane_end lane entries) start) entries)) && nat_eq (place + 1) (counted_end what entries)
+    nat_le n (counted what (drop (max (lane_end lane entries) start) entries)) &&
+    nat_eq (place + 1) (counted_end what entries)
 
 -- an edit of the policy, or a view over the open cases
 abbrev pub asks_of_all : Ask → Bool
@@ -146,12 +160,15 @@ entry_next a j r = entry_for j (length a.entries) r
 
 -- what came of entering a reply
 abbrev pub HasEntered : AuditShape → AuditShape → Job → Reply → Result (Unit {0}) Flaw → Type 0
-HasEntered before after j r (Ok done) = ComesNext before (entry_next before j r) × (after ≡ with_entry before (entry_next before j r))
-HasEntered before after j r (Err (flaw.Kind kind)) = (kind ≡ kinds.Reply) × (¬ ComesNext before (entry_next before j r) × (after ≡ before))
+HasEntered before after j r (Ok done) = ComesNext before (entry_next before j r) ×
+    (after ≡ with_entry before (entry_next before j r))
+HasEntered before after j r (Err (flaw.Kind kind)) = (kind ≡ kinds.Reply) ×
+    (¬ ComesNext before (entry_next before j r) × (after ≡ before))
 HasEntered before after j r (Err flaw.NoMemory) = after ≡ before
 
 -- what came of a line, where there was no fault before
 abbrev pub HasTried : AuditShape → AuditShape → List ℕ → Result (Unit {0}) Flaw → Type 0
-HasTried before after line (Ok done) = (e : Entry) × (IsNextLine before line e × (after ≡ with_entry before e))
+HasTried before after line (Ok done) = (e : Entry) ×
+    (IsNextLine before line e × (after ≡ with_entry before e))
 HasTried before after line (Err (flaw.Kind kind)) = HasFault before line kind × (after ≡ before)
 HasTried before after line (Err flaw.NoMemory) = after ≡ before

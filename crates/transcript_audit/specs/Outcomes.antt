@@ -14,13 +14,15 @@ abbrev pub IsFirstFault : Option AuditKind → AuditShape → List ℕ → Audit
 IsFirstFault None a line kind = HasFault a line kind
 IsFirstFault (Some first) a line kind = kind ≡ first
 
--- what became of a line: it is the text of an entry that comes next, and the entry is taken; the first fault is told, and
--- kept; or there was no memory, and nothing is changed
+-- what became of a line: it is the text of an entry that comes next, and the entry is taken; the
+-- first fault is told, and kept; or there was no memory, and nothing is changed
 abbrev pub HasTakenLine : AuditShape → AuditShape → List ℕ → Result (Unit {0}) AuditFault → Type 0
 HasTakenLine before after line (Ok done) =
-    (before.fault ≡ None) × ((e : Entry) × (IsNextLine before line e × (after ≡ with_entry before e)))
+    (before.fault ≡ None) ×
+    ((e : Entry) × (IsNextLine before line e × (after ≡ with_entry before e)))
 HasTakenLine before after line (Err (At n kind)) =
-    (n ≡ length before.entries) × (IsFirstFault before.fault before line kind × (after ≡ record before { fault = Some kind }))
+    (n ≡ length before.entries) × (IsFirstFault before.fault before line kind ×
+    (after ≡ record before { fault = Some kind }))
 HasTakenLine before after line (Err NoMemory) = (before.fault ≡ None) × (after ≡ before)
 
 -- the entries are a legal history that fills the jobs

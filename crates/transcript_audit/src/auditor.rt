@@ -1,5 +1,6 @@
 //! The auditor, with its calls.
-ghost use Rattle.std.specs.Prelude.{◌≡◌, ◌↔◌, ◌≤◌, ◌-◌, true, length, nat_eq, slice_index_or, IfOk, IfSome, IsErrOf, None, OnOk, Some};
+ghost use Rattle.std.specs.Prelude.{◌≡◌, ◌↔◌, ◌≤◌, ◌-◌, true, length, nat_eq, slice_index_or, IfOk};
+ghost use Rattle.std.specs.Prelude.{IfSome, IsErrOf, None, OnOk, Some};
 ghost use Rattle.wf_names.specs.declared.limits.TheConstants.{LANE_LIMIT};
 ghost use Rattle.line_cutter.specs.Laws.{AreInOrder};
 ghost use Rattle.wf_board.specs.Boards.{state_on};
@@ -10,9 +11,11 @@ ghost use Rattle.entry_reader.specs.declared.fault.TextFault.TheVariants.{NotTex
 ghost use Rattle.entry_reader.specs.Lines.{HasNoReply, HasReply};
 ghost use Rattle.entry_reader.specs.Places.{place_of_line};
 ghost use Rattle.wf_talk.specs.declared.reply.Reply.TheVariants as reply;
-ghost use Rattle.transcript_audit.specs.Audits.{ComesNext, audit_of, flows_now, next_job, place_told, state_now};
+ghost use Rattle.transcript_audit.specs.Audits.{ComesNext, audit_of, flows_now, next_job};
+ghost use Rattle.transcript_audit.specs.Audits.{place_told, state_now};
 ghost use Rattle.transcript_audit.specs.Outcomes.{HasEnded, HasTakenLine};
-ghost use Rattle.transcript_audit.specs.Keeping.{HasEntered, HasRead, HasTried, IsDueIf, IsReading, again_in, entry_next};
+ghost use Rattle.transcript_audit.specs.Keeping.{HasEntered, HasRead, HasTried, IsDueIf, IsReading};
+ghost use Rattle.transcript_audit.specs.Keeping.{again_in, entry_next};
 
 use crate::again::again_in;
 use crate::flaw::Flaw;
@@ -132,7 +135,8 @@ impl Auditor {
         self.record.entries()
     }
 
-    /// The board after the entries so far, the entries, and the jobs with the ends of their batches.
+    /// The board after the entries so far, the entries, and the jobs with the ends of their
+    /// batches.
     pub fn into_parts(self) -> (Board, Journal, Jobs, Ends)
         ensures state { state_on result.0 ≡ state_now self }
         ensures entries { result.1.entries ≡ self.entries }

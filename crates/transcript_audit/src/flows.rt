@@ -14,7 +14,8 @@ pub(crate) struct Flows<'a> {
 }
 
 impl FlowOf for Flows<'_> {
-    ghost flows = { λ f n. option_map (λ c. c.flow) (numbered_case (map numbered f.cases.now.rows) n) };
+    ghost flows = { λ f n. option_map (λ c. c.flow)
+        (numbered_case (map numbered f.cases.now.rows) n) };
 
     fn flow_of(&self, case: CaseId) -> Option<FlowId> {
         flow_in(self.cases, case)

@@ -3,8 +3,8 @@ ghost use Rattle.transcript_audit.specs.Laws.{AuditIsExact, FaultsExclude, NextI
 
 use entry_laws::{entries_are_lines, texts_are_lines};
 
-/// A line that has a fault is the text of no entry that comes next, where all lines before it are such
-/// texts.
+/// A line that has a fault is the text of no entry that comes next, where all lines before it are
+/// such texts.
 pub fn faults_exclude()
     ensures { FaultsExclude }
 {
@@ -12,7 +12,8 @@ pub fn faults_exclude()
     texts_are_lines();
 }
 
-/// A line is the text of one entry at most that comes next, where all lines before it are such texts.
+/// A line is the text of one entry at most that comes next, where all lines before it are such
+/// texts.
 pub fn next_is_one()
     ensures { NextIsOne }
 {

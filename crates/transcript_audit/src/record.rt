@@ -6,7 +6,8 @@ ghost use Rattle.line_cutter.specs.Laws.{AreInOrder};
 ghost use Rattle.wf_board.specs.Histories.{IsLegal};
 ghost use Rattle.wf_board.specs.States.{opening_state};
 ghost use Rattle.wf_desk.specs.Parts.{FillsPart};
-ghost use Rattle.transcript_audit.specs.Audits.{ComesNext, audit_of, next_job, present_jobs, present_start, with_entry};
+ghost use Rattle.transcript_audit.specs.Audits.{ComesNext, audit_of, next_job, present_jobs};
+ghost use Rattle.transcript_audit.specs.Audits.{present_start, with_entry};
 ghost use Rattle.transcript_audit.specs.Keeping.{entry_next, rests_on};
 ghost use Rattle.transcript_audit.specs.Outcomes.{IsWhole};
 
@@ -46,9 +47,30 @@ impl Model for Record {
 
     ghost coded = { Prim.hlevel (codes, policy_code, kids_code) };
 
-    ghost view = { λ r. record { audit = record { opening = arc_value r.opening; rounds = r.rounds; jobs = r.jobs; batch_ends = r.ends; entries = r.journal.entries; fault = r.fault }; spare = r.journal.spare } };
+    ghost view = { λ r. record {
+      audit =
+          record {
+            opening = arc_value r.opening;
+            rounds = r.rounds;
+            jobs = r.jobs;
+            batch_ends =
+                r.ends;
+            entries = r.journal.entries;
+            fault = r.fault;
+          };
+      spare = r.journal.spare;
+    } };
 
-    ghost invariant = { λ r. IsRecord (record { opening = arc_value r.opening; rounds = r.rounds; jobs = r.jobs; batch_ends = r.ends; entries = r.journal.entries; fault = r.fault }) r.cursor };
+    ghost invariant = { λ r. IsRecord
+        (record {
+          opening = arc_value r.opening;
+          rounds = r.rounds;
+          jobs = r.jobs;
+          batch_ends =
+              r.ends;
+          entries = r.journal.entries;
+          fault = r.fault;
+        }) r.cursor };
 }
 
 impl Record {

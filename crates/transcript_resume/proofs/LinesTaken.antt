@@ -57,8 +57,10 @@ taken_up exact s transcript b session all =
     ((exact s.policy s.rounds s.jobs s.batch_ends (lines_of (whole_lines transcript)) all.entries session.order).0 all.next)
 
 -- lines of which one fails are those of no entries
-none_next : FaultsExclude → NextIsOne → (s : Session) (done lines : List (List ℕ)) (es rest : List Entry) (n : ℕ) (kind : AuditKind) → AreOfSession s.policy s.rounds s.jobs s.batch_ends →
-    AreNext (audit_of s.policy s.rounds s.jobs s.batch_ends) done es → AreNext (record (audit_of s.policy s.rounds s.jobs s.batch_ends) { entries = es }) lines rest →
+none_next : FaultsExclude → NextIsOne → (s : Session) (done lines : List (List ℕ)) (es rest : List Entry) (n : ℕ) (kind : AuditKind) →
+    AreOfSession s.policy s.rounds s.jobs s.batch_ends →
+    AreNext (audit_of s.policy s.rounds s.jobs s.batch_ends) done es →
+    AreNext (record (audit_of s.policy s.rounds s.jobs s.batch_ends) { entries = es }) lines rest →
     FailsAt (record (audit_of s.policy s.rounds s.jobs s.batch_ends) { entries = es }) lines n kind → ⊥
 none_next law one s done [] es rest n kind session so_far next fails = fails
 none_next law one s done (line ∷ lines) es [] n kind session so_far next fails = next
@@ -71,7 +73,8 @@ none_next law one s done (line ∷ lines) es (e ∷ rest) n kind session so_far 
       (subst (λ x. FailsAt (record a { entries = es ++ x ∷ [] }) lines n kind) same goes.1.1)
 ]
 
-refused_by : FaultsExclude → NextIsOne → PartIsExact → (s : Session) (transcript : List ℕ) (fault : AuditFault) → AreOfSession s.policy s.rounds s.jobs s.batch_ends →
+refused_by : FaultsExclude → NextIsOne → PartIsExact → (s : Session) (transcript : List ℕ) (fault : AuditFault) →
+    AreOfSession s.policy s.rounds s.jobs s.batch_ends →
     FailsIn (audit_of s.policy s.rounds s.jobs s.batch_ends) (lines_of (whole_lines transcript)) fault → RefusesBy s transcript fault
 refused_by law one exact s transcript (At n kind) session fails = record {
   fails = fails;
@@ -82,8 +85,10 @@ refused_by law one exact s transcript (At n kind) session fails = record {
 refused_by law one exact s transcript NoMemory session fails = tt
 
 -- an audit of the whole lines that began so, and did not take one of them
-pub refused_of : {A : Type 0} → FaultsExclude → NextIsOne → PartIsExact → (s : Session) (transcript lines : List ℕ) (a : AuditShape) (result : Result A AuditFault) (fault : AuditFault) →
-    AreOfSession s.policy s.rounds s.jobs s.batch_ends → a ≡ audit_of s.policy s.rounds s.jobs s.batch_ends → lines ≡ whole_lines transcript → FailsIn a (lines_of lines) fault →
+pub refused_of : {A : Type 0} → FaultsExclude → NextIsOne → PartIsExact →
+    (s : Session) (transcript lines : List ℕ) (a : AuditShape) (result : Result A AuditFault) (fault : AuditFault) →
+    AreOfSession s.policy s.rounds s.jobs s.batch_ends → a ≡ audit_of s.policy s.rounds s.jobs s.batch_ends → lines ≡ whole_lines transcript →
+    FailsIn a (lines_of lines) fault →
     IsErrAnd result (λ e. e ≡ fault) → IfErr result (RefusesBy s transcript)
 refused_of law one exact s transcript lines a (Ok found) fault session begun whole fails is = tt
 refused_of law one exact s transcript lines a (Err e) fault session begun whole fails is =
@@ -92,8 +97,10 @@ refused_of law one exact s transcript lines a (Err e) fault session begun whole 
     subst (RefusesBy s transcript) (sym is) (refused_by law one exact s transcript fault session here)
 
 -- and one that took them all
-pub taken_of : PartIsExact → (s : Session) (transcript lines : List ℕ) (a b : AuditShape) (es : List Entry) → AreOfSession s.policy s.rounds s.jobs s.batch_ends →
-    a ≡ audit_of s.policy s.rounds s.jobs s.batch_ends → lines ≡ whole_lines transcript → HasTakenAll a b (lines_of lines) → es ≡ b.entries → IsTakenUp s transcript es
+pub taken_of : PartIsExact → (s : Session) (transcript lines : List ℕ) (a b : AuditShape) (es : List Entry) →
+    AreOfSession s.policy s.rounds s.jobs s.batch_ends →
+    a ≡ audit_of s.policy s.rounds s.jobs s.batch_ends → lines ≡ whole_lines transcript → HasTakenAll a b (lines_of lines) → es ≡ b.entries →
+    IsTakenUp s transcript es
 taken_of exact s transcript lines a b es session begun whole all same =
     let here : HasTakenAll (audit_of s.policy s.rounds s.jobs s.batch_ends) b (lines_of (whole_lines transcript)) =
     subst (λ (x : AuditShape). HasTakenAll x b (lines_of (whole_lines transcript))) begun (subst (λ xs. HasTakenAll a b (lines_of xs)) whole all) in

@@ -1,5 +1,6 @@
 -- The first line that is too long.
-use Rattle.std.proofs.Common.{◌≡◌, ℕ, suc, ◌+◌, ◌-◌, ◌==◌, ◌<◌, ◌≤◌, nat_lt, Bool, true, false, List, [], ◌∷◌, length, take, drop, Option, None, Some, refl, sym, ap, subst, ◌∙◌, arith}
+use Rattle.std.proofs.Common.{◌≡◌, ℕ, suc, ◌+◌, ◌-◌, ◌==◌, ◌<◌, ◌≤◌, nat_lt, Bool, true, false, List, [], ◌∷◌, length, take, drop, Option, None, Some, refl}
+use Rattle.std.proofs.Common.{sym, ap, subst, ◌∙◌, arith}
 use Rattle.std.proofs.lemmas.Bool.{le-ltb, lt-ltb}
 use Rattle.std.proofs.lemmas.List.{drop-drop, length-drop}
 use Rattle.wf_names.specs.declared.limits.TheConstants.{TRANSCRIPT_LINE_LIMIT}
@@ -26,7 +27,8 @@ length_found bytes found n is some = let at : FindsEnd bytes (Some n) = subst (F
 pub length_open : (bytes : List ℕ) (found : Option ℕ) → IsFirstByte (is_byte 10) bytes found → found ≡ None → length bytes ≡ line_length bytes
 length_open bytes found is none = sym (open_line bytes (subst (FindsEnd bytes) none (finds_end bytes found is))).counted
 
-alone_step : (b : ℕ) (bs : List ℕ) (x : Bool) → (b == 10) ≡ x → line_length (first_line bs) ≡ line_length bs → line_length (first_line (b ∷ bs)) ≡ line_length (b ∷ bs)
+alone_step : (b : ℕ) (bs : List ℕ) (x : Bool) → (b == 10) ≡ x → line_length (first_line bs) ≡ line_length bs →
+    line_length (first_line (b ∷ bs)) ≡ line_length (b ∷ bs)
 alone_step b bs true is h = rw is (rw is refl)
 alone_step b bs false is h = rw is (rw is (ap suc h))
 
@@ -40,19 +42,23 @@ alone (b ∷ bs) = alone_step b bs (b == 10) refl (alone bs)
 -- it is the first line, or one behind it
 pub long_here : (n : ℕ) (bytes : List ℕ) → 0 < length bytes → TRANSCRIPT_LINE_LIMIT < line_length bytes → first_long n (lines_of bytes) ≡ Some n
 long_here n bytes some long =
-    let here : nat_lt TRANSCRIPT_LINE_LIMIT (line_length (first_line bytes)) ≡ true = lt-ltb TRANSCRIPT_LINE_LIMIT (line_length (first_line bytes)) (let same = alone bytes in omega (arith, same, long)) in
+    let here : nat_lt TRANSCRIPT_LINE_LIMIT (line_length (first_line bytes)) ≡ true =
+    lt-ltb TRANSCRIPT_LINE_LIMIT (line_length (first_line bytes)) (let same = alone bytes in omega (arith, same, long)) in
     rw (lines_first bytes some) (rw here refl)
 
-pub long_behind : (n : ℕ) (bytes : List ℕ) → 0 < length bytes → line_length bytes ≤ TRANSCRIPT_LINE_LIMIT → first_long n (lines_of bytes) ≡ first_long (n + 1) (lines_of (behind_line bytes))
+pub long_behind : (n : ℕ) (bytes : List ℕ) → 0 < length bytes → line_length bytes ≤ TRANSCRIPT_LINE_LIMIT →
+    first_long n (lines_of bytes) ≡ first_long (n + 1) (lines_of (behind_line bytes))
 long_behind n bytes some short =
-    let here : nat_lt TRANSCRIPT_LINE_LIMIT (line_length (first_line bytes)) ≡ false = le-ltb TRANSCRIPT_LINE_LIMIT (line_length (first_line bytes)) (let same = alone bytes in omega (arith, same, short)) in
+    let here : nat_lt TRANSCRIPT_LINE_LIMIT (line_length (first_line bytes)) ≡ false =
+    le-ltb TRANSCRIPT_LINE_LIMIT (line_length (first_line bytes)) (let same = alone bytes in omega (arith, same, short)) in
     rw (lines_first bytes some) (rw here refl)
 
 -- the same of what is left of a text behind a place, as a slice
 pub long_at : (n at : ℕ) (text : List ℕ) (found : Option ℕ) → at < length text → TRANSCRIPT_LINE_LIMIT < line_length (take (length text - at) (drop at text))
     → first_long n (lines_of (drop at text)) ≡ found → Some n ≡ found
 long_at n at text found within long goes =
-    sym (long_here n (drop at text) (omega (arith, within, length-drop at text)) (subst (λ xs. TRANSCRIPT_LINE_LIMIT < line_length xs) (left_at text at) long)) ∙ goes
+    sym (long_here n (drop at text) (omega (arith, within, length-drop at text))
+    (subst (λ xs. TRANSCRIPT_LINE_LIMIT < line_length xs) (left_at text at) long)) ∙ goes
 
 pub long_on : (n at count : ℕ) (text : List ℕ) → at < length text → line_length (take (length text - at) (drop at text)) ≤ TRANSCRIPT_LINE_LIMIT
     → drop count (take (length text - at) (drop at text)) ≡ behind_line (take (length text - at) (drop at text))
@@ -61,4 +67,5 @@ long_on n at count text within short behind =
     let rest : drop (at + count) text ≡ behind_line (drop at text) =
     sym (drop-drop count at text) ∙ ap (drop count) (sym (left_at text at)) ∙ behind ∙ ap behind_line (left_at text at) in
     ap (λ xs. first_long (n + 1) (lines_of xs)) rest
-    ∙ sym (long_behind n (drop at text) (omega (arith, within, length-drop at text)) (subst (λ xs. line_length xs ≤ TRANSCRIPT_LINE_LIMIT) (left_at text at) short))
+    ∙ sym (long_behind n (drop at text) (omega (arith, within, length-drop at text))
+    (subst (λ xs. line_length xs ≤ TRANSCRIPT_LINE_LIMIT) (left_at text at) short))

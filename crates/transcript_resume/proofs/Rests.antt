@@ -1,5 +1,6 @@
 -- The batch in which a session stopped, among those of the requests.
-use Rattle.std.proofs.Common.{◌≡◌, ℕ, zero, suc, ◌+◌, ◌-◌, ◌<◌, ◌≤◌, inl, inr, nat_lt, List, [], ◌∷◌, length, take, drop, map, slice_index_or, refl, sym, ap, subst, ◌∙◌, arith}
+use Rattle.std.proofs.Common.{◌≡◌, ℕ, zero, suc, ◌+◌, ◌-◌, ◌<◌, ◌≤◌, inl, inr, nat_lt, List, [], ◌∷◌, length, take, drop, map, slice_index_or, refl, sym, ap}
+use Rattle.std.proofs.Common.{subst, ◌∙◌, arith}
 use Rattle.std.proofs.lemmas.Grind.{common_steps}
 use Rattle.std.proofs.lemmas.List.{drop_all, length-drop, length-map, length-take-le, take_all}
 use Rattle.basics.proofs.Booleans.{bool_cases}
@@ -70,7 +71,8 @@ bounds_within ends total n lead within =
 
 -- ---- how many jobs it has
 
-pub near_from : (before : ℕ) (ends : List ℕ) (total k : ℕ) → LeadTo before ends total → k < length ends → slice_index_or ends k 0 ≤ slice_index_or (before ∷ ends) k 0 + BATCH_LINE_LIMIT
+pub near_from : (before : ℕ) (ends : List ℕ) (total k : ℕ) → LeadTo before ends total → k < length ends →
+    slice_index_or ends k 0 ≤ slice_index_or (before ∷ ends) k 0 + BATCH_LINE_LIMIT
 near_from before [] total k lead known = absurd (omega (arith, known))
 near_from before (x ∷ xs) total zero lead known = lead.1
 near_from before (x ∷ xs) total (suc k) lead known = near_from x xs total k lead.2 (omega (arith, known))
@@ -92,7 +94,8 @@ short_between ends n jobs lead within =
       | inr shut ↦
           let below = at.here.known in
           let last : at.batch ≡ length ends = grind (arith, common_steps) in
-          let is : end_of ends at.batch ≡ batch_start ends at.batch = ap (λ m. slice_index_or ends m (batch_start ends at.batch)) last ∙ read_behind ends (batch_start ends at.batch) in
+          let is : end_of ends at.batch ≡ batch_start ends at.batch = ap (λ m. slice_index_or ends m (batch_start ends at.batch)) last ∙
+          read_behind ends (batch_start ends at.batch) in
           omega (arith, start, end, size, first, is)
     ]
 
@@ -103,7 +106,8 @@ map_rest f zero xs = refl
 map_rest f (suc n) [] = refl
 map_rest f (suc n) (x ∷ xs) = map_rest f n xs
 
-answered_here : (es : List Entry) (ends : List ℕ) (k lane : ℕ) → length es ≤ batch_end ends k → lane_answered es ends k lane ≡ served_jobs (batch_start ends k) es lane
+answered_here : (es : List Entry) (ends : List ℕ) (k lane : ℕ) → length es ≤ batch_end ends k →
+    lane_answered es ends k lane ≡ served_jobs (batch_start ends k) es lane
 answered_here es ends k lane within =
     let size = length-map es job_of_entry in
     ap (λ js. lane_jobs lane (drop (batch_start ends k) js)) (take_all (batch_end ends k) (map job_of_entry es) (omega (arith, within, size)))
@@ -120,7 +124,8 @@ ahead_part es jobs ends k part here ahead =
       begun = here.begun;
       front = λ lane.
           subst (λ e. served_jobs start es lane ≡ take (length (served_jobs start es lane)) (lane_jobs lane (jobs_between start e jobs))) (sym read)
-          (subst (λ js. js ≡ take (length js) (lane_jobs lane (jobs_between start (batch_end ends k) jobs))) (answered_here es ends k lane within) (part.fronts k ahead lane));
+          (subst (λ js. js ≡ take (length js) (lane_jobs lane (jobs_between start (batch_end ends k) jobs))) (answered_here es ends k lane within)
+          (part.fronts k ahead lane));
       rests = subst (λ xs. EachAfter (RestsFrom start) (take start es) (drop start xs)) (take_all (batch_end ends k) es within) (part.rests k ahead);
     }
 
@@ -146,7 +151,8 @@ answers_part es jobs ends lead part =
           let known = at.here.known in
           let last : k ≡ length ends = grind (arith, common_steps) in
           let is : end_of ends k ≡ batch_start ends k = ap (λ m. slice_index_or ends m (batch_start ends k)) last ∙ read_behind ends (batch_start ends k) in
-          subst (λ e. AnswersPart es (batch_start ends k) (jobs_between (batch_start ends k) e jobs)) (sym is) (behind_part es jobs (batch_start ends k) (at.here.behind last))
+          subst (λ e. AnswersPart es (batch_start ends k) (jobs_between (batch_start ends k) e jobs)) (sym is)
+          (behind_part es jobs (batch_start ends k) (at.here.behind last))
     ]))
 
 -- ---- lanes

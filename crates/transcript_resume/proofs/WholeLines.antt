@@ -1,5 +1,6 @@
 -- The whole lines of a text, and its first line.
-use Rattle.std.proofs.Common.{◌≡◌, ◌≢◌, ℕ, zero, suc, ◌+◌, ◌-◌, ◌==◌, ◌<◌, ◌≤◌, Bool, true, false, List, [], ◌∷◌, length, take, drop, slice_index, Option, None, Some, refl, sym, ap, subst, ◌∙◌, arith}
+use Rattle.std.proofs.Common.{◌≡◌, ◌≢◌, ℕ, zero, suc, ◌+◌, ◌-◌, ◌==◌, ◌<◌, ◌≤◌, Bool, true, false, List, [], ◌∷◌, length, take, drop, slice_index, Option, None}
+use Rattle.std.proofs.Common.{Some, refl, sym, ap, subst, ◌∙◌, arith}
 use Rattle.std.proofs.lemmas.Grind.{common_steps}
 use Rattle.std.proofs.lemmas.List.{drop_all, take_all}
 use Rattle.memchr.specs.Find.{IsFirstByte, is_byte}
@@ -31,7 +32,8 @@ end_here b bs false is later = rw is (later refl)
 -- with one some line has
 some_ended : (bytes : List ℕ) (k : ℕ) → k < length bytes → slice_index bytes k ≡ 10 → has_end bytes ≡ true
 some_ended [] k within here = absurd (omega (arith, within))
-some_ended (b ∷ bs) zero within here = end_here b bs (b == 10) refl (λ other. absurd (let is = is_ten b (b == 10) refl here in let no : true ≡ false = sym is ∙ other in cc))
+some_ended (b ∷ bs) zero within here =
+    end_here b bs (b == 10) refl (λ other. absurd (let is = is_ten b (b == 10) refl here in let no : true ≡ false = sym is ∙ other in cc))
 some_ended (b ∷ bs) (suc k) within here = end_here b bs (b == 10) refl (λ other. some_ended bs k (omega (arith, within)) here)
 
 -- all up to the last LF are the whole lines
@@ -43,9 +45,11 @@ whole_front (b ∷ bs) zero within ended last =
     let none : has_end (b ∷ bs) ≡ false = none_ended (b ∷ bs) (λ k below. last k (omega arith) below) in
     rw none refl
 whole_front (b ∷ bs) (suc n) within ended last =
-    let last_one : slice_index (b ∷ bs) n ≡ 10 = let same : suc n - 1 ≡ n = omega arith in subst (λ k. slice_index (b ∷ bs) k ≡ 10) same (ended (omega arith)) in
+    let last_one : slice_index (b ∷ bs) n ≡ 10 = let same : suc n - 1 ≡ n = omega arith in
+    subst (λ k. slice_index (b ∷ bs) k ≡ 10) same (ended (omega arith)) in
     let here : has_end (b ∷ bs) ≡ true = some_ended (b ∷ bs) n (omega (arith, within)) last_one in
-    rw here (ap (λ xs. b ∷ xs) (whole_front bs n (omega (arith, within)) (front_ended b bs n last_one) (λ k above below. last (suc k) (omega (arith, above)) (omega (arith, below)))))
+    rw here (ap (λ xs. b ∷ xs) (whole_front bs n (omega (arith, within)) (front_ended b bs n last_one)
+    (λ k above below. last (suc k) (omega (arith, above)) (omega (arith, below)))))
   where
     front_ended : (b : ℕ) (bs : List ℕ) (n : ℕ) → slice_index (b ∷ bs) n ≡ 10 → 0 < n → slice_index bs (n - 1) ≡ 10
     front_ended b bs zero here some = absurd (omega (arith, some))

@@ -33,23 +33,27 @@ whole_lines (b ∷ bs) = if has_end (b ∷ bs) then b ∷ whole_lines bs else []
 -- the first of these lines, counted from a number on, that is longer than a line may be
 abbrev pub first_long : ℕ → List (List ℕ) → Option ℕ
 first_long n [] = None
-first_long n (line ∷ lines) = if nat_lt TRANSCRIPT_LINE_LIMIT (line_length line) then Some n else first_long (n + 1) lines
+first_long n (line ∷ lines) =
+    if nat_lt TRANSCRIPT_LINE_LIMIT (line_length line) then Some n else first_long (n + 1) lines
 
 -- the whole lines of a transcript are those of these entries, and these are a legal history that
 -- answers a part of the jobs
 abbrev pub IsTakenUp : Session → List ℕ → List Entry → Type 0
-IsTakenUp s transcript entries = IsTranscriptPart s.policy s.rounds s.jobs s.batch_ends (lines_of (whole_lines transcript)) entries
+IsTakenUp s transcript entries = IsTranscriptPart s.policy s.rounds s.jobs s.batch_ends
+    (lines_of (whole_lines transcript)) entries
 
 -- the first of these lines that is not the text of an entry that comes next has this number and
 -- this fault
 abbrev pub FailsAt : AuditShape → List (List ℕ) → ℕ → AuditKind → Type 0
 FailsAt a [] n kind = ⊥
 FailsAt a (line ∷ lines) n kind =
-    ((n ≡ length a.entries) × HasFault a line kind) ⊎ ((e : Entry) × (IsNextLine a line e × FailsAt (with_entry a e) lines n kind))
+    ((n ≡ length a.entries) × HasFault a line kind) ⊎
+    ((e : Entry) × (IsNextLine a line e × FailsAt (with_entry a e) lines n kind))
 
 -- no entries are those of the transcript, since one of its whole lines is the first that is none
 pub record IsRefused (s : Session) (transcript : List ℕ) (n : ℕ) (kind : AuditKind) : Type 0 where
-  pub fails : FailsAt (audit_of s.policy s.rounds s.jobs s.batch_ends) (lines_of (whole_lines transcript)) n kind
+  pub fails : FailsAt (audit_of s.policy s.rounds s.jobs s.batch_ends)
+      (lines_of (whole_lines transcript)) n kind
   pub none : (entries : List Entry) → ¬ IsTakenUp s transcript entries
 
 -- why a session does not go on from a transcript: a line of it, or want of memory

@@ -51,13 +51,25 @@ pub fn resume<V: Decider>(
     requires rounds { rounds ≤ ROUND_LIMIT }
     requires order { AreInOrder lanes batch.jobs batch.ends }
     requires named { AreNamedJobs batch.jobs }
-    ensures resumed { IfOk result (λ r. HasResumed (record
-        { policy = policy; lanes = lanes; rounds = rounds; jobs = batch.jobs; batch_ends = batch.ends })
+    ensures resumed { IfOk result (λ r. HasResumed (record {
+      policy = policy;
+      lanes = lanes;
+      rounds = rounds;
+      jobs = batch.jobs;
+      batch_ends =
+          batch.ends;
+    })
         transcript.now r.next r.desk) }
     ensures jobs { IfOk result (λ r. r.batch.jobs ≡ batch.jobs) }
     ensures ends { IfOk result (λ r. r.batch.ends ≡ batch.ends) }
-    ensures refused { IfErr result (RefusesBy (record
-        { policy = policy; lanes = lanes; rounds = rounds; jobs = batch.jobs; batch_ends = batch.ends })
+    ensures refused { IfErr result (RefusesBy (record {
+      policy = policy;
+      lanes = lanes;
+      rounds = rounds;
+      jobs = batch.jobs;
+      batch_ends =
+          batch.ends;
+    })
         transcript.now) }
 {
     let Ok(opening) = policy.copy() else {
@@ -88,13 +100,25 @@ fn take_up<V: Decider>(
     requires named { AreNamedJobs batch.jobs }
     ensures state { IfOk result (λ r. state_on r.0
         ≡ state_after (opening_state policy) r.1.entries) }
-    ensures taken { IfOk result (λ r. IsTakenUp (record
-        { policy = policy; lanes = lanes; rounds = rounds; jobs = batch.jobs; batch_ends = batch.ends })
+    ensures taken { IfOk result (λ r. IsTakenUp (record {
+      policy = policy;
+      lanes = lanes;
+      rounds = rounds;
+      jobs = batch.jobs;
+      batch_ends =
+          batch.ends;
+    })
         transcript.now r.1.entries) }
     ensures jobs { IfOk result (λ r. r.2.jobs ≡ batch.jobs) }
     ensures ends { IfOk result (λ r. r.2.ends ≡ batch.ends) }
-    ensures refused { IfErr result (RefusesBy (record
-        { policy = policy; lanes = lanes; rounds = rounds; jobs = batch.jobs; batch_ends = batch.ends })
+    ensures refused { IfErr result (RefusesBy (record {
+      policy = policy;
+      lanes = lanes;
+      rounds = rounds;
+      jobs = batch.jobs;
+      batch_ends =
+          batch.ends;
+    })
         transcript.now) }
 {
     let Batch { jobs, ends } = batch;
@@ -127,8 +151,14 @@ fn go_on(
     requires state { state_on board ≡ state_after (opening_state policy) journal.entries }
     requires legal { IsLegal (opening_state policy) rounds journal.entries }
     requires part { FillsPart journal.entries batch.jobs batch.ends }
-    ensures goes_on { IfOk result (λ r. GoesOnAt (record
-        { policy = policy; lanes = lanes; rounds = rounds; jobs = batch.jobs; batch_ends = batch.ends })
+    ensures goes_on { IfOk result (λ r. GoesOnAt (record {
+      policy = policy;
+      lanes = lanes;
+      rounds = rounds;
+      jobs = batch.jobs;
+      batch_ends =
+          batch.ends;
+    })
         journal.entries r.next r.desk) }
     ensures jobs { IfOk result (λ r. r.batch.jobs ≡ batch.jobs) }
     ensures ends { IfOk result (λ r. r.batch.ends ≡ batch.ends) }

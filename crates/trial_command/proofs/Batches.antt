@@ -28,8 +28,10 @@ batch_served old loaded d batch spare cases is by_turns done sound = at (subst (
     at by_turns =
         let on = by_turns.on in
         let new = on.grown.more in
-        let first : take d.start d.entries ≡ old.entries = ap (λ n. take n d.entries) on.grown.start ∙ ap (take (length old.entries)) on.grown.extends ∙ take-append_seam old.entries new in
-        let rest : drop d.start d.entries ≡ new = ap (λ n. drop n d.entries) on.grown.start ∙ ap (drop (length old.entries)) on.grown.extends ∙ drop-append_seam old.entries new in
+        let first : take d.start d.entries ≡ old.entries = ap (λ n. take n d.entries) on.grown.start ∙ ap (take (length old.entries)) on.grown.extends ∙
+        take-append_seam old.entries new in
+        let rest : drop d.start d.entries ≡ new = ap (λ n. drop n d.entries) on.grown.start ∙ ap (drop (length old.entries)) on.grown.extends ∙
+        drop-append_seam old.entries new in
         record {
           same = record { opening = on.grown.opening; lanes = on.grown.lanes; rounds = on.grown.rounds; restored = on.grown.restored };
           more = new;

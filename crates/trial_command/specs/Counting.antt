@@ -2,7 +2,8 @@
 use Rattle.std.specs.Prelude.{ℕ, Bool, true, false, List, count_by}
 use Rattle.wf_talk.specs.declared.entry.Entry.{Entry}
 use Rattle.wf_talk.specs.declared.reply.Reply.{Reply}
-use Rattle.wf_talk.specs.declared.reply.Reply.TheVariants.{Granted, Finished, Opened, Denied, NoMemory}
+use Rattle.wf_talk.specs.declared.reply.Reply.TheVariants.{Granted, Finished, Opened, Denied}
+use Rattle.wf_talk.specs.declared.reply.Reply.TheVariants.{NoMemory}
 use Rattle.wf_board.specs.Counting.{is_edited}
 use Rattle.trial_command.specs.declared.counts.Counts.{Counts}
 

@@ -5,7 +5,8 @@ use Rattle.wf_board.specs.Decided.{AreExact}
 use Rattle.wf_board.specs.Kept.{KeepsCompletable}
 use Rattle.wf_board.specs.States.{opening_state}
 use Rattle.wf_talk.specs.declared.entry.Entry.{Entry}
-use Rattle.wf_board.specs.Histories.{AreAnsweredOnce, AreRightful, FillsJobs, IsLegal, batch_end, batch_start, state_after}
+use Rattle.wf_board.specs.Histories.{AreAnsweredOnce, AreRightful, FillsJobs, IsLegal, batch_end}
+use Rattle.wf_board.specs.Histories.{batch_start, state_after}
 use Rattle.wf_lanes.specs.Turns.{AreByTurns}
 use Rattle.trial_maker.specs.TrialPolicy.{trial_policy}
 use Rattle.trial_maker.specs.Trials.{trial_ends, trial_jobs}
@@ -41,7 +42,8 @@ pub record IsServedTrial (seed : ℕ) (told : Told) : Type 0 where
   pub once : AreAnsweredOnce told.entries
   pub wants : AreRightful told.entries
   pub exact : AreExact (trial_policy seed) told.entries
-  pub kept : (n : ℕ) → KeepsCompletable (state_after (opening_state (trial_policy seed)) (take n told.entries))
+  pub kept : (n : ℕ) →
+      KeepsCompletable (state_after (opening_state (trial_policy seed)) (take n told.entries))
 
 -- the line for a seed, a number of jobs and counts of replies
 abbrev pub summary_line : ℕ → ℕ → Counts → List ℕ

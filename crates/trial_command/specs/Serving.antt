@@ -35,7 +35,8 @@ pub record HasServedBatch (before after : DeskShape) (batch : List Job) : Type 0
   pub done : IsDone after
 
 -- the jobs of the batches were served, from the first on
-pub record HasServedAll (before after : DeskShape) (jobs : List Job) (batch_ends : List ℕ) : Type 0 where
+pub record HasServedAll (before after : DeskShape) (jobs : List Job) (batch_ends : List ℕ) :
+    Type 0 where
   pub same : IsSameSession before after
   pub done : IsDone after
   pub fills : FillsJobs after.entries jobs batch_ends

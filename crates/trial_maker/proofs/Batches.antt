@@ -1,5 +1,6 @@
 -- What a caller may rest on of every trial.
-use Rattle.std.proofs.Common.{◌≡◌, ℕ, zero, suc, ◌+◌, ◌*◌, ◌-◌, ◌/◌, ◌%◌, ◌<◌, ◌≤◌, Bool, true, false, List, [], ◌∷◌, ◌++◌, map, length, slice_index_or, if◌then◌else◌, ◌⊎◌, inl, inr, nat_lt, refl, sym, ap, ◌∙◌, map-id, length-append, arith}
+use Rattle.std.proofs.Common.{◌≡◌, ℕ, zero, suc, ◌+◌, ◌*◌, ◌-◌, ◌/◌, ◌%◌, ◌<◌, ◌≤◌, Bool, true, false, List, [], ◌∷◌, ◌++◌, map, length, slice_index_or}
+use Rattle.std.proofs.Common.{if◌then◌else◌, ◌⊎◌, inl, inr, nat_lt, refl, sym, ap, ◌∙◌, map-id, length-append, arith}
 use Rattle.std.specs.List.{range_with_len}
 use Rattle.std.proofs.lemmas.List.{map-append, get_or_append_left}
 use Rattle.std.proofs.lemmas.List.Elements.{All-append, All-cons, All-nil}
@@ -16,7 +17,8 @@ use Rattle.trial_maker.specs.Trials.{Made, batch_ends, is_edited, job_count, ope
 use Rattle.trial_maker.proofs.Growing.{job_more, jobs_count}
 
 lines_more : (n : ℕ) → range_with_len 0 (n + 1) ≡ range_with_len 0 n ++ n ∷ []
-lines_more n = sym (map-id (range_with_len 0 (n + 1))) ∙ map-range_with_len_more (λ k. k) 0 n n (omega arith) ∙ ap (λ xs. xs ++ n ∷ []) (map-id (range_with_len 0 n))
+lines_more n = sym (map-id (range_with_len 0 (n + 1))) ∙ map-range_with_len_more (λ k. k) 0 n n (omega arith) ∙
+    ap (λ xs. xs ++ n ∷ []) (map-id (range_with_len 0 n))
 
 fits_none : AreTrialJobs []
 fits_none = record { lines = refl; lanes = All-nil (λ j. j.lane < 4) }
@@ -25,7 +27,8 @@ fits_more : (jobs : List Job) (lane : ℕ) (what : Request) → lane < 4 → Are
 fits_more jobs lane what low fits =
     let j : Job = record { lane = lane; line = length jobs; ask = ask.Request what } in
     record {
-      lines = map-append (λ j. j.line) jobs (j ∷ []) ∙ ap (λ xs. xs ++ length jobs ∷ []) fits.lines ∙ sym (ap (range_with_len 0) (job_more jobs lane what) ∙ lines_more (length jobs));
+      lines = map-append (λ j. j.line) jobs (j ∷ []) ∙ ap (λ xs. xs ++ length jobs ∷ []) fits.lines ∙
+          sym (ap (range_with_len 0) (job_more jobs lane what) ∙ lines_more (length jobs));
       lanes = All-append (λ j. j.lane < 4) jobs (j ∷ []) fits.lanes (All-cons (λ j. j.lane < 4) j [] low (All-nil (λ j. j.lane < 4)));
     }
 
@@ -95,7 +98,8 @@ module _ (first count : ℕ) where
   at_end k e = ap (λ n. slice_index_or (middle ++ count ∷ []) n 0) (e ∙ sym middle_length) ∙ get_or-append_seam middle count [] 0
 
   -- a batch behind the first ends within the jobs or with them
-  next_end : (k : ℕ) → k ≤ full → ((k < full) × (slice_index_or ends (suc k) 0 ≡ first + BATCH_LINE_LIMIT * suc k)) ⊎ ((k ≡ full) × (slice_index_or ends (suc k) 0 ≡ count))
+  next_end : (k : ℕ) → k ≤ full → ((k < full) × (slice_index_or ends (suc k) 0 ≡ first + BATCH_LINE_LIMIT * suc k)) ⊎
+      ((k ≡ full) × (slice_index_or ends (suc k) 0 ≡ count))
   next_end k few = elim (bool_cases (nat_lt k full)) [
     | inl below ↦ let lt = lt_back k full below in inl (lt, at (suc k) (omega arith))
     | inr past ↦ let last : k ≡ full = omega (arith, lt_back_no k full past) in inr (last, at_end k last)

@@ -1,5 +1,6 @@
 -- The workflow of a trial: its order has no cycle, no pair stands twice, and its rules name its steps.
-use Rattle.std.proofs.Common.{◌≡◌, ℕ, zero, suc, ◌+◌, ◌-◌, ◌%◌, ◌<◌, ◌≤◌, inl, inr, Bool, true, false, ◌||◌, List, [], ◌∷◌, ◌++◌, map, length, replicate, slice_index_or, Option, unwrap_or, ◌==◌, refl, sym, ap, subst, ◌∙◌, append_assoc, arith}
+use Rattle.std.proofs.Common.{◌≡◌, ℕ, zero, suc, ◌+◌, ◌-◌, ◌%◌, ◌<◌, ◌≤◌, inl, inr, Bool, true, false, ◌||◌, List, [], ◌∷◌, ◌++◌, map, length, replicate}
+use Rattle.std.proofs.Common.{slice_index_or, Option, unwrap_or, ◌==◌, refl, sym, ap, subst, ◌∙◌, append_assoc, arith}
 use Rattle.std.specs.List.{list_any, range_with_len}
 use Rattle.std.specs.Ordering.{eq_by_cmp}
 use Rattle.std.specs.FinSet as set
@@ -36,7 +37,8 @@ pub four_more : (rules : List Rule) (a b c d : Rule) → ((((rules ++ a ∷ []) 
 four_more rules a b c d = simp append_assoc refl
 
 -- what is in the set of the values of a function is one of them
-of_range : (f : ℕ → ℕ × ℕ) (a n : ℕ) (q : ℕ × ℕ) → set.contains {R = pair_cmp} (set.from_list (map f (range_with_len a n))) q ≡ true → (k : ℕ) × ((k < a + n) × (q ≡ f k))
+of_range : (f : ℕ → ℕ × ℕ) (a n : ℕ) (q : ℕ × ℕ) → set.contains {R = pair_cmp} (set.from_list (map f (range_with_len a n))) q ≡ true → (k : ℕ) ×
+    ((k < a + n) × (q ≡ f k))
 of_range f a zero q h = let none = set.contains-empty pair_cmp q in cc
 of_range f a (suc n) q h = elim (either_inserted pair_cmp_total pair_cmp-IsAntisymmetric (set.from_list (map f (range_with_len (a + 1) n))) (f a) q h) [
   | inl e ↦ (a, (omega arith, e))
@@ -168,7 +170,8 @@ some_sound = record {
 
 pairs_sound : (a n : ℕ) (rest : List Rule) → a + n ≤ 11 → AreSound rest → AreSound (map (λ k. Pair 1 k (k + 1)) (range_with_len a n) ++ rest)
 pairs_sound a zero rest few sound = sound
-pairs_sound a (suc n) rest few sound = sound_more (Pair 1 a (a + 1)) _ (pair_sound 1 a (a + 1) (omega arith) (omega arith) (omega arith)) (pairs_sound (a + 1) n rest (omega arith) sound)
+pairs_sound a (suc n) rest few sound =
+    sound_more (Pair 1 a (a + 1)) _ (pair_sound 1 a (a + 1) (omega arith) (omega arith) (omega arith)) (pairs_sound (a + 1) n rest (omega arith) sound)
 
 none_sound : AreSound []
 none_sound k r e = cc
@@ -185,6 +188,8 @@ trial_sound =
 pub rules_sound : AreSoundRules (length trial_flow.steps) 2 trial_rules
 rules_sound = subst (λ n. AreSoundRules n 2 trial_rules) (sym flow_steps) trial_sound
 
-pub sound_rules : (steps relations : ℕ) (rules : List Rule) → steps ≡ length trial_flow.steps → relations ≡ 2 → rules ≡ trial_rules → AreSoundRules steps relations rules
+pub sound_rules : (steps relations : ℕ) (rules : List Rule) → steps ≡ length trial_flow.steps → relations ≡ 2 → rules ≡ trial_rules →
+    AreSoundRules steps relations rules
 sound_rules steps relations rules e two is =
-    subst (AreSoundRules steps relations) (sym is) (subst (λ n. AreSoundRules steps n trial_rules) (sym two) (subst (λ n. AreSoundRules n 2 trial_rules) (sym e) rules_sound))
+    subst (AreSoundRules steps relations) (sym is)
+    (subst (λ n. AreSoundRules steps n trial_rules) (sym two) (subst (λ n. AreSoundRules n 2 trial_rules) (sym e) rules_sound))

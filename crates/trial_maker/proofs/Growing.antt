@@ -1,5 +1,6 @@
 -- What grows step by step: draws, memberships and jobs.
-use Rattle.std.proofs.Common.{◌≡◌, ℕ, zero, suc, ◌+◌, ◌*◌, ◌-◌, ◌/◌, ◌%◌, Bool, true, false, cond, List, [], ◌∷◌, ◌++◌, map, length, if◌then◌else◌, refl, sym, ap, ◌∙◌, add-one, length-append, arith}
+use Rattle.std.proofs.Common.{◌≡◌, ℕ, zero, suc, ◌+◌, ◌*◌, ◌-◌, ◌/◌, ◌%◌, Bool, true, false, cond, List, [], ◌∷◌, ◌++◌, map, length, if◌then◌else◌, refl, sym}
+use Rattle.std.proofs.Common.{ap, ◌∙◌, add-one, length-append, arith}
 use Rattle.std.specs.List.{range_with_len}
 use Rattle.std.specs.FinSet as set
 use Rattle.std.proofs.lemmas.List.FromFn.{map-range_with_len_more}
@@ -65,7 +66,11 @@ unfolding turn
 turn_count v c m =
     let u = turn_user v m.state in
     let claimed = with_job m.jobs (c % 4) (request.Claim c (step_name (step_of v)) (user_name u)) in
-    omega (arith, job_more m.jobs (c % 4) (request.Claim c (step_name (step_of v)) (user_name u)), job_more claimed (c % 4) (request.Finish c (step_name (step_of v)) (user_name u)))
+    omega (
+      arith,
+      job_more m.jobs (c % 4) (request.Claim c (step_name (step_of v)) (user_name u)),
+      job_more claimed (c % 4) (request.Finish c (step_name (step_of v)) (user_name u)),
+    )
 
 pub turns_count : (v c : ℕ) (m : Made) → length (turns v c m).jobs ≡ length m.jobs + 2 * c
 unfolding turns
@@ -106,10 +111,12 @@ rounds_count n zero m = omega arith
 rounds_count n (suc v) m = omega (arith, round_count n v (rounds n v m), rounds_count n v m, edit_more v (is_edited v) refl)
 
 -- the ends of batches within
-pub ends_more : (first b : ℕ) → map (λ b. first + BATCH_LINE_LIMIT * b) (range_with_len 1 (b + 1)) ≡ map (λ b. first + BATCH_LINE_LIMIT * b) (range_with_len 1 b) ++ (first + BATCH_LINE_LIMIT * (b + 1)) ∷ []
+pub ends_more : (first b : ℕ) → map (λ b. first + BATCH_LINE_LIMIT * b) (range_with_len 1 (b + 1)) ≡ map (λ b. first + BATCH_LINE_LIMIT * b)
+    (range_with_len 1 b) ++ (first + BATCH_LINE_LIMIT * (b + 1)) ∷ []
 ends_more first b = map-range_with_len_more (λ b. first + BATCH_LINE_LIMIT * b) 1 b (b + 1) (omega arith)
 
-pub ends_step : (before behind : List ℕ) (first b : ℕ) → behind ≡ before ++ (first + BATCH_LINE_LIMIT * (b + 1)) ∷ [] → before ≡ first ∷ map (λ b. first + BATCH_LINE_LIMIT * b) (range_with_len 1 b) → behind ≡ first ∷ map (λ b. first + BATCH_LINE_LIMIT * b) (range_with_len 1 (b + 1))
+pub ends_step : (before behind : List ℕ) (first b : ℕ) → behind ≡ before ++ (first + BATCH_LINE_LIMIT * (b + 1)) ∷ [] → before ≡ first ∷ map
+    (λ b. first + BATCH_LINE_LIMIT * b) (range_with_len 1 b) → behind ≡ first ∷ map (λ b. first + BATCH_LINE_LIMIT * b) (range_with_len 1 (b + 1))
 ends_step before behind first b pushed so_far =
     pushed ∙ ap (λ xs. xs ++ (first + BATCH_LINE_LIMIT * (b + 1)) ∷ []) so_far ∙ ap (λ xs. first ∷ xs) (sym (ends_more first b))
 

@@ -1,5 +1,6 @@
 -- The names of a trial are of a name's form, and differ where their numbers do.
-use Rattle.std.proofs.Common.{◌≡◌, ℕ, zero, suc, ◌+◌, ◌<◌, ◌/◌, ◌%◌, true, false, List, [], ◌∷◌, ◌++◌, map, IsTrue, nat_eq, is_some, length, codes, refl, ap, ◌∙◌, arith}
+use Rattle.std.proofs.Common.{◌≡◌, ℕ, zero, suc, ◌+◌, ◌<◌, ◌/◌, ◌%◌, true, false, List, [], ◌∷◌, ◌++◌, map, IsTrue, nat_eq, is_some, length, codes, refl, ap}
+use Rattle.std.proofs.Common.{◌∙◌, arith}
 use Rattle.std.specs.List.{range_with_len}
 use Rattle.std.specs.Cmp.Lexicographic.{pointwise}
 use Rattle.std.proofs.lemmas.Bool.Decides.{nat_tests}
@@ -42,7 +43,8 @@ two_differ : (m n : ℕ) → n < m → pointwise nat_eq (two_digits m) (two_digi
 two_differ m n lt = grind (arith, nat_tests)
 
 -- a name that differs from each of these is not among them
-not_among : (f : ℕ → List ℕ) (name : List ℕ) (a n : ℕ) → ((k : ℕ) → k < a + n → pointwise nat_eq name (f k) ≡ false) → is_some (place_of (map f (range_with_len a n)) name) ≡ false
+not_among : (f : ℕ → List ℕ) (name : List ℕ) (a n : ℕ) → ((k : ℕ) → k < a + n → pointwise nat_eq name (f k) ≡ false) →
+    is_some (place_of (map f (range_with_len a n)) name) ≡ false
 not_among f name a zero differ = refl
 not_among f name a (suc n) differ =
     let here = differ a (omega arith) in
@@ -86,5 +88,7 @@ chief_new : is_some (place_of (map role_name (range_with_len 0 5)) admin_name) �
 unfolding role_name
 chief_new = refl
 
-pub chief_fresh : (names : List (List ℕ)) (name : List ℕ) → names ≡ map role_name (range_with_len 0 5) → name ≡ admin_name → is_some (place_of names name) ≡ false
-chief_fresh names name first last = ap (λ xs. is_some (place_of xs name)) first ∙ ap (λ x. is_some (place_of (map role_name (range_with_len 0 5)) x)) last ∙ chief_new
+pub chief_fresh : (names : List (List ℕ)) (name : List ℕ) → names ≡ map role_name (range_with_len 0 5) → name ≡ admin_name →
+    is_some (place_of names name) ≡ false
+chief_fresh names name first last = ap (λ xs. is_some (place_of xs name)) first ∙ ap (λ x. is_some (place_of (map role_name (range_with_len 0 5)) x)) last ∙
+    chief_new

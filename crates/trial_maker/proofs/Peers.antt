@@ -1,5 +1,6 @@
 -- The pairs of peers among the first so many pairs of users.
-use Rattle.std.proofs.Common.{◌≡◌, ℕ, zero, suc, ◌+◌, ◌<◌, ◌≤◌, ◌/◌, ◌%◌, Bool, true, false, List, [], ◌∷◌, ◌++◌, map, if◌then◌else◌, cond, length, Some, refl, sym, ap, subst, ◌∙◌, add-one, append-nil, arith}
+use Rattle.std.proofs.Common.{◌≡◌, ℕ, zero, suc, ◌+◌, ◌<◌, ◌≤◌, ◌/◌, ◌%◌, Bool, true, false, List, [], ◌∷◌, ◌++◌, map, if◌then◌else◌, cond, length, Some, refl}
+use Rattle.std.proofs.Common.{sym, ap, subst, ◌∙◌, add-one, append-nil, arith}
 use Rattle.std.specs.List.{filter, range_with_len}
 use Rattle.std.specs.FinSet as set
 use Rattle.std.proofs.lemmas.List.FromFn.{filter_of_map_range_with_len_more}
@@ -27,7 +28,8 @@ pub peers_none : peers_among 0 ≡ set.empty
 unfolding peers_among peer_list
 peers_none = refl
 
-with_pair : (xs : List (ℕ × ℕ)) (p : ℕ × ℕ) (b : Bool) → set.from_list {R = pair_cmp} (xs ++ cond b (p ∷ []) []) ≡ (if b then set.insert (set.from_list xs) p else set.from_list xs)
+with_pair : (xs : List (ℕ × ℕ)) (p : ℕ × ℕ) (b : Bool) →
+    set.from_list {R = pair_cmp} (xs ++ cond b (p ∷ []) []) ≡ (if b then set.insert (set.from_list xs) p else set.from_list xs)
 with_pair xs p true = set.from_list_push pair_cmp_total pair_cmp-IsAntisymmetric xs p
 with_pair xs p false = ap set.from_list (append-nil xs)
 
@@ -69,7 +71,8 @@ among_below zero few = subst (AreBelow 60) (sym peers_none) (all_empty _)
 among_below (suc n) few =
     let P : ℕ → Type 0 = λ k. AreBelow 60 (peers_among k) in
     let within : (n / 60 < 60) × (n % 60 < 60) = (omega arith, omega arith) in
-    subst P (add-one n) (subst (AreBelow 60) (sym (peers_more n)) (insert_below (peers_among n) (n / 60) (n % 60) (are_peers (n / 60) (n % 60)) within (among_below n (omega arith))))
+    subst P (add-one n) (subst (AreBelow 60) (sym (peers_more n))
+    (insert_below (peers_among n) (n / 60) (n % 60) (are_peers (n / 60) (n % 60)) within (among_below n (omega arith))))
 
 pub peers_below : AreBelow 60 peers
 peers_below = subst (AreBelow 60) peers_all (among_below 3600 (omega arith))

@@ -1,4 +1,5 @@
--- The draws of a generator of numbers. Its state is a number below 2 ^ 64, and a seed is the first state.
+-- The draws of a generator of numbers. Its state is a number below 2 ^ 64, and a seed is the first
+-- state.
 use Rattle.std.specs.Prelude.{ℕ, zero, suc, ◌+◌, ◌*◌, ◌/◌, ◌%◌, ◌^◌}
 
 -- the state after a draw

@@ -1,5 +1,6 @@
 -- The policy of a trial: 60 users in ten teams of six, six roles, and one workflow of twelve steps.
-use Rattle.std.specs.Prelude.{ℕ, zero, suc, ◌+◌, ◌/◌, ◌%◌, Bool, true, false, not, ◌&&◌, ◌==◌, List, [], ◌∷◌, ◌++◌, map, codes, slice_set}
+use Rattle.std.specs.Prelude.{ℕ, zero, suc, ◌+◌, ◌/◌, ◌%◌, Bool, true, false, not, ◌&&◌, ◌==◌, List}
+use Rattle.std.specs.Prelude.{[], ◌∷◌, ◌++◌, map, codes, slice_set}
 use Rattle.std.specs.List.{filter, range_with_len}
 use Rattle.std.specs.FinSet as set
 use Rattle.pair_set.specs.Pairs.{Pairs}
@@ -13,10 +14,12 @@ use Rattle.policy_book.specs.Shapes.{PolicyShape}
 use Rattle.trial_maker.specs.Draws.{after, below}
 use Rattle.trial_maker.specs.TrialNames.{user_name, step_name, role_name, admin_name, flow_name}
 
--- who has which role among the first so many users: the user i has the role i mod 5, and one of the first five that is drawn
+-- who has which role among the first so many users: the user i has the role i mod 5, and one of the
+-- first five that is drawn
 unfoldable pub drawn_members : ℕ → ℕ → Pairs
 drawn_members seed zero = set.empty
-drawn_members seed (suc i) = set.insert (set.insert (drawn_members seed i) (i, i % 5)) (i, below 5 (after i seed))
+drawn_members seed (suc i) =
+    set.insert (set.insert (drawn_members seed i) (i, i % 5)) (i, below 5 (after i seed))
 
 -- the users and roles; the user 0 is an administrator too
 unfoldable pub trial_roster : ℕ → RosterShape
@@ -41,7 +44,11 @@ peers = set.from_list (filter (λ p. are_peers p.0 p.1) user_pairs)
 -- the relations: `apart`, with the number 2, holds wherever `peer`, with the number 3, does not
 unfoldable pub trial_relations : List RelationShape
 trial_relations =
-    record { name = codes "apart"; kind = complement 3 } ∷ record { name = codes "peer"; kind = listed peers } ∷ []
+    record { name = codes "apart"; kind = complement 3 } ∷ record {
+      name = codes "peer";
+      kind =
+          listed peers;
+    } ∷ []
 
 -- the workflow: twelve steps, each before the next; the step k is permitted for the role k mod 5
 unfoldable pub trial_flow : FlowShape

@@ -1,5 +1,6 @@
 -- The jobs of a trial: cases are opened, and then they have their turns at each step.
-use Rattle.std.specs.Prelude.{ℕ, zero, suc, ◌+◌, ◌*◌, ◌-◌, ◌/◌, ◌%◌, Bool, ◌&&◌, ◌==◌, nat_lt, List, [], ◌∷◌, ◌++◌, map, length, if◌then◌else◌}
+use Rattle.std.specs.Prelude.{ℕ, zero, suc, ◌+◌, ◌*◌, ◌-◌, ◌/◌, ◌%◌, Bool, ◌&&◌, ◌==◌, nat_lt, List}
+use Rattle.std.specs.Prelude.{[], ◌∷◌, ◌++◌, map, length, if◌then◌else◌}
 use Rattle.std.specs.List.{range_with_len}
 use Rattle.wf_names.specs.declared.limits.TheConstants.{BATCH_LINE_LIMIT}
 use Rattle.wf_talk.specs.declared.edit.Edit.TheVariants as change
@@ -17,7 +18,8 @@ pub record Made : Type 0 where
 
 -- one more job for a lane, on the next line
 abbrev pub with_job : List Job → ℕ → Request → List Job
-with_job jobs lane what = jobs ++ record { lane = lane; line = length jobs; ask = ask.Request what } ∷ []
+with_job jobs lane what =
+    jobs ++ record { lane = lane; line = length jobs; ask = ask.Request what } ∷ []
 
 -- so many cases are opened
 unfoldable pub openings : ℕ → List Job
@@ -41,7 +43,8 @@ with_turn v c u jobs =
 
 -- the turn of the case c in the round v
 unfoldable pub turn : ℕ → ℕ → Made → Made
-turn v c m = record { state = next_state m.state; jobs = with_turn v c (turn_user v m.state) m.jobs }
+turn v c m =
+    record { state = next_state m.state; jobs = with_turn v c (turn_user v m.state) m.jobs }
 
 -- the turns of the first so many cases in the round v
 unfoldable pub turns : ℕ → ℕ → Made → Made
@@ -56,7 +59,8 @@ is_edited v = nat_lt 0 v && (v % 4 == 0)
 unfoldable pub with_edit : Made → Made
 with_edit m = record {
   state = next_state m.state;
-  jobs = with_job m.jobs 0 (request.Change (user_name 0) (change.Dismiss (role_name (below 60 m.state % 5)) (user_name (below 60 m.state))));
+  jobs = with_job m.jobs 0 (request.Change (user_name 0)
+      (change.Dismiss (role_name (below 60 m.state % 5)) (user_name (below 60 m.state))));
 }
 
 -- the round v with n cases
@@ -79,7 +83,8 @@ job_count n = n + 48 * n + 5
 -- the ends of batches, of which the first has `first` jobs: then at each 1,024 jobs and at the end
 unfoldable pub batch_ends : ℕ → ℕ → List ℕ
 batch_ends first count =
-    first ∷ map (λ b. first + BATCH_LINE_LIMIT * b) (range_with_len 1 ((count - first - 1) / BATCH_LINE_LIMIT)) ++ count ∷ []
+    first ∷ map (λ b. first + BATCH_LINE_LIMIT * b)
+    (range_with_len 1 ((count - first - 1) / BATCH_LINE_LIMIT)) ++ count ∷ []
 
 -- the ends of batches for n cases, of which the first has the openings
 abbrev pub trial_ends : ℕ → List ℕ

@@ -1,7 +1,8 @@
 //! The jobs of a trial, and the ends of their batches.
 ghost use Rattle.std.specs.Prelude.{◌≡◌, ◌≤◌, ◌<◌, ◌+◌, ◌*◌, ◌^◌, length, IfOk, OnOk};
 ghost use Rattle.trial_maker.specs.Draws.{next_state};
-ghost use Rattle.trial_maker.specs.Trials.{batch_ends, openings, rounds, turn, turn_user, turns, with_edit, with_job, with_round, with_turn};
+ghost use Rattle.trial_maker.specs.Trials.{batch_ends, openings, rounds, turn, turn_user, turns};
+ghost use Rattle.trial_maker.specs.Trials.{with_edit, with_job, with_round, with_turn};
 
 use crate::draws::Generator;
 use crate::named::{named, role_name, step_name, user_name};

@@ -1,5 +1,6 @@
 //! The names in a trial.
-ghost use Rattle.std.specs.Prelude.{◌≡◌, ◌<◌, ◌∷◌, [], ◌++◌, length, is_some, true, false, IsTrue, OnOk};
+ghost use Rattle.std.specs.Prelude.{◌≡◌, ◌<◌, ◌∷◌, [], ◌++◌, length, is_some, true, false, IsTrue};
+ghost use Rattle.std.specs.Prelude.{OnOk};
 ghost use Rattle.wf_names.specs.Names.{is_letter, is_name};
 ghost use Rattle.wf_names.specs.Table.{place_of};
 ghost use Rattle.trial_maker.specs.TrialNames.{role_name, step_name, two_digits, user_name};

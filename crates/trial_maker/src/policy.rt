@@ -1,7 +1,8 @@
 //! The policy of a trial.
 ghost use Rattle.std.specs.Prelude.{◌≡◌, ◌∷◌, [], false, length, IfOk, OnOk};
 ghost use Rattle.trial_maker.specs.Draws.{after};
-ghost use Rattle.trial_maker.specs.TrialPolicy.{trial_flow, trial_policy, trial_relations, trial_roster, trial_rules};
+ghost use Rattle.trial_maker.specs.TrialPolicy.{trial_flow, trial_policy, trial_relations};
+ghost use Rattle.trial_maker.specs.TrialPolicy.{trial_roster, trial_rules};
 ghost use Rattle.trial_maker.specs.TrialNames.{flow_name};
 
 use crate::draws::Generator;

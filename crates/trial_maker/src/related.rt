@@ -1,7 +1,9 @@
 //! The relations of a trial.
-ghost use Rattle.std.specs.Prelude.{◌≡◌, ◌≤◌, ◌<◌, ◌+◌, ◌∷◌, [], ◌++◌, length, is_some, false, if◌then◌else◌, IfOk, OnOk};
+ghost use Rattle.std.specs.Prelude.{◌≡◌, ◌≤◌, ◌<◌, ◌+◌, ◌∷◌, [], ◌++◌, length, is_some, false};
+ghost use Rattle.std.specs.Prelude.{if◌then◌else◌, IfOk, OnOk};
 ghost use Rattle.std.specs.FinSet as set;
-ghost use Rattle.wf_names.specs.declared.limits.TheConstants.{PAIR_LIMIT, RELATION_LIMIT, USER_LIMIT};
+ghost use Rattle.wf_names.specs.declared.limits.TheConstants.{PAIR_LIMIT, RELATION_LIMIT};
+ghost use Rattle.wf_names.specs.declared.limits.TheConstants.{USER_LIMIT};
 ghost use Rattle.wf_names.specs.Table.{place_of};
 ghost use Rattle.pair_set.specs.Pairs.{AllPairs};
 ghost use Rattle.user_relations.specs.Relations.{known_names, listed};

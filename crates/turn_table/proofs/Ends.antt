@@ -1,5 +1,6 @@
 -- The rule of a turn table holds at the start, and what it says at the end.
-use Rattle.std.proofs.Common.{◌≡◌, ◌≢◌, ℕ, zero, suc, ◌<◌, true, List, [], ◌∷◌, ◌++◌, slice_index, sym, refl, ap, ◌∙◌, subst, inl, inr, ⊎_elim, arith, Option, Some, None}
+use Rattle.std.proofs.Common.{◌≡◌, ◌≢◌, ℕ, zero, suc, ◌<◌, true, List, [], ◌∷◌, ◌++◌, slice_index, sym, refl, ap, ◌∙◌, subst, inl, inr, ⊎_elim, arith, Option}
+use Rattle.std.proofs.Common.{Some, None}
 use Rattle.std.specs.List.{Contains}
 use Rattle.std.proofs.lemmas.List.{append-nil}
 use mathlib.Core.Option as maybe
@@ -33,7 +34,8 @@ module _ {D G I : Type 0} (fixed_part : D → G) (list : D → List (ℕ × I)) 
       numbers = λ n h. ⊎_elim (λ mine. cc) (λ c. absurd (contains_none n c)) h;
     }
 
-    alone : (seat : ℕ) (v : View G I) → get_elem? (front ∷ []) seat ≡ some v → v.live ≡ true → Fits (fixed_part x) (list x) (list x) lanes 0 0 0 0 (λ _. 0) seat v
+    alone : (seat : ℕ) (v : View G I) → get_elem? (front ∷ []) seat ≡ some v → v.live ≡ true →
+        Fits (fixed_part x) (list x) (list x) lanes 0 0 0 0 (λ _. 0) seat v
     alone zero v e live = subst (Fits (fixed_part x) (list x) (list x) lanes 0 0 0 0 (λ _. 0) 0) (some-injective front v e) first_fits
     alone (suc j) v e live = absurd (some-ne-none v (sym e))
 
@@ -56,7 +58,9 @@ module _ {D G I : Type 0} (fixed_part : D → G) (list : D → List (ℕ × I)) 
       },
     )
 
-  module _ (g : G) (begin : List (ℕ × I)) (lanes word : ℕ) (homes : List (maybe.Option (Option D))) (views : List (View G I)) (k : Kept fixed_part list g begin lanes word homes views) (id : ℕ) (v : View G I) (at : get_elem? views id ≡ some v) (live : v.live ≡ true) (idle : v.hold ≡ Free) (first : v.number ≡ None) (all : (n : ℕ) → n < v.made → Contains v.joined n) where
+  module _ (g : G) (begin : List (ℕ × I)) (lanes word : ℕ) (homes : List (maybe.Option (Option D))) (views : List (View G I))
+      (k : Kept fixed_part list g begin lanes word homes views) (id : ℕ) (v : View G I) (at : get_elem? views id ≡ some v) (live : v.live ≡ true)
+      (idle : v.hold ≡ Free) (first : v.number ≡ None) (all : (n : ℕ) → n < v.made → Contains v.joined n) where
     -- every number made stands at the first seat
     here : (n : ℕ) → n < k.made → k.owner n ≡ id
     here n lt = let p = k.each_seat id v at live in let made = (p.unnumbered first).1 in (p.numbers n (inr (all n (omega arith)))).1
@@ -68,7 +72,8 @@ module _ {D G I : Type 0} (fixed_part : D → G) (list : D → List (ℕ × I)) 
         let u = t.0 in
         let p = k.each_seat id v at live in
         let f = k.each_seat k.holder u t.1 t.2 in
-        let where_is : (o : Option ℕ) → u.number ≡ o → k.holder ≡ id = elim [ None ↦ λ e. (f.unnumbered e).0 ∙ sym (p.unnumbered first).0 | Some n ↦ λ e. let h = f.numbers n (inl e) in sym h.1 ∙ here n h.0 ] in
+        let where_is : (o : Option ℕ) → u.number ≡ o → k.holder ≡ id =
+        elim [ None ↦ λ e. (f.unnumbered e).0 ∙ sym (p.unnumbered first).0 | Some n ↦ λ e. let h = f.numbers n (inl e) in sym h.1 ∙ here n h.0 ] in
         let same : u ≡ v = some-injective u v (sym t.1 ∙ (ap (get_elem? views) (where_is u.number refl) ∙ at)) in
         busy (sym t.3 ∙ (ap (λ (y : View G I). word_of y.hold) same ∙ ap word_of idle))
 
@@ -89,7 +94,8 @@ module _ {D G I : Type 0} (fixed_part : D → G) (list : D → List (ℕ × I)) 
         let t = k.free (dite (ℕ_discrete word 0) (λ e. e) (λ ne. absurd (unlocked ne))) in
         (t.0, t.1, ap Some t.2 ∙ sym p.fixed, t.3 ∙ nothing_past)
 
-  pub closes : (g : G) (begin : List (ℕ × I)) (lanes id : ℕ) (v : View G I) (words : List ℕ) (slots : List (Option D)) → v.live ≡ true → v.hold ≡ Free → v.number ≡ None → ((n : ℕ) → n < v.made → Contains v.joined n)
+  pub closes : (g : G) (begin : List (ℕ × I)) (lanes id : ℕ) (v : View G I) (words : List ℕ) (slots : List (Option D)) → v.live ≡ true → v.hold ≡ Free →
+      v.number ≡ None → ((n : ℕ) → n < v.made → Contains v.joined n)
       → Final (Seen (TurnRule fixed_part list g begin lanes) id v) words slots
       → (x : D) × (get_elem? slots 0 ≡ some (Some x)) × (Some (fixed_part x) ≡ v.fixed) × (list x ≡ v.seen)
   closes g begin lanes id v words slots live idle first all f =

@@ -1,5 +1,6 @@
 -- Each step on the word keeps the rule of a turn table.
-use Rattle.std.proofs.Common.{◌≡◌, ◌≢◌, ℕ, ◌<◌, ◌≤◌, eqb, true, List, [], ◌∷◌, ◌++◌, length, drop, slice_index, set, sym, refl, ap, ◌∙◌, subst, inl, arith, length-set, get_or-set_same, eq-eqb, ne_eqb, Option, Some, None}
+use Rattle.std.proofs.Common.{◌≡◌, ◌≢◌, ℕ, ◌<◌, ◌≤◌, eqb, true, List, [], ◌∷◌, ◌++◌, length, drop, slice_index, set, sym, refl, ap, ◌∙◌, subst, inl, arith}
+use Rattle.std.proofs.Common.{length-set, get_or-set_same, eq-eqb, ne_eqb, Option, Some, None}
 use mathlib.Core.Option as maybe
 use mathlib.Core.Option.{none, some}
 use mathlib.Core.Logic.{dite}
@@ -27,29 +28,46 @@ module _ {D G I : Type 0} (fixed_part : D → G) (list : D → List (ℕ × I)) 
   Keeps = Kept fixed_part list g opening lanes
 
   -- the rule after a step that leaves b in the word
-  rule_at : (words : List ℕ) (homes : List (maybe.Option (Option D))) (views : List (View G I)) (b : ℕ) → length words ≡ 1 → Keeps b homes views → Rule record { words = set words 0 b; homes = homes; views = views }
+  rule_at : (words : List ℕ) (homes : List (maybe.Option (Option D))) (views : List (View G I)) (b : ℕ) → length words ≡ 1 → Keeps b homes views →
+      Rule record { words = set words 0 b; homes = homes; views = views }
   rule_at words homes views b one k = (length-set words 0 b ∙ one, subst (λ (n : ℕ). Keeps n homes views) (sym (get_or-set_same words 0 b 0 (omega arith))) k)
 
   -- a step that changes nothing
-  unmoved : (s : St) (id : ℕ) (me : Me (Option D) (View G I)) → Rule s → get_elem? s.views id ≡ some me.0 → Rule (stepped s 0 (slice_index s.words 0) id me.1 me.0 keeps)
-  unmoved s id me r at = subst (λ (z : List ℕ × List (View G I)). Rule record { words = z.0; homes = s.homes; views = z.1 }) (λ i. (sym (set-get_or s.words 0 0) i, sym (set_again s.views id me.0 at) i)) r
+  unmoved : (s : St) (id : ℕ) (me : Me (Option D) (View G I)) → Rule s → get_elem? s.views id ≡ some me.0 →
+      Rule (stepped s 0 (slice_index s.words 0) id me.1 me.0 keeps)
+  unmoved s id me r at = subst (λ (z : List ℕ × List (View G I)). Rule record { words = z.0; homes = s.homes; views = z.1 })
+      (λ i. (sym (set-get_or s.words 0 0) i, sym (set_again s.views id me.0 at) i)) r
 
   module _ (now : List (ℕ × I)) (made first : ℕ) (owner : ℕ → ℕ) where
     -- a seat's fact where the lock changes hands
     reheld : (word word' holder holder' seat : ℕ) (v : View G I) → Fits g opening now lanes made word first holder owner seat v
         → (word_of v.hold ≢ 0 → (word_of v.hold ≡ word') × (seat ≡ holder') × (v.seen ≡ now)) → Fits g opening now lanes made word' first holder' owner seat v
-    reheld word word' holder holder' seat v p h = record { fixed = p.fixed; opens = p.opens; limit = p.limit; begins = p.begins; holds = h; quiet = p.quiet; told = p.told; own = p.own; unnumbered = p.unnumbered; numbers = p.numbers }
+    reheld word word' holder holder' seat v p h = record {
+      fixed = p.fixed;
+      opens = p.opens;
+      limit = p.limit;
+      begins = p.begins;
+      holds = h;
+      quiet =
+          p.quiet;
+      told = p.told;
+      own = p.own;
+      unnumbered = p.unnumbered;
+      numbers = p.numbers;
+    }
 
   -- The lock
 
-  module _ (homes : List (maybe.Option (Option D))) (views : List (View G I)) (k : Keeps 0 homes views) (id : ℕ) (v : View G I) (at : get_elem? views id ≡ some v) (live : v.live ≡ true) (xs : List (ℕ × I)) (is : xs ≡ k.now) where
+  module _ (homes : List (maybe.Option (Option D))) (views : List (View G I)) (k : Keeps 0 homes views) (id : ℕ) (v : View G I)
+      (at : get_elem? views id ≡ some v) (live : v.live ≡ true) (xs : List (ℕ × I)) (is : xs ≡ k.now) where
     entered : Keeps 1 (set homes 0 none) (set views id (entering v xs))
     entered =
         let w = entering v xs in
         let p = k.each_seat id v at live in
         let q = p.quiet in
         let grows : xs ≡ v.seen ++ q.0 = is ∙ q.1 in
-        let one = still (λ u. (u.live ≡ true) × (u.number ≡ None)) views id v w at (λ h. h) k.first (k.has_first.0, k.has_first.1, (k.has_first.2, k.has_first.3)) in record {
+        let one = still (λ u. (u.live ≡ true) × (u.number ≡ None)) views id v w at (λ h. h) k.first
+        (k.has_first.0, k.has_first.1, (k.has_first.2, k.has_first.3)) in record {
           now = k.now;
           made = k.made;
           first = k.first;
@@ -60,7 +78,8 @@ module _ {D G I : Type 0} (fixed_part : D → G) (list : D → List (ℕ × I)) 
           unmade = k.unmade;
           enough = k.enough;
           has_first = (one.0, one.1, one.2.0, one.2.1);
-          seated = λ n lt. let t = k.seated n lt in let r = still (λ u. (u.live ≡ true) × StandsIn n u) views id v w at (λ h. h) (k.owner n) (t.0, t.1, (t.2, t.3)) in (r.0, r.1, r.2.0, r.2.1);
+          seated = λ n lt. let t = k.seated n lt in let r =
+              still (λ u. (u.live ≡ true) × StandsIn n u) views id v w at (λ h. h) (k.owner n) (t.0, t.1, (t.2, t.3)) in (r.0, r.1, r.2.0, r.2.1);
           each_seat = seats (λ j u. u.live ≡ true → Fits g opening k.now lanes k.made 1 k.first id k.owner j u) views id w
               (λ _. record {
                 fixed = p.fixed;
@@ -75,10 +94,12 @@ module _ {D G I : Type 0} (fixed_part : D → G) (list : D → List (ℕ × I)) 
                 unnumbered = p.unnumbered;
                 numbers = p.numbers;
               })
-              (λ j u ne there alive. let f = k.each_seat j u there alive in reheld k.now k.made k.first k.owner 0 1 k.holder id j u f (λ h. absurd (h (f.holds h).0)));
+              (λ j u ne there alive. let f = k.each_seat j u there alive in
+              reheld k.now k.made k.first k.owner 0 1 k.holder id j u f (λ h. absurd (h (f.holds h).0)));
         }
 
-  pub locks : (slots id : ℕ) (me : Me (Option D) (View G I)) → me.0.live ≡ true → Allows Rule slots id me 0 (λ n. either (eqb n 0) 1 n) (locked fixed_part list (step slots 0 0 1 none) me)
+  pub locks : (slots id : ℕ) (me : Me (Option D) (View G I)) → me.0.live ≡ true →
+      Allows Rule slots id me 0 (λ n. either (eqb n 0) 1 n) (locked fixed_part list (step slots 0 0 1 none) me)
   locks slots id me live s r _ at _ =
       let word = slice_index s.words 0 in dite (ℕ_discrete word 0)
       (λ hit.
@@ -91,7 +112,8 @@ module _ {D G I : Type 0} (fixed_part : D → G) (list : D → List (ℕ × I)) 
         w,
         takes 0 (Some x),
         f.1,
-        subst (λ b. Rule (stepped s 0 (either b 1 word) id me.1 w (takes 0 (Some x)))) (sym (eq-eqb word 0 hit)) (rule_at s.words _ _ 1 r.0 (entered s.homes s.views k id me.0 at live (list x) f.3)),
+        subst (λ b. Rule (stepped s 0 (either b 1 word) id me.1 w (takes 0 (Some x)))) (sym (eq-eqb word 0 hit))
+            (rule_at s.words _ _ 1 r.0 (entered s.homes s.views k id me.0 at live (list x) f.3)),
         ((λ _. (x, refl, ap Some f.2 ∙ sym p.fixed, (q.0, f.3 ∙ q.1, λ n mine. q.2 n (p.numbers n (inl mine))))), λ not. absurd (not hit)),
       ))
       (λ miss. (
@@ -104,7 +126,9 @@ module _ {D G I : Type 0} (fixed_part : D → G) (list : D → List (ℕ × I)) 
 
   -- The note
 
-  module _ (homes : List (maybe.Option (Option D))) (views : List (View G I)) (k : Keeps 1 homes views) (id : ℕ) (v : View G I) (at : get_elem? views id ≡ some v) (live : v.live ≡ true) (holds : v.hold ≡ Held) (n : ℕ) (numbered : v.number ≡ Some n) (xs : List (ℕ × I)) (grows : GrowsByOne n xs v.seen) where
+  module _ (homes : List (maybe.Option (Option D))) (views : List (View G I)) (k : Keeps 1 homes views) (id : ℕ) (v : View G I)
+      (at : get_elem? views id ≡ some v) (live : v.live ≡ true) (holds : v.hold ≡ Held) (n : ℕ) (numbered : v.number ≡ Some n) (xs : List (ℕ × I))
+      (grows : GrowsByOne n xs v.seen) where
     written_down : Keeps 2 homes (set views id (noting v xs))
     written_down =
         let w = noting v xs in
@@ -116,7 +140,8 @@ module _ {D G I : Type 0} (fixed_part : D → G) (list : D → List (ℕ × I)) 
         let gr = grown n xs v.seen grows in
         let new = gr.0 in
         let longer_now : xs ≡ k.now ++ new = gr.1 ∙ ap (λ l. l ++ new) whole in
-        let first_still = still (λ u. (u.live ≡ true) × (u.number ≡ None)) views id v w at (λ h. h) k.first (k.has_first.0, k.has_first.1, (k.has_first.2, k.has_first.3)) in record {
+        let first_still = still (λ u. (u.live ≡ true) × (u.number ≡ None)) views id v w at (λ h. h) k.first
+        (k.has_first.0, k.has_first.1, (k.has_first.2, k.has_first.3)) in record {
           now = xs;
           made = k.made;
           first = k.first;
@@ -124,10 +149,12 @@ module _ {D G I : Type 0} (fixed_part : D → G) (list : D → List (ℕ × I)) 
           owner = k.owner;
           free = λ e. absurd (omega arith);
           held = λ _. (w, set_here views id w (there_below views id v at), live, refl);
-          unmade = subst (λ l. Quiet (λ m. k.made ≤ m) l opening) (sym longer_now) (quiet_more _ k.now opening new k.unmade (λ m le. gr.4 m (λ e. omega (arith, n_here.0))));
+          unmade = subst (λ l. Quiet (λ m. k.made ≤ m) l opening) (sym longer_now)
+              (quiet_more _ k.now opening new k.unmade (λ m le. gr.4 m (λ e. omega (arith, n_here.0))));
           enough = k.enough;
           has_first = (first_still.0, first_still.1, first_still.2.0, first_still.2.1);
-          seated = λ m lt. let t = k.seated m lt in let r = still (λ u. (u.live ≡ true) × StandsIn m u) views id v w at (λ h. h) (k.owner m) (t.0, t.1, (t.2, t.3)) in (r.0, r.1, r.2.0, r.2.1);
+          seated = λ m lt. let t = k.seated m lt in let r =
+              still (λ u. (u.live ≡ true) × StandsIn m u) views id v w at (λ h. h) (k.owner m) (t.0, t.1, (t.2, t.3)) in (r.0, r.1, r.2.0, r.2.1);
           each_seat = seats (λ j u. u.live ≡ true → Fits g opening xs lanes k.made 2 k.first id k.owner j u) views id w
               (λ _. record {
                 fixed = p.fixed;
@@ -162,7 +189,8 @@ module _ {D G I : Type 0} (fixed_part : D → G) (list : D → List (ℕ × I)) 
               });
         }
 
-  pub notes : (slots id : ℕ) (me : Me (Option D) (View G I)) (y : D) (n : ℕ) → me.0.live ≡ true → me.0.hold ≡ Held → me.0.number ≡ Some n → GrowsByOne n (list y) me.0.seen
+  pub notes : (slots id : ℕ) (me : Me (Option D) (View G I)) (y : D) (n : ℕ) → me.0.live ≡ true → me.0.hold ≡ Held → me.0.number ≡ Some n →
+      GrowsByOne n (list y) me.0.seen
       → Allows Rule slots id me 0 (λ n. either (eqb n 1) 2 n) (noted list (step slots 0 1 2 (some (Some y))) me)
   notes slots id me y n live holds numbered grows s r _ at _ =
       let word = slice_index s.words 0 in
@@ -174,20 +202,24 @@ module _ {D G I : Type 0} (fixed_part : D → G) (list : D → List (ℕ × I)) 
         w,
         keeps,
         tt,
-        subst (λ b. Rule (stepped s 0 (either b 2 word) id me.1 w keeps)) (sym (eq-eqb word 1 is)) (rule_at s.words _ _ 2 r.0 (written_down s.homes s.views k id me.0 at live holds n numbered (list y) grows)),
+        subst (λ b. Rule (stepped s 0 (either b 2 word) id me.1 w keeps)) (sym (eq-eqb word 1 is))
+            (rule_at s.words _ _ 2 r.0 (written_down s.homes s.views k id me.0 at live holds n numbered (list y) grows)),
         λ x said. let same : y ≡ x = (cc) in ap (λ z. (noting me.0 (list z), me.1)) same,
       )
 
   -- The unlock
 
-  module _ (homes : List (maybe.Option (Option D))) (views : List (View G I)) (k : Keeps 2 homes views) (id : ℕ) (v : View G I) (at : get_elem? views id ≡ some v) (live : v.live ≡ true) (holds : v.hold ≡ Noted) (y : D) (fixed : fixed_part y ≡ g) (whole : list y ≡ v.seen) (one_slot : length homes ≡ 1) where
+  module _ (homes : List (maybe.Option (Option D))) (views : List (View G I)) (k : Keeps 2 homes views) (id : ℕ) (v : View G I)
+      (at : get_elem? views id ≡ some v) (live : v.live ≡ true) (holds : v.hold ≡ Noted) (y : D) (fixed : fixed_part y ≡ g) (whole : list y ≡ v.seen)
+      (one_slot : length homes ≡ 1) where
     given_back : Keeps 0 (set homes 0 (some (Some y))) (set views id (leaving v))
     given_back =
         let w = leaving v in
         let p = k.each_seat id v at live in
         let two : word_of v.hold ≢ 0 = subst (λ h. word_of h ≢ 0) (sym holds) (λ e. omega arith) in
         let h = p.holds two in
-        let first_still = still (λ u. (u.live ≡ true) × (u.number ≡ None)) views id v w at (λ h. h) k.first (k.has_first.0, k.has_first.1, (k.has_first.2, k.has_first.3)) in record {
+        let first_still = still (λ u. (u.live ≡ true) × (u.number ≡ None)) views id v w at (λ h. h) k.first
+        (k.has_first.0, k.has_first.1, (k.has_first.2, k.has_first.3)) in record {
           now = k.now;
           made = k.made;
           first = k.first;
@@ -198,15 +230,31 @@ module _ {D G I : Type 0} (fixed_part : D → G) (list : D → List (ℕ × I)) 
           unmade = k.unmade;
           enough = k.enough;
           has_first = (first_still.0, first_still.1, first_still.2.0, first_still.2.1);
-          seated = λ m lt. let t = k.seated m lt in let r = still (λ u. (u.live ≡ true) × StandsIn m u) views id v w at (λ h. h) (k.owner m) (t.0, t.1, (t.2, t.3)) in (r.0, r.1, r.2.0, r.2.1);
+          seated = λ m lt. let t = k.seated m lt in let r =
+              still (λ u. (u.live ≡ true) × StandsIn m u) views id v w at (λ h. h) (k.owner m) (t.0, t.1, (t.2, t.3)) in (r.0, r.1, r.2.0, r.2.1);
           each_seat = seats (λ j u. u.live ≡ true → Fits g opening k.now lanes k.made 0 k.first k.holder k.owner j u) views id w
-              (λ _. record { fixed = p.fixed; opens = p.opens; limit = p.limit; begins = p.begins; holds = λ not. absurd (not refl); quiet = p.quiet; told = p.told; own = p.own; unnumbered = p.unnumbered; numbers = p.numbers })
-              (λ j u ne there alive. let f = k.each_seat j u there alive in reheld k.now k.made k.first k.owner 2 0 k.holder k.holder j u f (λ b. absurd (ne ((f.holds b).1 ∙ sym h.1))));
+              (λ _. record {
+                fixed = p.fixed;
+                opens = p.opens;
+                limit = p.limit;
+                begins = p.begins;
+                holds = λ not. absurd (not refl);
+                quiet = p.quiet;
+                told =
+                    p.told;
+                own = p.own;
+                unnumbered = p.unnumbered;
+                numbers = p.numbers;
+              })
+              (λ j u ne there alive. let f = k.each_seat j u there alive in
+              reheld k.now k.made k.first k.owner 2 0 k.holder k.holder j u f (λ b. absurd (ne ((f.holds b).1 ∙ sym h.1))));
         }
 
-  pub unlocks : (slots id : ℕ) (me : Me (Option D) (View G I)) (v : View G I) (y : D) → me ≡ (v, (0, Some y) ∷ []) → slots ≡ 1 → v.live ≡ true → v.hold ≡ Noted → Some (fixed_part y) ≡ v.fixed → list y ≡ v.seen
+  pub unlocks : (slots id : ℕ) (me : Me (Option D) (View G I)) (v : View G I) (y : D) → me ≡ (v, (0, Some y) ∷ []) → slots ≡ 1 → v.live ≡ true →
+      v.hold ≡ Noted → Some (fixed_part y) ≡ v.fixed → list y ≡ v.seen
       → Allows Rule slots id me 0 (λ _. 0) (unlocked (step slots 0 0 0 none) me)
-  unlocks slots id me v y is one live holds fixed whole = subst (λ m. Allows Rule slots id m 0 (λ _. 0) (unlocked (step slots 0 0 0 none) m)) (sym is) (λ s r wide at _.
+  unlocks slots id me v y is one live holds fixed whole =
+      subst (λ m. Allows Rule slots id m 0 (λ _. 0) (unlocked (step slots 0 0 0 none) m)) (sym is) (λ s r wide at _.
       let word = slice_index s.words 0 in
       let p = r.1.each_seat id v at live in
       let two : word_of v.hold ≡ 2 = ap word_of holds in

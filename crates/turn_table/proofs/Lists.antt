@@ -1,5 +1,6 @@
 -- Beginnings of lists, and the pairs of one number.
-use Rattle.std.proofs.Common.{◌≡◌, ◌≢◌, ℕ, ◌≤◌, ◌==◌, eqb, cond, Bool, true, false, List, [], ◌∷◌, ◌++◌, length, drop, nat_lt, sym, refl, ap, ◌∙◌, subst, inl, inr, append_assoc, arith, eq-eqb, ne_eqb, if◌then◌else◌}
+use Rattle.std.proofs.Common.{◌≡◌, ◌≢◌, ℕ, ◌≤◌, ◌==◌, eqb, cond, Bool, true, false, List, [], ◌∷◌, ◌++◌, length, drop, nat_lt, sym, refl, ap, ◌∙◌, subst, inl}
+use Rattle.std.proofs.Common.{inr, append_assoc, arith, eq-eqb, ne_eqb, if◌then◌else◌}
 use Rattle.std.proofs.lemmas.List.{append-nil, append_cancel_left}
 use Rattle.std.proofs.lemmas.List.Elements.{filter-append}
 use Rattle.std.proofs.lemmas.Bool.Decides.{nat_tests}
@@ -36,11 +37,13 @@ module _ {A : Type 0} where
 
   -- the longer and the shorter of two beginnings of one list
   ends : (now xs ys : List A) → StartsWith now xs → StartsWith now ys → (b : Bool) → nat_lt (length xs) (length ys) ≡ b
-      → StartsWith now (if b then ys else xs) × StartsWith (if b then ys else xs) xs × StartsWith (if b then ys else xs) ys × StartsWith now (if b then xs else ys)
+      → StartsWith now (if b then ys else xs) × StartsWith (if b then ys else xs) xs × StartsWith (if b then ys else xs) ys ×
+      StartsWith now (if b then xs else ys)
   ends now xs ys a c true is = let le : length xs ≤ length ys = grind (arith, nat_tests) in (c, two_fronts now ys xs c a le, begins_self ys, a)
   ends now xs ys a c false is = let le : length ys ≤ length xs = grind (arith, nat_tests) in (a, begins_self xs, two_fronts now xs ys a c le, c)
 
-  pub longest : (now xs ys : List A) → StartsWith now xs → StartsWith now ys → StartsWith now (longer xs ys) × StartsWith (longer xs ys) xs × StartsWith (longer xs ys) ys × StartsWith now (shorter xs ys)
+  pub longest : (now xs ys : List A) → StartsWith now xs → StartsWith now ys → StartsWith now (longer xs ys) × StartsWith (longer xs ys) xs ×
+      StartsWith (longer xs ys) ys × StartsWith now (shorter xs ys)
   longest now xs ys a c = ends now xs ys a c (nat_lt (length xs) (length ys)) refl
 
 module _ {I : Type 0} where
@@ -57,7 +60,8 @@ module _ {I : Type 0} where
   pub no_pairs : (xs : List (ℕ × I)) → ((n : ℕ) → pairs_under n xs ≡ []) → xs ≡ []
   no_pairs [] h = refl
   no_pairs (x ∷ xs) h = let e : cond (eqb x.0 x.0) (x ∷ pairs_under x.0 xs) (pairs_under x.0 xs) ≡ [] = h x.0 in
-      let f : cond true (x ∷ pairs_under x.0 xs) (pairs_under x.0 xs) ≡ [] = subst (λ b. cond b (x ∷ pairs_under x.0 xs) (pairs_under x.0 xs) ≡ []) (eq-eqb x.0 x.0 refl) e in cc
+      let f : cond true (x ∷ pairs_under x.0 xs) (pairs_under x.0 xs) ≡ [] =
+      subst (λ b. cond b (x ∷ pairs_under x.0 xs) (pairs_under x.0 xs) ≡ []) (eq-eqb x.0 x.0 refl) e in cc
 
   pub quiet_self : (P : ℕ → Type 0) (xs : List (ℕ × I)) → Quiet P xs xs
   quiet_self P xs = ([], sym (append-nil xs), λ n p. refl)
@@ -73,7 +77,8 @@ module _ {I : Type 0} where
   quiet_fewer P Q xs ys q f = (q.0, q.1, λ n p. q.2 n (f n p))
 
   -- what lies between two beginnings of a list, and what lies past the longer, has no pair that all past the shorter has not
-  pub quiet_parts : (n : ℕ) (now front mid more rest : List (ℕ × I)) → now ≡ front ++ more → pairs_under n more ≡ [] → now ≡ (front ++ mid) ++ rest → (pairs_under n mid ≡ []) × (pairs_under n rest ≡ [])
+  pub quiet_parts : (n : ℕ) (now front mid more rest : List (ℕ × I)) → now ≡ front ++ more → pairs_under n more ≡ [] → now ≡ (front ++ mid) ++ rest →
+      (pairs_under n mid ≡ []) × (pairs_under n rest ≡ [])
   quiet_parts n now front mid more rest e none f =
       let same : mid ++ rest ≡ more = append_cancel_left front (mid ++ rest) more (sym (append_assoc front mid rest) ∙ (sym f ∙ e)) in
       let nil : pairs_under n mid ++ pairs_under n rest ≡ [] = sym (pairs-append n mid rest) ∙ (ap (pairs_under n) same ∙ none) in
@@ -93,4 +98,5 @@ module _ {I : Type 0} where
   pub grown : (n : ℕ) (xs ys : List (ℕ × I)) → GrowsByOne n xs ys
       → (rest : List (ℕ × I)) × (xs ≡ ys ++ rest) × (drop (length ys) xs ≡ rest) × (pairs_under n rest ≡ rest) × ((m : ℕ) → m ≢ n → pairs_under m rest ≡ [])
   grown n xs ys (inl e) = let f : xs ≡ ys ++ [] = e ∙ sym (append-nil ys) in ([], f, ap (drop (length ys)) f ∙ drop-append_seam ys [], refl, λ m ne. refl)
-  grown n xs ys (inr p) = let new : List (ℕ × I) = (n, p.0) ∷ [] in (new, p.1, ap (drop (length ys)) p.1 ∙ drop-append_seam ys new, own_pair n p.0, λ m ne. other_pair m n p.0 ne)
+  grown n xs ys (inr p) = let new : List (ℕ × I) = (n, p.0) ∷ [] in
+      (new, p.1, ap (drop (length ys)) p.1 ∙ drop-append_seam ys new, own_pair n p.0, λ m ne. other_pair m n p.0 ne)

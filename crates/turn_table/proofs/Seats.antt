@@ -1,5 +1,6 @@
 -- Making a lane and joining two keep the rule of a turn table.
-use Rattle.std.proofs.Common.{◌≡◌, ◌≢◌, ◌⊎◌, ℕ, ◌+◌, ◌<◌, ◌≤◌, true, List, [], ◌∷◌, ◌++◌, length, slice_index, set, sym, refl, ap, ◌∙◌, subst, inl, inr, ⊎_elim, arith, length-set, Option, Some, None}
+use Rattle.std.proofs.Common.{◌≡◌, ◌≢◌, ◌⊎◌, ℕ, ◌+◌, ◌<◌, ◌≤◌, true, List, [], ◌∷◌, ◌++◌, length, slice_index, set, sym, refl, ap, ◌∙◌, subst, inl, inr, ⊎_elim}
+use Rattle.std.proofs.Common.{arith, length-set, Option, Some, None}
 use Rattle.std.proofs.lemmas.List.{append-nil}
 use Rattle.std.proofs.lemmas.List.Elements.{Contains-append_left, Contains-append_right, Contains-append_cases}
 use mathlib.Core.Option as maybe
@@ -29,7 +30,8 @@ module _ {D G I : Type 0} (fixed_part : D → G) (list : D → List (ℕ × I)) 
 
   -- A lane is made
 
-  module _ (word : ℕ) (homes : List (maybe.Option (Option D))) (views : List (View G I)) (k : Keeps word homes views) (id : ℕ) (v : View G I) (at : get_elem? views id ≡ some v) (live : v.live ≡ true) (first : v.number ≡ None) (room : v.made < v.lanes) where
+  module _ (word : ℕ) (homes : List (maybe.Option (Option D))) (views : List (View G I)) (k : Keeps word homes views) (id : ℕ) (v : View G I)
+      (at : get_elem? views id ≡ some v) (live : v.live ≡ true) (first : v.number ≡ None) (room : v.made < v.lanes) where
     abbrev size : ℕ
     size = length views
 
@@ -46,7 +48,8 @@ module _ {D G I : Type 0} (fixed_part : D → G) (list : D → List (ℕ × I)) 
         (λ ne. let lt = h.0 in (omega arith, sym (placed_miss k.made size k.owner n ne) ∙ h.1))
 
     -- the fact of a seat that was there, where its view changed at most in how many lanes it made
-    aged : (j : ℕ) (u : View G I) → j < size → Fits g opening k.now lanes k.made word k.first k.holder k.owner j u → (made : ℕ) → (u.number ≡ None → (j ≡ k.first) × (made ≡ k.made + 1))
+    aged : (j : ℕ) (u : View G I) → j < size → Fits g opening k.now lanes k.made word k.first k.holder k.owner j u → (made : ℕ) →
+        (u.number ≡ None → (j ≡ k.first) × (made ≡ k.made + 1))
         → Fits g opening k.now lanes (k.made + 1) word k.first k.holder owner j (record u { made = made })
     aged j u below f made none = record {
       fixed = f.fixed;
@@ -66,7 +69,8 @@ module _ {D G I : Type 0} (fixed_part : D → G) (list : D → List (ℕ × I)) 
         let p = k.each_seat id v at live in
         let q = p.quiet in
         let b = p.begins in
-        let none_of : (n : ℕ) → n ≡ k.made → (pairs_under n b.0 ≡ []) × (pairs_under n q.0 ≡ []) = λ n e. quiet_parts n k.now opening b.0 k.unmade.0 q.0 k.unmade.1 (k.unmade.2 n (omega arith)) (q.1 ∙ ap (λ l. l ++ q.0) b.1) in
+        let none_of : (n : ℕ) → n ≡ k.made → (pairs_under n b.0 ≡ []) × (pairs_under n q.0 ≡ []) =
+        λ n e. quiet_parts n k.now opening b.0 k.unmade.0 q.0 k.unmade.1 (k.unmade.2 n (omega arith)) (q.1 ∙ ap (λ l. l ++ q.0) b.1) in
         let made_is : v.made ≡ k.made = (p.unnumbered first).1 in record {
           fixed = p.fixed;
           opens = p.opens;
@@ -83,9 +87,11 @@ module _ {D G I : Type 0} (fixed_part : D → G) (list : D → List (ℕ × I)) 
                 let below = there_below views (k.owner n) t.0 t.1 in absurd (omega arith)),
           );
           told = (k.now, refl);
-          own = λ n mine. let e : n ≡ k.made = (let f : v.made ≡ n = cc in sym f ∙ made_is) in ((b.0, b.1, (none_of n e).0), ([], sym (append-nil v.seen), refl));
+          own = λ n mine. let e : n ≡ k.made = (let f : v.made ≡ n = cc in sym f ∙ made_is) in
+              ((b.0, b.1, (none_of n e).0), ([], sym (append-nil v.seen), refl));
           unnumbered = λ none. cc;
-          numbers = λ n h. ⊎_elim (λ mine. let e : n ≡ k.made = (let f : v.made ≡ n = cc in sym f ∙ made_is) in (omega arith, placed_hit k.made size k.owner n e)) (λ c. absurd (contains_none n c)) h;
+          numbers = λ n h. ⊎_elim (λ mine. let e : n ≡ k.made = (let f : v.made ≡ n = cc in sym f ∙ made_is) in
+              (omega arith, placed_hit k.made size k.owner n e)) (λ c. absurd (contains_none n c)) h;
         }
 
     split : Keeps word homes (set views id (parent v) ++ newcomer v ∷ [])
@@ -96,7 +102,8 @@ module _ {D G I : Type 0} (fixed_part : D → G) (list : D → List (ℕ × I)) 
         let p = k.each_seat id v at live in
         let here = there_below views id v at in
         let same : length after ≡ size = length-set views id w in
-        let first_still = still (λ u. (u.live ≡ true) × (u.number ≡ None)) views id v w at (λ h. h) k.first (k.has_first.0, k.has_first.1, (k.has_first.2, k.has_first.3)) in
+        let first_still = still (λ u. (u.live ≡ true) × (u.number ≡ None)) views id v w at (λ h. h) k.first
+        (k.has_first.0, k.has_first.1, (k.has_first.2, k.has_first.3)) in
         let F : ℕ → View G I → Type 0 = λ j u. u.live ≡ true → Fits g opening k.now lanes (k.made + 1) word k.first k.holder owner j u in record {
           now = k.now;
           made = k.made + 1;
@@ -104,19 +111,26 @@ module _ {D G I : Type 0} (fixed_part : D → G) (list : D → List (ℕ × I)) 
           holder = k.holder;
           owner = owner;
           free = k.free;
-          held = λ h. let t = k.held h in let r = still (λ u. (u.live ≡ true) × (word_of u.hold ≡ word)) views id v w at (λ h. h) k.holder (t.0, t.1, (t.2, t.3)) in (r.0, at_longer after (new ∷ []) k.holder r.0 r.1, r.2.0, r.2.1);
+          held = λ h. let t = k.held h in let r = still (λ u. (u.live ≡ true) × (word_of u.hold ≡ word)) views id v w at (λ h. h) k.holder
+              (t.0, t.1, (t.2, t.3)) in (r.0, at_longer after (new ∷ []) k.holder r.0 r.1, r.2.0, r.2.1);
           unmade = quiet_fewer (λ n. k.made ≤ n) (λ n. k.made + 1 ≤ n) k.now opening k.unmade (λ n le. omega arith);
           enough = let m = (p.unnumbered first).1 in let l = p.limit in omega arith;
           has_first = (first_still.0, at_longer after (new ∷ []) k.first first_still.0 first_still.1, first_still.2.0, first_still.2.1);
           seated = λ n lt. dite (ℕ_discrete n k.made)
-              (λ e. (new, ap (get_elem? (after ++ new ∷ [])) (placed_hit k.made size k.owner n e) ∙ at_last after new size same, live, inl (ap Some ((p.unnumbered first).1 ∙ sym e))))
+              (λ e. (
+                new,
+                ap (get_elem? (after ++ new ∷ [])) (placed_hit k.made size k.owner n e) ∙ at_last after new size same,
+                live,
+                inl (ap Some ((p.unnumbered first).1 ∙ sym e)),
+              ))
               (λ ne. let old : n < k.made = omega arith in let t = k.seated n old in
               let r = still (λ u. (u.live ≡ true) × StandsIn n u) views id v w at (λ h. h) (k.owner n) (t.0, t.1, (t.2, t.3)) in
               (r.0, ap (get_elem? (after ++ new ∷ [])) (placed_miss k.made size k.owner n ne) ∙ at_longer after (new ∷ []) (k.owner n) r.0 r.1, r.2.0, r.2.1));
           each_seat = λ j u there. ⊎_elim
               (λ old. seats F views id w
               (λ _. aged id v here p (v.made + 1) (λ none. let t = p.unnumbered none in let m = t.1 in (t.0, ap (λ n. n + 1) m)))
-              (λ i x ne was alive. let f = k.each_seat i x was alive in aged i x (there_below views i x was) f x.made (λ none. absurd (ne ((f.unnumbered none).0 ∙ sym (p.unnumbered first).0))))
+              (λ i x ne was alive. let f = k.each_seat i x was alive in
+              aged i x (there_below views i x was) f x.made (λ none. absurd (ne ((f.unnumbered none).0 ∙ sym (p.unnumbered first).0))))
               j u old)
               (λ t. let F' : View G I → Type 0 = λ x. x.live ≡ true → Fits g opening k.now lanes (k.made + 1) word k.first k.holder owner j x in
               subst F' t.1 (λ _. subst (λ i. Fits g opening k.now lanes (k.made + 1) word k.first k.holder owner i new) (sym (t.0 ∙ same)) arrived))
@@ -128,7 +142,9 @@ module _ {D G I : Type 0} (fixed_part : D → G) (list : D → List (ℕ × I)) 
 
   -- Two lanes are joined
 
-  module _ (word : ℕ) (homes : List (maybe.Option (Option D))) (views : List (View G I)) (k : Keeps word homes views) (id : ℕ) (v : View G I) (at : get_elem? views id ≡ some v) (live : v.live ≡ true) (idle : v.hold ≡ Free) (other : ℕ) (w : View G I) (there : get_elem? views other ≡ some w) (apart : other ≢ id) (live' : w.live ≡ true) (idle' : w.hold ≡ Free) (n₀ : ℕ) (numbered : w.number ≡ Some n₀) where
+  module _ (word : ℕ) (homes : List (maybe.Option (Option D))) (views : List (View G I)) (k : Keeps word homes views) (id : ℕ) (v : View G I)
+      (at : get_elem? views id ≡ some v) (live : v.live ≡ true) (idle : v.hold ≡ Free) (other : ℕ) (w : View G I) (there : get_elem? views other ≡ some w)
+      (apart : other ≢ id) (live' : w.live ≡ true) (idle' : w.hold ≡ Free) (n₀ : ℕ) (numbered : w.number ≡ Some n₀) where
     abbrev holder_of : ℕ → ℕ
     holder_of n = moved other id (k.owner n)
 
@@ -168,8 +184,10 @@ module _ {D G I : Type 0} (fixed_part : D → G) (list : D → List (ℕ × I)) 
         let from_v = l.1 in
         let from_w = l.2 in
         let full = longer v.seen w.seen in
-        let split_v : (n : ℕ) → (n < k.made) × (k.owner n ≡ id) → (pairs_under n from_v.0 ≡ []) × (pairs_under n past.0 ≡ []) = λ n h. quiet_parts n k.now v.seen from_v.0 a.0 past.0 a.1 (a.2 n h) (past.1 ∙ ap (λ xs. xs ++ past.0) from_v.1) in
-        let split_w : (n : ℕ) → (n < k.made) × (k.owner n ≡ other) → (pairs_under n from_w.0 ≡ []) × (pairs_under n past.0 ≡ []) = λ n h. quiet_parts n k.now w.seen from_w.0 b.0 past.0 b.1 (b.2 n h) (past.1 ∙ ap (λ xs. xs ++ past.0) from_w.1) in record {
+        let split_v : (n : ℕ) → (n < k.made) × (k.owner n ≡ id) → (pairs_under n from_v.0 ≡ []) × (pairs_under n past.0 ≡ []) =
+        λ n h. quiet_parts n k.now v.seen from_v.0 a.0 past.0 a.1 (a.2 n h) (past.1 ∙ ap (λ xs. xs ++ past.0) from_v.1) in
+        let split_w : (n : ℕ) → (n < k.made) × (k.owner n ≡ other) → (pairs_under n from_w.0 ≡ []) × (pairs_under n past.0 ≡ []) =
+        λ n h. quiet_parts n k.now w.seen from_w.0 b.0 past.0 b.1 (b.2 n h) (past.1 ∙ ap (λ xs. xs ++ past.0) from_w.1) in record {
           fixed = p.fixed;
           opens = p.opens;
           limit = p.limit;
@@ -191,13 +209,15 @@ module _ {D G I : Type 0} (fixed_part : D → G) (list : D → List (ℕ × I)) 
 
     -- a view that holds the lock is at neither seat
     not_holding : (j : ℕ) (x u : View G I) → get_elem? views j ≡ some x → x.hold ≡ Free → get_elem? views j ≡ some u → word_of u.hold ≡ word → word ≢ 0 → ⊥
-    not_holding j x u e free f is ne = let same : x ≡ u = some-injective x u (sym e ∙ f) in ne (sym is ∙ (ap (λ (y : View G I). word_of y.hold) (sym same) ∙ ap word_of free))
+    not_holding j x u e free f is ne = let same : x ≡ u = some-injective x u (sym e ∙ f) in
+        ne (sym is ∙ (ap (λ (y : View G I). word_of y.hold) (sym same) ∙ ap word_of free))
 
     joined : Keeps word homes gathered
     joined =
         let f = k.has_first in
         let F : ℕ → View G I → Type 0 = λ j u. u.live ≡ true → Fits g opening k.now lanes k.made word k.first k.holder holder_of j u in
-        let first_apart : k.first ≢ other = λ e. (let same : f.0 ≡ w = some-injective f.0 w (sym f.1 ∙ (ap (get_elem? views) e ∙ there)) in let bad : None ≡ Some n₀ = sym f.3 ∙ (ap (λ (x : View G I). x.number) same ∙ numbered) in cc) in
+        let first_apart : k.first ≢ other = λ e. (let same : f.0 ≡ w = some-injective f.0 w (sym f.1 ∙ (ap (get_elem? views) e ∙ there)) in
+        let bad : None ≡ Some n₀ = sym f.3 ∙ (ap (λ (x : View G I). x.number) same ∙ numbered) in cc) in
         let first_still = still (λ u. (u.live ≡ true) × (u.number ≡ None)) views id v whole at (λ h. h) k.first (f.0, f.1, (f.2, f.3)) in record {
           now = k.now;
           made = k.made;
@@ -221,9 +241,14 @@ module _ {D G I : Type 0} (fixed_part : D → G) (list : D → List (ℕ × I)) 
                 whole,
                 ap (get_elem? gathered) (moved_hit other id (k.owner n) hit) ∙ at_id,
                 live,
-                inr (Contains-append_left (brought w.number w.joined) v.joined n (brought_has w.number w.joined n (subst (λ (x : View G I). StandsIn n x) same t.3))),
+                inr (Contains-append_left (brought w.number w.joined) v.joined n
+                    (brought_has w.number w.joined n (subst (λ (x : View G I). StandsIn n x) same t.3))),
               ))
-              (λ miss. let r = still (λ u. (u.live ≡ true) × StandsIn n u) views id v whole at (λ h. (h.0, ⊎_elim (λ mine. inl mine) (λ c. inr (Contains-append_right (brought w.number w.joined) v.joined n c)) h.1)) (k.owner n) (t.0, t.1, (t.2, t.3)) in (
+              (λ miss. let r = still (λ u. (u.live ≡ true) × StandsIn n u) views id v whole at (λ h. (
+                h.0,
+                ⊎_elim (λ mine. inl mine)
+                    (λ c. inr (Contains-append_right (brought w.number w.joined) v.joined n c)) h.1,
+              )) (k.owner n) (t.0, t.1, (t.2, t.3)) in (
                 r.0,
                 ap (get_elem? gathered) (moved_miss other id (k.owner n) miss) ∙ (set_else (set views id whole) other (k.owner n) spent miss ∙ r.1),
                 r.2.0,
@@ -239,7 +264,8 @@ module _ {D G I : Type 0} (fixed_part : D → G) (list : D → List (ℕ × I)) 
                 limit = h.limit;
                 begins = h.begins;
                 holds = h.holds;
-                quiet = quiet_fewer (λ n. (n < k.made) × (k.owner n ≡ i)) (λ n. (n < k.made) × (holder_of n ≡ i)) k.now x.seen h.quiet (λ n z. (z.0, elsewhere n i ne ne'' z.1));
+                quiet = quiet_fewer (λ n. (n < k.made) × (k.owner n ≡ i)) (λ n. (n < k.made) × (holder_of n ≡ i)) k.now x.seen h.quiet
+                    (λ n z. (z.0, elsewhere n i ne ne'' z.1));
                 told = h.told;
                 own = h.own;
                 unnumbered = h.unnumbered;
@@ -248,7 +274,8 @@ module _ {D G I : Type 0} (fixed_part : D → G) (list : D → List (ℕ × I)) 
               j u was ne');
         }
 
-  pub joins : (id : ℕ) (v : View G I) (other : ℕ) (w : View G I) (n : ℕ) → v.live ≡ true → v.hold ≡ Free → w.live ≡ true → w.hold ≡ Free → w.number ≡ Some n → Joins Rule id v other w (united v w) spent
+  pub joins : (id : ℕ) (v : View G I) (other : ℕ) (w : View G I) (n : ℕ) → v.live ≡ true → v.hold ≡ Free → w.live ≡ true → w.hold ≡ Free →
+      w.number ≡ Some n → Joins Rule id v other w (united v w) spent
   joins id v other w n live idle live' idle' numbered s r at apart there =
       let was : get_elem? s.views other ≡ some w = sym (set_else s.views id other (united v w) apart) ∙ there in
       (r.0, joined (slice_index s.words 0) s.homes s.views r.1 id v at live idle other w was apart live' idle' n numbered)

@@ -24,7 +24,8 @@ module _ {V : Type 0} where
   -- what holds of the seat that changes, and of the others, holds of all
   pub seats : (F : ℕ → V → Type 0) (vs : List V) (id : ℕ) (w : V) → F id w → ((j : ℕ) (u : V) → j ≢ id → get_elem? vs j ≡ some u → F j u)
       → (j : ℕ) (u : V) → get_elem? (set vs id w) j ≡ some u → F j u
-  seats F vs id w mine others j u there = ⊎_elim (λ t. subst (λ k. F k u) (sym t.0) (subst (F id) t.1 mine)) (λ t. others j u t.0 t.1) (at_set vs id j w u there)
+  seats F vs id w mine others j u there =
+      ⊎_elim (λ t. subst (λ k. F k u) (sym t.0) (subst (F id) t.1 mine)) (λ t. others j u t.0 t.1) (at_set vs id j w u there)
 
   -- a seat with a fact is still there after a change that keeps the fact
   pub still : (P : V → Type 0) (vs : List V) (id : ℕ) (v w : V) → get_elem? vs id ≡ some v → (P v → P w) → (j : ℕ) → ((u : V) × (get_elem? vs j ≡ some u) × P u)
@@ -50,5 +51,6 @@ module _ {S V : Type 0} where
   same_item me w x y xs ys e f = ap (first_item x) (sym f ∙ ap (λ m. m.1) e)
 
   -- after the slot's one exchange, a seat that had just that slot has it with the other value
-  pub slot_filled : (before noted after : Me S V) (w : V) (x y : S) → before.1 ≡ (0, x) ∷ [] → noted ≡ (w, before.1) → after ≡ (noted.0, (0, y) ∷ rest noted.1) → after ≡ (w, (0, y) ∷ [])
+  pub slot_filled : (before noted after : Me S V) (w : V) (x y : S) → before.1 ≡ (0, x) ∷ [] → noted ≡ (w, before.1) →
+      after ≡ (noted.0, (0, y) ∷ rest noted.1) → after ≡ (w, (0, y) ∷ [])
   slot_filled before noted after w x y slots note give = give ∙ (ap (λ m. (m.0, (0, y) ∷ rest m.1)) note ∙ ap (λ l. (w, (0, y) ∷ rest l)) slots)

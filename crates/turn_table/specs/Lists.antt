@@ -13,7 +13,8 @@ pairs_under n xs = filter (λ p. p.0 == n) xs
 
 -- xs begins with ys, and past ys it has no pair of a number in P
 abbrev pub Quiet : {I : Type 0} → (ℕ → Type 0) → List (ℕ × I) → List (ℕ × I) → Type 0
-Quiet {I} P xs ys = (rest : List (ℕ × I)) × (xs ≡ ys ++ rest) × ((n : ℕ) → P n → pairs_under n rest ≡ [])
+Quiet {I} P xs ys = (rest : List (ℕ × I)) × (xs ≡ ys ++ rest) ×
+    ((n : ℕ) → P n → pairs_under n rest ≡ [])
 
 -- xs begins with ys, and past ys its pairs of the number n are own, in order
 abbrev pub OwnPast : {I : Type 0} → ℕ → List (ℕ × I) → List (ℕ × I) → List (ℕ × I) → Type 0

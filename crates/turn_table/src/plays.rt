@@ -2,14 +2,19 @@
 //!
 //! | Kind | On | The view that changes |
 //! |---|---|---|
-//! | lock | a compare-exchange of word 0 from free to held | that of the seat, where the word was free: it holds the lock, and has seen the value's list |
+//! | lock | a compare-exchange of word 0 from free to held | that of the seat, where the word was
+//! free: it holds the lock, and has seen the value's list |
 //! | take | an exchange of slot 0 for nothing | none |
-//! | note | a compare-exchange of word 0 from held to noted, while the value is out | that of the seat: what it has seen and its own pairs grow by what the turn appends |
+//! | note | a compare-exchange of word 0 from held to noted, while the value is out | that of the
+//! seat: what it has seen and its own pairs grow by what the turn appends |
 //! | give | an exchange of slot 0 for the value | none |
 //! | unlock | a swap of word 0 to free | that of the seat: it no longer holds the lock |
-//! | split | a load of word 0 | that of the first lane, which has made one lane more, and that of the new lane |
-//! | join | a load of word 0 | both: one has the longer list and the other's numbers, the other is spent |
-//! | compare | a load of word 0, after a join | none: it tells that the longer list begins with the shorter |
+//! | split | a load of word 0 | that of the first lane, which has made one lane more, and that of
+//! the new lane |
+//! | join | a load of word 0 | both: one has the longer list and the other's numbers, the other is
+//! spent |
+//! | compare | a load of word 0, after a join | none: it tells that the longer list begins with the
+//! shorter |
 use crate::tabled::Tabled;
 use crate::view::View;
 use atomic_table::{Join, Play, Split, TableRule};
@@ -37,9 +42,11 @@ impl<D: Tabled> TableRule<Option<D>, View<D::Ground, D::Item>, Told<D>> for Turn
     ghost use Rattle.std.specs.Prelude.{Some};
     ghost use Rattle.turn_table.specs.Turns.{TurnRule, starting};
 
-    ghost holds = { λ key. TurnRule D.fixed_part D.list (D.fixed_part key.value.value) (D.list key.value.value) key.lanes };
+    ghost holds = { λ key. TurnRule D.fixed_part D.list (D.fixed_part key.value.value)
+        (D.list key.value.value) key.lanes };
 
-    ghost first = { λ key. starting (Some (D.fixed_part key.value.value)) (D.list key.value.value) key.lanes };
+    ghost first = { λ key. starting (Some (D.fixed_part key.value.value))
+        (D.list key.value.value) key.lanes };
 }
 
 /// Takes the lock, and with it the slot.

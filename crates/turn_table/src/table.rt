@@ -53,7 +53,8 @@ impl<D: Tabled> Model for TurnTable<D> {
 
     ghost view = { λ t. t.table.shared.table_id };
 
-    ghost invariant = { λ t. (t.table.shared.table_id.words ≡ 1) × (t.table.shared.table_id.slots ≡ 1) };
+    ghost invariant = { λ t. (t.table.shared.table_id.words ≡ 1) ×
+        (t.table.shared.table_id.slots ≡ 1) };
 }
 
 /// There was no memory for a table. The value comes back.

@@ -21,7 +21,8 @@ pushed_last : {X : Type 0} (P : X → Type 0) (xs : List X) (x : X) → AllByRec
 pushed_last P [] x all here = (here, tt)
 pushed_last P (y ∷ ys) x all here = (all.0, pushed_last P ys x all.1 here)
 
-sorted_push : {K : Type 0} (R : K → K → Ordering) (xs : List K) (x : K) → IsStrictlySortedBy R xs → All (λ y. R y x ≡ Less) xs → IsStrictlySortedBy R (xs ++ x ∷ [])
+sorted_push : {K : Type 0} (R : K → K → Ordering) (xs : List K) (x : K) → IsStrictlySortedBy R xs → All (λ y. R y x ≡ Less) xs →
+    IsStrictlySortedBy R (xs ++ x ∷ [])
 unfolding IsStrictlySortedBy
 sorted_push R [] x s below = (tt, tt)
 sorted_push R (y ∷ ys) x s below =
@@ -61,7 +62,8 @@ listed_more blocks a b c pairs listed more here none =
           ∙ sym (with_row_passed (row_bit blocks a) a c rows here)
           ∙ ap (λ n. with_row (row_bit blocks a) a n rows) next;
       ascending = sorted_push pair_cmp pairs (a, c) listed.ascending (All-weaker (IsBefore a c) (λ q. pair_cmp q (a, c) ≡ Less) (less_pair a c) pairs earlier);
-      before = All-push (IsBefore a (c + 1)) pairs (a, c) (All-weaker (IsBefore a c) (IsBefore a (c + 1)) (before_later a c (c + 1) (omega arith)) pairs earlier) (inr (refl, omega arith));
+      before = All-push (IsBefore a (c + 1)) pairs (a, c)
+          (All-weaker (IsBefore a c) (IsBefore a (c + 1)) (before_later a c (c + 1) (omega arith)) pairs earlier) (inr (refl, omega arith));
     }
 
 -- the end of a row

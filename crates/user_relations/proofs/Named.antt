@@ -23,11 +23,13 @@ names_of : List Relation → List (List ℕ)
 names_of ds = map (λ r. r.name) (shapes ds)
 
 -- a search that starts at k answers k more
-found_later : (test : List ℕ → Bool) (ds : List Relation) (i k : ℕ) → position_from test (i + k) (map (λ r. r.name) (shapes ds)) ≡ option_map (λ j. j + k) (position_from (λ (d : Relation). test d.name) i ds)
+found_later : (test : List ℕ → Bool) (ds : List Relation) (i k : ℕ) →
+    position_from test (i + k) (map (λ r. r.name) (shapes ds)) ≡ option_map (λ j. j + k) (position_from (λ (d : Relation). test d.name) i ds)
 found_later test [] i k = refl
 found_later test (d ∷ ds) i k =
     let next : (i + k) + 1 ≡ (i + 1) + k = omega arith in
-    elim (test d.name) as (λ b. cond b (Some (i + k)) (position_from test ((i + k) + 1) (map (λ r. r.name) (shapes ds))) ≡ option_map (λ j. j + k) (cond b (Some i) (position_from (λ (e : Relation). test e.name) (i + 1) ds))) [
+    elim (test d.name) as (λ b. cond b (Some (i + k)) (position_from test ((i + k) + 1) (map (λ r. r.name) (shapes ds))) ≡ option_map (λ j. j + k)
+    (cond b (Some i) (position_from (λ (e : Relation). test e.name) (i + 1) ds))) [
       | true ↦ refl
       | false ↦ ap (λ n. position_from test n (map (λ r. r.name) (shapes ds))) next ∙ found_later test ds (i + 1) k
     ]
@@ -39,7 +41,8 @@ pub found_declared : (ds : List Relation) (name : List ℕ) (found : Option ℕ)
     → place_of (known_names (shapes ds)) name ≡ option_map (λ j. j + 2) found
 found_declared ds name found not_same not_other e =
     position_from-zero (pointwise nat_eq name) (known_names (shapes ds))
-    ∙ ap (λ b. cond b (Some 0) (cond (pointwise nat_eq name (codes "other")) (Some (0 + 1)) (position_from (pointwise nat_eq name) (0 + 1 + 1) (map (λ r. r.name) (shapes ds))))) not_same
+    ∙ ap (λ b. cond b (Some 0) (cond (pointwise nat_eq name (codes "other")) (Some (0 + 1))
+    (position_from (pointwise nat_eq name) (0 + 1 + 1) (map (λ r. r.name) (shapes ds))))) not_same
     ∙ ap (λ b. cond b (Some (0 + 1)) (position_from (pointwise nat_eq name) (0 + 1 + 1) (map (λ r. r.name) (shapes ds)))) not_other
     ∙ found_later (pointwise nat_eq name) ds 0 2
     ∙ ap (option_map (λ j. j + 2)) (sym (e ∙ position_from-zero (λ (d : Relation). pointwise nat_eq name d.name) ds))
@@ -57,7 +60,8 @@ pub unknown : (names : List (List ℕ)) (name : List ℕ) → is_some (place_of 
 unknown names name none = sym (none_among (pointwise nat_eq name) names 0) ∙ ap is_some (sym (position_from-zero (pointwise nat_eq name) names)) ∙ none
 
 -- the name of a declared relation
-pub name_read : (ds : List Relation) (rho i : ℕ) (d : Relation) → rho ≡ i + 2 → i < length ds → slice_get (known_names (shapes ds)) rho ≡ Some (get_or ds i d).name
+pub name_read : (ds : List Relation) (rho i : ℕ) (d : Relation) → rho ≡ i + 2 → i < length ds →
+    slice_get (known_names (shapes ds)) rho ≡ Some (get_or ds i d).name
 name_read ds rho i d e within =
     let two : i + 2 ≡ suc (suc i) = omega arith in
     ap (slice_get (known_names (shapes ds))) (e ∙ two)

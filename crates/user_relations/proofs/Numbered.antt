@@ -39,7 +39,8 @@ kind_past ds zero two past = absurd (omega arith)
 kind_past ds (suc zero) two past = absurd (omega arith)
 kind_past ds (suc (suc n)) two past = ap (option_map (λ (r : RelationShape). r.kind)) (slice_get_past (shapes ds) n (omega (arith, length-shapes ds)))
 
-shapes-set : (ds : List Relation) (i : ℕ) (d : Relation) (k : Kind) → shapes (slice_set ds i (record { name = (get_or ds i d).name; kind = k })) ≡ change_kind (shapes ds) i (kind_view k)
+shapes-set : (ds : List Relation) (i : ℕ) (d : Relation) (k : Kind) →
+    shapes (slice_set ds i (record { name = (get_or ds i d).name; kind = k })) ≡ change_kind (shapes ds) i (kind_view k)
 shapes-set [] i d k = refl
 shapes-set (x ∷ ds) zero d k = refl
 shapes-set (x ∷ ds) (suc i) d k = ap (λ rs. relation_view x ∷ rs) (shapes-set ds i d k)
@@ -50,12 +51,15 @@ pub kind_written : (ds : List Relation) (rho i : ℕ) (d : Relation) (k : Kind) 
 kind_written ds rho i d k p = shapes-set ds i d k ∙ sym (with_declared (shapes ds) rho i (kind_view k) p.is)
 
 -- what a call on one kind says of the whole list
-pub pairs_written : (ds : List Relation) (rho i : ℕ) (d : Relation) (k : Kind) (f : Pairs → Pairs) (r : Result (Unit {0}) RelationFault) → IsPlace (length ds) rho i
+pub pairs_written : (ds : List Relation) (rho i : ℕ) (d : Relation) (k : Kind) (f : Pairs → Pairs) (r : Result (Unit {0}) RelationFault) →
+    IsPlace (length ds) rho i
     → OnOk r (kind_view k ≡ listed (f (listed_pairs (Some (kind_view (get_or ds i d).kind)))))
     → OnOk r (shapes (slice_set ds i (record { name = (get_or ds i d).name; kind = k })) ≡ with_kind (shapes ds) rho (listed (f (pairs_of (shapes ds) rho))))
 pairs_written ds rho i d k f r p told =
-    on_ok_weaker r (λ e. kind_written ds rho i d k p ∙ ap (with_kind (shapes ds) rho) (e ∙ ap (λ o. listed (f (listed_pairs o))) (sym (kind_read ds rho i d p)))) told
+    on_ok_weaker r
+    (λ e. kind_written ds rho i d k p ∙ ap (with_kind (shapes ds) rho) (e ∙ ap (λ o. listed (f (listed_pairs o))) (sym (kind_read ds rho i d p)))) told
 
-pub fault_read : (ds : List Relation) (rho i : ℕ) (d : Relation) (f : Option RelationKind → Option RelationFault) (r : Result (Unit {0}) RelationFault) → IsPlace (length ds) rho i
+pub fault_read : (ds : List Relation) (rho i : ℕ) (d : Relation) (f : Option RelationKind → Option RelationFault) (r : Result (Unit {0}) RelationFault) →
+    IsPlace (length ds) rho i
     → AnswersFault (f (Some (kind_view (get_or ds i d).kind))) r → AnswersFault (f (kind_of (shapes ds) rho)) r
 fault_read ds rho i d f r p told = subst (λ o. AnswersFault (f o) r) (sym (kind_read ds rho i d p)) told

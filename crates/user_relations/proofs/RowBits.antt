@@ -1,5 +1,6 @@
 -- How the bits of rows change with a block.
-use Rattle.std.proofs.Common.{◌≡◌, ℕ, ◌<◌, ◌/◌, ◌%◌, ◌==◌, ◌&&◌, ◌||◌, not, Bool, true, false, List, [], length, slice_index_or, slice_set, replicate, refl, sym, ap, ◌∙◌, inl, inr, arith, get_or-set_same, get_or-set_other}
+use Rattle.std.proofs.Common.{◌≡◌, ℕ, ◌<◌, ◌/◌, ◌%◌, ◌==◌, ◌&&◌, ◌||◌, not, Bool, true, false, List, [], length, slice_index_or, slice_set, replicate, refl}
+use Rattle.std.proofs.Common.{sym, ap, ◌∙◌, inl, inr, arith, get_or-set_same, get_or-set_other}
 use Rattle.std.specs.Prelude.{Result, Ok, Err, IfOk, OnOk}
 use Rattle.std.proofs.lemmas.Bool.{cases_eq, cases_lt, eq-eqb, ne_eqb}
 use Rattle.std.proofs.lemmas.List.{get_or_default, get_or_past, get_or-replicate, length-replicate}
@@ -63,9 +64,11 @@ no_bit_of words none n k v = elim (cases_lt k n) [
 pub no_bit : (block : Block) → ((k v : ℕ) → block_bit block k v ≡ false) → (m u v : ℕ) → row_bit (replicate m block) u v ≡ false
 no_bit block none m u v = elim (cases_lt (u / BLOCK_ROWS) m) [
   | inl within ↦ ap (λ b. block_bit b (u % BLOCK_ROWS) v) (get_or-replicate m (u / BLOCK_ROWS) block no_block within) ∙ none (u % BLOCK_ROWS) v
-  | inr past ↦ ap (λ b. block_bit b (u % BLOCK_ROWS) v) (get_or_past (replicate m block) (u / BLOCK_ROWS) no_block (omega (arith, length-replicate m block))) ∙ no_row v
+  | inr past ↦ ap (λ b. block_bit b (u % BLOCK_ROWS) v)
+      (get_or_past (replicate m block) (u / BLOCK_ROWS) no_block (omega (arith, length-replicate m block))) ∙ no_row v
 ]
 
-pub shared_bits : (block : Block) (r : Result Block AllocError) → IfOk r (λ s. s ≡ block) → ((k v : ℕ) → block_bit block k v ≡ false) → IfOk r (λ s. (k v : ℕ) → block_bit s k v ≡ false)
+pub shared_bits : (block : Block) (r : Result Block AllocError) → IfOk r (λ s. s ≡ block) → ((k v : ℕ) → block_bit block k v ≡ false) →
+    IfOk r (λ s. (k v : ℕ) → block_bit s k v ≡ false)
 shared_bits block (Ok s) is none = λ k v. ap (λ b. block_bit b k v) is ∙ none k v
 shared_bits block (Err e) is none = tt

@@ -1,5 +1,6 @@
 -- The set of pairs that rows of bits stand for, and how it changes with them.
-use Rattle.std.proofs.Common.{◌≡◌, ℕ, ◌+◌, ◌-◌, ◌^◌, ◌<◌, ◌≤◌, ◌/◌, ◌%◌, ◌==◌, ◌&&◌, ◌||◌, not, cond, nat_lt, Bool, true, false, List, [], length, refl, sym, ap, ◌∙◌, ◌⊎◌, inl, inr, arith}
+use Rattle.std.proofs.Common.{◌≡◌, ℕ, ◌+◌, ◌-◌, ◌^◌, ◌<◌, ◌≤◌, ◌/◌, ◌%◌, ◌==◌, ◌&&◌, ◌||◌, not, cond, nat_lt, Bool, true, false, List, [], length, refl, sym}
+use Rattle.std.proofs.Common.{ap, ◌∙◌, ◌⊎◌, inl, inr, arith}
 use Rattle.std.specs.Prelude.{IsTrue}
 use Rattle.std.specs.FinSet as set
 use Rattle.std.proofs.lemmas.Bool.{cases_lt, lt-ltb, le-ltb, ltb-true, eqb-true, eq-eqb}
@@ -25,7 +26,8 @@ within_first true false c first second = second refl
 within_first false r c first second = first refl
 
 -- a bit that is read tells whether the pair is in the set
-pub bit_tells : (blocks : List Block) (u v : ℕ) (b : Bool) → length blocks ≡ BLOCKS → b ≡ row_bit blocks u v → (IsTrue b → v < USER_LIMIT) → b ≡ set.contains (pairs_in blocks) (u, v)
+pub bit_tells : (blocks : List Block) (u v : ℕ) (b : Bool) → length blocks ≡ BLOCKS → b ≡ row_bit blocks u v → (IsTrue b → v < USER_LIMIT) →
+    b ≡ set.contains (pairs_in blocks) (u, v)
 bit_tells blocks u v b whole is within =
     let none : (nat_lt v USER_LIMIT) ≡ false → row_bit blocks u v ≡ false =
     λ out. sym is ∙ elim b as (λ c. b ≡ c → c ≡ false) [
@@ -54,7 +56,8 @@ rows_none blocks whole none = record {
   counted = sym (ap set.len (pairs_none blocks none) ∙ set.len-empty pair_cmp);
 }
 
-module _ (ahead behind new_ahead new_behind : List Block) (count u v : ℕ) (rows : AreRows ahead behind count) (whole : length new_ahead ≡ length ahead) (whole_behind : length new_behind ≡ length behind) where
+module _ (ahead behind new_ahead new_behind : List Block) (count u v : ℕ) (rows : AreRows ahead behind count) (whole : length new_ahead ≡ length ahead)
+    (whole_behind : length new_behind ≡ length behind) where
   -- a pair that was not there is put in
   pub rows_put : u < USER_LIMIT → v < USER_LIMIT → set.contains (pairs_in ahead) (u, v) ≡ false
       → ((x y : ℕ) → row_bit new_ahead x y ≡ ((x == u && y == v) || row_bit ahead x y))
@@ -117,16 +120,20 @@ module _ (blocks : List Block) (u v users : ℕ) (most : users ≤ USER_LIMIT) w
       ∙ sym (contains_set_of (row_bit blocks) USER_LIMIT USER_LIMIT u v)
 
   no_pair : (USER_LIMIT ≤ u) ⊎ (USER_LIMIT ≤ v) → set.contains (pairs_in blocks) (u, v) ≡ false
-  no_pair (inl past) = contains_set_of (row_bit blocks) USER_LIMIT USER_LIMIT u v ∙ ap (λ b. b && (nat_lt v USER_LIMIT && row_bit blocks u v)) (le-ltb u USER_LIMIT past)
-  no_pair (inr past) = contains_set_of (row_bit blocks) USER_LIMIT USER_LIMIT u v ∙ ap (λ b. nat_lt u USER_LIMIT && (b && row_bit blocks u v)) (le-ltb v USER_LIMIT past) ∙ and-false (nat_lt u USER_LIMIT)
+  no_pair (inl past) = contains_set_of (row_bit blocks) USER_LIMIT USER_LIMIT u v ∙
+      ap (λ b. b && (nat_lt v USER_LIMIT && row_bit blocks u v)) (le-ltb u USER_LIMIT past)
+  no_pair (inr past) = contains_set_of (row_bit blocks) USER_LIMIT USER_LIMIT u v ∙
+      ap (λ b. nat_lt u USER_LIMIT && (b && row_bit blocks u v)) (le-ltb v USER_LIMIT past) ∙ and-false (nat_lt u USER_LIMIT)
 
-  pub row_told : (USER_LIMIT ≤ u → row_bit blocks u v ≡ false) → (nat_lt v users && row_bit blocks u v) ≡ (nat_lt v users && set.contains (pairs_in blocks) (u, v))
+  pub row_told : (USER_LIMIT ≤ u → row_bit blocks u v ≡ false) →
+      (nat_lt v users && row_bit blocks u v) ≡ (nat_lt v users && set.contains (pairs_in blocks) (u, v))
   row_told none = and_same (nat_lt v users) (row_bit blocks u v) (set.contains (pairs_in blocks) (u, v)) (λ e. elim (cases_lt u USER_LIMIT) [
     | inl first ↦ is_pair first (omega (arith, most, ltb-true v users e))
     | inr past ↦ none past ∙ sym (no_pair (inl past))
   ])
 
-  pub column_told : (USER_LIMIT ≤ v → row_bit blocks u v ≡ false) → (nat_lt u users && row_bit blocks u v) ≡ (nat_lt u users && set.contains (pairs_in blocks) (u, v))
+  pub column_told : (USER_LIMIT ≤ v → row_bit blocks u v ≡ false) →
+      (nat_lt u users && row_bit blocks u v) ≡ (nat_lt u users && set.contains (pairs_in blocks) (u, v))
   column_told none = and_same (nat_lt u users) (row_bit blocks u v) (set.contains (pairs_in blocks) (u, v)) (λ e. elim (cases_lt v USER_LIMIT) [
     | inl second ↦ is_pair (omega (arith, most, ltb-true u users e)) second
     | inr past ↦ none past ∙ sym (no_pair (inr past))
@@ -155,5 +162,6 @@ both_inside false r c e = cc
 -- the numbers of a pair are within the limit
 pub held_within : (blocks : List Block) (u v : ℕ) → set.contains (pairs_in blocks) (u, v) ≡ true → (u < USER_LIMIT) × (v < USER_LIMIT)
 held_within blocks u v held =
-    let inside = both_inside (nat_lt u USER_LIMIT) (nat_lt v USER_LIMIT) (row_bit blocks u v) (sym (contains_set_of (row_bit blocks) USER_LIMIT USER_LIMIT u v) ∙ held) in
+    let inside = both_inside (nat_lt u USER_LIMIT) (nat_lt v USER_LIMIT) (row_bit blocks u v)
+    (sym (contains_set_of (row_bit blocks) USER_LIMIT USER_LIMIT u v) ∙ held) in
     (ltb-true u USER_LIMIT inside.0, ltb-true v USER_LIMIT inside.1)

@@ -27,17 +27,20 @@ pairs_of_bits : (r : Option (Bor (List ℕ))) (bit held : ℕ → Bool) → IfSo
 pairs_of_bits None bit held told same = tt
 pairs_of_bits (Some row) bit held told same = λ v low. told v ∙ same v low
 
-module _ (ahead behind given : List Block) (count u : ℕ) (pairs : Pairs) (r : Option (Bor (List ℕ))) (rows : AreRows ahead behind count) (seen : pairs_in ahead ≡ pairs) where
+module _ (ahead behind given : List Block) (count u : ℕ) (pairs : Pairs) (r : Option (Bor (List ℕ))) (rows : AreRows ahead behind count)
+    (seen : pairs_in ahead ≡ pairs) where
   pub row_after_told : given ≡ ahead
       → MatchOption r ((v : ℕ) → row_bit given u v ≡ false) (λ row. (v : ℕ) → has_user row.now v ≡ row_bit given u v)
       → IfSome r (λ row. (v : ℕ) → v < USER_LIMIT → has_user row.now v ≡ set.contains pairs (u, v))
   row_after_told is told =
       pairs_of_bits r (row_bit ahead u) (λ v. set.contains pairs (u, v)) (bits_of r given ahead u is told)
-      (λ v low. unmasked v (row_bit ahead u v) (set.contains (pairs_in ahead) (u, v)) low (after_told ahead behind count u v USER_LIMIT rows (omega arith)) ∙ ap (λ s. set.contains s (u, v)) seen)
+      (λ v low. unmasked v (row_bit ahead u v) (set.contains (pairs_in ahead) (u, v)) low
+      (after_told ahead behind count u v USER_LIMIT rows (omega arith)) ∙ ap (λ s. set.contains s (u, v)) seen)
 
   pub row_ahead_told : given ≡ behind
       → MatchOption r ((v : ℕ) → row_bit given u v ≡ false) (λ row. (v : ℕ) → has_user row.now v ≡ row_bit given u v)
       → IfSome r (λ row. (v : ℕ) → v < USER_LIMIT → has_user row.now v ≡ set.contains pairs (v, u))
   row_ahead_told is told =
       pairs_of_bits r (row_bit behind u) (λ v. set.contains pairs (v, u)) (bits_of r given behind u is told)
-      (λ v low. unmasked v (row_bit behind u v) (set.contains (pairs_in ahead) (v, u)) low (ahead_told ahead behind count u v USER_LIMIT rows (omega arith)) ∙ ap (λ s. set.contains s (v, u)) seen)
+      (λ v low. unmasked v (row_bit behind u v) (set.contains (pairs_in ahead) (v, u)) low
+      (ahead_told ahead behind count u v USER_LIMIT rows (omega arith)) ∙ ap (λ s. set.contains s (v, u)) seen)

@@ -1,5 +1,6 @@
 -- Every change leaves the relations sound.
-use Rattle.std.proofs.Common.{◌≡◌, ℕ, zero, suc, ◌+◌, ◌-◌, ◌<◌, ◌≤◌, true, false, cond, List, [], ◌∷◌, ◌++◌, length, map, take, drop, refl, sym, ap, ◌∙◌, subst, ◌⊎◌, inl, inr, arith, length-append}
+use Rattle.std.proofs.Common.{◌≡◌, ℕ, zero, suc, ◌+◌, ◌-◌, ◌<◌, ◌≤◌, true, false, cond, List, [], ◌∷◌, ◌++◌, length, map, take, drop, refl, sym, ap, ◌∙◌, subst}
+use Rattle.std.proofs.Common.{◌⊎◌, inl, inr, arith, length-append}
 use Rattle.std.specs.Prelude.{Some, None, option_map, slice_get, is_some, nat_eq, nat_le, codes, Result, Ok, Err, OnOk, OnErr}
 use Rattle.std.specs.List.{IsDistinct}
 use Rattle.std.specs.FinSet as set
@@ -14,7 +15,8 @@ use Rattle.wf_names.specs.Table.{place_of}
 use Rattle.wf_names.specs.declared.limits.TheConstants.{USER_LIMIT, RELATION_LIMIT, PAIR_LIMIT}
 use Rattle.user_relations.specs.declared.RelationFault.{RelationFault}
 use Rattle.user_relations.specs.declared.RelationFault.TheVariants.{Already, Full}
-use Rattle.user_relations.specs.Relations.{RelationShape, RelationKind, listed, complement, kind_of, has_list, is_listed, complemented, complement_of, listed_pairs, pairs_of, known_names, change_kind, with_kind}
+use Rattle.user_relations.specs.Relations.{RelationShape, RelationKind, listed, complement, kind_of, has_list, is_listed, complemented, complement_of}
+use Rattle.user_relations.specs.Relations.{listed_pairs, pairs_of, known_names, change_kind, with_kind}
 use Rattle.user_relations.specs.Faults.{AnswersFault, put_fault, take_fault, relate_fault, unrelate_fault}
 use Rattle.user_relations.specs.Soundness.{AreSound}
 use Rattle.std.specs.declared.alloc.AllocError.{AllocError}
@@ -49,7 +51,8 @@ count_kept rs zero k = refl
 count_kept rs (suc zero) k = refl
 count_kept rs (suc (suc n)) k = length_kept rs n k
 
-got_here : (rs : List RelationShape) (n : ℕ) (k0 k : RelationKind) → option_map (λ r. r.kind) (slice_get rs n) ≡ Some k0 → option_map (λ r. r.kind) (slice_get (change_kind rs n k) n) ≡ Some k
+got_here : (rs : List RelationShape) (n : ℕ) (k0 k : RelationKind) → option_map (λ r. r.kind) (slice_get rs n) ≡ Some k0 →
+    option_map (λ r. r.kind) (slice_get (change_kind rs n k) n) ≡ Some k
 got_here [] n k0 k e = cc
 got_here (r ∷ rs) zero k0 k e = refl
 got_here (r ∷ rs) (suc n) k0 k e = got_here rs n k0 k e
@@ -60,7 +63,8 @@ kind_here rs zero k0 k e = cc
 kind_here rs (suc zero) k0 k e = cc
 kind_here rs (suc (suc n)) k0 k e = got_here rs n k0 k e
 
-got_there : (rs : List RelationShape) (n m : ℕ) (k : RelationKind) → (m ≡ n → ⊥) → option_map (λ r. r.kind) (slice_get (change_kind rs n k) m) ≡ option_map (λ r. r.kind) (slice_get rs m)
+got_there : (rs : List RelationShape) (n m : ℕ) (k : RelationKind) → (m ≡ n → ⊥) →
+    option_map (λ r. r.kind) (slice_get (change_kind rs n k) m) ≡ option_map (λ r. r.kind) (slice_get rs m)
 got_there [] n m k differ = refl
 got_there (r ∷ rs) zero zero k differ = absurd (differ refl)
 got_there (r ∷ rs) zero (suc m) k differ = refl
@@ -75,7 +79,8 @@ kind_there rs (suc (suc n)) zero k differ = refl
 kind_there rs (suc (suc n)) (suc zero) k differ = refl
 kind_there rs (suc (suc n)) (suc (suc m)) k differ = got_there rs n m k (λ e. differ (ap (λ i. suc (suc i)) e))
 
-kind_is : (rs : List RelationShape) (rho m : ℕ) (k0 k k1 : RelationKind) → kind_of rs rho ≡ Some k0 → m ≡ rho → kind_of (with_kind rs rho k) m ≡ Some k1 → k ≡ k1
+kind_is : (rs : List RelationShape) (rho m : ℕ) (k0 k k1 : RelationKind) → kind_of rs rho ≡ Some k0 → m ≡ rho → kind_of (with_kind rs rho k) m ≡ Some k1 →
+    k ≡ k1
 kind_is rs rho m k0 k k1 was same e =
     let here : Some k ≡ Some k1 = sym (kind_here rs rho k0 k was) ∙ sym (ap (kind_of (with_kind rs rho k)) same) ∙ e in
     cc
@@ -101,13 +106,15 @@ sound_change rs rho k0 k s was lists points kept = record {
     | inr differ ↦
         let there : kind_of rs m ≡ Some (complement n) = sym (kind_there rs rho m k differ) ∙ e in
         elim (cases_eq n rho) [
-          | inl target ↦ ap has_list (ap (kind_of (with_kind rs rho k)) target ∙ kind_here rs rho k0 k was) ∙ kept m (there ∙ ap (λ i. Some (complement i)) target)
+          | inl target ↦ ap has_list (ap (kind_of (with_kind rs rho k)) target ∙ kind_here rs rho k0 k was) ∙
+              kept m (there ∙ ap (λ i. Some (complement i)) target)
           | inr other ↦ ap has_list (kind_there rs rho n k other) ∙ s.complements m n there
         ]
   ];
 }
 
-sound_list : (rs : List RelationShape) (rho : ℕ) (old new : Pairs) → AreSound rs → kind_of rs rho ≡ Some (listed old) → set.len new ≤ PAIR_LIMIT → AllPairs AreUsers new → AreSound (with_kind rs rho (listed new))
+sound_list : (rs : List RelationShape) (rho : ℕ) (old new : Pairs) → AreSound rs → kind_of rs rho ≡ Some (listed old) → set.len new ≤ PAIR_LIMIT →
+    AllPairs AreUsers new → AreSound (with_kind rs rho (listed new))
 sound_list rs rho old new s was few users =
     sound_change rs rho (listed old) (listed new) s was
     (λ pairs e. let same : new ≡ pairs = cc in (subst (λ p. set.len p ≤ PAIR_LIMIT) same few, subst (AllPairs AreUsers) same users))
@@ -118,31 +125,38 @@ no_answer : {x : Unit {0}} {f : RelationFault} → Ok x ≡ Err f → ⊥
 no_answer e = cc
 
 -- a pair that was put in was not there, and there was room
-room : (pairs : Pairs) (u v : ℕ) (x : Unit {0}) → AnswersFault (put_fault (Some (listed pairs)) u v) (Ok x) → (set.contains pairs (u, v) ≡ false) × (set.len pairs < PAIR_LIMIT)
+room : (pairs : Pairs) (u v : ℕ) (x : Unit {0}) → AnswersFault (put_fault (Some (listed pairs)) u v) (Ok x) → (set.contains pairs (u, v) ≡ false) ×
+    (set.len pairs < PAIR_LIMIT)
 room pairs u v x f =
-    elim (set.contains pairs (u, v)) as (λ b. AnswersFault (cond b (Some Already) (cond (nat_le PAIR_LIMIT (set.len pairs)) (Some Full) None)) (Ok x) → (b ≡ false) × (set.len pairs < PAIR_LIMIT)) [
+    elim (set.contains pairs (u, v)) as (λ b. AnswersFault (cond b (Some Already) (cond (nat_le PAIR_LIMIT (set.len pairs)) (Some Full) None)) (Ok x) →
+    (b ≡ false) × (set.len pairs < PAIR_LIMIT)) [
       | true ↦ λ g. absurd (no_answer g)
       | false ↦ λ g. (
         refl,
-        elim (nat_le PAIR_LIMIT (set.len pairs)) as (λ b. nat_le PAIR_LIMIT (set.len pairs) ≡ b → AnswersFault (cond b (Some Full) None) (Ok x) → set.len pairs < PAIR_LIMIT) [
-          | true ↦ λ _ h. absurd (no_answer h)
-          | false ↦ λ e _. leb-false PAIR_LIMIT (set.len pairs) e
-        ] refl g,
+        elim (nat_le PAIR_LIMIT (set.len pairs)) as
+            (λ b. nat_le PAIR_LIMIT (set.len pairs) ≡ b → AnswersFault (cond b (Some Full) None) (Ok x) → set.len pairs < PAIR_LIMIT) [
+              | true ↦ λ _ h. absurd (no_answer h)
+              | false ↦ λ e _. leb-false PAIR_LIMIT (set.len pairs) e
+            ] refl g,
       )
     ] f
 
 pub sound_relate : (rs new : List RelationShape) (rho u v : ℕ) (r : Result (Unit {0}) RelationFault) → AreSound rs → u < USER_LIMIT → v < USER_LIMIT
-    → OnOk r (new ≡ with_kind rs rho (listed (set.insert (pairs_of rs rho) (u, v)))) → AnswersFault (relate_fault rs rho u v) r → OnErr r (new ≡ rs) → AreSound new
+    → OnOk r (new ≡ with_kind rs rho (listed (set.insert (pairs_of rs rho) (u, v)))) → AnswersFault (relate_fault rs rho u v) r → OnErr r (new ≡ rs) →
+    AreSound new
 sound_relate rs new rho u v (Err e) s first second related fault same = subst AreSound (sym same) s
 sound_relate rs new rho u v (Ok x) s first second related fault same =
-    elim (kind_of rs rho) as (λ o. kind_of rs rho ≡ o → AnswersFault (put_fault o u v) (Ok x) → new ≡ with_kind rs rho (listed (set.insert (listed_pairs o) (u, v))) → AreSound new) [
+    elim (kind_of rs rho) as (λ o. kind_of rs rho ≡ o → AnswersFault (put_fault o u v) (Ok x) →
+    new ≡ with_kind rs rho (listed (set.insert (listed_pairs o) (u, v))) → AreSound new) [
       | None ↦ λ e f is. absurd (no_answer f)
       | Some (complement n) ↦ λ e f is. absurd (no_answer f)
       | Some (listed pairs) ↦ λ e f is.
           let parts = room pairs u v x f in
-          let grown : set.len (set.insert pairs (u, v)) ≡ set.len pairs + 1 = set.len-insert pair_cmp_total pairs (u, v) ∙ ap (λ b. cond b (set.len pairs) (set.len pairs + 1)) parts.0 in
+          let grown : set.len (set.insert pairs (u, v)) ≡ set.len pairs + 1 = set.len-insert pair_cmp_total pairs (u, v) ∙
+          ap (λ b. cond b (set.len pairs) (set.len pairs + 1)) parts.0 in
           let below : set.len pairs < PAIR_LIMIT = parts.1 in
-          subst AreSound (sym is) (sound_list rs rho pairs (set.insert pairs (u, v)) s e (omega arith) (all_insert AreUsers pairs u v (first, second) (s.users rho pairs e)))
+          subst AreSound (sym is)
+          (sound_list rs rho pairs (set.insert pairs (u, v)) s e (omega arith) (all_insert AreUsers pairs u v (first, second) (s.users rho pairs e)))
     ] refl fault related
 
 less_by_one : (pairs : Pairs) (u v : ℕ) → set.len pairs ≤ PAIR_LIMIT → set.len (set.remove pairs (u, v)) ≤ PAIR_LIMIT
@@ -151,34 +165,41 @@ less_by_one pairs u v few =
     (elim (set.contains pairs (u, v)) as (λ b. cond b (set.len pairs - 1) (set.len pairs) ≤ PAIR_LIMIT) [ true ↦ omega arith | false ↦ few ])
 
 pub sound_unrelate : (rs new : List RelationShape) (rho u v : ℕ) (r : Result (Unit {0}) RelationFault) → AreSound rs
-    → OnOk r (new ≡ with_kind rs rho (listed (set.remove (pairs_of rs rho) (u, v)))) → AnswersFault (unrelate_fault rs rho u v) r → OnErr r (new ≡ rs) → AreSound new
+    → OnOk r (new ≡ with_kind rs rho (listed (set.remove (pairs_of rs rho) (u, v)))) → AnswersFault (unrelate_fault rs rho u v) r → OnErr r (new ≡ rs) →
+    AreSound new
 sound_unrelate rs new rho u v (Err e) s unrelated fault same = subst AreSound (sym same) s
 sound_unrelate rs new rho u v (Ok x) s unrelated fault same =
-    elim (kind_of rs rho) as (λ o. kind_of rs rho ≡ o → AnswersFault (take_fault o u v) (Ok x) → new ≡ with_kind rs rho (listed (set.remove (listed_pairs o) (u, v))) → AreSound new) [
+    elim (kind_of rs rho) as (λ o. kind_of rs rho ≡ o → AnswersFault (take_fault o u v) (Ok x) →
+    new ≡ with_kind rs rho (listed (set.remove (listed_pairs o) (u, v))) → AreSound new) [
       | None ↦ λ e f is. absurd (no_answer f)
       | Some (complement n) ↦ λ e f is. absurd (no_answer f)
       | Some (listed pairs) ↦ λ e f is.
-          subst AreSound (sym is) (sound_list rs rho pairs (set.remove pairs (u, v)) s e (less_by_one pairs u v (s.few rho pairs e)) (all_remove AreUsers pairs u v (s.users rho pairs e)))
+          subst AreSound (sym is) (sound_list rs rho pairs (set.remove pairs (u, v)) s e (less_by_one pairs u v (s.few rho pairs e))
+          (all_remove AreUsers pairs u v (s.users rho pairs e)))
     ] refl fault unrelated
 
-pub sound_complement : (rs new : List RelationShape) (rho of_number : ℕ) → AreSound rs → kind_of rs rho ≡ Some (listed set.empty) → is_listed rs of_number ≡ true → (rho ≡ of_number → ⊥)
+pub sound_complement : (rs new : List RelationShape) (rho of_number : ℕ) → AreSound rs → kind_of rs rho ≡ Some (listed set.empty) →
+    is_listed rs of_number ≡ true → (rho ≡ of_number → ⊥)
     → ((n : ℕ) → complement_of rs n ≡ Some rho → ⊥) → new ≡ with_kind rs rho (complement of_number) → AreSound new
 sound_complement rs new rho of_number s bare is_list differ free is =
     subst AreSound (sym is) (sound_change rs rho (listed set.empty) (complement of_number) s bare
     (λ pairs e. cc)
     (λ n e.
     let same : of_number ≡ n = cc in
-    ap (is_listed (with_kind rs rho (complement of_number))) (sym same) ∙ ap has_list (kind_there rs rho of_number (complement of_number) (λ q. differ (sym q))) ∙ is_list)
+    ap (is_listed (with_kind rs rho (complement of_number))) (sym same) ∙
+    ap has_list (kind_there rs rho of_number (complement of_number) (λ q. differ (sym q))) ∙ is_list)
     (λ m e. absurd (free m (ap complemented e))))
 
 -- a relation at the end
-pushed : (rs : List RelationShape) (r : RelationShape) (n : ℕ) → (slice_get (rs ++ r ∷ []) n ≡ slice_get rs n) ⊎ ((slice_get rs n ≡ None) × (slice_get (rs ++ r ∷ []) n ≡ Some r))
+pushed : (rs : List RelationShape) (r : RelationShape) (n : ℕ) → (slice_get (rs ++ r ∷ []) n ≡ slice_get rs n) ⊎
+    ((slice_get rs n ≡ None) × (slice_get (rs ++ r ∷ []) n ≡ Some r))
 pushed [] r zero = inr (refl, refl)
 pushed [] r (suc n) = inl refl
 pushed (x ∷ rs) r zero = inl refl
 pushed (x ∷ rs) r (suc n) = pushed rs r n
 
-kind_pushed : (rs : List RelationShape) (r : RelationShape) (m : ℕ) → (kind_of (rs ++ r ∷ []) m ≡ kind_of rs m) ⊎ ((kind_of rs m ≡ None) × (kind_of (rs ++ r ∷ []) m ≡ Some r.kind))
+kind_pushed : (rs : List RelationShape) (r : RelationShape) (m : ℕ) → (kind_of (rs ++ r ∷ []) m ≡ kind_of rs m) ⊎
+    ((kind_of rs m ≡ None) × (kind_of (rs ++ r ∷ []) m ≡ Some r.kind))
 kind_pushed rs r zero = inl refl
 kind_pushed rs r (suc zero) = inl refl
 kind_pushed rs r (suc (suc n)) = elim (pushed rs r n) [
@@ -208,7 +229,8 @@ sound_none = record {
 }
 
 -- a relation with its pairs at the end
-sound_add_pairs : (rs : List RelationShape) (name : List ℕ) (own : Pairs) → AreSound rs → length rs < RELATION_LIMIT → is_some (place_of (known_names rs) name) ≡ false
+sound_add_pairs : (rs : List RelationShape) (name : List ℕ) (own : Pairs) → AreSound rs → length rs < RELATION_LIMIT →
+    is_some (place_of (known_names rs) name) ≡ false
     → set.len own ≤ PAIR_LIMIT → AllPairs AreUsers own → AreSound (rs ++ (record { name = name; kind = listed own }) ∷ [])
 sound_add_pairs rs name own s below fresh little users =
     let r : RelationShape = record { name = name; kind = listed own } in
@@ -219,7 +241,8 @@ sound_add_pairs rs name own s below fresh little users =
           (IsDistinct-push nat_list_eq_equiv (known_names rs) name s.names (unknown (known_names rs) name fresh));
       few = λ m pairs e. elim (kind_pushed rs r m) [
         | inl same ↦ s.few m pairs (sym same ∙ e)
-        | inr new ↦ let is : Some (listed own) ≡ Some (listed pairs) = sym new.1 ∙ e in let same : own ≡ pairs = cc in subst (λ p. set.len p ≤ PAIR_LIMIT) same little
+        | inr new ↦ let is : Some (listed own) ≡ Some (listed pairs) = sym new.1 ∙ e in let same : own ≡ pairs = cc in
+            subst (λ p. set.len p ≤ PAIR_LIMIT) same little
       ];
       users = λ m pairs e. elim (kind_pushed rs r m) [
         | inl same ↦ s.users m pairs (sym same ∙ e)

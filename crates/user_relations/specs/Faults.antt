@@ -1,9 +1,11 @@
 -- Why a pair is not put into a relation or not taken out of it.
-use Rattle.std.specs.Prelude.{◌≡◌, ℕ, List, Option, Some, None, Result, Err, OnErr, nat_le, if◌then◌else◌}
+use Rattle.std.specs.Prelude.{◌≡◌, ℕ, List, Option, Some, None, Result, Err, OnErr, nat_le}
+use Rattle.std.specs.Prelude.{if◌then◌else◌}
 use Rattle.std.specs.FinSet as set
 use Rattle.wf_names.specs.declared.limits.TheConstants.{PAIR_LIMIT}
 use Rattle.user_relations.specs.declared.RelationFault.{RelationFault}
-use Rattle.user_relations.specs.declared.RelationFault.TheVariants.{Fixed, Already, Absent, Full, NoMemory}
+use Rattle.user_relations.specs.declared.RelationFault.TheVariants.{Fixed, Already, Absent, Full}
+use Rattle.user_relations.specs.declared.RelationFault.TheVariants.{NoMemory}
 use Rattle.user_relations.specs.Relations.{RelationShape, RelationKind, listed, complement, kind_of}
 
 -- a pair is put into a listed relation that lacks it and has room
@@ -11,7 +13,8 @@ abbrev pub put_fault : Option RelationKind → ℕ → ℕ → Option RelationFa
 put_fault None u v = Some Fixed
 put_fault (Some (complement n)) u v = Some Fixed
 put_fault (Some (listed pairs)) u v =
-    if set.contains pairs (u, v) then Some Already else (if nat_le PAIR_LIMIT (set.len pairs) then Some Full else None)
+    if set.contains pairs (u, v) then Some Already else
+    (if nat_le PAIR_LIMIT (set.len pairs) then Some Full else None)
 
 abbrev pub relate_fault : List RelationShape → ℕ → ℕ → ℕ → Option RelationFault
 relate_fault relations rho u v = put_fault (kind_of relations rho) u v

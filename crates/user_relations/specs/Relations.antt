@@ -1,11 +1,13 @@
 -- The relations between users, as contracts see them.
-use Rattle.std.specs.Prelude.{◌≡◌, ℕ, Bool, true, false, not, ◌==◌, List, [], ◌∷◌, map, codes, refl, Option, Some, None, option_map, slice_get}
+use Rattle.std.specs.Prelude.{◌≡◌, ℕ, Bool, true, false, not, ◌==◌, List, [], ◌∷◌, map, codes, refl}
+use Rattle.std.specs.Prelude.{Option, Some, None, option_map, slice_get}
 use Rattle.std.proofs.Common.{zero, suc, ◌⊎◌, inl, inr}
 use Rattle.std.specs.Coded.{Coded, code_by, coded×, coded⊎, coded_list, coded_ℕ}
 use Rattle.std.specs.FinSet as set
 use Rattle.pair_set.specs.Pairs.{Pairs, pairs_code}
 
--- a relation that is declared: its pairs are listed, or it holds where the listed relation with this number does not
+-- a relation that is declared: its pairs are listed, or it holds where the listed relation with
+-- this number does not
 pub data RelationKind : Type 0 where
   listed : Pairs → RelationKind
   complement : ℕ → RelationKind
@@ -38,7 +40,8 @@ relation_code =
 abbrev pub relations_code : Coded (List RelationShape)
 relations_code = coded_list relation_code
 
--- the declared relation with this number: 0 is `same`, 1 is `other`, and declared relations count from 2
+-- the declared relation with this number: 0 is `same`, 1 is `other`, and declared relations count
+-- from 2
 abbrev pub kind_of : List RelationShape → ℕ → Option RelationKind
 kind_of relations zero = None
 kind_of relations (suc zero) = None
@@ -71,13 +74,15 @@ complemented (Some (complement n)) = Some n
 abbrev pub complement_of : List RelationShape → ℕ → Option ℕ
 complement_of relations rho = complemented (kind_of relations rho)
 
--- a declared relation holds of a listed pair, and a complement of each pair that is not listed in the other
+-- a declared relation holds of a listed pair, and a complement of each pair that is not listed in
+-- the other
 abbrev pub kind_holds : List RelationShape → Option RelationKind → ℕ → ℕ → Bool
 kind_holds relations None u v = false
 kind_holds relations (Some (listed pairs)) u v = set.contains pairs (u, v)
 kind_holds relations (Some (complement n)) u v = not (set.contains (pairs_of relations n) (u, v))
 
--- related users: `same` holds of equal users, `other` of different ones, and an unknown relation of none
+-- related users: `same` holds of equal users, `other` of different ones, and an unknown relation of
+-- none
 abbrev pub is_related : List RelationShape → ℕ → ℕ → ℕ → Bool
 is_related relations zero u v = u == v
 is_related relations (suc zero) u v = not (u == v)

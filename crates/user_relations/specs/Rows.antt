@@ -1,5 +1,6 @@
 -- Inside: rows of bits, kept in blocks.
-use Rattle.std.specs.Prelude.{◌≡◌, ℕ, ◌<◌, ◌/◌, ◌%◌, Bool, true, false, List, [], length, slice_index_or}
+use Rattle.std.specs.Prelude.{◌≡◌, ℕ, ◌<◌, ◌/◌, ◌%◌, Bool, true, false, List, [], length}
+use Rattle.std.specs.Prelude.{slice_index_or}
 use Rattle.std.proofs.Common.{◌⊎◌}
 use Rattle.std.specs.FinSet as set
 use Rattle.std.specs.List.{All}
@@ -16,7 +17,8 @@ block_bit block k v = has_user (slice_index_or block.rows k []) v
 
 -- the bit v of row u: that of row u % BLOCK_ROWS of block u / BLOCK_ROWS
 abbrev pub row_bit : List Block → ℕ → ℕ → Bool
-row_bit blocks u v = block_bit (slice_index_or blocks (u / BLOCK_ROWS) (record { rows = [] })) (u % BLOCK_ROWS) v
+row_bit blocks u v =
+    block_bit (slice_index_or blocks (u / BLOCK_ROWS) (record { rows = [] })) (u % BLOCK_ROWS) v
 
 -- a bit where it is written, and elsewhere what was there
 abbrev pub written : Bool → Bool → Bool → Bool
@@ -27,7 +29,8 @@ written bit false old = old
 abbrev pub pairs_in : List Block → Pairs
 pairs_in blocks = set_of (row_bit blocks) USER_LIMIT USER_LIMIT
 
--- there is a row for each user both ways, the rows behind are those ahead the other way round, and the pairs are counted
+-- there is a row for each user both ways, the rows behind are those ahead the other way round, and
+-- the pairs are counted
 pub record AreRows (ahead behind : List Block) (count : ℕ) : Type 0 where
   pub ahead_whole : length ahead ≡ BLOCKS
   pub behind_whole : length behind ≡ BLOCKS
@@ -40,6 +43,7 @@ IsBefore a b q = (q.0 < a) ⊎ ((q.0 ≡ a) × (q.1 < b))
 
 -- the pairs before (a, b) whose bits are set, in ascending order
 pub record AreListedTo (blocks : List Block) (a b : ℕ) (pairs : List (ℕ × ℕ)) : Type 0 where
-  pub is : set.from_list pairs ≡ with_row (row_bit blocks a) a b (set_of (row_bit blocks) a USER_LIMIT)
+  pub is : set.from_list pairs ≡ with_row (row_bit blocks a) a b
+      (set_of (row_bit blocks) a USER_LIMIT)
   pub ascending : IsAscending pairs
   pub before : All (IsBefore a b) pairs

@@ -1,5 +1,7 @@
 //! Rows of bits in blocks. A block that copies share is copied once one of them changes it.
-ghost use Rattle.std.specs.Prelude.{◌≡◌, ◌≢◌, ◌<◌, ◌≤◌, ◌+◌, ◌/◌, ◌%◌, ◌==◌, ◌&&◌, ◌||◌, not, nat_lt, is_some, ℕ, [], length, replicate, IfOk, OnOk, OnErr, MatchOption, IsTrue, false};
+ghost use Rattle.std.specs.Prelude.{◌≡◌, ◌≢◌, ◌<◌, ◌≤◌, ◌+◌, ◌/◌, ◌%◌, ◌==◌, ◌&&◌, ◌||◌, not};
+ghost use Rattle.std.specs.Prelude.{nat_lt, is_some, ℕ, [], length, replicate, IfOk, OnOk, OnErr};
+ghost use Rattle.std.specs.Prelude.{MatchOption, IsTrue, false};
 ghost use Rattle.std.specs.FinSet as set;
 ghost use Rattle.pair_set.specs.Pairs.{IsAscending};
 ghost use Rattle.wf_names.specs.declared.limits.TheConstants.{USER_LIMIT};

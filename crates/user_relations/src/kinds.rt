@@ -1,5 +1,7 @@
 //! The declared relations as they are kept, and what each call does to them.
-ghost use Rattle.std.specs.Prelude.{◌≡◌, ◌≢◌, ◌<◌, ◌≤◌, ◌+◌, ℕ, List, [], ◌∷◌, ◌++◌, length, IfOk, IfSome, OnOk, OnErr, MatchOption, IsTrue, ◌&&◌, not, nat_lt, true, false, slice_get, Some, None, position, nat_eq};
+ghost use Rattle.std.specs.Prelude.{◌≡◌, ◌≢◌, ◌<◌, ◌≤◌, ◌+◌, ℕ, List, [], ◌∷◌, ◌++◌, length, IfOk};
+ghost use Rattle.std.specs.Prelude.{IfSome, OnOk, OnErr, MatchOption, IsTrue, ◌&&◌, not, nat_lt};
+ghost use Rattle.std.specs.Prelude.{true, false, slice_get, Some, None, position, nat_eq};
 ghost use Rattle.std.specs.Cmp.Lexicographic.{pointwise};
 ghost use Rattle.std.specs.FinSet as set;
 ghost use Rattle.pair_set.specs.Pairs.{IsAscending};
@@ -7,8 +9,11 @@ ghost use Rattle.wf_names.specs.declared.limits.TheConstants.{USER_LIMIT};
 ghost use Rattle.wf_names.specs.Names.{is_name};
 ghost use Rattle.wf_names.specs.Table.{place_of};
 ghost use Rattle.wf_names.specs.UserSets.{has_user};
-ghost use Rattle.user_relations.specs.Relations.{listed, complement, kind_of, kind_holds, listed_pairs, pairs_of, complement_of, known_names, with_kind, has_list};
-ghost use Rattle.user_relations.specs.Faults.{relate_fault, unrelate_fault, put_fault, take_fault, AnswersFault};
+ghost use Rattle.user_relations.specs.Relations.{listed, complement, kind_of, kind_holds};
+ghost use Rattle.user_relations.specs.Relations.{listed_pairs, pairs_of, complement_of};
+ghost use Rattle.user_relations.specs.Relations.{known_names, with_kind, has_list};
+ghost use Rattle.user_relations.specs.Faults.{relate_fault, unrelate_fault, put_fault, take_fault};
+ghost use Rattle.user_relations.specs.Faults.{AnswersFault};
 ghost use Rattle.user_relations.specs.Places.{IsPlace};
 ghost use Rattle.user_relations.specs.View.{kind_view, relation_view, shapes};
 

@@ -2,13 +2,18 @@
 //! built-in `same` and `other`.
 #![tactic(auto)]
 
-ghost use Rattle.std.specs.Prelude.{◌≡◌, ◌≢◌, ◌<◌, ◌≤◌, ◌+◌, ◌↔◌, ℕ, List, [], ◌∷◌, ◌++◌, length, is_some, IfOk, IfSome, OnOk, OnErr, MatchOption, IsErrOf, true, false, ◌==◌, ◌&&◌, not, nat_lt, slice_get, Some};
+ghost use Rattle.std.specs.Prelude.{◌≡◌, ◌≢◌, ◌<◌, ◌≤◌, ◌+◌, ◌↔◌, ℕ, List, [], ◌∷◌, ◌++◌, length};
+ghost use Rattle.std.specs.Prelude.{is_some, IfOk, IfSome, OnOk, OnErr, MatchOption, IsErrOf, true};
+ghost use Rattle.std.specs.Prelude.{false, ◌==◌, ◌&&◌, not, nat_lt, slice_get, Some};
 ghost use Rattle.std.specs.FinSet as set;
 ghost use Rattle.pair_set.specs.Pairs.{AllPairs, IsAscending};
-ghost use Rattle.wf_names.specs.declared.limits.TheConstants.{PAIR_LIMIT, RELATION_LIMIT, USER_LIMIT};
+ghost use Rattle.wf_names.specs.declared.limits.TheConstants.{PAIR_LIMIT, RELATION_LIMIT};
+ghost use Rattle.wf_names.specs.declared.limits.TheConstants.{USER_LIMIT};
 ghost use Rattle.wf_names.specs.Table.{place_of};
 ghost use Rattle.wf_names.specs.UserSets.{has_user};
-ghost use Rattle.user_relations.specs.Relations.{RelationShape, listed, complement, kind_of, pairs_of, is_listed, complement_of, is_related, known_names, with_kind};
+ghost use Rattle.user_relations.specs.Relations.{RelationShape, listed, complement, kind_of};
+ghost use Rattle.user_relations.specs.Relations.{pairs_of, is_listed, complement_of, is_related};
+ghost use Rattle.user_relations.specs.Relations.{known_names, with_kind};
 ghost use Rattle.user_relations.specs.Soundness.{AreSound};
 ghost use Rattle.user_relations.specs.View.{shapes};
 ghost use Rattle.user_relations.specs.Faults.{relate_fault, unrelate_fault, AnswersFault};

@@ -1,5 +1,6 @@
 //! Sets of pairs of users, kept as rows of bits both ways.
-ghost use Rattle.std.specs.Prelude.{◌≡◌, ◌<◌, ◌≤◌, ◌↔◌, ◌&&◌, not, true, false, nat_lt, is_some, ℕ, IfOk, IfSome, OnOk, OnErr, IsTrue};
+ghost use Rattle.std.specs.Prelude.{◌≡◌, ◌<◌, ◌≤◌, ◌↔◌, ◌&&◌, not, true, false, nat_lt, is_some, ℕ};
+ghost use Rattle.std.specs.Prelude.{IfOk, IfSome, OnOk, OnErr, IsTrue};
 ghost use Rattle.std.specs.FinSet as set;
 ghost use Rattle.pair_set.specs.Pairs.{IsAscending};
 ghost use Rattle.wf_names.specs.declared.limits.TheConstants.{USER_LIMIT};

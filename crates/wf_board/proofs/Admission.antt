@@ -1,5 +1,6 @@
 -- Whether a reply that somebody else gave is a step.
-use Rattle.std.proofs.Common.{◌≡◌, ◌≢◌, ℕ, ◌⊎◌, inl, inr, Bool, true, false, not, List, [], ◌∷◌, Option, None, Some, option_map, Result, Ok, Err, refl, sym, ap, subst, ◌∙◌}
+use Rattle.std.proofs.Common.{◌≡◌, ◌≢◌, ℕ, ◌⊎◌, inl, inr, Bool, true, false, not, List, [], ◌∷◌, Option, None, Some, option_map, Result, Ok, Err, refl, sym, ap}
+use Rattle.std.proofs.Common.{subst, ◌∙◌}
 use Rattle.std.specs.Prelude.{◌↔◌}
 use Rattle.first_fault.specs.Reading.{◌>>=◌, or_fault, check}
 use Rattle.wf_names.specs.States.{is_done, is_held, user_of}
@@ -220,11 +221,14 @@ want_answers s (Err d) = inr refl
 -- want of memory is taken whatever is asked
 pub want_taken : (p : PolicyShape) (t : CasesShape) (r : Result Deed Denial) (given : Reply) → IsKept p t → given ≡ reply.NoMemory → HasTakenStep p t t r given
 want_taken p t r given kept is =
-    subst (HasTakenStep p t t r) (sym is) (same_taken p t r reply.NoMemory kept (λ edits. want_answers (state_on (board_of p t edits)) r) (λ s. want_stays s r) (want_rows p t r))
+    subst (HasTakenStep p t t r) (sym is)
+    (same_taken p t r reply.NoMemory kept (λ edits. want_answers (state_on (board_of p t edits)) r) (λ s. want_stays s r) (want_rows p t r))
 
 -- a reply that changes nothing is taken where a test of it passes
-pub test_admitted : (p : PolicyShape) (t : CasesShape) (r : Result Deed Denial) (given : Reply) (b : Bool) (result : Result (Unit {0}) AdmitFault) → IsKept p t → result ≡ when b →
-    (b ≡ true → (edits : ℕ) → Answers (state_on (board_of p t edits)) r given) → (b ≡ false → IsNoAnswer p t r given) → ((s : State) → state_after_decision s r given ≡ s) →
+pub test_admitted : (p : PolicyShape) (t : CasesShape) (r : Result Deed Denial) (given : Reply) (b : Bool) (result : Result (Unit {0}) AdmitFault) →
+    IsKept p t → result ≡ when b →
+    (b ≡ true → (edits : ℕ) → Answers (state_on (board_of p t edits)) r given) → (b ≡ false → IsNoAnswer p t r given) →
+    ((s : State) → state_after_decision s r given ≡ s) →
     rows_after p t r given ≡ t.rows → HasAdmitted p t t r given result
 test_admitted p t r given b result kept is passes fails stays rows = subst (HasAdmitted p t t r given) (sym is) (at_test b refl)
   where
@@ -233,7 +237,8 @@ test_admitted p t r given b result kept is passes fails stays rows = subst (HasA
     at_test false failed = (refl, fails failed)
 
 -- the denial by a cause is taken, and no other reply
-pub cause_admitted : (p : PolicyShape) (t : CasesShape) (r : Result Deed Denial) (d : Denial) (given : Reply) (b : Bool) (result : Result (Unit {0}) AdmitFault) → IsKept p t → given ≢ reply.NoMemory → r ≡ Err d →
+pub cause_admitted : (p : PolicyShape) (t : CasesShape) (r : Result Deed Denial) (d : Denial) (given : Reply) (b : Bool)
+    (result : Result (Unit {0}) AdmitFault) → IsKept p t → given ≢ reply.NoMemory → r ≡ Err d →
     b ≡ true ↔ given ≡ reply.Denied d → result ≡ when b → HasAdmitted p t t r given result
 cause_admitted p t r d given b result kept memory decided test is =
     subst (λ x. HasAdmitted p t t x given result) (sym decided)
@@ -249,7 +254,8 @@ no_want : {X : Type 0} → true ≡ false → X
 no_want apart = cc
 
 -- a right verdict on a view that is left, by which the policy stays, is its list
-viewed : (b : Book) (what : Ask) (d : Deed) (v : Verdict) → decision_aside b what ≡ Ok d → ((plan : List ℕ) → ¬ IsPlanFor b (Ok d) plan) → ((tree : Tree) → ¬ IsTreeFor b (Ok d) tree) →
+viewed : (b : Book) (what : Ask) (d : Deed) (v : Verdict) → decision_aside b what ≡ Ok d → ((plan : List ℕ) → ¬ IsPlanFor b (Ok d) plan) →
+    ((tree : Tree) → ¬ IsTreeFor b (Ok d) tree) →
     ((n : ℕ) (tree : Tree) → ¬ IsStrandingFor b (Ok d) n tree) → ((x : View) → IsViewFor b (Ok d) x → IsVerdictFor b d (verdict.View x)) →
     IsRight b what v → keeps_policy v ≡ true → (v ≢ verdict.Nothing) × (is_want v ≡ false) → IsVerdictFor b d v
 viewed b what d verdict.Nothing aside plan tree strands view is stays some = absurd (some.0 refl)
@@ -263,7 +269,8 @@ viewed b what d (verdict.View x) aside plan tree strands view is stays some = vi
 
 -- a right verdict on an edit that is left, by which the policy stays, is the case that the edit strands, and one on a view
 -- that is left is its lists
-pub verdict_for : (b : Book) (s : State) (what : Ask) (given : Reply) (v : Verdict) (d : Deed) → s.book ≡ b → IsRight b what v → keeps_policy v ≡ true → HasVerdict s what given v → given ≢ reply.NoMemory →
+pub verdict_for : (b : Book) (s : State) (what : Ask) (given : Reply) (v : Verdict) (d : Deed) → s.book ≡ b → IsRight b what v → keeps_policy v ≡ true →
+    HasVerdict s what given v → given ≢ reply.NoMemory →
     decision_of b what ≡ Ok d → decision_aside b what ≡ Ok d → IsVerdictFor b d v
 verdict_for b s what given v (deed.Open f) same right keeps has memory decided aside = tt
 verdict_for b s what given v (deed.Claim n c t u) same right keeps has memory decided aside = tt
@@ -294,30 +301,35 @@ verdict_for b s what given v (deed.WhatIf a) same right keeps has memory decided
 
 -- ---- which replies a deed has
 
-pub opening_only : (s : State) (f : ℕ) (given : Reply) → given ≢ reply.NoMemory → ((n : ℕ) (plan : List ℕ) → given ≢ reply.Opened n plan) → ((d : Denial) → given ≢ reply.Denied d) → ¬ IsReplyTo s (deed.Open f) given
+pub opening_only : (s : State) (f : ℕ) (given : Reply) → given ≢ reply.NoMemory → ((n : ℕ) (plan : List ℕ) → given ≢ reply.Opened n plan) →
+    ((d : Denial) → given ≢ reply.Denied d) → ¬ IsReplyTo s (deed.Open f) given
 opening_only s f reply.NoMemory memory opened denied is = memory refl
 opening_only s f (reply.Opened n plan) memory opened denied is = opened n plan refl
 opening_only s f (reply.Denied d) memory opened denied is = denied d refl
 opening_only s f given memory opened denied is = is
 
-pub claim_only : (s : State) (n : ℕ) (c : CaseShape) (t u : ℕ) (given : Reply) → given ≢ reply.NoMemory → ((plan : List ℕ) → given ≢ reply.Granted plan) → ((d : Denial) → given ≢ reply.Denied d) →
+pub claim_only : (s : State) (n : ℕ) (c : CaseShape) (t u : ℕ) (given : Reply) → given ≢ reply.NoMemory → ((plan : List ℕ) → given ≢ reply.Granted plan) →
+    ((d : Denial) → given ≢ reply.Denied d) →
     ¬ IsReplyTo s (deed.Claim n c t u) given
 claim_only s n c t u reply.NoMemory memory granted denied is = memory refl
 claim_only s n c t u (reply.Granted plan) memory granted denied is = granted plan refl
 claim_only s n c t u (reply.Denied d) memory granted denied is = denied d refl
 claim_only s n c t u given memory granted denied is = is
 
-pub finish_only : (s : State) (n : ℕ) (c : CaseShape) (t u : ℕ) (given : Reply) → given ≢ reply.NoMemory → ((done : Bool) → given ≢ reply.Finished done) → ¬ IsReplyTo s (deed.Finish n c t u) given
+pub finish_only : (s : State) (n : ℕ) (c : CaseShape) (t u : ℕ) (given : Reply) → given ≢ reply.NoMemory → ((done : Bool) → given ≢ reply.Finished done) →
+    ¬ IsReplyTo s (deed.Finish n c t u) given
 finish_only s n c t u reply.NoMemory memory finished is = memory refl
 finish_only s n c t u (reply.Finished done) memory finished is = finished done refl
 finish_only s n c t u given memory finished is = is
 
-pub return_only : (s : State) (n : ℕ) (c : CaseShape) (t u : ℕ) (given : Reply) → given ≢ reply.NoMemory → given ≢ reply.Returned → ¬ IsReplyTo s (deed.GiveBack n c t u) given
+pub return_only : (s : State) (n : ℕ) (c : CaseShape) (t u : ℕ) (given : Reply) → given ≢ reply.NoMemory → given ≢ reply.Returned →
+    ¬ IsReplyTo s (deed.GiveBack n c t u) given
 return_only s n c t u reply.NoMemory memory returned is = memory refl
 return_only s n c t u reply.Returned memory returned is = returned refl
 return_only s n c t u given memory returned is = is
 
-pub release_only : (s : State) (n : ℕ) (c : CaseShape) (t : ℕ) (given : Reply) → given ≢ reply.NoMemory → given ≢ reply.Released → ¬ IsReplyTo s (deed.Release n c t) given
+pub release_only : (s : State) (n : ℕ) (c : CaseShape) (t : ℕ) (given : Reply) → given ≢ reply.NoMemory → given ≢ reply.Released →
+    ¬ IsReplyTo s (deed.Release n c t) given
 release_only s n c t reply.NoMemory memory released is = memory refl
 release_only s n c t reply.Released memory released is = released refl
 release_only s n c t given memory released is = is
@@ -327,19 +339,22 @@ withdrawal_only s n reply.NoMemory memory withdrawn is = memory refl
 withdrawal_only s n reply.Withdrawn memory withdrawn is = withdrawn refl
 withdrawal_only s n given memory withdrawn is = is
 
-pub showing_only : (s : State) (c : CaseShape) (given : Reply) → given ≢ reply.NoMemory → ((face : Face) → given ≢ reply.Shown face) → ¬ IsReplyTo s (deed.Show c) given
+pub showing_only : (s : State) (c : CaseShape) (given : Reply) → given ≢ reply.NoMemory → ((face : Face) → given ≢ reply.Shown face) →
+    ¬ IsReplyTo s (deed.Show c) given
 showing_only s c reply.NoMemory memory shown is = memory refl
 showing_only s c (reply.Shown face) memory shown is = shown face refl
 showing_only s c given memory shown is = is
 
-work_only : (s : State) (u : ℕ) (items : List WorkItem) (given : Reply) → given ≢ reply.NoMemory → IsWorkOf s.book u items → given ≢ reply.Work items → ¬ IsReplyTo s (deed.Work u) given
+work_only : (s : State) (u : ℕ) (items : List WorkItem) (given : Reply) → given ≢ reply.NoMemory → IsWorkOf s.book u items → given ≢ reply.Work items →
+    ¬ IsReplyTo s (deed.Work u) given
 work_only s u items reply.NoMemory memory work other is = memory refl
 work_only s u items (reply.Work told) memory work other is =
     other (ap reply.Work (one_list _ _ _ (steps_of (open_cases s.book.cases)) told items (λ x is not. not is) is work))
 work_only s u items given memory work other is = is
 
 -- a list of a user's work is taken where it is the one that is right
-pub work_admitted : (p : PolicyShape) (t : CasesShape) (u : ℕ) (items : List WorkItem) (given : Reply) (b : Bool) (result : Result (Unit {0}) AdmitFault) → IsKept p t → given ≢ reply.NoMemory →
+pub work_admitted : (p : PolicyShape) (t : CasesShape) (u : ℕ) (items : List WorkItem) (given : Reply) (b : Bool) (result : Result (Unit {0}) AdmitFault) →
+    IsKept p t → given ≢ reply.NoMemory →
     IsWorkOf (book_of p t) u items → b ≡ true ↔ given ≡ reply.Work items → result ≡ when b → HasAdmitted p t t (Ok (deed.Work u)) given result
 work_admitted p t u items given b result kept memory work test is =
     test_admitted p t (Ok (deed.Work u)) given b result kept is
@@ -350,7 +365,8 @@ work_admitted p t u items given b result kept memory work test is =
     not_told : b ≡ false → given ≢ reply.Work items
     not_told failed told = let apart : true ≡ false = sym (test.1 told) ∙ failed in cc
 
-what_if_only : (s : State) (a : Amendment) (numbers : List ℕ) (given : Reply) → given ≢ reply.NoMemory → AreStranded (amended s.book.policy a) (open_cases s.book.cases) numbers →
+what_if_only : (s : State) (a : Amendment) (numbers : List ℕ) (given : Reply) → given ≢ reply.NoMemory →
+    AreStranded (amended s.book.policy a) (open_cases s.book.cases) numbers →
     given ≢ reply.WhatIf numbers → ¬ IsReplyTo s (deed.WhatIf a) given
 what_if_only s a numbers reply.NoMemory memory stranded other is = memory refl
 what_if_only s a numbers (reply.WhatIf told) memory stranded other is =
@@ -358,8 +374,10 @@ what_if_only s a numbers (reply.WhatIf told) memory stranded other is =
 what_if_only s a numbers given memory stranded other is = is
 
 -- a list of stranded cases is taken where it is the one that is right
-pub what_if_admitted : (p : PolicyShape) (t : CasesShape) (a : Amendment) (numbers : List ℕ) (given : Reply) (b : Bool) (result : Result (Unit {0}) AdmitFault) → IsKept p t → given ≢ reply.NoMemory →
-    AreStranded (amended p a) (open_cases (book_of p t).cases) numbers → b ≡ true ↔ given ≡ reply.WhatIf numbers → result ≡ when b → HasAdmitted p t t (Ok (deed.WhatIf a)) given result
+pub what_if_admitted : (p : PolicyShape) (t : CasesShape) (a : Amendment) (numbers : List ℕ) (given : Reply) (b : Bool)
+    (result : Result (Unit {0}) AdmitFault) → IsKept p t → given ≢ reply.NoMemory →
+    AreStranded (amended p a) (open_cases (book_of p t).cases) numbers → b ≡ true ↔ given ≡ reply.WhatIf numbers → result ≡ when b →
+    HasAdmitted p t t (Ok (deed.WhatIf a)) given result
 what_if_admitted p t a numbers given b result kept memory stranded test is =
     test_admitted p t (Ok (deed.WhatIf a)) given b result kept is
     (λ passed edits. subst (IsReplyTo (state_on (board_of p t edits)) (deed.WhatIf a)) (sym (test.0 passed)) stranded)
@@ -374,7 +392,8 @@ bad_only s bad reply.NoMemory memory why is = memory refl
 bad_only s bad (reply.Bad b) memory why is = why b refl
 bad_only s bad given memory why is = is
 
-pub change_only : (s : State) (a : Amendment) (given : Reply) → given ≢ reply.NoMemory → ((number : ℕ) → given ≡ reply.Edited number → ¬ IsReplyTo s (deed.Change a) (reply.Edited number)) → ((d : Denial) → given ≢ reply.Denied d) →
+pub change_only : (s : State) (a : Amendment) (given : Reply) → given ≢ reply.NoMemory →
+    ((number : ℕ) → given ≡ reply.Edited number → ¬ IsReplyTo s (deed.Change a) (reply.Edited number)) → ((d : Denial) → given ≢ reply.Denied d) →
     ¬ IsReplyTo s (deed.Change a) given
 change_only s a reply.NoMemory memory edited denied is = memory refl
 change_only s a (reply.Edited number) memory edited denied is = edited number refl is
@@ -387,7 +406,8 @@ pub unsatisfiable_only : (s : State) (f : ℕ) (d : Denial) → ((g : ℕ) (t : 
 unsatisfiable_only s f (denial.Unsatisfiable g t) other is = other g t refl
 unsatisfiable_only s f d other is = is
 
-pub stranded_only : (s : State) (n : ℕ) (c : CaseShape) (t u : ℕ) (d : Denial) → ((g : ℕ) (x : Tree) → d ≢ denial.Stranded g x) → ¬ IsReplyTo s (deed.Claim n c t u) (reply.Denied d)
+pub stranded_only : (s : State) (n : ℕ) (c : CaseShape) (t u : ℕ) (d : Denial) → ((g : ℕ) (x : Tree) → d ≢ denial.Stranded g x) →
+    ¬ IsReplyTo s (deed.Claim n c t u) (reply.Denied d)
 stranded_only s n c t u (denial.Stranded g x) other is = other g x refl
 stranded_only s n c t u d other is = is
 
@@ -397,7 +417,8 @@ strands_only s a d other is = is
 
 -- ---- what was done is what the reply says
 
-pub opened_same : (p : PolicyShape) (before after : CasesShape) (f n : ℕ) (plan : List ℕ) (done : Reply) → HasTakenStep p before after (Ok (deed.Open f)) done → IsMadeOf (verdict.Plan plan) done → done ≢ reply.NoMemory → n ≡ before.ever →
+pub opened_same : (p : PolicyShape) (before after : CasesShape) (f n : ℕ) (plan : List ℕ) (done : Reply) →
+    HasTakenStep p before after (Ok (deed.Open f)) done → IsMadeOf (verdict.Plan plan) done → done ≢ reply.NoMemory → n ≡ before.ever →
     HasTakenStep p before after (Ok (deed.Open f)) (reply.Opened n plan)
 opened_same p before after f n plan reply.NoMemory taken made memory is = absurd (memory refl)
 opened_same p before after f n plan (reply.Granted q) taken made memory is = absurd (taken.step 0)
@@ -407,7 +428,8 @@ opened_same p before after f n plan (reply.Opened m q) taken made memory is =
     (subst (λ x. HasTakenStep p before after (Ok (deed.Open f)) (reply.Opened m x)) made taken)
 opened_same p before after f n plan done taken made memory is = absurd made
 
-pub finished_same : (p : PolicyShape) (before after : CasesShape) (n : ℕ) (c : CaseShape) (s u : ℕ) (told done : Bool) → HasTakenStep p before after (Ok (deed.Finish n c s u)) (reply.Finished done) →
+pub finished_same : (p : PolicyShape) (before after : CasesShape) (n : ℕ) (c : CaseShape) (s u : ℕ) (told done : Bool) →
+    HasTakenStep p before after (Ok (deed.Finish n c s u)) (reply.Finished done) →
     told ≡ is_done (finished_case c s).phase → HasTakenStep p before after (Ok (deed.Finish n c s u)) (reply.Finished told)
 finished_same p before after n c s u told done taken is =
     subst (λ b. HasTakenStep p before after (Ok (deed.Finish n c s u)) (reply.Finished b)) (taken.step 0 ∙ sym is) taken
@@ -415,17 +437,22 @@ finished_same p before after n c s u told done taken is =
 -- ---- edits
 
 -- a change that strands a case is not accepted
-pub strands_excludes : (p : PolicyShape) (t : CasesShape) (edits : ℕ) (a : Amendment) (n : ℕ) (tree : Tree) (number : ℕ) → IsSoundPolicy p → IsAllowed p a → IsStrandingFor (book_of p t) (Ok (deed.Change a)) n tree →
+pub strands_excludes : (p : PolicyShape) (t : CasesShape) (edits : ℕ) (a : Amendment) (n : ℕ) (tree : Tree) (number : ℕ) → IsSoundPolicy p → IsAllowed p a →
+    IsStrandingFor (book_of p t) (Ok (deed.Change a)) n tree →
     ¬ IsReplyTo (state_on (board_of p t edits)) (deed.Change a) (reply.Edited number)
 strands_excludes p t edits a n tree number sound allowed stranded is =
-    stranded_not (amended p a) (open_cases (book_of p t).cases) n stranded.0 tree (changes_keep_policies_sound p a sound allowed.found allowed.allowed) stranded.1 is.1
+    stranded_not (amended p a) (open_cases (book_of p t).cases) n stranded.0 tree (changes_keep_policies_sound p a sound allowed.found allowed.allowed)
+    stranded.1 is.1
 
 -- the case that a change strands, with its workflow and the trees that show it
 pub record IsStrandedCase (p : PolicyShape) (t : CasesShape) (a : Amendment) (n : ℕ) (c : CaseShape) : Type 0 where
-  pub shows : (edits : ℕ) (tree : Tree) → IsTreeOf (amended p a) c tree → IsReplyTo (state_on (board_of p t edits)) (deed.Change a) (reply.Denied (denial.Strands n c.flow tree))
-  pub only : (edits m f : ℕ) (tree : Tree) → IsReplyTo (state_on (board_of p t edits)) (deed.Change a) (reply.Denied (denial.Strands m f tree)) → (m ≡ n) × ((f ≡ c.flow) × IsTreeOf (amended p a) c tree)
+  pub shows : (edits : ℕ) (tree : Tree) → IsTreeOf (amended p a) c tree →
+      IsReplyTo (state_on (board_of p t edits)) (deed.Change a) (reply.Denied (denial.Strands n c.flow tree))
+  pub only : (edits m f : ℕ) (tree : Tree) → IsReplyTo (state_on (board_of p t edits)) (deed.Change a) (reply.Denied (denial.Strands m f tree)) → (m ≡ n) ×
+      ((f ≡ c.flow) × IsTreeOf (amended p a) c tree)
 
-pub stranded_here : (p : PolicyShape) (t : CasesShape) (a : Amendment) (n : ℕ) (shown : Tree) (c : CaseShape) → IsSoundPolicy p → IsAllowed p a → AscendFrom 0 t.rows → IsStrandingFor (book_of p t) (Ok (deed.Change a)) n shown →
+pub stranded_here : (p : PolicyShape) (t : CasesShape) (a : Amendment) (n : ℕ) (shown : Tree) (c : CaseShape) → IsSoundPolicy p → IsAllowed p a →
+    AscendFrom 0 t.rows → IsStrandingFor (book_of p t) (Ok (deed.Change a)) n shown →
     case_in n t.rows ≡ Some c → IsStrandedCase p t a n c
 stranded_here p t a n shown c sound allowed order stranded there = record {
   shows = λ edits tree is.
@@ -453,7 +480,8 @@ stranded_here p t a n shown c sound allowed order stranded there = record {
     flow = ap (λ (k : CaseShape). k.flow) (sym same) ∙ found.flow
 
 -- there is such a case
-pub stranded_exists : {X : Type 0} (p : PolicyShape) (t : CasesShape) (a : Amendment) (n : ℕ) (shown : Tree) → AscendFrom 0 t.rows → IsStrandingFor (book_of p t) (Ok (deed.Change a)) n shown → case_in n t.rows ≡ None → X
+pub stranded_exists : {X : Type 0} (p : PolicyShape) (t : CasesShape) (a : Amendment) (n : ℕ) (shown : Tree) → AscendFrom 0 t.rows →
+    IsStrandingFor (book_of p t) (Ok (deed.Change a)) n shown → case_in n t.rows ≡ None → X
 stranded_exists p t a n shown order stranded none =
     let found = stranded_case (amended p a) t.rows n stranded.0 shown order stranded.1 in
     no_such found.case (sym none ∙ found.there)
@@ -462,7 +490,8 @@ stranded_exists p t a n shown order stranded none =
     no_such c h = cc
 
 -- a denial by the case that a change strands is taken where its tree shows it
-pub strands_admitted : (p : PolicyShape) (t : CasesShape) (a : Amendment) (n : ℕ) (c : CaseShape) (m f : ℕ) (tree : Tree) (b : Bool) (result : Result (Unit {0}) AdmitFault) → IsKept p t → IsStrandedCase p t a n c →
+pub strands_admitted : (p : PolicyShape) (t : CasesShape) (a : Amendment) (n : ℕ) (c : CaseShape) (m f : ℕ) (tree : Tree) (b : Bool)
+    (result : Result (Unit {0}) AdmitFault) → IsKept p t → IsStrandedCase p t a n c →
     m ≡ n → f ≡ c.flow → b ≡ refutes (problem_of (amended p a) c.flow) (assigned_of c) (finished_of c) (shape_of tree) → result ≡ when b →
     HasAdmitted p t t (Ok (deed.Change a)) (reply.Denied (denial.Strands m f tree)) result
 strands_admitted p t a n c m f tree b result kept case number flow shows is =
@@ -478,7 +507,8 @@ strands_admitted p t a n c m f tree b result kept case number flow shows is =
     apart failed passed = let same : true ≡ false = sym passed ∙ failed in cc
 
 -- a reply to an edit that leaves each open case a plan
-edited_only : (s : State) (a : Amendment) (given : Reply) → IsSoundPolicy (amended s.book.policy a) → CanAllBeCompleted (amended s.book.policy a) (open_cases s.book.cases) → given ≢ reply.NoMemory →
+edited_only : (s : State) (a : Amendment) (given : Reply) → IsSoundPolicy (amended s.book.policy a) →
+    CanAllBeCompleted (amended s.book.policy a) (open_cases s.book.cases) → given ≢ reply.NoMemory →
     ((number : ℕ) → given ≢ reply.Edited number) → ¬ IsReplyTo s (deed.Change a) given
 edited_only s a reply.NoMemory sound all memory edited is = memory refl
 edited_only s a (reply.Edited number) sound all memory edited is = edited number refl
@@ -486,11 +516,13 @@ edited_only s a (reply.Denied (denial.Strands n f tree)) sound all memory edited
     stranded_not (amended s.book.policy a) (open_cases s.book.cases) n f tree sound is all
 edited_only s a given sound all memory edited is = is
 
-pub edition_only : (s : State) (what : Ask) (edition : EditionShape) (given : Reply) → IsSoundState s → IsEditionFor s.book (decision_aside s.book what) edition → given ≢ reply.NoMemory →
+pub edition_only : (s : State) (what : Ask) (edition : EditionShape) (given : Reply) → IsSoundState s →
+    IsEditionFor s.book (decision_aside s.book what) edition → given ≢ reply.NoMemory →
     ((number : ℕ) → given ≢ reply.Edited number) → ¬ IsStep s what given
 edition_only s what edition given sound is memory edited step =
     edited_only s a given (changes_keep_policies_sound s.book.policy a sound.policy its.found its.allowed)
-    (plans_complete (amended s.book.policy a) (open_cases s.book.cases) edition.plans (subst (λ q. ArePlansOf q (open_cases s.book.cases) edition.plans) change.policy change.plans))
+    (plans_complete (amended s.book.policy a) (open_cases s.book.cases) edition.plans
+    (subst (λ q. ArePlansOf q (open_cases s.book.cases) edition.plans) change.policy change.plans))
     memory edited
     (subst (λ r. Answers s r given) (change_decided s.book what a change.decided) step)
   where

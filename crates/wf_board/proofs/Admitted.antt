@@ -20,7 +20,8 @@ use Rattle.wf_board.proofs.Admission.{want_answers, want_stays}
 use Rattle.wf_board.proofs.PlansKept.{keeps_edition, keeps_rows, keeps_want}
 
 -- a step that was taken over the table, by which the policy stays
-pub reply_taken : (p : PolicyShape) (before after : CasesShape) (edits : ℕ) (what : Ask) (v : Verdict) (given : Reply) → ((edition : EditionShape) → v ≢ verdict.Edited edition) →
+pub reply_taken : (p : PolicyShape) (before after : CasesShape) (edits : ℕ) (what : Ask) (v : Verdict) (given : Reply) →
+    ((edition : EditionShape) → v ≢ verdict.Edited edition) →
     HasTakenStep p before after (decision_of (book_of p before) what) given → HasTakenReply (board_of p before edits) (board_of p after edits) what v given
 reply_taken p before after edits what v given other taken = record {
   step = taken.step edits;
@@ -29,7 +30,8 @@ reply_taken p before after edits what v given other taken = record {
   spare = taken.room;
 }
 
-pub step_admitted : (p : PolicyShape) (before after : CasesShape) (edits : ℕ) (what : Ask) (v : Verdict) (given : Reply) (result : Result (Unit {0}) AdmitFault) →
+pub step_admitted : (p : PolicyShape) (before after : CasesShape) (edits : ℕ) (what : Ask) (v : Verdict) (given : Reply)
+    (result : Result (Unit {0}) AdmitFault) →
     ((edition : EditionShape) → v ≢ verdict.Edited edition) → HasAdmitted p before after (decision_of (book_of p before) what) given result →
     HasAdmittedStep (board_of p before edits) (board_of p after edits) what v given result
 step_admitted p before after edits what v given (Ok done) other is = reply_taken p before after edits what v given other is
@@ -48,8 +50,10 @@ want_admitted b what v given is =
     }
 
 -- an accepted edit
-pub edition_admitted : (before after : BoardShape) (what : Ask) (edition : EditionShape) (m n : ℕ) → m ≡ n → HasAnswered before after what (verdict.Edited edition) (Done (reply.Edited m)) →
-    kept_plans after.cases.rows ≡ map Some edition.plans → after.cases.spare ≡ before.cases.spare → HasTakenReply before after what (verdict.Edited edition) (reply.Edited n)
+pub edition_admitted : (before after : BoardShape) (what : Ask) (edition : EditionShape) (m n : ℕ) → m ≡ n →
+    HasAnswered before after what (verdict.Edited edition) (Done (reply.Edited m)) →
+    kept_plans after.cases.rows ≡ map Some edition.plans → after.cases.spare ≡ before.cases.spare →
+    HasTakenReply before after what (verdict.Edited edition) (reply.Edited n)
 edition_admitted before after what edition m n same answered kept spare =
     subst (λ k. HasTakenReply before after what (verdict.Edited edition) (reply.Edited k)) same record {
       step = answered.0;

@@ -1,5 +1,6 @@
 -- What an edit of the policy keeps.
-use Rattle.std.proofs.Common.{◌≡◌, ℕ, ◌+◌, ◌<◌, ◌≤◌, inl, inr, Bool, true, false, nat_eq, List, [], ◌∷◌, length, map, Option, None, Some, is_some, Result, Ok, if◌then◌else◌, refl, sym, ap, subst, ◌∙◌, arith}
+use Rattle.std.proofs.Common.{◌≡◌, ℕ, ◌+◌, ◌<◌, ◌≤◌, inl, inr, Bool, true, false, nat_eq, List, [], ◌∷◌, length, map, Option, None, Some, is_some, Result, Ok}
+use Rattle.std.proofs.Common.{if◌then◌else◌, refl, sym, ap, subst, ◌∙◌, arith}
 use Rattle.std.specs.Option.{option_map}
 use Rattle.std.proofs.lemmas.Bool.Decides.{nat_tests}
 use Rattle.basics.proofs.Booleans.{bool_cases, eq_is}
@@ -37,7 +38,8 @@ pub same_case : (c d : CaseShape) → Some c ≡ Some d → c ≡ d
 same_case c d h = cc
 
 -- each open case can be completed where all of them can
-pub open_can : (p : PolicyShape) (cases : List Numbered) → CanAllBeCompleted p (open_cases cases) → (n : ℕ) (c : CaseShape) → numbered_case cases n ≡ Some c → is_open c ≡ true → CanBeCompleted p c
+pub open_can : (p : PolicyShape) (cases : List Numbered) → CanAllBeCompleted p (open_cases cases) → (n : ℕ) (c : CaseShape) →
+    numbered_case cases n ≡ Some c → is_open c ≡ true → CanBeCompleted p c
 open_can p [] all n c h live = cc
 open_can p (x ∷ xs) all n c h live = at_first (is_open x.case) (nat_eq x.number n) refl all h (λ rest found. open_can p xs rest n c found live)
   where
@@ -90,12 +92,17 @@ abbrev ArePlansAfter : PolicyShape → Bool → Row → List Row → List (List 
 ArePlansAfter p b r rs plans = ArePlansOf p (if b then numbered r ∷ open_cases (map numbered rs) else open_cases (map numbered rs)) plans
 
 -- each row is planned again
-pub each_replanned : (p : PolicyShape) (rows : List Row) (plans : List (List ℕ)) → table.ArePlannedWhileOpen rows → ArePlansOf p (open_cases (map numbered rows)) plans →
+pub each_replanned : (p : PolicyShape) (rows : List Row) (plans : List (List ℕ)) → table.ArePlannedWhileOpen rows →
+    ArePlansOf p (open_cases (map numbered rows)) plans →
     EachRow (λ r. IsPlanned p r.case r.plan) (replanned rows plans)
 each_replanned p [] plans kept is = tt
 each_replanned p (r ∷ rs) [] kept is = elim (bool_cases (is_open_row r)) [
   | inl live ↦ absurd (subst (λ b. ArePlansAfter p b r rs []) live is)
-  | inr closed ↦ (closed_planned p r.case r.plan kept.0 closed, subst (EachRow (λ x. IsPlanned p x.case x.plan)) (replanned_none rs) (each_replanned p rs [] kept.1 (subst (λ b. ArePlansAfter p b r rs []) closed is)))
+  | inr closed ↦ (
+    closed_planned p r.case r.plan kept.0 closed,
+    subst (EachRow (λ x. IsPlanned p x.case x.plan)) (replanned_none rs)
+        (each_replanned p rs [] kept.1 (subst (λ b. ArePlansAfter p b r rs []) closed is)),
+  )
 ]
 each_replanned p (r ∷ rs) (plan ∷ plans) kept is = elim (bool_cases (is_open_row r)) [
   | inl live ↦
@@ -110,8 +117,10 @@ each_replanned p (r ∷ rs) (plan ∷ plans) kept is = elim (bool_cases (is_open
 each_of_policy : (p : PolicyShape) (a : Amendment) (rows : List Row) (plans : List (List ℕ)) → IsKnownChange p a → EachRow (λ r. IsOfPolicy p r.case) rows →
     EachRow (λ r. IsOfPolicy (amended p a) r.case) (replanned rows plans)
 each_of_policy p a [] plans found each = tt
-each_of_policy p a (r ∷ rs) [] found each =
-    (of_policy_amended p a r.case found each.0, subst (EachRow (λ x. IsOfPolicy (amended p a) x.case)) (replanned_none rs) (each_of_policy p a rs [] found each.1))
+each_of_policy p a (r ∷ rs) [] found each = (
+  of_policy_amended p a r.case found each.0,
+  subst (EachRow (λ x. IsOfPolicy (amended p a) x.case)) (replanned_none rs) (each_of_policy p a rs [] found each.1),
+)
 each_of_policy p a (r ∷ rs) (plan ∷ plans) found each = elim (bool_cases (is_open_row r)) [
   | inl live ↦
       subst (EachRow (λ x. IsOfPolicy (amended p a) x.case)) (sym (replanned_open r rs plan plans live))
@@ -126,7 +135,8 @@ abbrev pub with_plans : CasesShape → List (List ℕ) → CasesShape
 with_plans t plans = record t { rows = replanned t.rows plans }
 
 -- what a board keeps of its table is kept under the changed policy, with the plans for it
-pub edited_keeps : (p : PolicyShape) (t : CasesShape) (a : Amendment) (plans : List (List ℕ)) → IsKept p t → IsKnownChange p a → table.ArePlannedWhileOpen t.rows →
+pub edited_keeps : (p : PolicyShape) (t : CasesShape) (a : Amendment) (plans : List (List ℕ)) → IsKept p t → IsKnownChange p a →
+    table.ArePlannedWhileOpen t.rows →
     ArePlansOf (amended p a) (open_cases (map numbered t.rows)) plans → IsKept (amended p a) (with_plans t plans)
 edited_keeps p t a plans kept found planned are = record {
   planned = record {
@@ -177,7 +187,8 @@ pub record IsFoundCase (p : PolicyShape) (n f : ℕ) (tree : Tree) (rows : List 
   pub shown : IsTreeOf p case tree
   pub others : (t : Tree) → IsTreeOf p case t → IsFirstStranded p cases n f t
 
-found_later : (p : PolicyShape) (n f : ℕ) (tree : Tree) (r : Row) (rs : List Row) (few more : List Numbered) → r.number < n → ((t : Tree) → IsFirstStranded p few n f t → IsFirstStranded p more n f t) →
+found_later : (p : PolicyShape) (n f : ℕ) (tree : Tree) (r : Row) (rs : List Row) (few more : List Numbered) → r.number < n →
+    ((t : Tree) → IsFirstStranded p few n f t → IsFirstStranded p more n f t) →
     IsFoundCase p n f tree rs few → IsFoundCase p n f tree (r ∷ rs) more
 found_later p n f tree r rs few more above on is =
     let apart : nat_eq r.number n ≡ false = grind (arith, nat_tests) in
@@ -188,7 +199,8 @@ abbrev open_onto : Bool → Row → List Row → List Numbered
 open_onto b r rs = if b then numbered r ∷ open_cases (map numbered rs) else open_cases (map numbered rs)
 
 -- the number of a stranded case is not below that of the first row
-stranded_from : (p : PolicyShape) (low : ℕ) (rows : List Row) (n f : ℕ) (tree : Tree) → AscendFrom low rows → IsFirstStranded p (open_cases (map numbered rows)) n f tree →
+stranded_from : (p : PolicyShape) (low : ℕ) (rows : List Row) (n f : ℕ) (tree : Tree) → AscendFrom low rows →
+    IsFirstStranded p (open_cases (map numbered rows)) n f tree →
     (low ≤ n) × IsFoundCase p n f tree rows (open_cases (map numbered rows))
 stranded_from p low [] n f tree order is = absurd is
 stranded_from p low (r ∷ rs) n f tree order is = at_first (is_open r.case) is (λ rest. stranded_from p (r.number + 1) rs n f tree order.1 rest)
@@ -201,11 +213,14 @@ stranded_from p low (r ∷ rs) n f tree order is = at_first (is_open r.case) is 
         (IsFirstStranded p (open_cases (map numbered rs)) n f tree → (r.number + 1 ≤ n) × IsFoundCase p n f tree rs (open_cases (map numbered rs))) →
         (low ≤ n) × IsFoundCase p n f tree (r ∷ rs) (open_onto b r rs)
     at_first true (inl here) rest =
-        let same : nat_eq r.number n ≡ true = eq_is r.number n here.0 in
-        (omega (arith, order.0, here.0), record { case = r.case; there = rw same refl; flow = here.1.0; shown = here.1.1; others = λ t shows. inl (here.0, (here.1.0, shows)) })
+        let same : nat_eq r.number n ≡ true = eq_is r.number n here.0 in (
+          omega (arith, order.0, here.0),
+          record { case = r.case; there = rw same refl; flow = here.1.0; shown = here.1.1; others = λ t shows. inl (here.0, (here.1.0, shows)) },
+        )
     at_first true (inr there) rest = later (numbered r ∷ open_cases (map numbered rs)) (λ t is. inr (there.0, is)) (rest there.1)
     at_first false there rest = later (open_cases (map numbered rs)) (λ t is. is) (rest there)
 
-pub stranded_case : (p : PolicyShape) (rows : List Row) (n f : ℕ) (tree : Tree) → AscendFrom 0 rows → IsFirstStranded p (open_cases (map numbered rows)) n f tree →
+pub stranded_case : (p : PolicyShape) (rows : List Row) (n f : ℕ) (tree : Tree) → AscendFrom 0 rows →
+    IsFirstStranded p (open_cases (map numbered rows)) n f tree →
     IsFoundCase p n f tree rows (open_cases (map numbered rows))
 stranded_case p rows n f tree order is = (stranded_from p 0 rows n f tree order is).1

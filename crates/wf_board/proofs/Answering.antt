@@ -1,5 +1,6 @@
 -- What a board answers is a step of its state.
-use Rattle.std.proofs.Common.{◌≡◌, ℕ, ◌+◌, ◌<◌, ◌≤◌, inl, inr, nat_le, true, false, not, List, length, is_err, OnErr, Option, None, Some, Result, Ok, Err, refl, sym, ap, subst, ◌∙◌, arith}
+use Rattle.std.proofs.Common.{◌≡◌, ℕ, ◌+◌, ◌<◌, ◌≤◌, inl, inr, nat_le, true, false, not, List, length, is_err, OnErr, Option, None, Some, Result, Ok, Err, refl}
+use Rattle.std.proofs.Common.{sym, ap, subst, ◌∙◌, arith}
 use Rattle.std.proofs.lemmas.Bool.Decides.{nat_tests}
 use Rattle.basics.proofs.Booleans.{or_false}
 use Rattle.first_fault.specs.Reading.{◌>>=◌}
@@ -22,7 +23,8 @@ use Rattle.admin_edits.specs.Edits.{amended}
 use Rattle.admin_edits.specs.declared.amendment.Amendment.{Amendment}
 use Rattle.grant_table.specs.Kept.{AscendFrom, IsSoundTable}
 use Rattle.wf_board.specs.Edited.{ArePlansOf, IsFirstStranded}
-use Rattle.wf_board.proofs.Amended.{IsChange, change_decided, edited_keeps, edited_state, edition_change, plans_complete, stranded_case, stranding_change, with_plans}
+use Rattle.wf_board.proofs.Amended.{IsChange, change_decided, edited_keeps, edited_state, edition_change, plans_complete, stranded_case, stranding_change}
+use Rattle.wf_board.proofs.Amended.{with_plans}
 use Rattle.admin_edits.proofs.Keeping.{HoldsOf}
 use Rattle.wf_board.proofs.Told.{IsTold, aside_told}
 use Rattle.wf_board.specs.Found.{IsAllowed}
@@ -45,7 +47,8 @@ use Rattle.policy_book.specs.Facts.{IsSoundPolicy}
 use Rattle.wf_board.specs.Kept.{ArePlanned, IsSoundState, KeepsCompletable}
 
 -- a step that changes one case
-pub changed_taken : (p : PolicyShape) (before after : CasesShape) (n : ℕ) (f : Row → Row) (g : CaseShape → CaseShape) (decision : Result Deed Denial) (given : Reply) → HasChanged p before after n f g →
+pub changed_taken : (p : PolicyShape) (before after : CasesShape) (n : ℕ) (f : Row → Row) (g : CaseShape → CaseShape) (decision : Result Deed Denial)
+    (given : Reply) → HasChanged p before after n f g →
     ((edits : ℕ) → Answers (state_on (board_of p before edits)) decision given) → ((s : State) → state_after_decision s decision given ≡ with_changed s n g) →
     rows_after p before decision given ≡ change_row n f before.rows → HasTakenStep p before after decision given
 changed_taken p before after n f g decision given changed step next rows = record {
@@ -58,7 +61,8 @@ changed_taken p before after n f g decision given changed step next rows = recor
 
 -- a step that changes nothing
 pub same_taken : (p : PolicyShape) (t : CasesShape) (decision : Result Deed Denial) (given : Reply) → IsKept p t →
-    ((edits : ℕ) → Answers (state_on (board_of p t edits)) decision given) → ((s : State) → state_after_decision s decision given ≡ s) → rows_after p t decision given ≡ t.rows → HasTakenStep p t t decision given
+    ((edits : ℕ) → Answers (state_on (board_of p t edits)) decision given) → ((s : State) → state_after_decision s decision given ≡ s) →
+    rows_after p t decision given ≡ t.rows → HasTakenStep p t t decision given
 same_taken p t decision given kept step next rows = record {
   kept = kept;
   step = step;
@@ -96,7 +100,8 @@ kept_with_room : (p : PolicyShape) (t : CasesShape) (more : ℕ) → IsKept p t 
 kept_with_room p t more kept = record { planned = kept.planned; numbered = kept.numbered }
 
 -- a case is opened, once there is room for it
-pub opened_taken : (p : PolicyShape) (t roomy after : CasesShape) (f n : ℕ) (plan : List ℕ) → IsKept p t → f < length p.flows → IsValidPlan (problem_of p f) no_users no_steps plan →
+pub opened_taken : (p : PolicyShape) (t roomy after : CasesShape) (f n : ℕ) (plan : List ℕ) → IsKept p t → f < length p.flows →
+    IsValidPlan (problem_of p f) no_users no_steps plan →
     is_full (book_of p t) ≡ false → roomy ≡ record t { spare = roomy.spare } → t.spare ≤ roomy.spare → n ≡ roomy.ever →
     after ≡ with_case roomy f (length (flow_at p f).flow.steps) plan → HasTakenStep p t after (full_or (book_of p t) (deed.Open f)) (reply.Opened n plan)
 opened_taken p t roomy after f n plan kept known valid left same more number is =
@@ -115,7 +120,8 @@ opened_taken p t roomy after f n plan kept known valid left same more number is 
 -- ---- edits
 
 -- a denial by a case that would be stranded
-pub stranding_taken : (p : PolicyShape) (t : CasesShape) (what : Ask) (n f : ℕ) (tree : Tree) → IsKept p t → AscendFrom 0 t.rows → IsStrandingFor (book_of p t) (decision_aside (book_of p t) what) n tree →
+pub stranding_taken : (p : PolicyShape) (t : CasesShape) (what : Ask) (n f : ℕ) (tree : Tree) → IsKept p t → AscendFrom 0 t.rows →
+    IsStrandingFor (book_of p t) (decision_aside (book_of p t) what) n tree →
     ((c : CaseShape) → case_in n t.rows ≡ Some c → f ≡ c.flow) → HasTakenStep p t t (decision_of (book_of p t) what) (reply.Denied (Strands n f tree))
 stranding_taken p t what n f tree kept order is flow =
     let change = stranding_change (book_of p t) (decision_aside (book_of p t) what) n tree is in

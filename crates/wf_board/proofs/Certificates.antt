@@ -22,7 +22,8 @@ use Rattle.wf_board.specs.Verdicts.{IsCertificate, IsCertified, IsPlanFor, IsRig
 use Rattle.wf_board.proofs.Within.{claimed_within}
 
 -- what is assigned in a case with a claim's step given to its user is within its workflow and policy
-pub claim_within : (p : PolicyShape) (rows : List Row) (n : ℕ) (c : CaseShape) (t u : ℕ) → AreFound p rows n c t u → IsWithin (problem_of p c.flow) (assigned_with c t u)
+pub claim_within : (p : PolicyShape) (rows : List Row) (n : ℕ) (c : CaseShape) (t u : ℕ) → AreFound p rows n c t u → IsWithin
+    (problem_of p c.flow) (assigned_with c t u)
 claim_within p rows n c t u found = claimed_within p c t u found.case.known found.step found.user found.case.known.users
 
 -- a plan or a tree that decides what is asked is right
@@ -73,7 +74,8 @@ open_certificate b f (verdict.View v) result is = is
 open_certificate b f (verdict.Refuted tree) result is = is
 
 pub claim_certificate : (b : Book) (n : ℕ) (c : CaseShape) (t u : ℕ) (v : Verdict) (result : Bool) →
-    result ≡ true ↔ IsCertificateOf (problem_of b.policy c.flow) (assigned_with c t u) (finished_of c) v → result ≡ true ↔ IsCertificate b (Ok (deed.Claim n c t u)) v
+    result ≡ true ↔ IsCertificateOf (problem_of b.policy c.flow) (assigned_with c t u) (finished_of c) v → result ≡ true ↔
+    IsCertificate b (Ok (deed.Claim n c t u)) v
 claim_certificate b n c t u verdict.Nothing result is = is
 claim_certificate b n c t u verdict.NoMemory result is = is
 claim_certificate b n c t u verdict.OverBudget result is = is
@@ -84,6 +86,7 @@ claim_certificate b n c t u (verdict.View v) result is = is
 claim_certificate b n c t u (verdict.Refuted tree) result is = is
 
 -- a claim is left to decide where there is no cause against it
-pub claim_needs : (b : Book) (n : ℕ) (c : CaseShape) (t u : ℕ) (cause : Option Denial) → not (is_some cause) ≡ needs_verdict (unless_denied (deed.Claim n c t u) cause >>= full_or b)
+pub claim_needs : (b : Book) (n : ℕ) (c : CaseShape) (t u : ℕ) (cause : Option Denial) →
+    not (is_some cause) ≡ needs_verdict (unless_denied (deed.Claim n c t u) cause >>= full_or b)
 claim_needs b n c t u None = refl
 claim_needs b n c t u (Some d) = refl

@@ -10,7 +10,8 @@ count_both test [] more = omega arith
 count_both test (x ∷ xs) more = let rest = count_both test xs more in omega (arith, rest)
 
 -- and with one more
-pub count_more : (test : Entry → Bool) (entries : List Entry) (e : Entry) → count_of test (entries ++ e ∷ []) ≡ count_of test entries + (if test e then 1 else 0)
+pub count_more : (test : Entry → Bool) (entries : List Entry) (e : Entry) →
+    count_of test (entries ++ e ∷ []) ≡ count_of test entries + (if test e then 1 else 0)
 count_more test [] e = omega arith
 count_more test (x ∷ xs) e = let rest = count_more test xs e in omega (arith, rest)
 
@@ -61,9 +62,11 @@ end_within n before test (x ∷ xs) known =
 -- nor before the place where none passes
 pub end_above : (n before : ℕ) (test : Entry → Bool) (entries : List Entry) → before ≤ n → before ≤ last_end_from n before test entries
 end_above n before test [] known = omega arith
-end_above n before test (x ∷ xs) known = by_test (test x) (end_above (n + 1) (n + 1) test xs (omega arith)) (end_above (n + 1) before test xs (omega (arith, known)))
+end_above n before test (x ∷ xs) known =
+    by_test (test x) (end_above (n + 1) (n + 1) test xs (omega arith)) (end_above (n + 1) before test xs (omega (arith, known)))
   where
-    by_test : (b : Bool) → n + 1 ≤ last_end_from (n + 1) (n + 1) test xs → before ≤ last_end_from (n + 1) before test xs → before ≤ last_end_from (n + 1) (if b then n + 1 else before) test xs
+    by_test : (b : Bool) → n + 1 ≤ last_end_from (n + 1) (n + 1) test xs → before ≤ last_end_from (n + 1) before test xs →
+        before ≤ last_end_from (n + 1) (if b then n + 1 else before) test xs
     by_test true here later = omega (arith, here, known)
     by_test false here later = later
 

@@ -1,5 +1,6 @@
 -- Each entry of a legal history decides exactly what was asked.
-use Rattle.std.proofs.Common.{◌≡◌, ℕ, zero, suc, ◌+◌, ◌<◌, ◌≤◌, ◌⊎◌, inl, inr, Bool, true, false, nat_eq, List, [], ◌∷◌, ◌++◌, length, take, Option, None, Some, slice_get, Result, Ok, Err, if◌then◌else◌, append_assoc, append-nil, refl, sym, ap, subst, ◌∙◌, arith}
+use Rattle.std.proofs.Common.{◌≡◌, ℕ, zero, suc, ◌+◌, ◌<◌, ◌≤◌, ◌⊎◌, inl, inr, Bool, true, false, nat_eq, List, [], ◌∷◌, ◌++◌, length, take, Option, None, Some}
+use Rattle.std.proofs.Common.{slice_get, Result, Ok, Err, if◌then◌else◌, append_assoc, append-nil, refl, sym, ap, subst, ◌∙◌, arith}
 use Rattle.std.specs.Option.{option_map}
 use Rattle.std.proofs.lemmas.Bool.Decides.{nat_tests}
 use Rattle.basics.proofs.Booleans.{eq_is}
@@ -125,7 +126,8 @@ record IsKnown (s : State) : Type 0 where
   sound : IsSoundState s
   numbers : AreCasesNumbered s
 
-change_exact : (s : State) (a : Amendment) (given : Reply) → AreCasesNumbered s → IsSoundPolicy (amended s.book.policy a) → IsReplyTo s (deed.Change a) given → ¬ (given ≡ reply.NoMemory) → IsChangeExact s a given
+change_exact : (s : State) (a : Amendment) (given : Reply) → AreCasesNumbered s → IsSoundPolicy (amended s.book.policy a) →
+    IsReplyTo s (deed.Change a) given → ¬ (given ≡ reply.NoMemory) → IsChangeExact s a given
 change_exact s a reply.NoMemory numbers after is memory = absurd (memory refl)
 change_exact s a (reply.Edited number) numbers after is memory =
     let keeps : KeepsCompletable (with_edited s a) = λ n c found live. open_can (amended s.book.policy a) s.book.cases is.1 n c found live in
@@ -167,7 +169,8 @@ denied_by_tree s (deed.Open f) (denial.Unsatisfiable g tree) known its is = (
   is.0,
   record {
     refutes = is.1;
-    incomplete = refutes_soundly (problem_of s.book.policy f) no_users no_steps (shape_of tree) (well_formed_any s.book.policy f known.sound.policy) none_assigned is.1;
+    incomplete = refutes_soundly (problem_of s.book.policy f) no_users no_steps (shape_of tree) (well_formed_any s.book.policy f known.sound.policy)
+        none_assigned is.1;
   },
 )
 denied_by_tree s (deed.Claim n c t u) (denial.Stranded g tree) known its is = (
@@ -183,7 +186,8 @@ denied_by_tree s made d known its is = absurd is
 same_denial : (x y : Denial) → reply.Denied x ≡ reply.Denied y → x ≡ y
 same_denial x y h = cc
 
-denial_exact : (s : State) (r : Result Deed Denial) (given : Reply) (d : Denial) → IsKnown s → HoldsOf (IsTold s.book) r → Answers s r given → given ≡ reply.Denied d →
+denial_exact : (s : State) (r : Result Deed Denial) (given : Reply) (d : Denial) → IsKnown s → HoldsOf (IsTold s.book) r → Answers s r given →
+    given ≡ reply.Denied d →
     (r ≡ Err d) ⊎ IsDeniedByTree s r d
 denial_exact s (Ok made) given d known its is denied = inr (denied_by_tree s made d known its (subst (IsReplyTo s made) denied is))
 denial_exact s (Err first) given d known its (inl is) denied = inl (ap Err (same_denial first d (sym is ∙ denied)))
@@ -211,16 +215,19 @@ again_exact s what given n place again = record {
     apart : (d : Denial) → reply.Again n place ≡ reply.Denied d → ⊥
     apart d h = cc
 
-entry_exact : (p : PolicyShape) (rounds : ℕ) (earlier : List Entry) (e : Entry) → IsKnown (state_after (opening_state p) earlier) → IsRightAfter (opening_state p) rounds earlier e →
+entry_exact : (p : PolicyShape) (rounds : ℕ) (earlier : List Entry) (e : Entry) → IsKnown (state_after (opening_state p) earlier) →
+    IsRightAfter (opening_state p) rounds earlier e →
     IsExact (state_after (opening_state p) earlier) e.ask e.reply
 entry_exact p rounds earlier e known right = by_reply right.1
   where
-    by_reply : IsStep (state_after (opening_state p) earlier) e.ask e.reply ⊎ IsRetry (opening_state p) rounds earlier e → IsExact (state_after (opening_state p) earlier) e.ask e.reply
+    by_reply : IsStep (state_after (opening_state p) earlier) e.ask e.reply ⊎ IsRetry (opening_state p) rounds earlier e →
+        IsExact (state_after (opening_state p) earlier) e.ask e.reply
     by_reply (inl step) = step_exact (state_after (opening_state p) earlier) e.ask e.reply known step
     by_reply (inr retry) = again_exact (state_after (opening_state p) earlier) e.ask e.reply retry.0 retry.1.0 retry.1.1.0
 
 -- what holds of each entry and those before it holds of the one at a place
-each_at : (P : List Entry → Entry → Type 0) (earlier entries : List Entry) → EachAfter P earlier entries → (n : ℕ) (e : Entry) → slice_get entries n ≡ Some e → P (earlier ++ take n entries) e
+each_at : (P : List Entry → Entry → Type 0) (earlier entries : List Entry) → EachAfter P earlier entries → (n : ℕ) (e : Entry) →
+    slice_get entries n ≡ Some e → P (earlier ++ take n entries) e
 each_at P earlier [] each n e is = cc
 each_at P earlier (x ∷ xs) each zero e is = subst (λ es. P es e) (sym (append-nil earlier)) (subst (P earlier) (same x e is) each.0)
   where

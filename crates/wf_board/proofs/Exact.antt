@@ -53,20 +53,23 @@ well_formed p f sound known k rule is = ((sound.flows f known).ruled k rule is).
 pub well_formed_any : (p : PolicyShape) (f : ℕ) → IsSoundPolicy p → IsWellFormed (problem_of p f)
 well_formed_any p f sound = at_number (leb_tells (length p.flows) f)
   where
-    at_number : ((leb (length p.flows) f ≡ true) × (length p.flows ≤ f)) ⊎ ((leb (length p.flows) f ≡ false) × (f < length p.flows)) → IsWellFormed (problem_of p f)
+    at_number : ((leb (length p.flows) f ≡ true) × (length p.flows ≤ f)) ⊎ ((leb (length p.flows) f ≡ false) × (f < length p.flows)) →
+        IsWellFormed (problem_of p f)
     at_number (inl past) = λ k rule is. cc (is, ap (λ (w : WorkflowShape). slice_get w.rules k) (get_or_past p.flows f no_workflow past.1))
     at_number (inr known) = well_formed p f sound known.1
 
 -- the case of a refuted claim cannot be completed
 pub refuted_claim : (s : State) (n : ℕ) (c : CaseShape) (t u : ℕ) (tree : Tree) → IsSoundState s → IsTold s.book (deed.Claim n c t u) →
-    IsReplyTo s (deed.Claim n c t u) (reply.Denied (denial.Stranded c.flow tree)) → ¬ IsCompletable (problem_of s.book.policy c.flow) (assigned_with c t u) (finished_of c)
+    IsReplyTo s (deed.Claim n c t u) (reply.Denied (denial.Stranded c.flow tree)) →
+    ¬ IsCompletable (problem_of s.book.policy c.flow) (assigned_with c t u) (finished_of c)
 refuted_claim s n c t u tree sound known is =
     refutes_soundly (problem_of s.book.policy c.flow) (assigned_with c t u) (finished_of c) (shape_of tree)
     (well_formed s.book.policy c.flow sound.policy (sound.cases n c known.0.there.case.found).flow)
     (claimed_assigned c t u (claim_free s.book n c t u known.1))
     is.1
 
-claim_exact : (s : State) (n : ℕ) (c : CaseShape) (t u : ℕ) (given : Reply) → IsSoundState s → IsTold s.book (deed.Claim n c t u) → IsReplyTo s (deed.Claim n c t u) given → ¬ (given ≡ reply.NoMemory) →
+claim_exact : (s : State) (n : ℕ) (c : CaseShape) (t u : ℕ) (given : Reply) → IsSoundState s → IsTold s.book (deed.Claim n c t u) →
+    IsReplyTo s (deed.Claim n c t u) given → ¬ (given ≡ reply.NoMemory) →
     ((plan : List ℕ) × (given ≡ reply.Granted plan)) ↔ IsCompletable (problem_of s.book.policy c.flow) (assigned_with c t u) (finished_of c)
 claim_exact s n c t u reply.NoMemory sound known is memory = absurd (memory refl)
 claim_exact s n c t u (reply.Granted plan) sound known is memory = (λ granted. (plan, is), λ complete. (plan, refl))
@@ -81,14 +84,16 @@ claims_are_exact s what given n c t u sound decided step memory =
 -- ---- edits
 
 -- not all cases can be completed where one is stranded
-pub stranded_not : (p : PolicyShape) (cases : List Numbered) (n f : ℕ) (tree : Tree) → IsSoundPolicy p → IsFirstStranded p cases n f tree → ¬ CanAllBeCompleted p cases
+pub stranded_not : (p : PolicyShape) (cases : List Numbered) (n f : ℕ) (tree : Tree) → IsSoundPolicy p → IsFirstStranded p cases n f tree →
+    ¬ CanAllBeCompleted p cases
 stranded_not p [] n f tree sound is all = is
 stranded_not p (e ∷ es) n f tree sound (inl here) all =
     refutes_soundly (problem_of p e.case.flow) (assigned_of e.case) (finished_of e.case) (shape_of tree)
     (well_formed_any p e.case.flow sound) (finished_assigned e.case) here.1.1 all.0
 stranded_not p (e ∷ es) n f tree sound (inr later) all = stranded_not p es n f tree sound later.1 all.1
 
-edit_exact : (s : State) (a : Amendment) (given : Reply) → IsSoundState s → IsTold s.book (deed.Change a) → IsReplyTo s (deed.Change a) given → ¬ (given ≡ reply.NoMemory) →
+edit_exact : (s : State) (a : Amendment) (given : Reply) → IsSoundState s → IsTold s.book (deed.Change a) → IsReplyTo s (deed.Change a) given →
+    ¬ (given ≡ reply.NoMemory) →
     ((number : ℕ) × (given ≡ reply.Edited number)) ↔ CanAllBeCompleted (amended s.book.policy a) (open_cases s.book.cases)
 edit_exact s a reply.NoMemory sound known is memory = absurd (memory refl)
 edit_exact s a (reply.Edited number) sound known is memory = (λ edited. is.1, λ all. (number, refl))

@@ -39,7 +39,8 @@ first_so Q [] all = tt
 first_so Q (Some d ∷ os) all = all.0
 first_so Q (None ∷ os) all = first_so Q os all.1
 
-pub four_so : (Q : Denial → Type 0) (first second third fourth : Option Denial) → IsCauseSo Q first → IsCauseSo Q second → IsCauseSo Q third → IsCauseSo Q fourth
+pub four_so : (Q : Denial → Type 0) (first second third fourth : Option Denial) → IsCauseSo Q first → IsCauseSo Q second → IsCauseSo Q third →
+    IsCauseSo Q fourth
     → IsCauseSo Q (first_of (first ∷ second ∷ third ∷ fourth ∷ []))
 four_so Q first second third fourth a b c d = first_so Q (first ∷ second ∷ third ∷ fourth ∷ []) (a, (b, (c, (d, tt))))
 

@@ -45,16 +45,19 @@ none_assigned s is = let apart : true ≡ false = sym is ∙ none_member s in cc
 refuted_opening : (s : State) (f n g : ℕ) (plan : List ℕ) (t : Tree) → IsSoundState s → IsReplyTo s (deed.Open f) (reply.Opened n plan) →
     IsReplyTo s (deed.Open f) (reply.Denied (denial.Unsatisfiable g t)) → ⊥
 refuted_opening s f n g plan t sound opened refuted =
-    refutes_soundly (problem_of s.book.policy f) no_users no_steps (shape_of t) (well_formed_any s.book.policy f sound.policy) none_assigned refuted.1 (plan, opened.1)
+    refutes_soundly (problem_of s.book.policy f) no_users no_steps (shape_of t) (well_formed_any s.book.policy f sound.policy) none_assigned refuted.1
+    (plan, opened.1)
 
-fixed_opened : (s : State) (f n : ℕ) (plan : List ℕ) (other : Reply) → IsSoundState s → IsReplyTo s (deed.Open f) (reply.Opened n plan) → IsReplyTo s (deed.Open f) other → ¬ (other ≡ reply.NoMemory) →
+fixed_opened : (s : State) (f n : ℕ) (plan : List ℕ) (other : Reply) → IsSoundState s → IsReplyTo s (deed.Open f) (reply.Opened n plan) →
+    IsReplyTo s (deed.Open f) other → ¬ (other ≡ reply.NoMemory) →
     HasSame s (Ok (deed.Open f)) (reply.Opened n plan) other
 fixed_opened s f n plan reply.NoMemory sound a b memory = absurd (memory refl)
 fixed_opened s f n plan (reply.Opened m q) sound a b memory = (ap (λ k. reply.Opened k []) (a.0 ∙ sym b.0), refl)
 fixed_opened s f n plan (reply.Denied (denial.Unsatisfiable g t)) sound a b memory = absurd (refuted_opening s f n g plan t sound a b)
 fixed_opened s f n plan other sound a b memory = absurd b
 
-fixed_unsatisfiable : (s : State) (f g : ℕ) (t : Tree) (other : Reply) → IsSoundState s → IsReplyTo s (deed.Open f) (reply.Denied (denial.Unsatisfiable g t)) → IsReplyTo s (deed.Open f) other →
+fixed_unsatisfiable : (s : State) (f g : ℕ) (t : Tree) (other : Reply) → IsSoundState s →
+    IsReplyTo s (deed.Open f) (reply.Denied (denial.Unsatisfiable g t)) → IsReplyTo s (deed.Open f) other →
     ¬ (other ≡ reply.NoMemory) → HasSame s (Ok (deed.Open f)) (reply.Denied (denial.Unsatisfiable g t)) other
 fixed_unsatisfiable s f g t reply.NoMemory sound a b memory = absurd (memory refl)
 fixed_unsatisfiable s f g t (reply.Opened m q) sound a b memory = absurd (refuted_opening s f m g q t sound b a)
@@ -62,7 +65,8 @@ fixed_unsatisfiable s f g t (reply.Denied (denial.Unsatisfiable h u)) sound a b 
     (ap (λ k. reply.Denied (denial.Unsatisfiable k (tree.Holder 0))) (a.0 ∙ sym b.0), refl)
 fixed_unsatisfiable s f g t other sound a b memory = absurd b
 
-fixed_opening : (s : State) (f : ℕ) (one other : Reply) → IsSoundState s → IsReplyTo s (deed.Open f) one → IsReplyTo s (deed.Open f) other → ¬ (one ≡ reply.NoMemory) → ¬ (other ≡ reply.NoMemory) →
+fixed_opening : (s : State) (f : ℕ) (one other : Reply) → IsSoundState s → IsReplyTo s (deed.Open f) one → IsReplyTo s (deed.Open f) other →
+    ¬ (one ≡ reply.NoMemory) → ¬ (other ≡ reply.NoMemory) →
     HasSame s (Ok (deed.Open f)) one other
 fixed_opening s f reply.NoMemory other sound a b m memory = absurd (m refl)
 fixed_opening s f (reply.Opened n plan) other sound a b m memory = fixed_opened s f n plan other sound a b memory
@@ -72,7 +76,8 @@ fixed_opening s f one other sound a b m memory = absurd a
 -- ---- claims
 
 fixed_granted : (s : State) (n : ℕ) (c : CaseShape) (t u : ℕ) (plan : List ℕ) (other : Reply) → IsSoundState s → IsTold s.book (deed.Claim n c t u) →
-    IsReplyTo s (deed.Claim n c t u) (reply.Granted plan) → IsReplyTo s (deed.Claim n c t u) other → ¬ (other ≡ reply.NoMemory) → HasSame s (Ok (deed.Claim n c t u)) (reply.Granted plan) other
+    IsReplyTo s (deed.Claim n c t u) (reply.Granted plan) → IsReplyTo s (deed.Claim n c t u) other → ¬ (other ≡ reply.NoMemory) →
+    HasSame s (Ok (deed.Claim n c t u)) (reply.Granted plan) other
 fixed_granted s n c t u plan reply.NoMemory sound known a b memory = absurd (memory refl)
 fixed_granted s n c t u plan (reply.Granted q) sound known a b memory = (refl, refl)
 fixed_granted s n c t u plan (reply.Denied (denial.Stranded g x)) sound known a b memory = absurd (refuted_claim s n c t u x sound known (refl, b.1) (plan, a))
@@ -87,7 +92,8 @@ fixed_stranded s n c t u g x (reply.Denied (denial.Stranded h y)) sound known a 
     (ap (λ k. reply.Denied (denial.Stranded k (tree.Holder 0))) (a.0 ∙ sym b.0), refl)
 fixed_stranded s n c t u g x other sound known a b memory = absurd b
 
-fixed_claim : (s : State) (n : ℕ) (c : CaseShape) (t u : ℕ) (one other : Reply) → IsSoundState s → IsTold s.book (deed.Claim n c t u) → IsReplyTo s (deed.Claim n c t u) one →
+fixed_claim : (s : State) (n : ℕ) (c : CaseShape) (t u : ℕ) (one other : Reply) → IsSoundState s → IsTold s.book (deed.Claim n c t u) →
+    IsReplyTo s (deed.Claim n c t u) one →
     IsReplyTo s (deed.Claim n c t u) other → ¬ (one ≡ reply.NoMemory) → ¬ (other ≡ reply.NoMemory) → HasSame s (Ok (deed.Claim n c t u)) one other
 fixed_claim s n c t u reply.NoMemory other sound known a b m memory = absurd (m refl)
 fixed_claim s n c t u (reply.Granted plan) other sound known a b m memory = fixed_granted s n c t u plan other sound known a b memory
@@ -102,14 +108,16 @@ tree_excludes p c t sound is can =
     refutes_soundly (problem_of p c.flow) (assigned_of c) (finished_of c) (shape_of t) (well_formed_any p c.flow sound) (finished_assigned c) is can
 
 -- there is one first stranded case
-pub one_stranded : (p : PolicyShape) (cases : List Numbered) (n f m g : ℕ) (t u : Tree) → IsSoundPolicy p → IsFirstStranded p cases n f t → IsFirstStranded p cases m g u → (n ≡ m) × (f ≡ g)
+pub one_stranded : (p : PolicyShape) (cases : List Numbered) (n f m g : ℕ) (t u : Tree) → IsSoundPolicy p → IsFirstStranded p cases n f t →
+    IsFirstStranded p cases m g u → (n ≡ m) × (f ≡ g)
 one_stranded p [] n f m g t u sound a b = absurd a
 one_stranded p (e ∷ es) n f m g t u sound (inl a) (inl b) = (sym a.0 ∙ b.0, sym a.1.0 ∙ b.1.0)
 one_stranded p (e ∷ es) n f m g t u sound (inl a) (inr b) = absurd (tree_excludes p e.case t sound a.1.1 b.0)
 one_stranded p (e ∷ es) n f m g t u sound (inr a) (inl b) = absurd (tree_excludes p e.case u sound b.1.1 a.0)
 one_stranded p (e ∷ es) n f m g t u sound (inr a) (inr b) = one_stranded p es n f m g t u sound a.1 b.1
 
-fixed_edited : (s : State) (a : Amendment) (number : ℕ) (other : Reply) → IsSoundPolicy (amended s.book.policy a) → IsReplyTo s (deed.Change a) (reply.Edited number) → IsReplyTo s (deed.Change a) other →
+fixed_edited : (s : State) (a : Amendment) (number : ℕ) (other : Reply) → IsSoundPolicy (amended s.book.policy a) →
+    IsReplyTo s (deed.Change a) (reply.Edited number) → IsReplyTo s (deed.Change a) other →
     ¬ (other ≡ reply.NoMemory) → HasSame s (Ok (deed.Change a)) (reply.Edited number) other
 fixed_edited s a number reply.NoMemory sound x y memory = absurd (memory refl)
 fixed_edited s a number (reply.Edited m) sound x y memory = (ap reply.Edited (x.0 ∙ sym y.0), refl)
@@ -117,7 +125,8 @@ fixed_edited s a number (reply.Denied (denial.Strands m g u)) sound x y memory =
     absurd (stranded_not (amended s.book.policy a) (open_cases s.book.cases) m g u sound y x.1)
 fixed_edited s a number other sound x y memory = absurd y
 
-fixed_strands : (s : State) (a : Amendment) (n f : ℕ) (t : Tree) (other : Reply) → IsSoundPolicy (amended s.book.policy a) → IsReplyTo s (deed.Change a) (reply.Denied (denial.Strands n f t)) →
+fixed_strands : (s : State) (a : Amendment) (n f : ℕ) (t : Tree) (other : Reply) → IsSoundPolicy (amended s.book.policy a) →
+    IsReplyTo s (deed.Change a) (reply.Denied (denial.Strands n f t)) →
     IsReplyTo s (deed.Change a) other → ¬ (other ≡ reply.NoMemory) → HasSame s (Ok (deed.Change a)) (reply.Denied (denial.Strands n f t)) other
 fixed_strands s a n f t reply.NoMemory sound x y memory = absurd (memory refl)
 fixed_strands s a n f t (reply.Edited m) sound x y memory = absurd (stranded_not (amended s.book.policy a) (open_cases s.book.cases) n f t sound x y.1)
@@ -126,7 +135,8 @@ fixed_strands s a n f t (reply.Denied (denial.Strands m g u)) sound x y memory =
     ((λ i. reply.Denied (denial.Strands (same.0 i) (same.1 i) (tree.Holder 0))), refl)
 fixed_strands s a n f t other sound x y memory = absurd y
 
-fixed_change : (s : State) (a : Amendment) (one other : Reply) → IsSoundPolicy (amended s.book.policy a) → IsReplyTo s (deed.Change a) one → IsReplyTo s (deed.Change a) other →
+fixed_change : (s : State) (a : Amendment) (one other : Reply) → IsSoundPolicy (amended s.book.policy a) → IsReplyTo s (deed.Change a) one →
+    IsReplyTo s (deed.Change a) other →
     ¬ (one ≡ reply.NoMemory) → ¬ (other ≡ reply.NoMemory) → HasSame s (Ok (deed.Change a)) one other
 fixed_change s a reply.NoMemory other sound x y m memory = absurd (m refl)
 fixed_change s a (reply.Edited number) other sound x y m memory = fixed_edited s a number other sound x y memory
@@ -139,7 +149,8 @@ fixed_change s a one other sound x y m memory = absurd x
 abbrev IsThis : State → Deed → Reply → Type 0
 IsThis s d this = (given : Reply) → IsReplyTo s d given → ¬ (given ≡ reply.NoMemory) → given ≡ this
 
-same_this : (s : State) (d : Deed) (this one other : Reply) → IsThis s d this → IsReplyTo s d one → IsReplyTo s d other → ¬ (one ≡ reply.NoMemory) → ¬ (other ≡ reply.NoMemory) →
+same_this : (s : State) (d : Deed) (this one other : Reply) → IsThis s d this → IsReplyTo s d one → IsReplyTo s d other → ¬ (one ≡ reply.NoMemory) →
+    ¬ (other ≡ reply.NoMemory) →
     HasSame s (Ok d) one other
 same_this s d this one other is a b m memory =
     let same = is one a m ∙ sym (is other b memory) in
@@ -177,7 +188,8 @@ bad_this s bad given is memory = absurd is
 
 -- ---- views
 
-work_fixed : (s : State) (u : ℕ) (one other : Reply) → IsReplyTo s (deed.Work u) one → IsReplyTo s (deed.Work u) other → ¬ (one ≡ reply.NoMemory) → ¬ (other ≡ reply.NoMemory) →
+work_fixed : (s : State) (u : ℕ) (one other : Reply) → IsReplyTo s (deed.Work u) one → IsReplyTo s (deed.Work u) other → ¬ (one ≡ reply.NoMemory) →
+    ¬ (other ≡ reply.NoMemory) →
     HasSame s (Ok (deed.Work u)) one other
 work_fixed s u reply.NoMemory other a b m memory = absurd (m refl)
 work_fixed s u (reply.Work items) reply.NoMemory a b m memory = absurd (memory refl)
@@ -186,7 +198,8 @@ work_fixed s u (reply.Work items) (reply.Work given) a b m memory =
 work_fixed s u (reply.Work items) other a b m memory = absurd b
 work_fixed s u one other a b m memory = absurd a
 
-what_if_fixed : (s : State) (a : Amendment) (one other : Reply) → IsReplyTo s (deed.WhatIf a) one → IsReplyTo s (deed.WhatIf a) other → ¬ (one ≡ reply.NoMemory) → ¬ (other ≡ reply.NoMemory) →
+what_if_fixed : (s : State) (a : Amendment) (one other : Reply) → IsReplyTo s (deed.WhatIf a) one → IsReplyTo s (deed.WhatIf a) other →
+    ¬ (one ≡ reply.NoMemory) → ¬ (other ≡ reply.NoMemory) →
     HasSame s (Ok (deed.WhatIf a)) one other
 what_if_fixed s a reply.NoMemory other x y m memory = absurd (m refl)
 what_if_fixed s a (reply.WhatIf numbers) reply.NoMemory x y m memory = absurd (memory refl)
@@ -197,13 +210,16 @@ what_if_fixed s a one other x y m memory = absurd x
 
 -- ---- outcomes
 
-fixed_deed : (s : State) (d : Deed) (one other : Reply) → IsSoundState s → IsTold s.book d → IsReplyTo s d one → IsReplyTo s d other → ¬ (one ≡ reply.NoMemory) → ¬ (other ≡ reply.NoMemory) → HasSame s (Ok d) one other
+fixed_deed : (s : State) (d : Deed) (one other : Reply) → IsSoundState s → IsTold s.book d → IsReplyTo s d one → IsReplyTo s d other →
+    ¬ (one ≡ reply.NoMemory) → ¬ (other ≡ reply.NoMemory) → HasSame s (Ok d) one other
 fixed_deed s (deed.Open f) one other sound known a b m memory = fixed_opening s f one other sound a b m memory
 fixed_deed s (deed.Claim n c t u) one other sound known a b m memory = fixed_claim s n c t u one other sound known a b m memory
 fixed_deed s (deed.Finish n c t u) one other sound known a b m memory =
     same_this s (deed.Finish n c t u) (reply.Finished (is_done (finished_case c t).phase)) one other (finish_this s n c t u) a b m memory
-fixed_deed s (deed.GiveBack n c t u) one other sound known a b m memory = same_this s (deed.GiveBack n c t u) reply.Returned one other (return_this s n c t u) a b m memory
-fixed_deed s (deed.Release n c t) one other sound known a b m memory = same_this s (deed.Release n c t) reply.Released one other (release_this s n c t) a b m memory
+fixed_deed s (deed.GiveBack n c t u) one other sound known a b m memory =
+    same_this s (deed.GiveBack n c t u) reply.Returned one other (return_this s n c t u) a b m memory
+fixed_deed s (deed.Release n c t) one other sound known a b m memory =
+    same_this s (deed.Release n c t) reply.Released one other (release_this s n c t) a b m memory
 fixed_deed s (deed.Withdraw n) one other sound known a b m memory = same_this s (deed.Withdraw n) reply.Withdrawn one other (withdrawal_this s n) a b m memory
 fixed_deed s (deed.Change a) one other sound known x y m memory =
     let its = known.0 sound.policy in
@@ -213,7 +229,8 @@ fixed_deed s (deed.Work u) one other sound known a b m memory = work_fixed s u o
 fixed_deed s (deed.WhatIf a) one other sound known x y m memory = what_if_fixed s a one other x y m memory
 fixed_deed s (deed.TurnAway bad) one other sound known a b m memory = same_this s (deed.TurnAway bad) (reply.Bad bad) one other (bad_this s bad) a b m memory
 
-fixed_decision : (s : State) (r : Result Deed Denial) (one other : Reply) → IsSoundState s → HoldsOf (IsTold s.book) r → Answers s r one → Answers s r other → ¬ (one ≡ reply.NoMemory) → ¬ (other ≡ reply.NoMemory) →
+fixed_decision : (s : State) (r : Result Deed Denial) (one other : Reply) → IsSoundState s → HoldsOf (IsTold s.book) r → Answers s r one →
+    Answers s r other → ¬ (one ≡ reply.NoMemory) → ¬ (other ≡ reply.NoMemory) →
     HasSame s r one other
 fixed_decision s (Ok d) one other sound known a b m memory = fixed_deed s d one other sound known a b m memory
 fixed_decision s (Err d) one other sound known (inl a) (inl b) m memory = (ap bare (a ∙ sym b), refl)

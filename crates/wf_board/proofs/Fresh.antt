@@ -1,5 +1,6 @@
 -- What does not count for a request leaves what its decision rests on.
-use Rattle.std.proofs.Common.{◌≡◌, ℕ, ◌+◌, ◌⊎◌, inl, inr, Bool, true, false, is_some, nat_eq, List, [], ◌∷◌, ◌++◌, take, drop, Option, Some, None, Result, Ok, Err, if◌then◌else◌, refl, sym, ap, subst, ◌∙◌, arith}
+use Rattle.std.proofs.Common.{◌≡◌, ℕ, ◌+◌, ◌⊎◌, inl, inr, Bool, true, false, is_some, nat_eq, List, [], ◌∷◌, ◌++◌, take, drop, Option, Some, None, Result, Ok}
+use Rattle.std.proofs.Common.{Err, if◌then◌else◌, refl, sym, ap, subst, ◌∙◌, arith}
 use Rattle.std.specs.Option.{option_map}
 use Rattle.std.proofs.lemmas.List.{take-append-drop}
 use Rattle.first_fault.specs.Reading.{or_fault, check}
@@ -30,7 +31,8 @@ use Rattle.wf_board.proofs.HistoryLaws.{after_all, after_more, again_stays, each
 use Rattle.wf_board.specs.Verdicts.{IsRight}
 use Rattle.admin_edits.proofs.Keeping.{HoldsOf, always, then_holds}
 use Rattle.wf_board.proofs.Told.{unless_holds}
-use Rattle.wf_board.proofs.Snaps.{claim_no_change, finish_plain, opening_no_change, plain_right, release_plain, return_plain, right_same, same_claim, same_opening, show_plain, with_cases, withdraw_plain}
+use Rattle.wf_board.proofs.Snaps.{claim_no_change, finish_plain, opening_no_change, plain_right, release_plain, return_plain, right_same, same_claim}
+use Rattle.wf_board.proofs.Snaps.{same_opening, show_plain, with_cases, withdraw_plain}
 
 -- ---- what is the same
 
@@ -62,7 +64,8 @@ same_then what s t u first later = tt
 
 -- ---- one step
 
-other_changed : (m n : ℕ) (change : CaseShape → CaseShape) (cases : List Numbered) → nat_eq n m ≡ false → numbered_case (with_case_changed n change cases) m ≡ numbered_case cases m
+other_changed : (m n : ℕ) (change : CaseShape → CaseShape) (cases : List Numbered) → nat_eq n m ≡ false →
+    numbered_case (with_case_changed n change cases) m ≡ numbered_case cases m
 other_changed m n change [] other = refl
 other_changed m n change (x ∷ xs) other = at_first (nat_eq x.number n) (nat_eq x.number m) refl refl (other_changed m n change xs other)
   where
@@ -107,37 +110,46 @@ named_step what b make n step user named =
     (λ t _. then_holds (λ _. Unit {0}) (IsNamed what) (or_fault (user_named b user) NoUser) _ (always (or_fault (user_named b user) NoUser))
     (λ u _. named c t u)))
 
-change_named : (what : Ask) (make : Amendment → Deed) (r : Result Amendment EditCause) → ((a : Amendment) → IsNamed what (make a)) → HoldsOf (IsNamed what) (on_edit make r)
+change_named : (what : Ask) (make : Amendment → Deed) (r : Result Amendment EditCause) → ((a : Amendment) → IsNamed what (make a)) →
+    HoldsOf (IsNamed what) (on_edit make r)
 change_named what make (Ok a) named = named a
 change_named what make (Err fault) named = tt
 
 resolve_named : (b : Book) (what : Ask) → HoldsOf (IsNamed what) (resolve b what)
 resolve_named b (ask.Request (request.OpenCase flow)) =
-    then_holds (λ _. Unit {0}) (IsNamed (ask.Request (request.OpenCase flow))) (or_fault (flow_named b flow) NoFlow) _ (always (or_fault (flow_named b flow) NoFlow)) (λ f _. tt)
+    then_holds (λ _. Unit {0}) (IsNamed (ask.Request (request.OpenCase flow))) (or_fault (flow_named b flow) NoFlow) _
+    (always (or_fault (flow_named b flow) NoFlow)) (λ f _. tt)
 resolve_named b (ask.Request (request.Claim n step user)) = named_step (ask.Request (request.Claim n step user)) b deed.Claim n step user (λ c t u. refl)
 resolve_named b (ask.Request (request.Finish n step user)) = named_step (ask.Request (request.Finish n step user)) b deed.Finish n step user (λ c t u. refl)
-resolve_named b (ask.Request (request.GiveBack n step user)) = named_step (ask.Request (request.GiveBack n step user)) b deed.GiveBack n step user (λ c t u. refl)
+resolve_named b (ask.Request (request.GiveBack n step user)) =
+    named_step (ask.Request (request.GiveBack n step user)) b deed.GiveBack n step user (λ c t u. refl)
 resolve_named b (ask.Request (request.Release by n step)) =
     let what = ask.Request (request.Release by n step) in
     then_holds (λ _. Unit {0}) (IsNamed what) (check (is_admin b.policy by) NotAdmin) _ (always (check (is_admin b.policy by) NotAdmin))
     (λ _ _. then_holds (λ _. Unit {0}) (IsNamed what) (open_case_at b n) _ (always (open_case_at b n))
-    (λ c _. then_holds (λ _. Unit {0}) (IsNamed what) (or_fault (step_named b c.flow step) NoStep) _ (always (or_fault (step_named b c.flow step) NoStep)) (λ t _. refl)))
+    (λ c _. then_holds (λ _. Unit {0}) (IsNamed what) (or_fault (step_named b c.flow step) NoStep) _ (always (or_fault (step_named b c.flow step) NoStep))
+    (λ t _. refl)))
 resolve_named b (ask.Request (request.Withdraw by n)) =
     let what = ask.Request (request.Withdraw by n) in
     then_holds (λ _. Unit {0}) (IsNamed what) (check (is_admin b.policy by) NotAdmin) _ (always (check (is_admin b.policy by) NotAdmin))
     (λ _ _. then_holds (λ _. Unit {0}) (IsNamed what) (open_case_at b n) _ (always (open_case_at b n)) (λ c _. refl))
-resolve_named b (ask.Request (request.Change by edit)) = change_named (ask.Request (request.Change by edit)) deed.Change (amendment_of b.policy by edit) (λ a. tt)
+resolve_named b (ask.Request (request.Change by edit)) =
+    change_named (ask.Request (request.Change by edit)) deed.Change (amendment_of b.policy by edit) (λ a. tt)
 resolve_named b (ask.Request (request.Show n)) =
-    then_holds (λ _. Unit {0}) (IsNamed (ask.Request (request.Show n))) (or_fault (numbered_case b.cases n) NoCase) _ (always (or_fault (numbered_case b.cases n) NoCase)) (λ c _. tt)
+    then_holds (λ _. Unit {0}) (IsNamed (ask.Request (request.Show n))) (or_fault (numbered_case b.cases n) NoCase) _
+    (always (or_fault (numbered_case b.cases n) NoCase)) (λ c _. tt)
 resolve_named b (ask.Request (request.Worklist user)) =
-    then_holds (λ _. Unit {0}) (IsNamed (ask.Request (request.Worklist user))) (or_fault (user_named b user) NoUser) _ (always (or_fault (user_named b user) NoUser)) (λ u _. tt)
-resolve_named b (ask.Request (request.WhatIf by edit)) = change_named (ask.Request (request.WhatIf by edit)) deed.WhatIf (amendment_of b.policy by edit) (λ a. tt)
+    then_holds (λ _. Unit {0}) (IsNamed (ask.Request (request.Worklist user))) (or_fault (user_named b user) NoUser) _
+    (always (or_fault (user_named b user) NoUser)) (λ u _. tt)
+resolve_named b (ask.Request (request.WhatIf by edit)) =
+    change_named (ask.Request (request.WhatIf by edit)) deed.WhatIf (amendment_of b.policy by edit) (λ a. tt)
 resolve_named b (ask.Bad bad) = tt
 
 decision_named : (b : Book) (what : Ask) → HoldsOf (IsNamed what) (decision_of b what)
 decision_named b what =
     then_holds (IsNamed what) (IsNamed what) (decision_aside b what) _
-    (then_holds (IsNamed what) (IsNamed what) (resolve b what) _ (resolve_named b what) (λ given named. unless_holds (IsNamed what) given (cause_aside b given) (λ none. named)))
+    (then_holds (IsNamed what) (IsNamed what) (resolve b what) _ (resolve_named b what)
+    (λ given named. unless_holds (IsNamed what) given (cause_aside b given) (λ none. named)))
     (λ given named. unless_holds (IsNamed what) given (cause_full b given) (λ none. named))
 
 -- another case than the one that was changed
@@ -148,25 +160,30 @@ no_case : {X : Type 0} (o : Option ℕ) (n : ℕ) → o ≡ Some n → is_some o
 no_case None n same other = cc
 no_case (Some m) n same other = cc
 
-deed_case : (s : State) (what : Ask) (given : Deed) (answer : Reply) (m : ℕ) → IsNamed what given → IsReplyTo s given answer → is_number m (changed_case what answer) ≡ false →
+deed_case : (s : State) (what : Ask) (given : Deed) (answer : Reply) (m : ℕ) → IsNamed what given → IsReplyTo s given answer →
+    is_number m (changed_case what answer) ≡ false →
     numbered_case s.book.cases m ≡ numbered_case (state_after_deed s given answer).book.cases m
 deed_case s what (deed.Open f) (reply.Opened n plan) m named is other =
     sym (other_added m s.book.cases _ (subst (λ k. nat_eq k m ≡ false) is.0 other))
-deed_case s what (deed.Claim n c t u) (reply.Granted plan) m named is other = sym (other_changed m n _ s.book.cases (not_this m n (case_of_ask what) named other))
-deed_case s what (deed.Finish n c t u) (reply.Finished done) m named is other = sym (other_changed m n _ s.book.cases (not_this m n (case_of_ask what) named other))
+deed_case s what (deed.Claim n c t u) (reply.Granted plan) m named is other =
+    sym (other_changed m n _ s.book.cases (not_this m n (case_of_ask what) named other))
+deed_case s what (deed.Finish n c t u) (reply.Finished done) m named is other =
+    sym (other_changed m n _ s.book.cases (not_this m n (case_of_ask what) named other))
 deed_case s what (deed.GiveBack n c t u) reply.Returned m named is other = sym (other_changed m n _ s.book.cases (not_this m n (case_of_ask what) named other))
 deed_case s what (deed.Release n c t) reply.Released m named is other = sym (other_changed m n _ s.book.cases (not_this m n (case_of_ask what) named other))
 deed_case s what (deed.Withdraw n) reply.Withdrawn m named is other = sym (other_changed m n _ s.book.cases (not_this m n (case_of_ask what) named other))
 deed_case s what (deed.Change a) (reply.Edited number) m named is other = refl
 deed_case s what given answer m named is other = refl
 
-decision_case : (s : State) (what : Ask) (decision : Result Deed Denial) (answer : Reply) (m : ℕ) → HoldsOf (IsNamed what) decision → Answers s decision answer →
+decision_case : (s : State) (what : Ask) (decision : Result Deed Denial) (answer : Reply) (m : ℕ) → HoldsOf (IsNamed what) decision →
+    Answers s decision answer →
     is_number m (changed_case what answer) ≡ false → numbered_case s.book.cases m ≡ numbered_case (state_after_decision s decision answer).book.cases m
 decision_case s what (Ok given) answer m named is other = deed_case s what given answer m named is other
 decision_case s what (Err d) answer m named is other = refl
 
 -- a deed that changes neither the policy nor a case leaves the book
-deed_book : (s : State) (what : Ask) (given : Deed) (answer : Reply) → IsNamed what given → is_edited answer ≡ false → is_some (changed_case what answer) ≡ false →
+deed_book : (s : State) (what : Ask) (given : Deed) (answer : Reply) → IsNamed what given → is_edited answer ≡ false →
+    is_some (changed_case what answer) ≡ false →
     s.book ≡ (state_after_deed s given answer).book
 deed_book s what (deed.Open f) (reply.Opened n plan) named edited other = cc
 deed_book s what (deed.Claim n c t u) (reply.Granted plan) named edited other = no_case (case_of_ask what) n named other
@@ -201,7 +218,8 @@ step_same s e what is other = tt
 -- ---- histories
 
 -- and so does an entry of a legal history
-pub entry_same : (start : State) (rounds : ℕ) (earlier : List Entry) (e : Entry) (what : Ask) → IsRightAfter start rounds earlier e → counts_for e what ≡ false →
+pub entry_same : (start : State) (rounds : ℕ) (earlier : List Entry) (e : Entry) (what : Ask) → IsRightAfter start rounds earlier e →
+    counts_for e what ≡ false →
     SameFor what (state_after start earlier) (state_after start (earlier ++ e ∷ []))
 entry_same start rounds earlier e what right other =
     let s = state_after start earlier in
@@ -219,7 +237,8 @@ no_first true n none = absurd (omega (arith, none))
 no_first false n none = (refl, omega (arith, none))
 
 -- and so do several of which none counts
-pub entries_same : (start : State) (rounds : ℕ) (earlier entries : List Entry) (what : Ask) → EachAfter (IsRightAfter start rounds) earlier entries → counted what entries ≡ 0 →
+pub entries_same : (start : State) (rounds : ℕ) (earlier entries : List Entry) (what : Ask) → EachAfter (IsRightAfter start rounds) earlier entries →
+    counted what entries ≡ 0 →
     SameFor what (state_after start earlier) (state_after (state_after start earlier) entries)
 entries_same start rounds earlier [] what legal none = same_here what (state_after start earlier)
 entries_same start rounds earlier (e ∷ es) what legal none =
@@ -236,7 +255,8 @@ entries_same start rounds earlier (e ∷ es) what legal none =
 pub right_stays : (what : Ask) (s t : State) (v : Verdict) → SameFor what s t → IsRight s.book what v → IsRight t.book what v
 right_stays (ask.Request (request.OpenCase flow)) s t v same is =
     let p = t.book.policy in
-    right_same p s.book.cases t.book.cases s.book.ever t.book.ever (ask.Request (request.OpenCase flow)) v (same_opening p s.book.cases t.book.cases s.book.ever t.book.ever flow)
+    right_same p s.book.cases t.book.cases s.book.ever t.book.ever (ask.Request (request.OpenCase flow)) v
+    (same_opening p s.book.cases t.book.cases s.book.ever t.book.ever flow)
     (inl (opening_no_change (with_cases p s.book.cases s.book.ever) flow))
     (subst (λ q. IsRight (with_cases q s.book.cases s.book.ever) (ask.Request (request.OpenCase flow)) v) same is)
 right_stays (ask.Request (request.Claim n step user)) s t v same is =
@@ -245,9 +265,12 @@ right_stays (ask.Request (request.Claim n step user)) s t v same is =
     (same_claim p s.book.cases t.book.cases s.book.ever t.book.ever n step user same.1)
     (inl (claim_no_change (with_cases p s.book.cases s.book.ever) n step user))
     (subst (λ q. IsRight (with_cases q s.book.cases s.book.ever) (ask.Request (request.Claim n step user)) v) same.0 is)
-right_stays (ask.Request (request.Finish n step user)) s t v same is = plain_right s.book t.book (ask.Request (request.Finish n step user)) v (finish_plain n step user) is
-right_stays (ask.Request (request.GiveBack n step user)) s t v same is = plain_right s.book t.book (ask.Request (request.GiveBack n step user)) v (return_plain n step user) is
-right_stays (ask.Request (request.Release by n step)) s t v same is = plain_right s.book t.book (ask.Request (request.Release by n step)) v (release_plain by n step) is
+right_stays (ask.Request (request.Finish n step user)) s t v same is =
+    plain_right s.book t.book (ask.Request (request.Finish n step user)) v (finish_plain n step user) is
+right_stays (ask.Request (request.GiveBack n step user)) s t v same is =
+    plain_right s.book t.book (ask.Request (request.GiveBack n step user)) v (return_plain n step user) is
+right_stays (ask.Request (request.Release by n step)) s t v same is =
+    plain_right s.book t.book (ask.Request (request.Release by n step)) v (release_plain by n step) is
 right_stays (ask.Request (request.Withdraw by n)) s t v same is = plain_right s.book t.book (ask.Request (request.Withdraw by n)) v (withdraw_plain by n) is
 right_stays (ask.Request (request.Change by edit)) s t v same is = subst (λ b. IsRight b (ask.Request (request.Change by edit)) v) same is
 right_stays (ask.Request (request.Show n)) s t v same is = plain_right s.book t.book (ask.Request (request.Show n)) v (show_plain n) is

@@ -1,5 +1,6 @@
 -- A claim is granted exactly where its user is authorised, its step is ready, and its case can then be completed.
-use Rattle.std.proofs.Common.{◌≡◌, ℕ, suc, ◌+◌, ◌<◌, Bool, true, false, not, ◌&&◌, nat_lt, List, [], ◌∷◌, length, Option, None, Some, option_map, is_none, slice_get, if◌then◌else◌, ◌⊎◌, inl, inr, refl, sym, ap, subst, ◌∙◌, arith}
+use Rattle.std.proofs.Common.{◌≡◌, ℕ, suc, ◌+◌, ◌<◌, Bool, true, false, not, ◌&&◌, nat_lt, List, [], ◌∷◌, length, Option, None, Some, option_map, is_none}
+use Rattle.std.proofs.Common.{slice_get, if◌then◌else◌, ◌⊎◌, inl, inr, refl, sym, ap, subst, ◌∙◌, arith}
 use Rattle.std.specs.Prelude.{◌↔◌, ◌||◌}
 use Rattle.std.specs.List.{list_any}
 use Rattle.std.proofs.lemmas.Bool.{false≢true}
@@ -92,12 +93,20 @@ record IsFalsifiedAt (related : Relating) (users : ℕ → Option ℕ) (k m : �
 same_number : (k m : ℕ) → Some k ≡ Some m → m ≡ k + 0
 same_number k m h = let is : k ≡ m = cc in omega (arith, is)
 
-falsified_found : (related : Relating) (users : ℕ → Option ℕ) (k m : ℕ) (rules : List Rule) → first_falsified related users k rules ≡ Some m → IsFalsifiedAt related users k m rules
+falsified_found : (related : Relating) (users : ℕ → Option ℕ) (k m : ℕ) (rules : List Rule) → first_falsified related users k rules ≡ Some m →
+    IsFalsifiedAt related users k m rules
 falsified_found related users k m [] h = cc
 falsified_found related users k m (r ∷ rs) h = at_first (is_falsified related r users) refl h (falsified_found related users (k + 1) m rs)
   where
     later : IsFalsifiedAt related users (k + 1) m rs → IsFalsifiedAt related users k m (r ∷ rs)
-    later found = record { place = suc found.place; number = omega (arith, found.number); the_rule = found.the_rule; there = found.there; falsified = found.falsified }
+    later found = record {
+      place = suc found.place;
+      number = omega (arith, found.number);
+      the_rule = found.the_rule;
+      there = found.there;
+      falsified =
+          found.falsified;
+    }
 
     at_first : (b : Bool) → is_falsified related r users ≡ b → (if b then Some k else first_falsified related users (k + 1) rs) ≡ Some m →
         (first_falsified related users (k + 1) rs ≡ Some m → IsFalsifiedAt related users (k + 1) m rs) → IsFalsifiedAt related users k m (r ∷ rs)
@@ -106,7 +115,8 @@ falsified_found related users k m (r ∷ rs) h = at_first (is_falsified related 
 
 -- where a rule is falsified nothing can be completed
 none_falsified : (p : PolicyShape) (c : CaseShape) (a : List (Option ℕ)) → IsSoundPolicy p → c.flow < length p.flows → AreAssigned (finished_of c) a →
-    IsCompletable (problem_of p c.flow) a (finished_of c) → is_none (first_falsified (problem_of p c.flow).related (user_at a) 0 (flow_at p c.flow).rules) ≡ true
+    IsCompletable (problem_of p c.flow) a (finished_of c) →
+    is_none (first_falsified (problem_of p c.flow).related (user_at a) 0 (flow_at p c.flow).rules) ≡ true
 none_falsified p c a sound known assigned complete = by_search (first_falsified (problem_of p c.flow).related (user_at a) 0 (flow_at p c.flow).rules) refl
   where
     by_search : (o : Option ℕ) → first_falsified (problem_of p c.flow).related (user_at a) 0 (flow_at p c.flow).rules ≡ o → is_none o ≡ true
@@ -128,7 +138,8 @@ decided_claim : (b : Book) (n : ℕ) (step user : List ℕ) (c : CaseShape) (t u
     decision_of b (ask.Request (request.Claim n step user)) ≡ unless_denied (deed.Claim n c t u) (first_cause b.policy c t u)
 decided_claim b n step user c t u named = rw (named.its_case, named.live, named.its_step, named.its_user) (unless_full (first_cause b.policy c t u))
   where
-    unless_full : (o : Option Denial) → (unless_denied (deed.Claim n c t u) o >>= (λ given. unless_denied given (cause_full b given))) ≡ unless_denied (deed.Claim n c t u) o
+    unless_full : (o : Option Denial) →
+        (unless_denied (deed.Claim n c t u) o >>= (λ given. unless_denied given (cause_full b given))) ≡ unless_denied (deed.Claim n c t u) o
     unless_full None = refl
     unless_full (Some d) = refl
 
@@ -149,23 +160,28 @@ none_later true b h = cc
 none_later false b h = h
 
 -- a rule that does not name the step is falsified where it was before the step is given, and each that does is looked at
-still_none : (related : Relating) (c : CaseShape) (t u k : ℕ) (rules : List Rule) → list_any (λ r. names r t && is_falsified related r (user_at (assigned_with c t u))) rules ≡ false
+still_none : (related : Relating) (c : CaseShape) (t u k : ℕ) (rules : List Rule) →
+    list_any (λ r. names r t && is_falsified related r (user_at (assigned_with c t u))) rules ≡ false
     → first_falsified related (user_at (assigned_of c)) k rules ≡ None → first_falsified related (user_at (assigned_with c t u)) k rules ≡ None
 still_none related c t u k [] quiet before = refl
 still_none related c t u k (r ∷ rs) quiet before =
-    by_rule (names r t) (is_falsified related r (user_at (assigned_with c t u))) (is_falsified related r (user_at (assigned_of c))) refl refl refl (still_none related c t u (k + 1) rs)
+    by_rule (names r t) (is_falsified related r (user_at (assigned_with c t u))) (is_falsified related r (user_at (assigned_of c))) refl refl refl
+    (still_none related c t u (k + 1) rs)
   where
     alike : names r t ≡ false → is_falsified related r (user_at (assigned_with c t u)) ≡ is_falsified related r (user_at (assigned_of c))
     alike apart = falsified_by_named related r (user_at (assigned_with c t u)) (user_at (assigned_of c))
         (λ x named. given_other (assigned_of c) t u x (λ same. false≢true (sym apart ∙ ap (names r) (sym same) ∙ named)))
 
-    by_rule : (n now was : Bool) → names r t ≡ n → is_falsified related r (user_at (assigned_with c t u)) ≡ now → is_falsified related r (user_at (assigned_of c)) ≡ was
-        → (list_any (λ x. names x t && is_falsified related x (user_at (assigned_with c t u))) rs ≡ false → first_falsified related (user_at (assigned_of c)) (k + 1) rs ≡ None
+    by_rule : (n now was : Bool) → names r t ≡ n → is_falsified related r (user_at (assigned_with c t u)) ≡ now →
+        is_falsified related r (user_at (assigned_of c)) ≡ was
+        → (list_any (λ x. names x t && is_falsified related x (user_at (assigned_with c t u))) rs ≡ false →
+        first_falsified related (user_at (assigned_of c)) (k + 1) rs ≡ None
         → first_falsified related (user_at (assigned_with c t u)) (k + 1) rs ≡ None)
         → first_falsified related (user_at (assigned_with c t u)) k (r ∷ rs) ≡ None
     by_rule n now true named is old rest = cc (ap (λ b. if b then Some k else first_falsified related (user_at (assigned_of c)) (k + 1) rs) (sym old) ∙ before)
     by_rule true true false named is old rest =
-        cc (sym (ap (λ b. b || list_any (λ x. names x t && is_falsified related x (user_at (assigned_with c t u))) rs) (ap (λ b. b && is_falsified related r (user_at (assigned_with c t u))) named ∙ is)) ∙ quiet)
+        cc (sym (ap (λ b. b || list_any (λ x. names x t && is_falsified related x (user_at (assigned_with c t u))) rs)
+        (ap (λ b. b && is_falsified related r (user_at (assigned_with c t u))) named ∙ is)) ∙ quiet)
     by_rule false true false named is old rest = absurd (false≢true (sym old ∙ sym (alike named) ∙ is))
     by_rule n false false named is old rest =
         ap (λ b. if b then Some k else first_falsified related (user_at (assigned_with c t u)) (k + 1) rs) is
@@ -182,7 +198,8 @@ nothing (Some n) h = cc
 -- no cause is against the claim of a ready step, where the case can be completed and no rule that names the step is falsified
 pub clear_none : (p : PolicyShape) (c : CaseShape) (t u : ℕ) → IsSoundPolicy p → c.flow < length p.flows → CanBeCompleted p c
     → is_ready c (flow_at p c.flow).flow.order t ≡ true → is_authorised p c.flow t u ≡ true
-    → list_any (λ r. names r t && is_falsified (problem_of p c.flow).related r (user_at (assigned_with c t u))) (flow_at p c.flow).rules ≡ false → first_cause p c t u ≡ None
+    → list_any (λ r. names r t && is_falsified (problem_of p c.flow).related r (user_at (assigned_with c t u))) (flow_at p c.flow).rules ≡ false →
+    first_cause p c t u ≡ None
 clear_none p c t u sound known complete ready may quiet =
     let tests = and_both (nat_lt t (length c.states) && is_free (state_at c t)) (is_none (first_missing c (flow_at p c.flow).flow.order t)) ready in
     let free = (and_both (nat_lt t (length c.states)) (is_free (state_at c t)) tests.0).1 in
@@ -231,7 +248,8 @@ grants_are_exact s n step user c t u given sound named is_step memory = by_cause
 
     by_cause : (o : Option Denial) → first_cause s.book.policy c t u ≡ o → ((plan : List ℕ) × (given ≡ reply.Granted plan)) ↔ MayBeGranted s.book.policy c t u
     by_cause None none =
-        let exact = claims_are_exact s (ask.Request (request.Claim n step user)) given n c t u sound (decided ∙ ap (unless_denied (deed.Claim n c t u)) none) is_step memory in
+        let exact = claims_are_exact s (ask.Request (request.Claim n step user)) given n c t u sound
+        (decided ∙ ap (unless_denied (deed.Claim n c t u)) none) is_step memory in
         (λ granted. none_granted s c t u below none (exact.0 granted), λ may. exact.1 may.completable)
     by_cause (Some d) cause =
         let denied = subst (λ r. Answers s r given) (decided ∙ ap (unless_denied (deed.Claim n c t u)) cause) is_step in (

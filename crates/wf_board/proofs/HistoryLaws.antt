@@ -1,5 +1,6 @@
 -- Laws of histories, for whoever adds an entry at the end.
-use Rattle.std.proofs.Common.{◌≡◌, ℕ, zero, suc, ◌+◌, ◌≤◌, max, false, List, [], ◌∷◌, ◌++◌, length, take, drop, map, Result, Ok, Err, inl, inr, append_assoc, append-nil, refl, sym, ap, subst, ◌∙◌, arith}
+use Rattle.std.proofs.Common.{◌≡◌, ℕ, zero, suc, ◌+◌, ◌≤◌, max, false, List, [], ◌∷◌, ◌++◌, length, take, drop, map, Result, Ok, Err, inl, inr, append_assoc}
+use Rattle.std.proofs.Common.{append-nil, refl, sym, ap, subst, ◌∙◌, arith}
 use Rattle.std.proofs.lemmas.List.{drop-append-le, length-map, take-append-drop, take-append-le}
 use Rattle.policy_book.specs.Shapes.{PolicyShape}
 use Rattle.wf_talk.specs.declared.entry.Entry.{Entry}
@@ -14,7 +15,8 @@ use Rattle.wf_board.specs.States.{State, opening_state}
 use Rattle.wf_board.specs.Decisions.{decision_of}
 use Rattle.wf_board.specs.Steps.{Answers, IsReplyTo, IsStep, state_after_decision, state_after_deed, state_after_step}
 use Rattle.wf_board.specs.Counting.{counted, is_edited, lane_end}
-use Rattle.wf_board.specs.Histories.{AreAnsweredOnce, AreRightful, BatchRests, EachAfter, FillsJobs, IsAnsweredOnce, IsLegal, IsRetry, IsRightAfter, IsRightful, RestsFrom, batch_end, batch_jobs, batch_start, job_of_entry, lane_jobs, state_after}
+use Rattle.wf_board.specs.Histories.{AreAnsweredOnce, AreRightful, BatchRests, EachAfter, FillsJobs, IsAnsweredOnce, IsLegal, IsRetry, IsRightAfter, IsRightful}
+use Rattle.wf_board.specs.Histories.{RestsFrom, batch_end, batch_jobs, batch_start, job_of_entry, lane_jobs, state_after}
 
 -- the state after one more entry
 pub after_more : (s : State) (entries : List Entry) (e : Entry) → state_after s (entries ++ e ∷ []) ≡ state_after_step (state_after s entries) e.ask e.reply
@@ -45,7 +47,8 @@ pub again_stays : (s : State) (what : Ask) (given : Reply) (n place : ℕ) → g
 again_stays s what given n place again = ap (λ r. state_after_step s what r) again ∙ again_same s (decision_of s.book what) n place
 
 -- the state after a history with one more entry that is answered again
-pub after_again : (s : State) (entries : List Entry) (e : Entry) (n place : ℕ) → e.reply ≡ reply.Again n place → state_after s (entries ++ e ∷ []) ≡ state_after s entries
+pub after_again : (s : State) (entries : List Entry) (e : Entry) (n place : ℕ) → e.reply ≡ reply.Again n place →
+    state_after s (entries ++ e ∷ []) ≡ state_after s entries
 after_again s entries e n place again = after_more s entries e ∙ again_stays (state_after s entries) e.ask e.reply n place again
 
 -- what holds of each entry and those before it, and of one more
@@ -66,7 +69,8 @@ pub legal_again : (s : State) (rounds : ℕ) (entries : List Entry) (e : Entry) 
 legal_again s rounds entries e legal at retry = each_more (IsRightAfter s rounds) [] entries e legal (at, inr retry)
 
 -- what holds of each entry and those before it holds of the later ones
-pub each_later : (P : List Entry → Entry → Type 0) (earlier entries more : List Entry) → EachAfter P earlier (entries ++ more) → EachAfter P (earlier ++ entries) more
+pub each_later : (P : List Entry → Entry → Type 0) (earlier entries more : List Entry) → EachAfter P earlier (entries ++ more) →
+    EachAfter P (earlier ++ entries) more
 each_later P earlier [] more each = subst (λ es. EachAfter P es more) (sym (append-nil earlier)) each
 each_later P earlier (x ∷ xs) more each = subst (λ es. EachAfter P es more) (append_assoc earlier (x ∷ []) xs) (each_later P (earlier ++ x ∷ []) xs more each.1)
 
@@ -75,10 +79,12 @@ pub each_from : (P : List Entry → Entry → Type 0) (n : ℕ) (entries : List 
 each_from P n entries each = each_later P [] (take n entries) (drop n entries) (subst (EachAfter P []) (sym (take-append-drop n entries)) each)
 
 -- the entries of a batch rest on one another with one more that does
-pub rests_more : (start : ℕ) (entries : List Entry) (e : Entry) → start ≤ length entries → EachAfter (RestsFrom start) (take start entries) (drop start entries) →
+pub rests_more : (start : ℕ) (entries : List Entry) (e : Entry) → start ≤ length entries →
+    EachAfter (RestsFrom start) (take start entries) (drop start entries) →
     RestsFrom start entries e → EachAfter (RestsFrom start) (take start (entries ++ e ∷ [])) (drop start (entries ++ e ∷ []))
 rests_more start entries e within each last =
-    let grown = each_more (RestsFrom start) (take start entries) (drop start entries) e each (subst (λ es. RestsFrom start es e) (sym (take-append-drop start entries)) last) in
+    let grown = each_more (RestsFrom start) (take start entries) (drop start entries) e each
+    (subst (λ es. RestsFrom start es e) (sym (take-append-drop start entries)) last) in
     subst (λ es. EachAfter (RestsFrom start) es (drop start (entries ++ e ∷ []))) (sym (take-append-le start entries (e ∷ []) within))
     (subst (EachAfter (RestsFrom start) (take start entries)) (sym (drop-append-le start entries (e ∷ []) within)) grown)
 
@@ -172,7 +178,8 @@ deed_policy s (deed.Withdraw n) reply.Withdrawn other = refl
 deed_policy s (deed.Change a) (reply.Edited number) other = cc
 deed_policy s given answer other = refl
 
-decision_policy : (s : State) (decision : Result Deed Denial) (answer : Reply) → is_edited answer ≡ false → (state_after_decision s decision answer).book.policy ≡ s.book.policy
+decision_policy : (s : State) (decision : Result Deed Denial) (answer : Reply) → is_edited answer ≡ false →
+    (state_after_decision s decision answer).book.policy ≡ s.book.policy
 decision_policy s (Ok given) answer other = deed_policy s given answer other
 decision_policy s (Err d) answer other = refl
 
@@ -190,7 +197,8 @@ deed_edits s (deed.Withdraw n) reply.Withdrawn other = refl
 deed_edits s (deed.Change a) (reply.Edited number) other = cc
 deed_edits s given answer other = refl
 
-decision_edits : (s : State) (decision : Result Deed Denial) (answer : Reply) → is_edited answer ≡ false → (state_after_decision s decision answer).edits ≡ s.edits
+decision_edits : (s : State) (decision : Result Deed Denial) (answer : Reply) → is_edited answer ≡ false →
+    (state_after_decision s decision answer).edits ≡ s.edits
 decision_edits s (Ok given) answer other = deed_edits s given answer other
 decision_edits s (Err d) answer other = refl
 

@@ -1,5 +1,6 @@
 -- What every step of a session keeps.
-use Rattle.std.proofs.Common.{◌≡◌, ℕ, zero, suc, ◌<◌, ◌⊎◌, inl, inr, Bool, true, false, nat_eq, List, [], ◌∷◌, ◌++◌, length, take, None, Some, Result, Ok, Err, if◌then◌else◌, refl, sym, ap, subst, ◌∙◌}
+use Rattle.std.proofs.Common.{◌≡◌, ℕ, zero, suc, ◌<◌, ◌⊎◌, inl, inr, Bool, true, false, nat_eq, List, [], ◌∷◌, ◌++◌, length, take, None, Some, Result, Ok, Err}
+use Rattle.std.proofs.Common.{if◌then◌else◌, refl, sym, ap, subst, ◌∙◌}
 use Rattle.std.specs.Option.{option_map}
 use Rattle.wf_names.specs.States.{is_held}
 use Rattle.wf_names.specs.declared.states.StepState.TheVariants.{Free, Held}
@@ -47,7 +48,8 @@ record IsChanged (n : ℕ) (change : CaseShape → CaseShape) (cases : List Numb
   found : numbered_case cases n ≡ Some before
   changed : d ≡ change before
 
-read_changed : (m n : ℕ) (change : CaseShape → CaseShape) (cases : List Numbered) (d : CaseShape) → numbered_case (with_case_changed n change cases) m ≡ Some d →
+read_changed : (m n : ℕ) (change : CaseShape → CaseShape) (cases : List Numbered) (d : CaseShape) →
+    numbered_case (with_case_changed n change cases) m ≡ Some d →
     IsChanged n change cases d ⊎ (numbered_case cases m ≡ Some d)
 read_changed m n change [] d h = inr h
 read_changed m n change (x ∷ xs) d h = at_first (nat_eq x.number n) (nat_eq x.number m) refl refl h (read_changed m n change xs d)
@@ -61,7 +63,8 @@ read_changed m n change (x ∷ xs) d h = at_first (nat_eq x.number n) (nat_eq x.
     at_first false true here there found rest = inr (rw there (rw there at found))
     at_first false false here there found rest = lifted here there (rest (rw there at found))
       where
-        lifted : nat_eq x.number n ≡ false → nat_eq x.number m ≡ false → IsChanged n change xs d ⊎ (numbered_case xs m ≡ Some d) → IsChanged n change (x ∷ xs) d ⊎ (numbered_case (x ∷ xs) m ≡ Some d)
+        lifted : nat_eq x.number n ≡ false → nat_eq x.number m ≡ false → IsChanged n change xs d ⊎ (numbered_case xs m ≡ Some d) →
+            IsChanged n change (x ∷ xs) d ⊎ (numbered_case (x ∷ xs) m ≡ Some d)
         lifted no_n no_m (inl is) = inl record { before = is.before; found = rw no_n is.found; changed = is.changed }
         lifted no_n no_m (inr is) = inr (rw no_m is)
 
@@ -73,7 +76,8 @@ all_changed P n change cases all kept m d h = by_read (read_changed m n change c
     by_read (inl is) = subst P (sym is.changed) (kept is.before is.found (all n is.before is.found))
     by_read (inr is) = all m d is
 
-read_added : (m : ℕ) (cases : List Numbered) (new : Numbered) (d : CaseShape) → numbered_case (cases ++ new ∷ []) m ≡ Some d → (d ≡ new.case) ⊎ (numbered_case cases m ≡ Some d)
+read_added : (m : ℕ) (cases : List Numbered) (new : Numbered) (d : CaseShape) → numbered_case (cases ++ new ∷ []) m ≡ Some d → (d ≡ new.case) ⊎
+    (numbered_case cases m ≡ Some d)
 read_added m [] new d h = at_new (nat_eq new.number m) h
   where
     at_new : (b : Bool) → option_map (λ (e : Numbered). e.case) (if b then Some new else None) ≡ Some d → (d ≡ new.case) ⊎ (numbered_case [] m ≡ Some d)
@@ -108,7 +112,8 @@ IsKept p c = IsOfPolicy p c × MayEnd p c
 abbrev pub Keeps : State → Type 0
 Keeps s = IsSoundState s × KeepsCompletable s
 
-changed_keeps : (s : State) (n : ℕ) (change : CaseShape → CaseShape) → Keeps s → ((c : CaseShape) → numbered_case s.book.cases n ≡ Some c → IsKept s.book.policy c → IsKept s.book.policy (change c)) →
+changed_keeps : (s : State) (n : ℕ) (change : CaseShape → CaseShape) → Keeps s →
+    ((c : CaseShape) → numbered_case s.book.cases n ≡ Some c → IsKept s.book.policy c → IsKept s.book.policy (change c)) →
     Keeps (with_changed s n change)
 changed_keeps s n change keeps kept =
     let all = all_changed (IsKept s.book.policy) n change s.book.cases (λ m c found. (keeps.0.cases m c found, keeps.1 m c found)) kept in
@@ -116,7 +121,8 @@ changed_keeps s n change keeps kept =
 
 -- the change of the one case that a deed names
 named_keeps : (s : State) (n : ℕ) (c : CaseShape) (t : ℕ) (change : CaseShape → CaseShape) → Keeps s → HasStep s.book n c t →
-    (IsOfPolicy s.book.policy c → t < length c.states → IsCompletable (problem_of s.book.policy c.flow) (assigned_of c) (finished_of c) → IsKept s.book.policy (change c)) →
+    (IsOfPolicy s.book.policy c → t < length c.states → IsCompletable (problem_of s.book.policy c.flow) (assigned_of c) (finished_of c) →
+    IsKept s.book.policy (change c)) →
     Keeps (with_changed s n change)
 named_keeps s n c t change keeps there kept = changed_keeps s n change keeps
     (λ d found is. subst (λ (x : CaseShape). IsKept s.book.policy (change x)) (same_case c d (sym there.case.found ∙ found)) known)
@@ -126,37 +132,45 @@ named_keeps s n c t change keeps there kept = changed_keeps s n change keeps
         let of_policy = keeps.0.cases n c there.case.found in
         kept of_policy (subst (λ k. t < k) (sym of_policy.steps) there.step) (keeps.1 n c there.case.found there.case.live)
 
-opened_keeps : (s : State) (f : ℕ) (plan : List ℕ) → Keeps s → f < length s.book.policy.flow_names → IsValidPlan (problem_of s.book.policy f) no_users no_steps plan → Keeps (with_opened s f)
+opened_keeps : (s : State) (f : ℕ) (plan : List ℕ) → Keeps s → f < length s.book.policy.flow_names →
+    IsValidPlan (problem_of s.book.policy f) no_users no_steps plan → Keeps (with_opened s f)
 opened_keeps s f plan keeps known valid =
     let steps = length (flow_at s.book.policy f).flow.steps in
     let new : Numbered = record { number = s.book.ever; case = fresh_case f steps } in
-    let all = all_added (IsKept s.book.policy) s.book.cases new (λ m c found. (keeps.0.cases m c found, keeps.1 m c found))
-    (of_policy_fresh s.book.policy f (subst (λ k. f < k) keeps.0.policy.named known), λ live. (plan, valid_fresh (problem_of s.book.policy f) f steps plan valid)) in
+    let all = all_added (IsKept s.book.policy) s.book.cases new (λ m c found. (keeps.0.cases m c found, keeps.1 m c found)) (
+      of_policy_fresh s.book.policy f (subst (λ k. f < k) keeps.0.policy.named known),
+      λ live. (plan, valid_fresh (problem_of s.book.policy f) f steps plan valid),
+    ) in
     (record { policy = keeps.0.policy; cases = λ m c found. (all m c found).0 }, λ m c found. (all m c found).1)
 
-claimed_keeps : (s : State) (n : ℕ) (c : CaseShape) (t u : ℕ) (plan : List ℕ) → Keeps s → IsTold s.book (deed.Claim n c t u) → IsReplyTo s (deed.Claim n c t u) (reply.Granted plan) →
+claimed_keeps : (s : State) (n : ℕ) (c : CaseShape) (t u : ℕ) (plan : List ℕ) → Keeps s → IsTold s.book (deed.Claim n c t u) →
+    IsReplyTo s (deed.Claim n c t u) (reply.Granted plan) →
     Keeps (with_changed s n (λ d. with_state d t (Held u)))
 claimed_keeps s n c t u plan keeps known valid = named_keeps s n c t (λ d. with_state d t (Held u)) keeps known.0.there (λ of_policy below complete. (
   of_policy_claimed s.book.policy c t u below known.0.user of_policy,
   λ live. (plan, valid_claimed (problem_of s.book.policy c.flow) c t u plan below (claim_free s.book n c t u known.1) valid),
 ))
 
-finished_keeps : (s : State) (n : ℕ) (c : CaseShape) (t : ℕ) → Keeps s → HasStep s.book n c t → is_held (state_at c t) ≡ true → Keeps (with_changed s n (λ d. finished_case d t))
+finished_keeps : (s : State) (n : ℕ) (c : CaseShape) (t : ℕ) → Keeps s → HasStep s.book n c t → is_held (state_at c t) ≡ true →
+    Keeps (with_changed s n (λ d. finished_case d t))
 finished_keeps s n c t keeps there held = named_keeps s n c t (λ d. finished_case d t) keeps there (λ of_policy below complete. (
   of_policy_finished s.book.policy c t held of_policy,
   λ live. (complete.0, valid_finished (problem_of s.book.policy c.flow) c t complete.0 held complete.1),
 ))
 
-freed_keeps : (s : State) (n : ℕ) (c : CaseShape) (t : ℕ) → Keeps s → HasStep s.book n c t → is_held (state_at c t) ≡ true → Keeps (with_changed s n (λ d. with_state d t Free))
+freed_keeps : (s : State) (n : ℕ) (c : CaseShape) (t : ℕ) → Keeps s → HasStep s.book n c t → is_held (state_at c t) ≡ true →
+    Keeps (with_changed s n (λ d. with_state d t Free))
 freed_keeps s n c t keeps there held = named_keeps s n c t (λ d. with_state d t Free) keeps there (λ of_policy below complete. (
   of_policy_freed s.book.policy c t held of_policy,
   λ live. (complete.0, valid_freed (problem_of s.book.policy c.flow) c t complete.0 held complete.1),
 ))
 
 withdrawn_keeps : (s : State) (n : ℕ) → Keeps s → Keeps (with_changed s n (λ d. with_phase d Withdrawn))
-withdrawn_keeps s n keeps = changed_keeps s n (λ d. with_phase d Withdrawn) keeps (λ c found is. (of_policy_in_phase s.book.policy c Withdrawn is.0, λ live. cc))
+withdrawn_keeps s n keeps =
+    changed_keeps s n (λ d. with_phase d Withdrawn) keeps (λ c found is. (of_policy_in_phase s.book.policy c Withdrawn is.0, λ live. cc))
 
-edited_keeps : (s : State) (a : Amendment) → Keeps s → IsTold s.book (deed.Change a) → CanAllBeCompleted (amended s.book.policy a) (open_cases s.book.cases) → Keeps (with_edited s a)
+edited_keeps : (s : State) (a : Amendment) → Keeps s → IsTold s.book (deed.Change a) →
+    CanAllBeCompleted (amended s.book.policy a) (open_cases s.book.cases) → Keeps (with_edited s a)
 edited_keeps s a keeps known all =
     let p = s.book.policy in
     let its = known.0 keeps.0.policy in (
@@ -177,7 +191,8 @@ deed_keeps s (deed.Withdraw n) reply.Withdrawn keeps known is = withdrawn_keeps 
 deed_keeps s (deed.Change a) (reply.Edited number) keeps known is = edited_keeps s a keeps known is.1
 deed_keeps s given answer keeps known is = keeps
 
-decision_keeps : (s : State) (decision : Result Deed Denial) (answer : Reply) → Keeps s → HoldsOf (IsTold s.book) decision → Answers s decision answer → Keeps (state_after_decision s decision answer)
+decision_keeps : (s : State) (decision : Result Deed Denial) (answer : Reply) → Keeps s → HoldsOf (IsTold s.book) decision → Answers s decision answer →
+    Keeps (state_after_decision s decision answer)
 decision_keeps s (Ok given) answer keeps known is = deed_keeps s given answer keeps known is
 decision_keeps s (Err d) answer keeps known is = keeps
 
@@ -193,12 +208,14 @@ entry_keeps : (start : State) (rounds : ℕ) (earlier : List Entry) (e : Entry) 
     Keeps (state_after start (earlier ++ e ∷ []))
 entry_keeps start rounds earlier e keeps right = subst Keeps (sym (after_more start earlier e)) (by_reply right.1)
   where
-    by_reply : IsStep (state_after start earlier) e.ask e.reply ⊎ IsRetry start rounds earlier e → Keeps (state_after_step (state_after start earlier) e.ask e.reply)
+    by_reply : IsStep (state_after start earlier) e.ask e.reply ⊎ IsRetry start rounds earlier e →
+        Keeps (state_after_step (state_after start earlier) e.ask e.reply)
     by_reply (inl step) = step_keeps (state_after start earlier) e.ask e.reply keeps step
     by_reply (inr retry) =
         subst Keeps (sym (again_stays (state_after start earlier) e.ask e.reply retry.0 retry.1.0 retry.1.1.0)) keeps
 
-pub history_keeps : (start : State) (rounds : ℕ) (earlier entries : List Entry) → Keeps (state_after start earlier) → EachAfter (IsRightAfter start rounds) earlier entries → (n : ℕ) →
+pub history_keeps : (start : State) (rounds : ℕ) (earlier entries : List Entry) → Keeps (state_after start earlier) →
+    EachAfter (IsRightAfter start rounds) earlier entries → (n : ℕ) →
     Keeps (state_after (state_after start earlier) (take n entries))
 history_keeps start rounds earlier entries keeps legal zero = keeps
 history_keeps start rounds earlier [] keeps legal (suc n) = keeps

@@ -34,7 +34,8 @@ of_policy_fresh p f known =
       };
     }
 
-pub of_policy_claimed : (p : PolicyShape) (c : CaseShape) (t u : ℕ) → t < length c.states → u < length p.roster.users → IsOfPolicy p c → IsOfPolicy p (with_state c t (Held u))
+pub of_policy_claimed : (p : PolicyShape) (c : CaseShape) (t u : ℕ) → t < length c.states → u < length p.roster.users → IsOfPolicy p c →
+    IsOfPolicy p (with_state c t (Held u))
 of_policy_claimed p c t u below user known = record {
   flow = known.flow;
   steps = length-set c.states t (Held u) ∙ known.steps;

@@ -1,5 +1,6 @@
 -- A change of one pair matters to no plan that does not give steps to both users.
-use Rattle.std.proofs.Common.{◌≡◌, ◌≢◌, ◌==◌, ◌&&◌, ◌||◌, not, ℕ, zero, suc, ◌+◌, ◌<◌, Bool, true, false, List, [], ◌∷◌, length, Option, None, Some, Result, Ok, inl, inr, refl, sym, ap, subst, ◌∙◌, arith}
+use Rattle.std.proofs.Common.{◌≡◌, ◌≢◌, ◌==◌, ◌&&◌, ◌||◌, not, ℕ, zero, suc, ◌+◌, ◌<◌, Bool, true, false, List, [], ◌∷◌, length, Option, None, Some, Result, Ok}
+use Rattle.std.proofs.Common.{inl, inr, refl, sym, ap, subst, ◌∙◌, arith}
 use Rattle.std.specs.Prelude.{slice_get}
 use Rattle.std.specs.Option.{option_map}
 use Rattle.std.specs.FinSet as set
@@ -9,7 +10,8 @@ use Rattle.std.proofs.lemmas.Map.Views.{tells_apart}
 use Rattle.basics.proofs.Booleans.{and_from, differ, eq_same, or_left, or_right}
 use Rattle.pair_set.specs.Pairs.{Pairs, pair_cmp}
 use Rattle.pair_set.specs.PairLaws.{pair_cmp_total, pair_cmp-IsAntisymmetric}
-use Rattle.user_relations.specs.Relations.{RelationKind, RelationShape, change_kind, complement, is_related, kind_holds, kind_of, listed, listed_pairs, pairs_of, with_kind}
+use Rattle.user_relations.specs.Relations.{RelationKind, RelationShape, change_kind, complement, is_related, kind_holds, kind_of, listed, listed_pairs}
+use Rattle.user_relations.specs.Relations.{pairs_of, with_kind}
 use Rattle.user_relations.specs.Faults.{put_fault, take_fault}
 use Rattle.constraint_forms.specs.declared.rule.Rule.{Rule}
 use Rattle.constraint_forms.specs.declared.rule.Rule.TheVariants.{Pair, SomeOf, AllOf, SomeTo, AllTo, AtMost, AtLeast}

@@ -1,5 +1,6 @@
 -- The cases of a state are numbered in order.
-use Rattle.std.proofs.Common.{◌≡◌, ℕ, ◌+◌, ◌<◌, Bool, true, false, nat_eq, List, [], ◌∷◌, ◌++◌, length, None, Some, Result, Ok, Err, if◌then◌else◌, refl, sym, ap, subst, ◌∙◌, arith}
+use Rattle.std.proofs.Common.{◌≡◌, ℕ, ◌+◌, ◌<◌, Bool, true, false, nat_eq, List, [], ◌∷◌, ◌++◌, length, None, Some, Result, Ok, Err, if◌then◌else◌, refl, sym}
+use Rattle.std.proofs.Common.{ap, subst, ◌∙◌, arith}
 use Rattle.std.specs.Option.{option_map}
 use Rattle.std.proofs.lemmas.Bool.Decides.{nat_tests}
 use Rattle.std.proofs.lemmas.List.{length-append}
@@ -27,7 +28,8 @@ numbered_more k [] e all is = (omega (arith, is), tt)
 numbered_more k (x ∷ xs) e all is = (all.0, numbered_more (k + 1) xs e all.1 (omega (arith, is)))
 
 -- a change of a case leaves the numbers
-numbered_changed : (n : ℕ) (change : CaseShape → CaseShape) (k : ℕ) (cases : List Numbered) → AreNumberedFrom k cases → AreNumberedFrom k (with_case_changed n change cases)
+numbered_changed : (n : ℕ) (change : CaseShape → CaseShape) (k : ℕ) (cases : List Numbered) → AreNumberedFrom k cases →
+    AreNumberedFrom k (with_case_changed n change cases)
 numbered_changed n change k [] all = tt
 numbered_changed n change k (x ∷ xs) all = at_first (nat_eq x.number n) (numbered_changed n change (k + 1) xs all.1)
   where
@@ -70,7 +72,8 @@ deed_numbered s (deed.Withdraw n) reply.Withdrawn is = changed_numbered s n _ is
 deed_numbered s (deed.Change a) (reply.Edited number) is = record { order = is.order; next = is.next }
 deed_numbered s given answer is = is
 
-decision_numbered : (s : State) (decision : Result Deed Denial) (answer : Reply) → AreCasesNumbered s → AreCasesNumbered (state_after_decision s decision answer)
+decision_numbered : (s : State) (decision : Result Deed Denial) (answer : Reply) → AreCasesNumbered s →
+    AreCasesNumbered (state_after_decision s decision answer)
 decision_numbered s (Ok given) answer is = deed_numbered s given answer is
 decision_numbered s (Err d) answer is = is
 

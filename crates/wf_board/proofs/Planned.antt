@@ -1,5 +1,6 @@
 -- What a board keeps of its table, row by row.
-use Rattle.std.proofs.Common.{◌≡◌, ◌≢◌, eqb, ℕ, ◌+◌, ◌<◌, ◌⊎◌, inl, inr, Bool, true, false, List, [], ◌∷◌, ◌++◌, length, Option, None, Some, is_some, IsSomeAnd, refl, sym, ap, subst, ◌∙◌, arith}
+use Rattle.std.proofs.Common.{◌≡◌, ◌≢◌, eqb, ℕ, ◌+◌, ◌<◌, ◌⊎◌, inl, inr, Bool, true, false, List, [], ◌∷◌, ◌++◌, length, Option, None, Some, is_some, IsSomeAnd}
+use Rattle.std.proofs.Common.{refl, sym, ap, subst, ◌∙◌, arith}
 use Rattle.std.specs.Option.{option_map}
 use Rattle.std.proofs.lemmas.Bool.Decides.{eqb_tells}
 use Rattle.wf_names.specs.States.{is_done, is_held}
@@ -11,7 +12,8 @@ use Rattle.policy_book.specs.Policies.{flow_at, problem_of}
 use Rattle.policy_book.specs.Plans.{IsCompletable, IsValidPlan}
 use Rattle.case_record.specs.Cases.{CaseShape, assigned_of, finished_case, finished_of, fresh_case, is_open, state_at, with_phase, with_state}
 use Rattle.grant_table.specs.declared.rows.Row.{Row}
-use Rattle.grant_table.specs.Tables.{CasesShape, case_in, only, change_row, finished_row, freed_row, held_row, open_rows, plan_while, row_at, with_case, with_row, withdrawn_row}
+use Rattle.grant_table.specs.Tables.{CasesShape, case_in, only, change_row, finished_row, freed_row, held_row, open_rows, plan_while, row_at, with_case}
+use Rattle.grant_table.specs.Tables.{with_row, withdrawn_row}
 use Rattle.denial_reasons.specs.Causes.{assigned_with}
 use Rattle.wf_board.specs.Boards.{state_on}
 use Rattle.wf_board.specs.Found.{AreFound, IsOpenAt}
@@ -22,7 +24,8 @@ use Rattle.wf_board.specs.Verdicts.{snap_rows}
 use Rattle.wf_talk.specs.declared.request.Request.TheVariants as request
 use Rattle.wf_talk.specs.declared.request.Ask.{Ask}
 use Rattle.wf_talk.specs.declared.request.Ask.TheVariants as ask
-use Rattle.wf_board.proofs.Rows.{changed_case, each_added, each_at, each_changed, each_only, each_open, numbered_added, numbered_changed, row_of_case, there_added, there_changed, there_last}
+use Rattle.wf_board.proofs.Rows.{changed_case, each_added, each_at, each_changed, each_only, each_open, numbered_added, numbered_changed, row_of_case}
+use Rattle.wf_board.proofs.Rows.{there_added, there_changed, there_last}
 use Rattle.wf_board.proofs.Valid.{valid_claimed, valid_finished, valid_freed, valid_fresh}
 use Rattle.wf_board.proofs.Known.{of_policy_claimed, of_policy_finished, of_policy_freed, of_policy_fresh, of_policy_in_phase}
 
@@ -46,7 +49,8 @@ abbrev IsKeptRow : PolicyShape → CaseShape → Option (List ℕ) → Type 0
 IsKeptRow p c plan = IsOfPolicy p c × IsPlanned p c plan
 
 -- the row of one case changes, and the others stay
-changed_keeps : (p : PolicyShape) (t : CasesShape) (n : ℕ) (c : CaseShape) (f : Row → Row) → IsKept p t → case_in n t.rows ≡ Some c → ((r : Row) → (f r).number ≡ r.number) →
+changed_keeps : (p : PolicyShape) (t : CasesShape) (n : ℕ) (c : CaseShape) (f : Row → Row) → IsKept p t → case_in n t.rows ≡ Some c →
+    ((r : Row) → (f r).number ≡ r.number) →
     ((r : Row) → r.case ≡ c → IsOfPolicy p c → IsPlanned p c r.plan → IsKeptRow p (f r).case (f r).plan) →
     IsKept p (with_row t n f)
 changed_keeps p t n c f kept here same change = record {
@@ -66,13 +70,16 @@ changed_keeps p t n c f kept here same change = record {
         (subst (λ d. IsPlanned p d r.plan) its_case (each_at (λ x. IsPlanned p x.case x.plan) n t.rows r kept.planned.plans there))
 
 -- and so does the case of the state
-changed_state : (p : PolicyShape) (t : CasesShape) (n : ℕ) (f : Row → Row) (g : CaseShape → CaseShape) → ((r : Row) → (f r).number ≡ r.number) → ((r : Row) → (f r).case ≡ g r.case) →
+changed_state : (p : PolicyShape) (t : CasesShape) (n : ℕ) (f : Row → Row) (g : CaseShape → CaseShape) → ((r : Row) → (f r).number ≡ r.number) →
+    ((r : Row) → (f r).case ≡ g r.case) →
     (edits : ℕ) → state_on (board_of p (with_row t n f) edits) ≡ with_changed (state_on (board_of p t edits)) n g
 changed_state p t n f g same changes edits =
     λ i. record { book = record { policy = p; cases = numbered_changed n f g t.rows same changes i; ever = t.ever }; edits = edits }
 
-pub held_keeps : (p : PolicyShape) (t : CasesShape) (n : ℕ) (c : CaseShape) (s u : ℕ) (plan : List ℕ) → IsKept p t → AreFound p t.rows n c s u → state_at c s ≡ Free →
-    IsValidPlan (problem_of p c.flow) (assigned_with c s u) (finished_of c) plan → HasChanged p t (with_row t n (held_row s u plan)) n (held_row s u plan) (λ d. with_state d s (Held u))
+pub held_keeps : (p : PolicyShape) (t : CasesShape) (n : ℕ) (c : CaseShape) (s u : ℕ) (plan : List ℕ) → IsKept p t → AreFound p t.rows n c s u →
+    state_at c s ≡ Free →
+    IsValidPlan (problem_of p c.flow) (assigned_with c s u) (finished_of c) plan →
+    HasChanged p t (with_row t n (held_row s u plan)) n (held_row s u plan) (λ d. with_state d s (Held u))
 held_keeps p t n c s u plan kept found free valid = record {
   kept = changed_keeps p t n c (held_row s u plan) kept found.case.found (λ r. refl)
       (λ r is known before. subst (λ d. IsKeptRow p (with_state d s (Held u)) (Some plan)) (sym is) (
@@ -103,7 +110,8 @@ finished_keeps p t n c s kept found held = record {
   spare = refl;
 }
 
-freed_planned : (p : PolicyShape) (c : CaseShape) (s : ℕ) (o : Option (List ℕ)) → is_held (state_at c s) ≡ true → IsPlanned p c o → IsPlanned p (with_state c s Free) o
+freed_planned : (p : PolicyShape) (c : CaseShape) (s : ℕ) (o : Option (List ℕ)) → is_held (state_at c s) ≡ true → IsPlanned p c o →
+    IsPlanned p (with_state c s Free) o
 freed_planned p c s None held planned = planned
 freed_planned p c s (Some plan) held planned = valid_freed (problem_of p c.flow) c s plan held planned
 
@@ -143,7 +151,8 @@ done_is rows n s c done here after =
 
 -- ---- opening
 
-pub opened_keeps : (p : PolicyShape) (t : CasesShape) (f : ℕ) (plan : List ℕ) → IsKept p t → f < length p.flows → IsValidPlan (problem_of p f) no_users no_steps plan →
+pub opened_keeps : (p : PolicyShape) (t : CasesShape) (f : ℕ) (plan : List ℕ) → IsKept p t → f < length p.flows →
+    IsValidPlan (problem_of p f) no_users no_steps plan →
     IsKept p (with_case t f (length (flow_at p f).flow.steps) plan)
 opened_keeps p t f plan kept known valid =
     let steps = length (flow_at p f).flow.steps in
@@ -156,7 +165,8 @@ opened_keeps p t f plan kept known valid =
       numbered = λ n below. at_number new n below refl (eqb_tells n t.ever);
     }
   where
-    at_number : (new : Row) (n : ℕ) → n < t.ever + 1 → new.number ≡ t.ever → ((eqb n t.ever ≡ true) × (n ≡ t.ever)) ⊎ ((eqb n t.ever ≡ false) × (n ≢ t.ever)) → is_some (case_in n (t.rows ++ new ∷ [])) ≡ true
+    at_number : (new : Row) (n : ℕ) → n < t.ever + 1 → new.number ≡ t.ever → ((eqb n t.ever ≡ true) × (n ≡ t.ever)) ⊎
+        ((eqb n t.ever ≡ false) × (n ≢ t.ever)) → is_some (case_in n (t.rows ++ new ∷ [])) ≡ true
     at_number new n below number (inl last) = there_last n t.rows new (number ∙ sym last.1)
     at_number new n below number (inr other) = there_added n t.rows new (kept.numbered n (omega (arith, below, other.1)))
 
@@ -168,7 +178,8 @@ opened_state p t f plan edits =
 
 -- ---- completing
 
-pub planned_open : (p : PolicyShape) (c : CaseShape) (o : Option (List ℕ)) → is_open c ≡ true → IsPlanned p c o → IsCompletable (problem_of p c.flow) (assigned_of c) (finished_of c)
+pub planned_open : (p : PolicyShape) (c : CaseShape) (o : Option (List ℕ)) → is_open c ≡ true → IsPlanned p c o →
+    IsCompletable (problem_of p c.flow) (assigned_of c) (finished_of c)
 planned_open p c None live planned = live_apart c live planned
 planned_open p c (Some plan) live planned = (plan, planned)
 
@@ -177,7 +188,8 @@ pub plan_kept : (p : PolicyShape) (rows : List Row) (n : ℕ) (c : CaseShape) �
     IsCompletable (problem_of p c.flow) (assigned_of c) (finished_of c)
 plan_kept p rows n c planned here live =
     let found = row_of_case n rows c here in
-    planned_open p c found.0.plan live (subst (λ d. IsPlanned p d found.0.plan) found.1.1 (each_at (λ r. IsPlanned p r.case r.plan) n rows found.0 planned.plans found.1.0))
+    planned_open p c found.0.plan live
+    (subst (λ d. IsPlanned p d found.0.plan) found.1.1 (each_at (λ r. IsPlanned p r.case r.plan) n rows found.0 planned.plans found.1.0))
 
 -- ---- a snapshot
 

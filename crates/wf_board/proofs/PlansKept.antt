@@ -1,5 +1,6 @@
 -- Which plans a board keeps after a reply.
-use Rattle.std.proofs.Common.{◌≡◌, ◌≢◌, ℕ, inl, inr, Bool, true, false, List, [], ◌∷◌, map, Option, None, Some, Result, Ok, Err, if◌then◌else◌, refl, sym, ap, subst, ◌∙◌}
+use Rattle.std.proofs.Common.{◌≡◌, ◌≢◌, ℕ, inl, inr, Bool, true, false, List, [], ◌∷◌, map, Option, None, Some, Result, Ok, Err, if◌then◌else◌, refl, sym, ap}
+use Rattle.std.proofs.Common.{subst, ◌∙◌}
 use Rattle.basics.proofs.Booleans.{bool_cases}
 use Rattle.policy_book.specs.Shapes.{PolicyShape}
 use Rattle.grant_table.specs.declared.rows.Row.{Row}
@@ -48,20 +49,23 @@ keeps_want b what v = record {
 
 -- ---- the policy stays
 
-pub keeps_rows : (p : PolicyShape) (before after : CasesShape) (edits : ℕ) (what : Ask) (v : Verdict) (given : Reply) → ((edition : EditionShape) → v ≢ verdict.Edited edition) →
+pub keeps_rows : (p : PolicyShape) (before after : CasesShape) (edits : ℕ) (what : Ask) (v : Verdict) (given : Reply) →
+    ((edition : EditionShape) → v ≢ verdict.Edited edition) →
     after.rows ≡ rows_after p before (decision_of (book_of p before) what) given → KeepsPlans (board_of p before edits) (board_of p after edits) what v given
 keeps_rows p before after edits what v given other rows = record {
   rows = λ no. rows;
   edited = λ edition is accepted. absurd (other edition is);
 }
 
-pub keeps_by : (p : PolicyShape) (before after : CasesShape) (edits : ℕ) (what : Ask) (v : Verdict) (given : Answered) → ((edition : EditionShape) → v ≢ verdict.Edited edition) →
+pub keeps_by : (p : PolicyShape) (before after : CasesShape) (edits : ℕ) (what : Ask) (v : Verdict) (given : Answered) →
+    ((edition : EditionShape) → v ≢ verdict.Edited edition) →
     HasRowsAfter p before after (decision_of (book_of p before) what) given → KeepsPlansBy (board_of p before edits) (board_of p after edits) what v given
 keeps_by p before after edits what v Needs other rows = tt
 keeps_by p before after edits what v (Done given) other rows = keeps_rows p before after edits what v given other rows
 
 -- so it is whatever the verdict was by which the policy stayed
-pub keeps_nothing : (before after : BoardShape) (what : Ask) (v : Verdict) (given : Reply) → KeepsPlans before after what v given → KeepsPlans before after what verdict.Nothing given
+pub keeps_nothing : (before after : BoardShape) (what : Ask) (v : Verdict) (given : Reply) → KeepsPlans before after what v given →
+    KeepsPlans before after what verdict.Nothing given
 keeps_nothing before after what v given keeps = record {
   rows = keeps.rows;
   edited = λ edition is accepted. cc;
@@ -94,7 +98,8 @@ abbrev plans_onto : PolicyShape → Bool → Row → List Row → List (List ℕ
 plans_onto p b r rs plans = ArePlansOf p (if b then numbered r ∷ open_cases (map numbered rs) else open_cases (map numbered rs)) plans
 
 -- the plans that are kept are those that were handed in
-kept_replanned : (p : PolicyShape) (rows : List Row) (plans : List (List ℕ)) → ArePlansOf p (open_cases (map numbered rows)) plans → kept_plans (replanned rows plans) ≡ map Some plans
+kept_replanned : (p : PolicyShape) (rows : List Row) (plans : List (List ℕ)) → ArePlansOf p (open_cases (map numbered rows)) plans →
+    kept_plans (replanned rows plans) ≡ map Some plans
 kept_replanned p [] [] are = refl
 kept_replanned p [] (plan ∷ plans) are = absurd are
 kept_replanned p (r ∷ rs) [] are = elim (bool_cases (is_open_row r)) [
@@ -115,7 +120,8 @@ kept_replanned p (r ∷ rs) (plan ∷ plans) are = elim (bool_cases (is_open_row
       ∙ kept_replanned p rs (plan ∷ plans) (subst (λ b. plans_onto p b r rs (plan ∷ plans)) closed are)
 ]
 
-pub edition_kept : (p : PolicyShape) (t after : CasesShape) (what : Ask) (edition : EditionShape) → IsEditionFor (book_of p t) (decision_aside (book_of p t) what) edition →
+pub edition_kept : (p : PolicyShape) (t after : CasesShape) (what : Ask) (edition : EditionShape) →
+    IsEditionFor (book_of p t) (decision_aside (book_of p t) what) edition →
     after ≡ with_plans t edition.plans → kept_plans after.rows ≡ map Some edition.plans
 edition_kept p t after what edition is end =
     let change = edition_change (book_of p t) (decision_aside (book_of p t) what) edition is in

@@ -1,5 +1,6 @@
 -- Rows of a table where one changes, and where one is added.
-use Rattle.std.proofs.Common.{◌≡◌, ℕ, ◌+◌, cond, Bool, true, false, nat_eq, List, [], ◌∷◌, ◌++◌, map, Option, None, Some, is_some, if◌then◌else◌, refl, ap, subst, ◌∙◌}
+use Rattle.std.proofs.Common.{◌≡◌, ℕ, ◌+◌, cond, Bool, true, false, nat_eq, List, [], ◌∷◌, ◌++◌, map, Option, None, Some, is_some, if◌then◌else◌, refl, ap}
+use Rattle.std.proofs.Common.{subst, ◌∙◌}
 use Rattle.std.specs.List.{fold}
 use Rattle.std.specs.Option.{option_map}
 use Rattle.case_record.specs.Cases.{CaseShape, is_open}
@@ -30,7 +31,8 @@ each_at P n (x ∷ xs) r each h = at_first (nat_eq x.number n) h (each_at P n xs
     at_first true e rest = let same : x ≡ r = cc in subst P same each.0
     at_first false e rest = rest e
 
-pub each_changed : (P : Row → Type 0) (n : ℕ) (f : Row → Row) (rows : List Row) → EachRow P rows → ((r : Row) → row_at n rows ≡ Some r → P r → P (f r)) → EachRow P (change_row n f rows)
+pub each_changed : (P : Row → Type 0) (n : ℕ) (f : Row → Row) (rows : List Row) → EachRow P rows → ((r : Row) → row_at n rows ≡ Some r → P r → P (f r)) →
+    EachRow P (change_row n f rows)
 each_changed P n f [] each h = tt
 each_changed P n f (x ∷ xs) each h = at_first (nat_eq x.number n) h (each_changed P n f xs each.1)
   where
@@ -63,12 +65,14 @@ found_first : (m : ℕ) (x : Row) (xs : List Row) → nat_eq x.number m ≡ true
 found_first m x xs hit = rw hit refl
 
 -- a change of a row that keeps its number leaves a case at each number
-pub there_changed : (m n : ℕ) (f : Row → Row) (rows : List Row) → ((r : Row) → (f r).number ≡ r.number) → is_some (case_in m rows) ≡ true → is_some (case_in m (change_row n f rows)) ≡ true
+pub there_changed : (m n : ℕ) (f : Row → Row) (rows : List Row) → ((r : Row) → (f r).number ≡ r.number) → is_some (case_in m rows) ≡ true →
+    is_some (case_in m (change_row n f rows)) ≡ true
 there_changed m n f [] same h = h
 there_changed m n f (x ∷ xs) same h = at_first (nat_eq x.number n) (nat_eq x.number m) refl h (there_changed m n f xs same)
   where
     at_first : (b d : Bool) → nat_eq x.number m ≡ d → is_some (option_map (λ (r : Row). r.case) (if d then Some x else row_at m xs)) ≡ true →
-        (is_some (case_in m xs) ≡ true → is_some (case_in m (change_row n f xs)) ≡ true) → is_some (case_in m (if b then f x ∷ xs else x ∷ change_row n f xs)) ≡ true
+        (is_some (case_in m xs) ≡ true → is_some (case_in m (change_row n f xs)) ≡ true) →
+        is_some (case_in m (if b then f x ∷ xs else x ∷ change_row n f xs)) ≡ true
     at_first true true here found rest = found_first m (f x) xs (ap (λ k. nat_eq k m) (same x) ∙ here)
     at_first true false here found rest = rw (ap (λ k. nat_eq k m) (same x) ∙ here) found
     at_first false true here found rest = found_first m x (change_row n f xs) here
@@ -80,7 +84,8 @@ there_added m [] new h = cc
 there_added m (x ∷ xs) new h = at_first (nat_eq x.number m) h (there_added m xs new)
   where
     at_first : (b : Bool) → is_some (option_map (λ (r : Row). r.case) (if b then Some x else row_at m xs)) ≡ true →
-        (is_some (case_in m xs) ≡ true → is_some (case_in m (xs ++ new ∷ [])) ≡ true) → is_some (option_map (λ (r : Row). r.case) (if b then Some x else row_at m (xs ++ new ∷ []))) ≡ true
+        (is_some (case_in m xs) ≡ true → is_some (case_in m (xs ++ new ∷ [])) ≡ true) →
+        is_some (option_map (λ (r : Row). r.case) (if b then Some x else row_at m (xs ++ new ∷ []))) ≡ true
     at_first true found rest = refl
     at_first false found rest = rest found
 
@@ -89,12 +94,14 @@ pub there_last : (m : ℕ) (rows : List Row) (new : Row) → new.number ≡ m �
 there_last m [] new same = rw (eq_is new.number m same) refl
 there_last m (x ∷ xs) new same = at_first (nat_eq x.number m) (there_last m xs new same)
   where
-    at_first : (b : Bool) → is_some (case_in m (xs ++ new ∷ [])) ≡ true → is_some (option_map (λ (r : Row). r.case) (if b then Some x else row_at m (xs ++ new ∷ []))) ≡ true
+    at_first : (b : Bool) → is_some (case_in m (xs ++ new ∷ [])) ≡ true →
+        is_some (option_map (λ (r : Row). r.case) (if b then Some x else row_at m (xs ++ new ∷ []))) ≡ true
     at_first true rest = refl
     at_first false rest = rest
 
 -- the case with a number after a change of its row
-pub changed_case : (n : ℕ) (f : Row → Row) (g : CaseShape → CaseShape) (rows : List Row) → ((r : Row) → (f r).number ≡ r.number) → ((r : Row) → (f r).case ≡ g r.case) →
+pub changed_case : (n : ℕ) (f : Row → Row) (g : CaseShape → CaseShape) (rows : List Row) → ((r : Row) → (f r).number ≡ r.number) →
+    ((r : Row) → (f r).case ≡ g r.case) →
     case_in n (change_row n f rows) ≡ option_map g (case_in n rows)
 changed_case n f g [] same changes = refl
 changed_case n f g (x ∷ xs) same changes = at_first (nat_eq x.number n) refl (changed_case n f g xs same changes)
@@ -112,11 +119,13 @@ case_numbered n [] = refl
 case_numbered n (r ∷ rs) = at_first (nat_eq r.number n) (case_numbered n rs)
   where
     at_first : (b : Bool) → numbered_case (map numbered rs) n ≡ case_in n rs →
-        option_map (λ (e : Numbered). e.case) (if b then Some (numbered r) else look_up (λ (e : Numbered). e.number) n (map numbered rs)) ≡ option_map (λ (x : Row). x.case) (if b then Some r else row_at n rs)
+        option_map (λ (e : Numbered). e.case) (if b then Some (numbered r) else look_up (λ (e : Numbered). e.number) n (map numbered rs)) ≡ option_map
+        (λ (x : Row). x.case) (if b then Some r else row_at n rs)
     at_first true rest = refl
     at_first false rest = rest
 
-counted : (rows : List Row) (so_far : ℕ) → fold (λ (a : ℕ) (e : Numbered). a + cond (is_open e.case) 1 0) so_far (map numbered rows) ≡ fold (λ (a : ℕ) (r : Row). a + cond (is_open r.case) 1 0) so_far rows
+counted : (rows : List Row) (so_far : ℕ) → fold (λ (a : ℕ) (e : Numbered). a + cond (is_open e.case) 1 0) so_far (map numbered rows) ≡ fold
+    (λ (a : ℕ) (r : Row). a + cond (is_open r.case) 1 0) so_far rows
 counted [] so_far = refl
 counted (r ∷ rs) so_far = counted rs (so_far + cond (is_open r.case) 1 0)
 
@@ -125,13 +134,15 @@ pub open_numbered : (rows : List Row) → States.open_count (map numbered rows) 
 open_numbered rows = counted rows 0
 
 -- a changed row is a changed case
-pub numbered_changed : (n : ℕ) (f : Row → Row) (g : CaseShape → CaseShape) (rows : List Row) → ((r : Row) → (f r).number ≡ r.number) → ((r : Row) → (f r).case ≡ g r.case) →
+pub numbered_changed : (n : ℕ) (f : Row → Row) (g : CaseShape → CaseShape) (rows : List Row) → ((r : Row) → (f r).number ≡ r.number) →
+    ((r : Row) → (f r).case ≡ g r.case) →
     map numbered (change_row n f rows) ≡ with_case_changed n g (map numbered rows)
 numbered_changed n f g [] same changes = refl
 numbered_changed n f g (x ∷ xs) same changes = at_first (nat_eq x.number n) (numbered_changed n f g xs same changes)
   where
     at_first : (b : Bool) → map numbered (change_row n f xs) ≡ with_case_changed n g (map numbered xs) →
-        map numbered (if b then f x ∷ xs else x ∷ change_row n f xs) ≡ (if b then record (numbered x) { case = g x.case } ∷ map numbered xs else numbered x ∷ with_case_changed n g (map numbered xs))
+        map numbered (if b then f x ∷ xs else x ∷ change_row n f xs) ≡ (if b then record (numbered x) { case = g x.case } ∷ map numbered xs else numbered
+        x ∷ with_case_changed n g (map numbered xs))
     at_first true rest = λ i. record { number = same x i; case = changes x i } ∷ map numbered xs
     at_first false rest = ap (λ es. numbered x ∷ es) rest
 

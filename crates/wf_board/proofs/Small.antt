@@ -65,7 +65,8 @@ deed_small s (deed.TurnAway bad) (reply.Bad b) is none = refl
 deed_small s d given is none = absurd is
 
 -- a reply where no verdict is needed
-plain_small : (s : State) (r : Result Deed Denial) (given : Reply) → ((d : Denial) → r ≡ Err d → has_no_tree d ≡ true) → Answers s r given → needs_verdict r ≡ false → shows_large given ≡ false
+plain_small : (s : State) (r : Result Deed Denial) (given : Reply) → ((d : Denial) → r ≡ Err d → has_no_tree d ≡ true) → Answers s r given →
+    needs_verdict r ≡ false → shows_large given ≡ false
 plain_small s (Ok d) given bare is none = deed_small s d given is none
 plain_small s (Err d) given bare (inl is) none = ap shows_large is ∙ bare_small d (bare d refl)
 plain_small s (Err d) given bare (inr is) none = ap shows_large is

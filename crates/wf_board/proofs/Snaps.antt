@@ -1,5 +1,6 @@
 -- A snapshot has what a verdict on what is asked rests on.
-use Rattle.std.proofs.Common.{◌≡◌, ℕ, ◌⊎◌, inl, inr, Bool, true, false, nat_eq, List, [], ◌∷◌, map, Option, None, Some, Result, Ok, Err, if◌then◌else◌, refl, sym, ap, subst, ◌∙◌}
+use Rattle.std.proofs.Common.{◌≡◌, ℕ, ◌⊎◌, inl, inr, Bool, true, false, nat_eq, List, [], ◌∷◌, map, Option, None, Some, Result, Ok, Err, if◌then◌else◌, refl}
+use Rattle.std.proofs.Common.{sym, ap, subst, ◌∙◌}
 use Rattle.std.specs.Option.{option_map}
 use Rattle.first_fault.specs.Reading.{◌>>=◌, or_fault, check}
 use Rattle.policy_book.specs.Shapes.{PolicyShape}
@@ -37,7 +38,8 @@ case_alone n [] = refl
 case_alone n (r ∷ rs) = at_first (nat_eq r.number n) refl (case_alone n rs)
   where
     at_first : (b : Bool) → nat_eq r.number n ≡ b → numbered_case (map numbered (only n rs)) n ≡ numbered_case (map numbered rs) n →
-        numbered_case (map numbered (if b then r ∷ only n rs else only n rs)) n ≡ option_map (λ (e : Numbered). e.case) (if b then Some (numbered r) else look_up (λ (e : Numbered). e.number) n (map numbered rs))
+        numbered_case (map numbered (if b then r ∷ only n rs else only n rs)) n ≡ option_map (λ (e : Numbered). e.case)
+        (if b then Some (numbered r) else look_up (λ (e : Numbered). e.number) n (map numbered rs))
     at_first true here rest = rw here refl
     at_first false here rest = rest
 
@@ -47,7 +49,8 @@ open_alone [] = refl
 open_alone (r ∷ rs) = at_first (is_open r.case) refl (open_alone rs)
   where
     at_first : (b : Bool) → is_open r.case ≡ b → open_cases (map numbered (open_rows rs)) ≡ open_cases (map numbered rs) →
-        open_cases (map numbered (if b then r ∷ open_rows rs else open_rows rs)) ≡ (if b then numbered r ∷ open_cases (map numbered rs) else open_cases (map numbered rs))
+        open_cases (map numbered (if b then r ∷ open_rows rs else open_rows rs)) ≡ (if b then numbered r ∷ open_cases (map numbered rs) else open_cases
+        (map numbered rs))
     at_first true live rest = rw live (ap (λ es. numbered r ∷ es) rest)
     at_first false closed rest = rest
 
@@ -60,7 +63,8 @@ abbrev pub with_cases : PolicyShape → List Numbered → ℕ → Book
 with_cases p cases ever = record { policy = p; cases = cases; ever = ever }
 
 -- the causes rest on no case but the deed's
-same_cause : (p : PolicyShape) (xs ys : List Numbered) (m k : ℕ) (given : Deed) → unless_denied given (cause_aside (with_cases p xs m) given) ≡ unless_denied given (cause_aside (with_cases p ys k) given)
+same_cause : (p : PolicyShape) (xs ys : List Numbered) (m k : ℕ) (given : Deed) →
+    unless_denied given (cause_aside (with_cases p xs m) given) ≡ unless_denied given (cause_aside (with_cases p ys k) given)
 same_cause p xs ys m k (deed.Open f) = refl
 same_cause p xs ys m k (deed.Claim n c s u) = refl
 same_cause p xs ys m k (deed.Finish n c s u) = refl
@@ -135,9 +139,11 @@ plain_aside : (b : Book) (r : Result Deed Denial) → IsPlain r → IsPlain (r >
 plain_aside b (Ok given) plain = denied_plain given (cause_aside b given) plain
 plain_aside b (Err d) plain = tt
 
-plain_step : (b : Book) (make : ℕ → CaseShape → ℕ → ℕ → Deed) (n : ℕ) (step user : List ℕ) → ((c : CaseShape) (s u : ℕ) → needs_plan (make n c s u) ≡ false) → IsPlain (on_step make b n step user)
+plain_step : (b : Book) (make : ℕ → CaseShape → ℕ → ℕ → Deed) (n : ℕ) (step user : List ℕ) →
+    ((c : CaseShape) (s u : ℕ) → needs_plan (make n c s u) ≡ false) → IsPlain (on_step make b n step user)
 plain_step b make n step user plain =
-    then_plain (open_case_at b n) _ (λ c. then_plain (or_fault (step_named b c.flow step) NoStep) _ (λ s. then_plain (or_fault (user_named b user) NoUser) _ (λ u. plain c s u)))
+    then_plain (open_case_at b n) _
+    (λ c. then_plain (or_fault (step_named b c.flow step) NoStep) _ (λ s. then_plain (or_fault (user_named b user) NoUser) _ (λ u. plain c s u)))
 
 -- what rests on no plan
 abbrev pub IsAside : Book → Ask → Type 0
@@ -152,11 +158,13 @@ return_plain n step user b = plain_aside b (on_step deed.GiveBack b n step user)
 pub release_plain : (by : List ℕ) (n : ℕ) (step : List ℕ) (b : Book) → IsAside b (ask.Request (request.Release by n step))
 release_plain by n step b =
     plain_aside b (resolve_request b (request.Release by n step))
-    (then_plain (check (is_admin b.policy by) NotAdmin) _ (λ _. then_plain (open_case_at b n) _ (λ c. then_plain (or_fault (step_named b c.flow step) NoStep) _ (λ s. refl))))
+    (then_plain (check (is_admin b.policy by) NotAdmin) _
+    (λ _. then_plain (open_case_at b n) _ (λ c. then_plain (or_fault (step_named b c.flow step) NoStep) _ (λ s. refl))))
 
 pub withdraw_plain : (by : List ℕ) (n : ℕ) (b : Book) → IsAside b (ask.Request (request.Withdraw by n))
 withdraw_plain by n b =
-    plain_aside b (resolve_request b (request.Withdraw by n)) (then_plain (check (is_admin b.policy by) NotAdmin) _ (λ _. then_plain (open_case_at b n) _ (λ c. refl)))
+    plain_aside b (resolve_request b (request.Withdraw by n))
+    (then_plain (check (is_admin b.policy by) NotAdmin) _ (λ _. then_plain (open_case_at b n) _ (λ c. refl)))
 
 pub show_plain : (n : ℕ) (b : Book) → IsAside b (ask.Request (request.Show n))
 show_plain n b = plain_aside b (resolve_request b (request.Show n)) (then_plain (or_fault (numbered_case b.cases n) NoCase) _ (λ c. refl))
@@ -169,13 +177,15 @@ plain_needs (Err d) plain = refl
 abbrev pub IsAlwaysAside : Ask → Type 0
 IsAlwaysAside what = (b : Book) → IsAside b what
 
-both_plain : (b : BoardShape) (what : Ask) (spare : ℕ) → IsAlwaysAside what → needs_verdict (decision_aside (book_on (snap_of b what spare)) what) ≡ needs_verdict (decision_aside (state_on b).book what)
+both_plain : (b : BoardShape) (what : Ask) (spare : ℕ) → IsAlwaysAside what →
+    needs_verdict (decision_aside (book_on (snap_of b what spare)) what) ≡ needs_verdict (decision_aside (state_on b).book what)
 both_plain b what spare plain =
     let snap = book_on (snap_of b what spare) in
     plain_needs (decision_aside snap what) (plain snap) ∙ sym (plain_needs (decision_aside (state_on b).book what) (plain (state_on b).book))
 
 -- a snapshot needs a verdict exactly where its board does
-pub needs_same : (b : BoardShape) (what : Ask) (spare : ℕ) → needs_verdict (decision_aside (book_on (snap_of b what spare)) what) ≡ needs_verdict (decision_aside (state_on b).book what)
+pub needs_same : (b : BoardShape) (what : Ask) (spare : ℕ) →
+    needs_verdict (decision_aside (book_on (snap_of b what spare)) what) ≡ needs_verdict (decision_aside (state_on b).book what)
 needs_same b (ask.Request (request.OpenCase flow)) spare = ap needs_verdict (opening_alone b flow spare)
 needs_same b (ask.Request (request.Claim n step user)) spare = ap needs_verdict (claim_alone b n step user spare)
 needs_same b (ask.Request (request.Finish n step user)) spare = both_plain b (ask.Request (request.Finish n step user)) spare (finish_plain n step user)
@@ -269,17 +279,20 @@ opening_no_change b flow = aside_no_change b (resolve_request b (request.OpenCas
 pub claim_no_change : (b : Book) (n : ℕ) (step user : List ℕ) → IsNoChange (decision_aside b (ask.Request (request.Claim n step user)))
 claim_no_change b n step user =
     aside_no_change b (on_step deed.Claim b n step user)
-    (then_no_change (open_case_at b n) _ (λ c. then_no_change (or_fault (step_named b c.flow step) NoStep) _ (λ t. then_no_change (or_fault (user_named b user) NoUser) _ (λ u. tt))))
+    (then_no_change (open_case_at b n) _
+    (λ c. then_no_change (or_fault (step_named b c.flow step) NoStep) _ (λ t. then_no_change (or_fault (user_named b user) NoUser) _ (λ u. tt))))
 
 -- ---- what is right
 
 -- where the decision is the same, so is what is right
-plan_same : (p : PolicyShape) (xs ys : List Numbered) (m k : ℕ) (r : Result Deed Denial) (plan : List ℕ) → IsPlanFor (with_cases p xs m) r plan → IsPlanFor (with_cases p ys k) r plan
+plan_same : (p : PolicyShape) (xs ys : List Numbered) (m k : ℕ) (r : Result Deed Denial) (plan : List ℕ) → IsPlanFor (with_cases p xs m) r plan →
+    IsPlanFor (with_cases p ys k) r plan
 plan_same p xs ys m k (Ok (deed.Open f)) plan is = is
 plan_same p xs ys m k (Ok (deed.Claim n c t u)) plan is = is
 plan_same p xs ys m k r plan is = absurd is
 
-tree_same : (p : PolicyShape) (xs ys : List Numbered) (m k : ℕ) (r : Result Deed Denial) (tree : Tree) → IsTreeFor (with_cases p xs m) r tree → IsTreeFor (with_cases p ys k) r tree
+tree_same : (p : PolicyShape) (xs ys : List Numbered) (m k : ℕ) (r : Result Deed Denial) (tree : Tree) → IsTreeFor (with_cases p xs m) r tree →
+    IsTreeFor (with_cases p ys k) r tree
 tree_same p xs ys m k (Ok (deed.Open f)) tree is = is
 tree_same p xs ys m k (Ok (deed.Claim n c t u)) tree is = is
 tree_same p xs ys m k r tree is = absurd is
@@ -311,7 +324,8 @@ view_same p xs ys m k (Ok (deed.WhatIf a)) (view.Work items) (inr same) is = abs
 view_same p xs ys m k (Ok (deed.WhatIf a)) (view.WhatIf numbers) (inr same) is = subst (λ es. AreStranded (amended p a) es numbers) same is
 view_same p xs ys m k r v may is = absurd is
 
-pub right_same : (p : PolicyShape) (xs ys : List Numbered) (m k : ℕ) (what : Ask) (v : Verdict) → decision_aside (with_cases p xs m) what ≡ decision_aside (with_cases p ys k) what →
+pub right_same : (p : PolicyShape) (xs ys : List Numbered) (m k : ℕ) (what : Ask) (v : Verdict) →
+    decision_aside (with_cases p xs m) what ≡ decision_aside (with_cases p ys k) what →
     MayChange xs ys (decision_aside (with_cases p xs m) what) → IsRight (with_cases p xs m) what v → IsRight (with_cases p ys k) what v
 right_same p xs ys m k what verdict.Nothing same may is = tt
 right_same p xs ys m k what verdict.NoMemory same may is = tt
@@ -329,18 +343,26 @@ right_same p xs ys m k what (verdict.View v) same may is =
 
 pub snaps_suffice : SnapsSuffice
 snaps_suffice b (ask.Request (request.OpenCase flow)) spare v is =
-    right_same b.policy [] (map numbered b.cases.rows) b.cases.ever b.cases.ever (ask.Request (request.OpenCase flow)) v (opening_alone b flow spare) (inl (opening_no_change (with_cases b.policy [] b.cases.ever) flow)) is
+    right_same b.policy [] (map numbered b.cases.rows) b.cases.ever b.cases.ever (ask.Request (request.OpenCase flow)) v (opening_alone b flow spare)
+    (inl (opening_no_change (with_cases b.policy [] b.cases.ever) flow)) is
 snaps_suffice b (ask.Request (request.Claim n step user)) spare v is =
-    right_same b.policy (map numbered (only n b.cases.rows)) (map numbered b.cases.rows) b.cases.ever b.cases.ever (ask.Request (request.Claim n step user)) v (claim_alone b n step user spare) (inl (claim_no_change (with_cases b.policy (map numbered (only n b.cases.rows)) b.cases.ever) n step user)) is
-snaps_suffice b (ask.Request (request.Finish n step user)) spare v is = plain_right (book_on (snap_of b (ask.Request (request.Finish n step user)) spare)) (state_on b).book (ask.Request (request.Finish n step user)) v (finish_plain n step user) is
-snaps_suffice b (ask.Request (request.GiveBack n step user)) spare v is = plain_right (book_on (snap_of b (ask.Request (request.GiveBack n step user)) spare)) (state_on b).book (ask.Request (request.GiveBack n step user)) v (return_plain n step user) is
-snaps_suffice b (ask.Request (request.Release by n step)) spare v is = plain_right (book_on (snap_of b (ask.Request (request.Release by n step)) spare)) (state_on b).book (ask.Request (request.Release by n step)) v (release_plain by n step) is
-snaps_suffice b (ask.Request (request.Withdraw by n)) spare v is = plain_right (book_on (snap_of b (ask.Request (request.Withdraw by n)) spare)) (state_on b).book (ask.Request (request.Withdraw by n)) v (withdraw_plain by n) is
+    right_same b.policy (map numbered (only n b.cases.rows)) (map numbered b.cases.rows) b.cases.ever b.cases.ever (ask.Request (request.Claim n step user))
+    v (claim_alone b n step user spare) (inl (claim_no_change (with_cases b.policy (map numbered (only n b.cases.rows)) b.cases.ever) n step user)) is
+snaps_suffice b (ask.Request (request.Finish n step user)) spare v is = plain_right (book_on (snap_of b (ask.Request (request.Finish n step user)) spare))
+    (state_on b).book (ask.Request (request.Finish n step user)) v (finish_plain n step user) is
+snaps_suffice b (ask.Request (request.GiveBack n step user)) spare v is =
+    plain_right (book_on (snap_of b (ask.Request (request.GiveBack n step user)) spare)) (state_on b).book (ask.Request (request.GiveBack n step user)) v
+    (return_plain n step user) is
+snaps_suffice b (ask.Request (request.Release by n step)) spare v is = plain_right (book_on (snap_of b (ask.Request (request.Release by n step)) spare))
+    (state_on b).book (ask.Request (request.Release by n step)) v (release_plain by n step) is
+snaps_suffice b (ask.Request (request.Withdraw by n)) spare v is = plain_right (book_on (snap_of b (ask.Request (request.Withdraw by n)) spare))
+    (state_on b).book (ask.Request (request.Withdraw by n)) v (withdraw_plain by n) is
 snaps_suffice b (ask.Request (request.Change by e)) spare v is =
     let live = map numbered (open_rows b.cases.rows) in
     right_same b.policy live (map numbered b.cases.rows) b.cases.ever b.cases.ever (ask.Request (request.Change by e)) v
     (same_change b.policy live (map numbered b.cases.rows) b.cases.ever b.cases.ever by e) (inr (open_alone b.cases.rows)) is
-snaps_suffice b (ask.Request (request.Show n)) spare v is = plain_right (book_on (snap_of b (ask.Request (request.Show n)) spare)) (state_on b).book (ask.Request (request.Show n)) v (show_plain n) is
+snaps_suffice b (ask.Request (request.Show n)) spare v is =
+    plain_right (book_on (snap_of b (ask.Request (request.Show n)) spare)) (state_on b).book (ask.Request (request.Show n)) v (show_plain n) is
 snaps_suffice b (ask.Request (request.Worklist user)) spare v is =
     let live = map numbered (open_rows b.cases.rows) in
     right_same b.policy live (map numbered b.cases.rows) b.cases.ever b.cases.ever (ask.Request (request.Worklist user)) v

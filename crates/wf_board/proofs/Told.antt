@@ -71,7 +71,8 @@ IsThere b given = Unit {0}
 
 open_there : (b : Book) (n : ℕ) → HoldsOf (IsOpenCase b n) (open_case_at b n)
 open_there b n =
-    then_holds (λ c. numbered_case b.cases n ≡ Some c) (IsOpenCase b n) (or_fault (numbered_case b.cases n) NoCase) _ (there_holds (numbered_case b.cases n) NoCase)
+    then_holds (λ c. numbered_case b.cases n ≡ Some c) (IsOpenCase b n) (or_fault (numbered_case b.cases n) NoCase) _
+    (there_holds (numbered_case b.cases n) NoCase)
     (λ c found. then_holds (λ _. is_open c ≡ true) (IsOpenCase b n) (check (is_open c) Closed) _ (passed_holds (is_open c) Closed)
     (λ _ live. record { found = found; live = live }))
 
@@ -79,7 +80,8 @@ step_there : (b : Book) (make : ℕ → CaseShape → ℕ → ℕ → Deed) (n :
     ((c : CaseShape) (t u : ℕ) → IsClaim b n c t u → IsThere b (make n c t u)) → HoldsOf (IsThere b) (on_step make b n step user)
 step_there b make n step user made =
     then_holds (IsOpenCase b n) (IsThere b) (open_case_at b n) _ (open_there b n)
-    (λ c there. then_holds (λ t. step_named b c.flow step ≡ Some t) (IsThere b) (or_fault (step_named b c.flow step) NoStep) _ (there_holds (step_named b c.flow step) NoStep)
+    (λ c there. then_holds (λ t. step_named b c.flow step ≡ Some t) (IsThere b) (or_fault (step_named b c.flow step) NoStep) _
+    (there_holds (step_named b c.flow step) NoStep)
     (λ t named. then_holds (λ u. user_named b user ≡ Some u) (IsThere b) (or_fault (user_named b user) NoUser) _ (there_holds (user_named b user) NoUser)
     (λ u known. made c t u record {
       there = record { case = there; step = place_within (flow_at b.policy c.flow).flow.steps step t named };
@@ -91,11 +93,13 @@ change_allowed b by e a is sound =
     let known = amendment_found b.policy by e a sound is in
     record { found = known.0; allowed = known.1 }
 
-change_there : (b : Book) (by : List ℕ) (e : Edit) (r : Result Amendment EditCause) → amendment_of b.policy by e ≡ r → HoldsOf (IsThere b) (on_edit deed.Change r)
+change_there : (b : Book) (by : List ℕ) (e : Edit) (r : Result Amendment EditCause) → amendment_of b.policy by e ≡ r →
+    HoldsOf (IsThere b) (on_edit deed.Change r)
 change_there b by e (Ok a) is = change_allowed b by e a is
 change_there b by e (Err fault) is = tt
 
-what_if_there : (b : Book) (by : List ℕ) (e : Edit) (r : Result Amendment EditCause) → amendment_of b.policy by e ≡ r → HoldsOf (IsThere b) (on_edit deed.WhatIf r)
+what_if_there : (b : Book) (by : List ℕ) (e : Edit) (r : Result Amendment EditCause) → amendment_of b.policy by e ≡ r →
+    HoldsOf (IsThere b) (on_edit deed.WhatIf r)
 what_if_there b by e (Ok a) is = change_allowed b by e a is
 what_if_there b by e (Err fault) is = tt
 
@@ -109,14 +113,16 @@ resolve_there b (ask.Request (request.GiveBack n step user)) = step_there b deed
 resolve_there b (ask.Request (request.Release by n step)) =
     then_holds (λ _. is_admin b.policy by ≡ true) (IsThere b) (check (is_admin b.policy by) NotAdmin) _ (passed_holds (is_admin b.policy by) NotAdmin)
     (λ _ may. then_holds (IsOpenCase b n) (IsThere b) (open_case_at b n) _ (open_there b n)
-    (λ c there. then_holds (λ t. step_named b c.flow step ≡ Some t) (IsThere b) (or_fault (step_named b c.flow step) NoStep) _ (there_holds (step_named b c.flow step) NoStep)
+    (λ c there. then_holds (λ t. step_named b c.flow step ≡ Some t) (IsThere b) (or_fault (step_named b c.flow step) NoStep) _
+    (there_holds (step_named b c.flow step) NoStep)
     (λ t named. record { case = there; step = place_within (flow_at b.policy c.flow).flow.steps step t named })))
 resolve_there b (ask.Request (request.Withdraw by n)) =
     then_holds (λ _. is_admin b.policy by ≡ true) (IsThere b) (check (is_admin b.policy by) NotAdmin) _ (passed_holds (is_admin b.policy by) NotAdmin)
     (λ _ may. then_holds (IsOpenCase b n) (IsThere b) (open_case_at b n) _ (open_there b n) (λ c there. tt))
 resolve_there b (ask.Request (request.Change by edit)) = change_there b by edit (amendment_of b.policy by edit) refl
 resolve_there b (ask.Request (request.Show n)) =
-    then_holds (λ c. numbered_case b.cases n ≡ Some c) (IsThere b) (or_fault (numbered_case b.cases n) NoCase) _ (there_holds (numbered_case b.cases n) NoCase) (λ c found. tt)
+    then_holds (λ c. numbered_case b.cases n ≡ Some c) (IsThere b) (or_fault (numbered_case b.cases n) NoCase) _
+    (there_holds (numbered_case b.cases n) NoCase) (λ c found. tt)
 resolve_there b (ask.Request (request.Worklist user)) =
     then_holds (λ u. user_named b user ≡ Some u) (IsThere b) (or_fault (user_named b user) NoUser) _ (there_holds (user_named b user) NoUser)
     (λ u named. place_within b.policy.roster.users user u named)
@@ -146,9 +152,12 @@ unless_holds P given (Some d) allowed = tt
 allowed_told : (b : Book) (given : Deed) → IsThere b given → HoldsOf (IsTold b) (unless_denied given (cause_aside b given))
 allowed_told b (deed.Open f) there = unless_holds (IsTold b) (deed.Open f) (cause_aside b (deed.Open f)) (λ none. (there, tt))
 allowed_told b (deed.Claim n c t u) there = unless_holds (IsTold b) (deed.Claim n c t u) (cause_aside b (deed.Claim n c t u)) (λ none. (there, none))
-allowed_told b (deed.Finish n c t u) there = unless_holds (IsTold b) (deed.Finish n c t u) (cause_aside b (deed.Finish n c t u)) (λ none. (there, unless_tells _ _ none))
-allowed_told b (deed.GiveBack n c t u) there = unless_holds (IsTold b) (deed.GiveBack n c t u) (cause_aside b (deed.GiveBack n c t u)) (λ none. (there, unless_tells _ _ none))
-allowed_told b (deed.Release n c t) there = unless_holds (IsTold b) (deed.Release n c t) (cause_aside b (deed.Release n c t)) (λ none. (there, unless_tells _ _ none))
+allowed_told b (deed.Finish n c t u) there =
+    unless_holds (IsTold b) (deed.Finish n c t u) (cause_aside b (deed.Finish n c t u)) (λ none. (there, unless_tells _ _ none))
+allowed_told b (deed.GiveBack n c t u) there =
+    unless_holds (IsTold b) (deed.GiveBack n c t u) (cause_aside b (deed.GiveBack n c t u)) (λ none. (there, unless_tells _ _ none))
+allowed_told b (deed.Release n c t) there =
+    unless_holds (IsTold b) (deed.Release n c t) (cause_aside b (deed.Release n c t)) (λ none. (there, unless_tells _ _ none))
 allowed_told b (deed.Withdraw n) there = (tt, tt)
 allowed_told b (deed.Change a) there = (there, tt)
 allowed_told b (deed.Show c) there = (tt, tt)
@@ -161,7 +170,8 @@ aside_told b what = then_holds (IsThere b) (IsTold b) (resolve b what) _ (resolv
 
 -- what is decided on is there, and no cause is against it
 pub told : (b : Book) (what : Ask) → HoldsOf (IsTold b) (decision_of b what)
-told b what = then_holds (IsTold b) (IsTold b) (decision_aside b what) _ (aside_told b what) (λ given known. unless_holds (IsTold b) given (cause_full b given) (λ none. known))
+told b what = then_holds (IsTold b) (IsTold b) (decision_aside b what) _ (aside_told b what)
+    (λ given known. unless_holds (IsTold b) given (cause_full b given) (λ none. known))
 
 no_user_free : (x : StepState) (rest : List (Option Denial)) (make : ℕ → Denial) → first_of (option_map make (user_of x) ∷ rest) ≡ None → x ≡ Free
 no_user_free Free rest make h = refl

@@ -1,5 +1,6 @@
 -- A valid plan that a change does not make invalid stays valid.
-use Rattle.std.proofs.Common.{◌≡◌, ◌≢◌, ◌==◌, ◌&&◌, ◌||◌, not, ℕ, zero, suc, ◌+◌, ◌<◌, Bool, true, false, List, [], ◌∷◌, length, take, drop, get_or, Option, None, Some, ◌⊎◌, inl, inr, refl, sym, ap, subst, ◌∙◌, arith, length-append}
+use Rattle.std.proofs.Common.{◌≡◌, ◌≢◌, ◌==◌, ◌&&◌, ◌||◌, not, ℕ, zero, suc, ◌+◌, ◌<◌, Bool, true, false, List, [], ◌∷◌, length, take, drop, get_or, Option}
+use Rattle.std.proofs.Common.{None, Some, ◌⊎◌, inl, inr, refl, sym, ap, subst, ◌∙◌, arith, length-append}
 use Rattle.std.specs.Prelude.{slice_get}
 use Rattle.std.specs.FinSet as set
 use Rattle.std.proofs.lemmas.Bool.Decides.{eqb_tells}
@@ -31,7 +32,8 @@ use Rattle.admin_edits.specs.Edits.{amended, without_roles}
 use Rattle.admin_edits.specs.Found.{IsKnownChange}
 use Rattle.admin_edits.specs.Hurting.{is_number, is_over}
 use Rattle.admin_edits.proofs.Keeping.{changes_keep_names}
-use Rattle.admin_edits.proofs.Unhurt.{flow_there, more_below, not_taken, others_keep, problem_with, related_other, satisfied_same, stays, unhurt_plans_stay_valid}
+use Rattle.admin_edits.proofs.Unhurt.{flow_there, more_below, not_taken, others_keep, problem_with, related_other, satisfied_same, stays}
+use Rattle.admin_edits.proofs.Unhurt.{unhurt_plans_stay_valid}
 use Rattle.wf_board.specs.Breaking.{breaks, breaks_rule, gives, is_barred, is_broken, loses_step, HasPlanFor, NamesStep}
 use Rattle.wf_board.specs.Edited.{IsPlanOf}
 use Rattle.wf_board.specs.Found.{IsAllowed}
@@ -75,7 +77,8 @@ still_hers : (q : PolicyShape) (c : CaseShape) (plan : List ℕ) (u s : ℕ) →
     (planned plan s == u) ≡ true → is_authorised q c.flow s (planned plan s) ≡ true
 still_hers q c plan u s none below open_ hers =
     may_still q c plan s
-    (second_fails (planned plan s == u) (is_barred q c plan s) (none_below (length plan) (λ t. (planned plan t == u) && is_barred q c plan t) none s below) hers) open_
+    (second_fails (planned plan s == u) (is_barred q c plan s) (none_below (length plan) (λ t. (planned plan t == u) && is_barred q c plan t) none s below)
+    hers) open_
 
 -- where memberships change, of one user alone, and this one loses no step
 members_unbroken : (p : PolicyShape) (members : Pairs) (c : CaseShape) (plan : List ℕ) (u : ℕ) →
@@ -91,7 +94,8 @@ members_unbroken p members c plan u keep none valid =
       | inl hers ↦ still_hers q c plan u s none within open_ hers.0
       | inr other ↦ more_below (length p.roster.roles) (λ r. has_role p.roster (planned plan s) r && set.contains (flow_at p c.flow).flow.permits (r, s))
           (λ r. set.contains members (planned plan s, r) && set.contains (flow_at p c.flow).flow.permits (r, s))
-          (λ r both. first_still (has_role p.roster (planned plan s) r) (set.contains members (planned plan s, r)) (set.contains (flow_at p c.flow).flow.permits (r, s)) (keep (planned plan s) r other.1) both) is
+          (λ r both. first_still (has_role p.roster (planned plan s) r) (set.contains members (planned plan s, r))
+          (set.contains (flow_at p c.flow).flow.permits (r, s)) (keep (planned plan s) r other.1) both) is
     ])
     (λ k rule is obeyed. obeyed) valid
 
@@ -177,7 +181,8 @@ forbidden_unbroken p g r s c plan within none valid =
             | inr other ↦ more_below (length p.roster.roles)
                 (λ n. has_role p.roster (planned plan t) n && set.contains (flow_at p c.flow).flow.permits (n, t))
                 (λ n. has_role p.roster (planned plan t) n && set.contains w.flow.permits (n, t))
-                (λ n both. second_still (has_role p.roster (planned plan t) n) (set.contains (flow_at p c.flow).flow.permits (n, t)) (set.contains w.flow.permits (n, t))
+                (λ n both. second_still (has_role p.roster (planned plan t) n) (set.contains (flow_at p c.flow).flow.permits (n, t))
+                (set.contains w.flow.permits (n, t))
                 (λ permitted. not_taken (flow_at p g).flow.permits (r, s) (n, t) (λ e. other.1 (ap (λ (x : ℕ × ℕ). x.1) e))
                 (subst (λ (x : WorkflowShape). set.contains x.flow.permits (n, t) ≡ true) was permitted)) both) is
           ])

@@ -41,7 +41,8 @@ each_still : (P Q : Row → Type 0) (rows : List Row) → ((r : Row) → P r →
 each_still P Q [] still each = tt
 each_still P Q (r ∷ rs) still each = (still r each.0, each_still P Q rs still each.1)
 
-planned_still : (p : PolicyShape) (a : Amendment) (c : CaseShape) (o : Option (List ℕ)) → IsKnownChange p a → is_harmless a ≡ true → IsPlanned p c o → IsPlanned (amended p a) c o
+planned_still : (p : PolicyShape) (a : Amendment) (c : CaseShape) (o : Option (List ℕ)) → IsKnownChange p a → is_harmless a ≡ true → IsPlanned p c o →
+    IsPlanned (amended p a) c o
 planned_still p a c None found harmless planned = planned
 planned_still p a c (Some plan) found harmless planned =
     unhurt_plans_stay_valid p a c.flow (assigned_of c) (finished_of c) plan found (hurts_none p a c.flow (finished_of c) plan harmless) planned

@@ -6,7 +6,8 @@ use Rattle.constraint_forms.specs.Assigned.{is_member, no_steps, no_users, user_
 use Rattle.constraint_forms.proofs.Members.{none_member}
 use Rattle.policy_book.specs.Plans.{IsValidPlan, Problem}
 use Rattle.case_record.specs.Cases.{CaseShape, assigned_of, finished_case, finished_of, fresh_case, state_at, with_state}
-use Rattle.case_record.proofs.Laws.{assigned_of-at, assigned_of-finish, assigned_of-hold, assigned_of-release, blank_at, finished_of-finish, finished_of-hold, finished_of-release}
+use Rattle.case_record.proofs.Laws.{assigned_of-at, assigned_of-finish, assigned_of-hold, assigned_of-release, blank_at, finished_of-finish, finished_of-hold}
+use Rattle.case_record.proofs.Laws.{finished_of-release}
 use Rattle.certificate_check.proofs.Assigned.{none_not_some}
 use Rattle.denial_reasons.specs.Causes.{assigned_with}
 
@@ -15,7 +16,8 @@ pub fresh_user : (flow n s : ℕ) → user_at (assigned_of (fresh_case flow n)) 
 fresh_user flow n s = assigned_of-at (fresh_case flow n) s ∙ ap user_of (blank_at n s Free)
 
 -- a plan that is valid while nobody has a step is valid for a fresh case
-pub valid_fresh : (p : Problem) (flow n : ℕ) (plan : List ℕ) → IsValidPlan p no_users no_steps plan → IsValidPlan p (assigned_of (fresh_case flow n)) (finished_of (fresh_case flow n)) plan
+pub valid_fresh : (p : Problem) (flow n : ℕ) (plan : List ℕ) → IsValidPlan p no_users no_steps plan →
+    IsValidPlan p (assigned_of (fresh_case flow n)) (finished_of (fresh_case flow n)) plan
 valid_fresh p flow n plan valid = record {
   whole = valid.whole;
   known = valid.known;
@@ -25,7 +27,8 @@ valid_fresh p flow n plan valid = record {
 }
 
 -- a plan that is valid with a free step given to a user stays valid where the user claims it
-pub valid_claimed : (p : Problem) (c : CaseShape) (t u : ℕ) (plan : List ℕ) → t < length c.states → state_at c t ≡ Free → IsValidPlan p (assigned_with c t u) (finished_of c) plan →
+pub valid_claimed : (p : Problem) (c : CaseShape) (t u : ℕ) (plan : List ℕ) → t < length c.states → state_at c t ≡ Free →
+    IsValidPlan p (assigned_with c t u) (finished_of c) plan →
     IsValidPlan p (assigned_of (with_state c t (Held u))) (finished_of (with_state c t (Held u))) plan
 valid_claimed p c t u plan below free valid =
     subst (λ a. IsValidPlan p a (finished_of (with_state c t (Held u))) plan) (sym (assigned_of-hold c t u below))
@@ -39,13 +42,15 @@ less_member (x ∷ xs) (suc t) zero h = h
 less_member (x ∷ xs) (suc t) (suc s) h = less_member xs t s h
 
 -- a valid plan stays valid where a held step is finished
-pub valid_finished : (p : Problem) (c : CaseShape) (t : ℕ) (plan : List ℕ) → is_held (state_at c t) ≡ true → IsValidPlan p (assigned_of c) (finished_of c) plan →
+pub valid_finished : (p : Problem) (c : CaseShape) (t : ℕ) (plan : List ℕ) → is_held (state_at c t) ≡ true →
+    IsValidPlan p (assigned_of c) (finished_of c) plan →
     IsValidPlan p (assigned_of (finished_case c t)) (finished_of (finished_case c t)) plan
 valid_finished p c t plan held valid = record {
   whole = valid.whole;
   known = valid.known;
   keeps = λ s u is. valid.keeps s u (subst (λ a. user_at a s ≡ Some u) (assigned_of-finish c t held) is);
-  allowed = λ s below unfinished. valid.allowed s below (less_member (finished_of c) t s (subst (λ f. is_member f s ≡ false) (finished_of-finish c t held) unfinished));
+  allowed = λ s below unfinished. valid.allowed s below
+      (less_member (finished_of c) t s (subst (λ f. is_member f s ≡ false) (finished_of-finish c t held) unfinished));
   obeyed = valid.obeyed;
 }
 

@@ -121,9 +121,11 @@ decided_none b what other = then_none (decision_aside b what) _ (from (resolve b
     from (Err d) is = is
 
 open_none : (b : Book) (n : ℕ) → HasNoRoles (open_case_at b n)
-open_none b n = then_none (or_fault (numbered_case b.cases n) NoCase) _ (or_none (numbered_case b.cases n) NoCase refl) (λ c. then_none (check (is_open c) Closed) _ (check_none (is_open c) Closed refl) (λ _. tt))
+open_none b n = then_none (or_fault (numbered_case b.cases n) NoCase) _ (or_none (numbered_case b.cases n) NoCase refl)
+    (λ c. then_none (check (is_open c) Closed) _ (check_none (is_open c) Closed refl) (λ _. tt))
 
-other_step : (b : Book) (make : ℕ → CaseShape → ℕ → ℕ → Deed) (n : ℕ) (step user : List ℕ) → ((c : CaseShape) (t u : ℕ) → IsOther (make n c t u)) → IsOtherRead (on_step make b n step user)
+other_step : (b : Book) (make : ℕ → CaseShape → ℕ → ℕ → Deed) (n : ℕ) (step user : List ℕ) → ((c : CaseShape) (t u : ℕ) → IsOther (make n c t u)) →
+    IsOtherRead (on_step make b n step user)
 other_step b make n step user other =
     then_other (open_case_at b n) _ (open_none b n)
     (λ c. then_other (or_fault (step_named b c.flow step) NoStep) _ (or_none (step_named b c.flow step) NoStep refl)
@@ -148,15 +150,19 @@ roles_rightly b (ask.Request (request.Release by n step)) takes =
     let what = ask.Request (request.Release by n step) in
     none_apart (decision_of b what)
     (decided_none b what (then_other (check (is_admin b.policy by) NotAdmin) _ (check_none (is_admin b.policy by) NotAdmin refl)
-    (λ _. then_other (open_case_at b n) _ (open_none b n) (λ c. then_other (or_fault (step_named b c.flow step) NoStep) _ (or_none (step_named b c.flow step) NoStep refl) (λ t. tt))))) takes
+    (λ _. then_other (open_case_at b n)
+    _ (open_none b n) (λ c. then_other (or_fault (step_named b c.flow step) NoStep) _ (or_none (step_named b c.flow step) NoStep refl) (λ t. tt)))))
+    takes
 roles_rightly b (ask.Request (request.Withdraw by n)) takes =
     let what = ask.Request (request.Withdraw by n) in
     none_apart (decision_of b what)
-    (decided_none b what (then_other (check (is_admin b.policy by) NotAdmin) _ (check_none (is_admin b.policy by) NotAdmin refl) (λ _. then_other (open_case_at b n) _ (open_none b n) (λ c. tt)))) takes
+    (decided_none b what (then_other (check (is_admin b.policy by) NotAdmin) _ (check_none (is_admin b.policy by) NotAdmin refl)
+    (λ _. then_other (open_case_at b n) _ (open_none b n) (λ c. tt)))) takes
 roles_rightly b (ask.Request (request.Change by edit)) takes = refl
 roles_rightly b (ask.Request (request.Show n)) takes =
     let what = ask.Request (request.Show n) in
-    none_apart (decision_of b what) (decided_none b what (then_other (or_fault (numbered_case b.cases n) NoCase) _ (or_none (numbered_case b.cases n) NoCase refl) (λ c. tt))) takes
+    none_apart (decision_of b what)
+    (decided_none b what (then_other (or_fault (numbered_case b.cases n) NoCase) _ (or_none (numbered_case b.cases n) NoCase refl) (λ c. tt))) takes
 roles_rightly b (ask.Request (request.Worklist user)) takes = refl
 roles_rightly b (ask.Request (request.WhatIf by edit)) takes = refl
 roles_rightly b (ask.Bad bad) takes = none_apart (decision_of b (ask.Bad bad)) (decided_none b (ask.Bad bad) tt) takes

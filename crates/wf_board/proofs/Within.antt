@@ -23,7 +23,8 @@ pub assigned_step : (c : CaseShape) (s u : ℕ) → user_at (assigned_of c) s �
 assigned_step c s u is = has_step c.states s u (sym (assigned_of-at c s) ∙ is)
 
 -- what is assigned in a case with a valid plan is within its workflow and policy
-pub planned_within : (p : PolicyShape) (c : CaseShape) (plan : List ℕ) → IsOfPolicy p c → IsValidPlan (problem_of p c.flow) (assigned_of c) (finished_of c) plan →
+pub planned_within : (p : PolicyShape) (c : CaseShape) (plan : List ℕ) → IsOfPolicy p c →
+    IsValidPlan (problem_of p c.flow) (assigned_of c) (finished_of c) plan →
     IsWithin (problem_of p c.flow) (assigned_of c)
 planned_within p c plan known valid = record {
   steps = λ s u is. below s u is;
@@ -34,7 +35,8 @@ planned_within p c plan known valid = record {
     below s u is = subst (λ k. s < k) known.steps (assigned_step c s u is)
 
 -- and stays so where one of its steps is given to a user of the policy
-pub claimed_within : (p : PolicyShape) (c : CaseShape) (t u : ℕ) → IsOfPolicy p c → t < length c.states → u < length p.roster.users → IsWithin (problem_of p c.flow) (assigned_of c) →
+pub claimed_within : (p : PolicyShape) (c : CaseShape) (t u : ℕ) → IsOfPolicy p c → t < length c.states → u < length p.roster.users → IsWithin
+    (problem_of p c.flow) (assigned_of c) →
     IsWithin (problem_of p c.flow) (assigned_with c t u)
 claimed_within p c t u known step user within = record {
   steps = λ s w is. step_of s w (given (assigned_of c) t u s w is);

@@ -35,19 +35,24 @@ when false = Err NotStep
 
 -- a reply is none where the deed or the cause against it is this
 abbrev pub IsNoAnswer : PolicyShape → CasesShape → Result Deed Denial → Reply → Type 0
-IsNoAnswer p t decision given = (edits : ℕ) → ¬ Answers (state_on (board_of p t edits)) decision given
+IsNoAnswer p t decision given = (edits : ℕ) →
+    ¬ Answers (state_on (board_of p t edits)) decision given
 
--- a reply was taken, where the deed or the cause against it is this; or it is no step, or there was no memory, and nothing
--- has changed
-abbrev pub HasAdmitted : PolicyShape → CasesShape → CasesShape → Result Deed Denial → Reply → Result (Unit {0}) AdmitFault → Type 0
+-- a reply was taken, where the deed or the cause against it is this; or it is no step, or there was
+-- no memory, and nothing has changed
+abbrev pub HasAdmitted : PolicyShape → CasesShape → CasesShape → Result Deed Denial → Reply →
+    Result (Unit {0}) AdmitFault → Type 0
 HasAdmitted p before after decision given (Ok done) = HasTakenStep p before after decision given
-HasAdmitted p before after decision given (Err NotStep) = (after ≡ before) × IsNoAnswer p before decision given
-HasAdmitted p before after decision given (Err NoMemory) = (after ≡ before) × MayLackMemoryFor before.spare decision
+HasAdmitted p before after decision given (Err NotStep) = (after ≡ before) ×
+    IsNoAnswer p before decision given
+HasAdmitted p before after decision given (Err NoMemory) = (after ≡ before) ×
+    MayLackMemoryFor before.spare decision
 
--- a change of the policy comes with the case that it strands, and a view with its lists; no other deed needs a verdict to
--- take a reply
+-- a change of the policy comes with the case that it strands, and a view with its lists; no other
+-- deed needs a verdict to take a reply
 abbrev pub IsVerdictFor : Book → Deed → Verdict → Type 0
-IsVerdictFor b (deed.Change a) (verdict.Strands n tree) = IsStrandingFor b (Ok (deed.Change a)) n tree
+IsVerdictFor b (deed.Change a) (verdict.Strands n tree) =
+    IsStrandingFor b (Ok (deed.Change a)) n tree
 IsVerdictFor b (deed.Change a) v = ⊥
 IsVerdictFor b (deed.Work u) (verdict.View v) = IsViewFor b (Ok (deed.Work u)) v
 IsVerdictFor b (deed.Work u) v = ⊥
@@ -56,15 +61,18 @@ IsVerdictFor b (deed.WhatIf a) v = ⊥
 IsVerdictFor b given v = Unit {0}
 
 -- a board has taken the step of a reply, with a verdict
-pub record HasTakenReply (before after : BoardShape) (what : Ask) (v : Verdict) (given : Reply) : Type 0 where
+pub record HasTakenReply (before after : BoardShape) (what : Ask) (v : Verdict)
+    (given : Reply) : Type 0 where
   pub step : IsStep (state_on before) what given
   pub next : state_on after ≡ state_after_step (state_on before) what given
   pub plans : KeepsPlans before after what v given
   pub spare : before.cases.spare ≤ after.cases.spare + room_taken given
 
 -- it has, or it has not changed
-abbrev pub HasAdmittedStep : BoardShape → BoardShape → Ask → Verdict → Reply → Result (Unit {0}) AdmitFault → Type 0
+abbrev pub HasAdmittedStep : BoardShape → BoardShape → Ask → Verdict → Reply →
+    Result (Unit {0}) AdmitFault → Type 0
 HasAdmittedStep before after what v given (Ok done) = HasTakenReply before after what v given
-HasAdmittedStep before after what v given (Err NotStep) = (after ≡ before) × (¬ IsStep (state_on before) what given)
+HasAdmittedStep before after what v given (Err NotStep) = (after ≡ before) ×
+    (¬ IsStep (state_on before) what given)
 HasAdmittedStep before after what v given (Err NoMemory) =
     (after ≡ before) × MayLackMemoryFor before.cases.spare (decision_of (state_on before).book what)

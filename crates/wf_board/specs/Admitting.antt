@@ -25,13 +25,15 @@ rests_on_all (Ok (deed.Work u)) = true
 rests_on_all (Ok (deed.WhatIf a)) = true
 rests_on_all given = false
 
--- an edit or a view, against which there is no cause, has a verdict that was found out, unless its reply is want of memory
+-- an edit or a view, against which there is no cause, has a verdict that was found out, unless its
+-- reply is want of memory
 abbrev pub HasVerdict : State → Ask → Reply → Verdict → Type 0
 HasVerdict s what given v =
-    rests_on_all (decision_of s.book what) ≡ true → given ≢ reply.NoMemory → (v ≢ verdict.Nothing) × (is_want v ≡ false)
+    rests_on_all (decision_of s.book what) ≡ true → given ≢ reply.NoMemory →
+    (v ≢ verdict.Nothing) × (is_want v ≡ false)
 
--- where there may be no memory to take a reply, with room for so many more cases: for the list of roles of a denial, for
--- an opening without room, or for the policy after an edit
+-- where there may be no memory to take a reply, with room for so many more cases: for the list of
+-- roles of a denial, for an opening without room, or for the policy after an edit
 abbrev pub MayLackMemoryFor : ℕ → Result Deed Denial → Type 0
 MayLackMemoryFor spare r =
     (takes_memory r ≡ true) ⊎ (((is_opening r ≡ true) × (spare ≡ 0)) ⊎ (is_edit_left r ≡ true))

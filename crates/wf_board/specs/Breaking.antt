@@ -1,5 +1,6 @@
 -- Inside: what of a valid plan a change of the policy makes invalid.
-use Rattle.std.specs.Prelude.{◌≡◌, ℕ, ◌<◌, ◌==◌, ◌&&◌, not, Bool, false, List, length, Option, None, Some, slice_get}
+use Rattle.std.specs.Prelude.{◌≡◌, ℕ, ◌<◌, ◌==◌, ◌&&◌, not, Bool, false, List, length, Option, None}
+use Rattle.std.specs.Prelude.{Some, slice_get}
 use Rattle.wf_names.specs.States.{is_finished}
 use Rattle.user_relations.specs.Relations.{RelationShape, is_related}
 use Rattle.constraint_forms.specs.declared.rule.Rule.{Rule}

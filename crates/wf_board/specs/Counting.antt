@@ -1,5 +1,6 @@
 -- Which entries count for a request: they changed what its decision rests on.
-use Rattle.std.specs.Prelude.{◌≡◌, ℕ, ◌+◌, ◌||◌, nat_eq, Bool, false, true, is_some, List, [], ◌∷◌, drop, Option, None, Some, if◌then◌else◌}
+use Rattle.std.specs.Prelude.{◌≡◌, ℕ, ◌+◌, ◌||◌, nat_eq, Bool, false, true, is_some, List, [], ◌∷◌}
+use Rattle.std.specs.Prelude.{drop, Option, None, Some, if◌then◌else◌}
 use Rattle.wf_talk.specs.declared.entry.Entry.{Entry}
 use Rattle.wf_talk.specs.declared.request.Request.{Request}
 use Rattle.wf_talk.specs.declared.request.Request.TheVariants as request
@@ -46,11 +47,13 @@ is_edited given = false
 abbrev pub changes_any : Entry → Bool
 changes_any e = is_edited e.reply || is_some (changed_case e.ask e.reply)
 
--- whether an entry counts for what is asked: where it changed the policy, for a claim where it changed its case too, and
--- for an edit, a work list and what an edit would strand where it changed any case
+-- whether an entry counts for what is asked: where it changed the policy, for a claim where it
+-- changed its case too, and for an edit, a work list and what an edit would strand where it changed
+-- any case
 abbrev pub counts_for : Entry → Ask → Bool
 counts_for e (ask.Request (request.OpenCase flow)) = is_edited e.reply
-counts_for e (ask.Request (request.Claim n step user)) = is_edited e.reply || is_number n (changed_case e.ask e.reply)
+counts_for e (ask.Request (request.Claim n step user)) = is_edited e.reply ||
+    is_number n (changed_case e.ask e.reply)
 counts_for e (ask.Request (request.Change by edit)) = changes_any e
 counts_for e (ask.Request (request.Worklist user)) = changes_any e
 counts_for e (ask.Request (request.WhatIf by edit)) = changes_any e
@@ -65,10 +68,12 @@ count_of test (e ∷ es) = (if test e then 1 else 0) + count_of test es
 abbrev pub counted : Ask → List Entry → ℕ
 counted what es = count_of (λ e. counts_for e what) es
 
--- the place behind the last that passes, of entries of which the first stands at n; before, where none does
+-- the place behind the last that passes, of entries of which the first stands at n; before, where
+-- none does
 abbrev pub last_end_from : ℕ → ℕ → (Entry → Bool) → List Entry → ℕ
 last_end_from n before test [] = before
-last_end_from n before test (e ∷ es) = last_end_from (n + 1) (if test e then n + 1 else before) test es
+last_end_from n before test (e ∷ es) =
+    last_end_from (n + 1) (if test e then n + 1 else before) test es
 
 -- the place behind a lane's last entry
 abbrev pub lane_end : ℕ → List Entry → ℕ

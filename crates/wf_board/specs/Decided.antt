@@ -1,5 +1,6 @@
 -- How each request of a history is decided, in the state before it.
-use Rattle.std.specs.Prelude.{◌≡◌, ◌↔◌, ℕ, ◌<◌, Bool, true, List, Option, Some, Result, Ok, Err, IsTrue, slice_get, take}
+use Rattle.std.specs.Prelude.{◌≡◌, ◌↔◌, ℕ, ◌<◌, Bool, true, List, Option, Some, Result, Ok, Err}
+use Rattle.std.specs.Prelude.{IsTrue, slice_get, take}
 use Rattle.std.proofs.Common.{◌⊎◌}
 use Rattle.constraint_forms.specs.Assigned.{no_steps, no_users}
 use Rattle.refutation_tree.specs.declared.tree.Tree.{Tree}

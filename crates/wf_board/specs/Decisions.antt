@@ -29,7 +29,8 @@ abbrev pub cause_aside : Book → Deed → Option Denial
 cause_aside b (deed.Open f) = unless (not (flow_at b.policy f).retired) Retired
 cause_aside b (deed.Claim n c s u) = first_cause b.policy c s u
 cause_aside b (deed.Finish n c s u) = unless (is_held_by u (state_at c s)) (NotHeld (state_at c s))
-cause_aside b (deed.GiveBack n c s u) = unless (is_held_by u (state_at c s)) (NotHeld (state_at c s))
+cause_aside b (deed.GiveBack n c s u) =
+    unless (is_held_by u (state_at c s)) (NotHeld (state_at c s))
 cause_aside b (deed.Release n c s) = unless (is_held (state_at c s)) (NotHeld (state_at c s))
 cause_aside b given = None
 

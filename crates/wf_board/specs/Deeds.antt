@@ -19,7 +19,8 @@ use Rattle.wf_board.specs.Boards.{BoardShape, book_of, state_on}
 use Rattle.wf_board.specs.Decisions.{decision_aside, decision_of, needs_plan, needs_verdict}
 use Rattle.wf_board.specs.Found.{IsFound}
 use Rattle.wf_board.specs.Steps.{state_after_step}
-use Rattle.wf_board.specs.Verdicts.{IsDecided, IsEditionFor, IsPlanFor, IsStrandingFor, IsTreeFor, IsViewFor}
+use Rattle.wf_board.specs.Verdicts.{IsDecided, IsEditionFor, IsPlanFor, IsStrandingFor, IsTreeFor}
+use Rattle.wf_board.specs.Verdicts.{IsViewFor}
 
 -- a verdict fits a deed
 abbrev pub FitsDeed : Book → Deed → Verdict → Type 0
@@ -65,7 +66,8 @@ abbrev pub is_harmless_deed : Deed → Bool
 is_harmless_deed (deed.Change a) = is_harmless a
 is_harmless_deed given = false
 
--- no cause, and a verdict on whether cases can be completed has to be searched for: it is no change that hurts no plan
+-- no cause, and a verdict on whether cases can be completed has to be searched for: it is no change
+-- that hurts no plan
 abbrev pub needs_search : Result Deed Denial → Bool
 needs_search (Ok given) = needs_plan given && not (is_harmless_deed given)
 needs_search (Err d) = false
@@ -80,9 +82,12 @@ abbrev pub IsLeftTo : PolicyShape → CasesShape → Ask → Stepped → Type 0
 IsLeftTo p t what (Done given) = needs_verdict (decision_of (book_of p t) what) ≡ false
 IsLeftTo p t what (Undecided d) = IsUndecided p t what d
 
--- a board was asked, with no verdict: it has answered what needs none, or there is the deed, and nothing has changed
+-- a board was asked, with no verdict: it has answered what needs none, or there is the deed, and
+-- nothing has changed
 abbrev pub HasStepped : BoardShape → BoardShape → Ask → Stepped → Type 0
 HasStepped before after what (Done given) =
-    IsDecided before what verdict.Nothing given × ((state_on after ≡ state_after_step (state_on before) what given)
+    IsDecided before what verdict.Nothing given ×
+    ((state_on after ≡ state_after_step (state_on before) what given)
     × (needs_verdict (decision_of (state_on before).book what) ≡ false))
-HasStepped before after what (Undecided d) = IsUndecided before.policy before.cases what d × (after ≡ before)
+HasStepped before after what (Undecided d) = IsUndecided before.policy before.cases what d ×
+    (after ≡ before)

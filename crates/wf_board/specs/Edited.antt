@@ -20,7 +20,8 @@ CanBeCompleted p c = IsCompletable (problem_of p c.flow) (assigned_of c) (finish
 
 -- a tree shows that a case cannot be completed under a policy
 abbrev pub IsTreeOf : PolicyShape → CaseShape → Tree → Type 0
-IsTreeOf p c tree = IsTrue (refutes (problem_of p c.flow) (assigned_of c) (finished_of c) (shape_of tree))
+IsTreeOf p c tree =
+    IsTrue (refutes (problem_of p c.flow) (assigned_of c) (finished_of c) (shape_of tree))
 
 -- each of these cases can be completed under a policy
 abbrev pub CanAllBeCompleted : PolicyShape → List Numbered → Type 0
@@ -33,7 +34,8 @@ ArePlansOf p [] [] = Unit {0}
 ArePlansOf p (e ∷ es) (plan ∷ plans) = IsPlanOf p e.case plan × ArePlansOf p es plans
 ArePlansOf p es plans = ⊥
 
--- the first of these cases that cannot be completed under a policy has this number and workflow, as the tree shows
+-- the first of these cases that cannot be completed under a policy has this number and workflow, as
+-- the tree shows
 abbrev pub IsFirstStranded : PolicyShape → List Numbered → ℕ → ℕ → Tree → Type 0
 IsFirstStranded p [] n f tree = ⊥
 IsFirstStranded p (e ∷ es) n f tree =

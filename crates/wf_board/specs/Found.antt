@@ -8,7 +8,9 @@ use Rattle.admin_edits.specs.declared.amendment.Amendment.{Amendment}
 use Rattle.admin_edits.specs.Edits.{allowed}
 use Rattle.admin_edits.specs.Found as edits
 use Rattle.wf_board.specs.declared.deed.Deed.{Deed}
-use Rattle.wf_board.specs.declared.deed.Deed.TheVariants.{Open, Claim, Finish, GiveBack, Release, Withdraw, Change, Show, Work, WhatIf, TurnAway}
+use Rattle.wf_board.specs.declared.deed.Deed.TheVariants.{Open, Claim, Finish, GiveBack, Release}
+use Rattle.wf_board.specs.declared.deed.Deed.TheVariants.{Withdraw, Change, Show, Work, WhatIf}
+use Rattle.wf_board.specs.declared.deed.Deed.TheVariants.{TurnAway}
 use Rattle.wf_board.specs.Kept.{IsOfPolicy}
 
 -- an open case stands at its number, and is of the policy
@@ -18,7 +20,8 @@ pub record IsOpenAt (p : PolicyShape) (rows : List Row) (n : ℕ) (c : CaseShape
   pub known : IsOfPolicy p c
 
 -- an open case, one of its steps, and a user of the policy
-pub record AreFound (p : PolicyShape) (rows : List Row) (n : ℕ) (c : CaseShape) (s u : ℕ) : Type 0 where
+pub record AreFound (p : PolicyShape) (rows : List Row) (n : ℕ) (c : CaseShape) (s u : ℕ) : Type
+    0 where
   pub case : IsOpenAt p rows n c
   pub step : s < length c.states
   pub user : u < length p.roster.users

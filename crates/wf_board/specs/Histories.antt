@@ -1,5 +1,6 @@
 -- Histories: entries in order, and whether they answer the jobs of an input.
-use Rattle.std.specs.Prelude.{◌≡◌, ℕ, ◌+◌, ◌<◌, ◌≤◌, Bool, true, false, nat_eq, List, [], ◌∷◌, ◌++◌, length, take, drop, map, max, slice_index_or}
+use Rattle.std.specs.Prelude.{◌≡◌, ℕ, ◌+◌, ◌<◌, ◌≤◌, Bool, true, false, nat_eq, List, [], ◌∷◌, ◌++◌}
+use Rattle.std.specs.Prelude.{length, take, drop, map, max, slice_index_or}
 use Rattle.std.specs.List.{filter}
 use Rattle.std.proofs.Common.{◌⊎◌}
 use Rattle.wf_talk.specs.declared.entry.Entry.{Entry}
@@ -24,10 +25,11 @@ abbrev pub EachAfter : (List Entry → Entry → Type 0) → List Entry → List
 EachAfter P earlier [] = Unit {0}
 EachAfter P earlier (e ∷ es) = P earlier e × EachAfter P (earlier ++ e ∷ []) es
 
--- after a history, a lane's request may be answered again, with n rounds of rounds allowed: it is no view, only whether
--- cases can be completed is left to decide, n entries that count for it stand behind the lane's last one, and the last
--- that counts stands at this place
-pub record MayRetry (s : State) (earlier : List Entry) (rounds lane : ℕ) (what : Ask) (n place : ℕ) : Type 0 where
+-- after a history, a lane's request may be answered again, with n rounds of rounds allowed: it is
+-- no view, only whether cases can be completed is left to decide, n entries that count for it stand
+-- behind the lane's last one, and the last that counts stands at this place
+pub record MayRetry (s : State) (earlier : List Entry) (rounds lane : ℕ) (what : Ask)
+    (n place : ℕ) : Type 0 where
   pub undecided : needs_verdict (decision_of (state_after s earlier).book what) ≡ true
   pub deed : is_view what ≡ false
   pub positive : 1 ≤ rounds
@@ -38,12 +40,15 @@ pub record MayRetry (s : State) (earlier : List Entry) (rounds lane : ℕ) (what
 -- an entry is answered again as it may be
 abbrev pub IsRetry : State → ℕ → List Entry → Entry → Type 0
 IsRetry s rounds earlier e =
-    (n : ℕ) × ((place : ℕ) × ((e.reply ≡ Again n place) × MayRetry s earlier rounds e.lane e.ask n place))
+    (n : ℕ) × ((place : ℕ) ×
+    ((e.reply ≡ Again n place) × MayRetry s earlier rounds e.lane e.ask n place))
 
--- an entry stands at its place, and its reply is a step from the state that the earlier ones leave, or `again` as it may be
+-- an entry stands at its place, and its reply is a step from the state that the earlier ones leave,
+-- or `again` as it may be
 abbrev pub IsRightAfter : State → ℕ → List Entry → Entry → Type 0
 IsRightAfter s rounds earlier e =
-    (e.at ≡ length earlier) × (IsStep (state_after s earlier) e.ask e.reply ⊎ IsRetry s rounds earlier e)
+    (e.at ≡ length earlier) ×
+    (IsStep (state_after s earlier) e.ask e.reply ⊎ IsRetry s rounds earlier e)
 
 -- a legal history, with so many rounds allowed
 abbrev pub IsLegal : State → ℕ → List Entry → Type 0
@@ -69,10 +74,12 @@ batch_end batch_ends k = slice_index_or batch_ends k 0
 abbrev pub batch_jobs : List ℕ → ℕ → List Job → List Job
 batch_jobs batch_ends k jobs = drop (batch_start batch_ends k) (take (batch_end batch_ends k) jobs)
 
--- an entry that is answered again rests on so many entries of its batch, which begins at start, behind its lane's last one
+-- an entry that is answered again rests on so many entries of its batch, which begins at start,
+-- behind its lane's last one
 abbrev pub RestsFrom : ℕ → List Entry → Entry → Type 0
 RestsFrom start earlier e =
-    (n place : ℕ) → e.reply ≡ Again n place → n ≤ counted e.ask (drop (max (lane_end e.lane earlier) start) earlier)
+    (n place : ℕ) → e.reply ≡ Again n place →
+    n ≤ counted e.ask (drop (max (lane_end e.lane earlier) start) earlier)
 
 -- each entry of one batch that is answered again rests on entries of the batch
 abbrev pub BatchRests : List ℕ → ℕ → List Entry → Type 0
@@ -84,7 +91,8 @@ BatchRests batch_ends k entries =
 pub record FillsJobs (entries : List Entry) (jobs : List Job) (batch_ends : List ℕ) : Type 0 where
   pub whole : length entries ≡ length jobs
   pub batches : (k : ℕ) → k < length batch_ends → (lane : ℕ) →
-      lane_jobs lane (batch_jobs batch_ends k (map job_of_entry entries)) ≡ lane_jobs lane (batch_jobs batch_ends k jobs)
+      lane_jobs lane (batch_jobs batch_ends k (map job_of_entry entries)) ≡ lane_jobs lane
+      (batch_jobs batch_ends k jobs)
   pub rests : (k : ℕ) → k < length batch_ends → BatchRests batch_ends k entries
 
 -- an entry is not answered again
@@ -105,7 +113,8 @@ may_lack_memory (ask.Request (request.Worklist user)) = true
 may_lack_memory (ask.Request (request.WhatIf by edit)) = true
 may_lack_memory what = false
 
--- an entry is answered with want of memory only where a board may have none, and shows no tree that is too large
+-- an entry is answered with want of memory only where a board may have none, and shows no tree that
+-- is too large
 abbrev pub IsRightful : Entry → Type 0
 IsRightful e = (e.reply ≡ NoMemory → may_lack_memory e.ask ≡ true) × (shows_large e.reply ≡ false)
 

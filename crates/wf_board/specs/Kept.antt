@@ -1,5 +1,6 @@
 -- What is kept in every state of a session.
-use Rattle.std.specs.Prelude.{◌≡◌, ℕ, ◌+◌, ◌<◌, true, false, List, [], ◌∷◌, length, Option, None, Some, is_some}
+use Rattle.std.specs.Prelude.{◌≡◌, ℕ, ◌+◌, ◌<◌, true, false, List, [], ◌∷◌, length, Option, None}
+use Rattle.std.specs.Prelude.{Some, is_some}
 use Rattle.policy_book.specs.Shapes.{PolicyShape}
 use Rattle.policy_book.specs.Facts.{IsSoundPolicy}
 use Rattle.policy_book.specs.Policies.{flow_at, problem_of}
@@ -18,7 +19,8 @@ pub record IsOfPolicy (p : PolicyShape) (c : CaseShape) : Type 0 where
 -- the state is of one policy: each case is of one of its workflows
 pub record IsSoundState (s : State) : Type 0 where
   pub policy : IsSoundPolicy s.book.policy
-  pub cases : (n : ℕ) (c : CaseShape) → numbered_case s.book.cases n ≡ Some c → IsOfPolicy s.book.policy c
+  pub cases : (n : ℕ) (c : CaseShape) → numbered_case s.book.cases n ≡ Some c →
+      IsOfPolicy s.book.policy c
 
 -- each open case has a valid plan
 abbrev pub KeepsCompletable : State → Type 0

@@ -3,7 +3,8 @@ use Rattle.std.specs.Prelude.{◌≡◌, ℕ, false, true, List, length, map, Op
 use Rattle.policy_book.specs.Shapes.{PolicyShape}
 use Rattle.policy_book.specs.Policies.{flow_at}
 use Rattle.grant_table.specs.declared.rows.Row.{Row}
-use Rattle.grant_table.specs.Tables.{CasesShape, change_row, finished_row, freed_row, held_row, open_rows, with_case, withdrawn_row}
+use Rattle.grant_table.specs.Tables.{CasesShape, change_row, finished_row, freed_row, held_row}
+use Rattle.grant_table.specs.Tables.{open_rows, with_case, withdrawn_row}
 use Rattle.wf_talk.specs.declared.request.Ask.{Ask}
 use Rattle.wf_talk.specs.declared.reply.Reply.{Reply}
 use Rattle.wf_talk.specs.declared.reply.Reply.TheVariants as reply
@@ -42,8 +43,8 @@ abbrev pub kept_plans : List Row → List (Option (List ℕ))
 kept_plans rows = map (λ r. r.plan) (open_rows rows)
 
 -- which plans a board keeps after a reply: where no edit is accepted those that the deed leaves, so
--- all of them after a denial, a view and a bad line; and where a verdict accepts an edit those of the
--- verdict, one for each open case
+-- all of them after a denial, a view and a bad line; and where a verdict accepts an edit those of
+-- the verdict, one for each open case
 pub record KeepsPlans (before after : BoardShape) (what : Ask) (v : Verdict) (given : Reply)
     : Type 0 where
   pub rows : is_edited given ≡ false → after.cases.rows

@@ -13,7 +13,9 @@ use Rattle.admin_edits.specs.declared.fault.EditCause.{EditCause}
 use Rattle.admin_edits.specs.declared.fault.EditCause.TheVariants as fault
 use Rattle.admin_edits.specs.Edits.{amendment_of, is_admin}
 use Rattle.wf_board.specs.declared.deed.Deed.{Deed}
-use Rattle.wf_board.specs.declared.deed.Deed.TheVariants.{Open, Claim, Finish, GiveBack, Release, Withdraw, Change, Show, Work, WhatIf, TurnAway}
+use Rattle.wf_board.specs.declared.deed.Deed.TheVariants.{Open, Claim, Finish, GiveBack, Release}
+use Rattle.wf_board.specs.declared.deed.Deed.TheVariants.{Withdraw, Change, Show, Work, WhatIf}
+use Rattle.wf_board.specs.declared.deed.Deed.TheVariants.{TurnAway}
 use Rattle.wf_board.specs.States.{Book, numbered_case, flow_named, step_named, user_named}
 
 -- the open case with a number
@@ -24,7 +26,8 @@ open_case_at b n = do
   Ok c
 
 -- an open case, a step of its workflow and a user
-abbrev pub on_step : (ℕ → CaseShape → ℕ → ℕ → Deed) → Book → ℕ → List ℕ → List ℕ → Result Deed Denial
+abbrev pub on_step : (ℕ → CaseShape → ℕ → ℕ → Deed) → Book → ℕ → List ℕ → List ℕ →
+    Result Deed Denial
 on_step deed b n step user = do
   c ← open_case_at b n
   s ← or_fault (step_named b c.flow step) denial.NoStep
@@ -46,7 +49,8 @@ abbrev pub on_edit : (Amendment → Deed) → Result Amendment EditCause → Res
 on_edit deed (Ok a) = Ok (deed a)
 on_edit deed (Err fault) = Err (edit_denial fault)
 
--- what a request asks, or the first of its names and numbers that is nothing; of an edit its first fault of any kind
+-- what a request asks, or the first of its names and numbers that is nothing; of an edit its first
+-- fault of any kind
 abbrev pub resolve_request : Book → Request → Result Deed Denial
 resolve_request b (request.OpenCase flow) = do
   f ← or_fault (flow_named b flow) denial.NoFlow

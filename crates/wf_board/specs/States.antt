@@ -13,14 +13,15 @@ pub record Numbered : Type 0 where
   pub number : ℕ
   pub case : CaseShape
 
--- what requests are judged by: the policy, cases at their numbers, and how many were ever opened; a snapshot has some
--- of the cases
+-- what requests are judged by: the policy, cases at their numbers, and how many were ever opened; a
+-- snapshot has some of the cases
 pub record Book : Type 0 where
   pub policy : PolicyShape
   pub cases : List Numbered
   pub ever : ℕ
 
--- the state: all cases that were ever opened stand in its book, beside it stands how many edits were accepted
+-- the state: all cases that were ever opened stand in its book, beside it stands how many edits
+-- were accepted
 pub record State : Type 0 where
   pub book : Book
   pub edits : ℕ
@@ -35,7 +36,8 @@ numbered_case cases n = option_map (λ e. e.case) (look_up (λ e. e.number) n ca
 
 -- the cases with the one at a number changed
 abbrev pub with_case_changed : ℕ → (CaseShape → CaseShape) → List Numbered → List Numbered
-with_case_changed n change cases = change_at (λ e. e.number) n (λ e. record e { case = change e.case }) cases
+with_case_changed n change cases =
+    change_at (λ e. e.number) n (λ e. record e { case = change e.case }) cases
 
 -- the workflow with a name
 abbrev pub flow_named : Book → List ℕ → Option ℕ

@@ -9,7 +9,8 @@ use Rattle.refutation_tree.specs.Views.{shape_of}
 use Rattle.policy_book.specs.Policies.{flow_at, problem_of}
 use Rattle.policy_book.specs.Plans.{IsValidPlan}
 use Rattle.policy_book.specs.Refuting.{refutes}
-use Rattle.case_record.specs.Cases.{CaseShape, finished_case, finished_of, fresh_case, with_phase, with_state}
+use Rattle.case_record.specs.Cases.{CaseShape, finished_case, finished_of, fresh_case, with_phase}
+use Rattle.case_record.specs.Cases.{with_state}
 use Rattle.wf_talk.specs.declared.request.Ask.{Ask}
 use Rattle.wf_talk.specs.declared.reply.Face.{Face}
 use Rattle.wf_talk.specs.declared.reply.Reply.{Reply}
@@ -33,13 +34,15 @@ face_of c = record { flow = c.flow; phase = c.phase; states = c.states }
 -- the reply to a deed against which there is no cause
 abbrev pub IsReplyTo : State → Deed → Reply → Type 0
 IsReplyTo s given reply.NoMemory = Unit {0}
-IsReplyTo s (deed.Open f) (reply.Opened n plan) = (n ≡ s.book.ever) × IsValidPlan (problem_of s.book.policy f) no_users no_steps plan
+IsReplyTo s (deed.Open f) (reply.Opened n plan) = (n ≡ s.book.ever) ×
+    IsValidPlan (problem_of s.book.policy f) no_users no_steps plan
 IsReplyTo s (deed.Open f) (reply.Denied (denial.Unsatisfiable g tree)) =
     (g ≡ f) × IsTrue (refutes (problem_of s.book.policy f) no_users no_steps (shape_of tree))
 IsReplyTo s (deed.Claim n c t u) (reply.Granted plan) =
     IsValidPlan (problem_of s.book.policy c.flow) (assigned_with c t u) (finished_of c) plan
 IsReplyTo s (deed.Claim n c t u) (reply.Denied (denial.Stranded g tree)) =
-    (g ≡ c.flow) × IsTrue (refutes (problem_of s.book.policy c.flow) (assigned_with c t u) (finished_of c) (shape_of tree))
+    (g ≡ c.flow) × IsTrue (refutes (problem_of s.book.policy c.flow) (assigned_with c t u)
+    (finished_of c) (shape_of tree))
 IsReplyTo s (deed.Finish n c t u) (reply.Finished done) = done ≡ is_done (finished_case c t).phase
 IsReplyTo s (deed.GiveBack n c t u) reply.Returned = Unit {0}
 IsReplyTo s (deed.Release n c t) reply.Released = Unit {0}
@@ -50,7 +53,8 @@ IsReplyTo s (deed.Change a) (reply.Denied (denial.Strands n f tree)) =
     IsFirstStranded (amended s.book.policy a) (open_cases s.book.cases) n f tree
 IsReplyTo s (deed.Show c) (reply.Shown face) = face ≡ face_of c
 IsReplyTo s (deed.Work u) (reply.Work items) = IsWorkOf s.book u items
-IsReplyTo s (deed.WhatIf a) (reply.WhatIf numbers) = AreStranded (amended s.book.policy a) (open_cases s.book.cases) numbers
+IsReplyTo s (deed.WhatIf a) (reply.WhatIf numbers) =
+    AreStranded (amended s.book.policy a) (open_cases s.book.cases) numbers
 IsReplyTo s (deed.TurnAway bad) (reply.Bad b) = b ≡ bad
 IsReplyTo s given answer = ⊥
 
@@ -72,27 +76,37 @@ room_taken given = 0
 abbrev pub with_opened : State → ℕ → State
 with_opened s f = record s {
   book = record s.book {
-    cases = s.book.cases ++ record { number = s.book.ever; case = fresh_case f (length (flow_at s.book.policy f).flow.steps) } ∷ [];
+    cases = s.book.cases ++ record {
+      number = s.book.ever;
+      case =
+          fresh_case f (length (flow_at s.book.policy f).flow.steps);
+    } ∷ [];
     ever = s.book.ever + 1;
   };
 }
 
 -- with one case changed
 abbrev pub with_changed : State → ℕ → (CaseShape → CaseShape) → State
-with_changed s n change = record s { book = record s.book { cases = with_case_changed n change s.book.cases } }
+with_changed s n change =
+    record s { book = record s.book { cases = with_case_changed n change s.book.cases } }
 
 -- with a changed policy, and one more edit
 abbrev pub with_edited : State → Amendment → State
-with_edited s a = record { book = record s.book { policy = amended s.book.policy a }; edits = s.edits + 1 }
+with_edited s a =
+    record { book = record s.book { policy = amended s.book.policy a }; edits = s.edits + 1 }
 
 -- the state after a deed; all that a row does not name stays
 abbrev pub state_after_deed : State → Deed → Reply → State
 state_after_deed s (deed.Open f) (reply.Opened n plan) = with_opened s f
-state_after_deed s (deed.Claim n c t u) (reply.Granted plan) = with_changed s n (λ c. with_state c t (Held u))
-state_after_deed s (deed.Finish n c t u) (reply.Finished done) = with_changed s n (λ c. finished_case c t)
-state_after_deed s (deed.GiveBack n c t u) reply.Returned = with_changed s n (λ c. with_state c t Free)
+state_after_deed s (deed.Claim n c t u) (reply.Granted plan) =
+    with_changed s n (λ c. with_state c t (Held u))
+state_after_deed s (deed.Finish n c t u) (reply.Finished done) =
+    with_changed s n (λ c. finished_case c t)
+state_after_deed s (deed.GiveBack n c t u) reply.Returned =
+    with_changed s n (λ c. with_state c t Free)
 state_after_deed s (deed.Release n c t) reply.Released = with_changed s n (λ c. with_state c t Free)
-state_after_deed s (deed.Withdraw n) reply.Withdrawn = with_changed s n (λ c. with_phase c Withdrawn)
+state_after_deed s (deed.Withdraw n) reply.Withdrawn =
+    with_changed s n (λ c. with_phase c Withdrawn)
 state_after_deed s (deed.Change a) (reply.Edited number) = with_edited s a
 state_after_deed s given answer = s
 

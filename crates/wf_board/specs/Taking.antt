@@ -1,5 +1,6 @@
 -- Inside: how a board answers over its policy and its table of cases.
-use Rattle.std.specs.Prelude.{◌≡◌, ◌≢◌, ℕ, ◌+◌, ◌≤◌, Bool, false, true, List, Option, Result, Ok, IsTrue}
+use Rattle.std.specs.Prelude.{◌≡◌, ◌≢◌, ℕ, ◌+◌, ◌≤◌, Bool, false, true, List, Option, Result, Ok}
+use Rattle.std.specs.Prelude.{IsTrue}
 use Rattle.first_fault.specs.Reading.{◌>>=◌}
 use Rattle.refutation_tree.specs.Views.{shape_of}
 use Rattle.policy_book.specs.Shapes.{PolicyShape}
@@ -23,7 +24,8 @@ use Rattle.wf_board.specs.declared.verdict.Answered.TheVariants.{Done, Needs}
 use Rattle.wf_board.specs.States.{Book}
 use Rattle.wf_board.specs.Boards.{BoardShape, book_of, state_on}
 use Rattle.wf_board.specs.KeptPlans.{rows_after}
-use Rattle.wf_board.specs.Decisions.{cause_aside, cause_full, decision_of, needs_verdict, takes_memory, unless_denied}
+use Rattle.wf_board.specs.Decisions.{cause_aside, cause_full, decision_of, needs_verdict}
+use Rattle.wf_board.specs.Decisions.{takes_memory, unless_denied}
 use Rattle.wf_board.specs.Steps.{Answers, room_taken, state_after_decision, with_changed}
 use Rattle.wf_board.specs.Kept.{AreNumbered, ArePlanned, EachRow, IsPlanned}
 use Rattle.wf_board.specs.Verdicts.{HasAnswered, HasUsed, MayLackMemory, is_unusable, room_used}
@@ -65,43 +67,55 @@ undenied b given = unless_denied given (cause_aside b given) >>= full_or b
 -- a valid plan, or a tree that refutes
 abbrev pub IsCertificateOf : Problem → List (Option ℕ) → List Bool → Verdict → Type 0
 IsCertificateOf p assigned finished (verdict.Plan plan) = IsValidPlan p assigned finished plan
-IsCertificateOf p assigned finished (verdict.Refuted tree) = IsTrue (refutes p assigned finished (shape_of tree))
+IsCertificateOf p assigned finished (verdict.Refuted tree) =
+    IsTrue (refutes p assigned finished (shape_of tree))
 IsCertificateOf p assigned finished v = ⊥
 
 -- a step was taken, where the deed or the cause against it is this
-pub record HasTakenStep (p : PolicyShape) (before after : CasesShape) (decision : Result Deed Denial) (given : Reply) : Type 0 where
+pub record HasTakenStep (p : PolicyShape) (before after : CasesShape)
+    (decision : Result Deed Denial) (given : Reply) : Type 0 where
   pub kept : IsKept p after
   pub step : (edits : ℕ) → Answers (state_on (board_of p before edits)) decision given
-  pub next : (edits : ℕ) → state_on (board_of p after edits) ≡ state_after_decision (state_on (board_of p before edits)) decision given
+  pub next : (edits : ℕ) → state_on (board_of p after edits) ≡ state_after_decision
+      (state_on (board_of p before edits)) decision given
   pub rows : after.rows ≡ rows_after p before decision given
   pub room : before.spare ≤ after.spare + room_taken given
 
 -- one case was changed, and its row so
-pub record HasChanged (p : PolicyShape) (before after : CasesShape) (n : ℕ) (row : Row → Row) (change : CaseShape → CaseShape) : Type 0 where
+pub record HasChanged (p : PolicyShape) (before after : CasesShape) (n : ℕ) (row : Row → Row)
+    (change : CaseShape → CaseShape) : Type 0 where
   pub kept : IsKept p after
   pub rows : after.rows ≡ change_row n row before.rows
-  pub next : (edits : ℕ) → state_on (board_of p after edits) ≡ with_changed (state_on (board_of p before edits)) n change
+  pub next : (edits : ℕ) → state_on (board_of p after edits) ≡ with_changed
+      (state_on (board_of p before edits)) n change
   pub spare : after.spare ≡ before.spare
 
 -- what needs no verdict was answered; what needs one was not, and nothing changed
-abbrev pub HasAnsweredAlone : PolicyShape → CasesShape → CasesShape → Result Deed Denial → Answered → Type 0
+abbrev pub HasAnsweredAlone : PolicyShape → CasesShape → CasesShape → Result Deed Denial →
+    Answered → Type 0
 HasAnsweredAlone p before after decision Needs = (needs_verdict decision ≡ true) × (after ≡ before)
 HasAnsweredAlone p before after decision (Done given) =
     HasTakenStep p before after decision given
-    × ((needs_verdict decision ≡ false) × (given ≡ reply.NoMemory → (takes_memory decision ≡ true) × (after ≡ before)))
+    × ((needs_verdict decision ≡ false) ×
+    (given ≡ reply.NoMemory → (takes_memory decision ≡ true) × (after ≡ before)))
 
 -- the rows are those that the deed leaves, where there is a reply
-abbrev pub HasRowsAfter : PolicyShape → CasesShape → CasesShape → Result Deed Denial → Answered → Type 0
+abbrev pub HasRowsAfter : PolicyShape → CasesShape → CasesShape → Result Deed Denial →
+    Answered → Type 0
 HasRowsAfter p before after decision Needs = after.rows ≡ before.rows
 HasRowsAfter p before after decision (Done given) = after.rows ≡ rows_after p before decision given
 
 -- all that a board promises of an answer
-pub record HasAnsweredBy (p : PolicyShape) (before after : CasesShape) (what : Ask) (v : Verdict) (given : Answered) : Type 0 where
+pub record HasAnsweredBy (p : PolicyShape) (before after : CasesShape) (what : Ask)
+    (v : Verdict) (given : Answered) : Type 0 where
   pub kept : IsKept p after
-  pub answered : (edits : ℕ) → HasAnswered (board_of p before edits) (board_of p after edits) what v given
-  pub needs : needs_verdict (decision_of (book_of p before) what) ≡ true → v ≡ verdict.Nothing → given ≡ Needs
+  pub answered : (edits : ℕ) →
+      HasAnswered (board_of p before edits) (board_of p after edits) what v given
+  pub needs : needs_verdict (decision_of (book_of p before) what) ≡ true → v ≡ verdict.Nothing →
+      given ≡ Needs
   pub made : needs_verdict (decision_of (book_of p before) what) ≡ true → HasUsed v given
-  pub memory : (edits : ℕ) → given ≡ Done reply.NoMemory → MayLackMemory (board_of p before edits) what v
+  pub memory : (edits : ℕ) → given ≡ Done reply.NoMemory →
+      MayLackMemory (board_of p before edits) what v
   pub lacking : given ≡ Done reply.NoMemory → after ≡ before
   pub rows : HasRowsAfter p before after (decision_of (book_of p before) what) given
   pub room : before.spare ≤ after.spare + room_used given

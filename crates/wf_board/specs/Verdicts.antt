@@ -38,23 +38,29 @@ use Rattle.wf_board.specs.Trees.{is_large, shows_large}
 -- a plan by which the case of a deed can be completed
 abbrev pub IsPlanFor : Book → Result Deed Denial → List ℕ → Type 0
 IsPlanFor b (Ok (deed.Open f)) plan = IsValidPlan (problem_of b.policy f) no_users no_steps plan
-IsPlanFor b (Ok (deed.Claim n c t u)) plan = IsValidPlan (problem_of b.policy c.flow) (assigned_with c t u) (finished_of c) plan
+IsPlanFor b (Ok (deed.Claim n c t u)) plan =
+    IsValidPlan (problem_of b.policy c.flow) (assigned_with c t u) (finished_of c) plan
 IsPlanFor b given plan = ⊥
 
 -- a tree that shows that the case of a deed cannot be completed
 abbrev pub IsTreeFor : Book → Result Deed Denial → Tree → Type 0
-IsTreeFor b (Ok (deed.Open f)) tree = IsTrue (refutes (problem_of b.policy f) no_users no_steps (shape_of tree))
+IsTreeFor b (Ok (deed.Open f)) tree =
+    IsTrue (refutes (problem_of b.policy f) no_users no_steps (shape_of tree))
 IsTreeFor b (Ok (deed.Claim n c t u)) tree =
-    IsTrue (refutes (problem_of b.policy c.flow) (assigned_with c t u) (finished_of c) (shape_of tree))
+    IsTrue (refutes (problem_of b.policy c.flow) (assigned_with c t u) (finished_of c)
+    (shape_of tree))
 IsTreeFor b given tree = ⊥
 
--- an edition of a deed that changes the policy: the changed policy, with a valid plan for each open case
+-- an edition of a deed that changes the policy: the changed policy, with a valid plan for each open
+-- case
 abbrev pub IsEditionFor : Book → Result Deed Denial → EditionShape → Type 0
 IsEditionFor b (Ok (deed.Change a)) edition =
-    (edition.policy ≡ amended b.policy a) × ArePlansOf edition.policy (open_cases b.cases) edition.plans
+    (edition.policy ≡ amended b.policy a) ×
+    ArePlansOf edition.policy (open_cases b.cases) edition.plans
 IsEditionFor b given edition = ⊥
 
--- a tree that shows that a deed which changes the policy leaves the case with a number, the first such, without a plan
+-- a tree that shows that a deed which changes the policy leaves the case with a number, the first
+-- such, without a plan
 abbrev pub IsStrandingFor : Book → Result Deed Denial → ℕ → Tree → Type 0
 IsStrandingFor b (Ok (deed.Change a)) n tree =
     (f : ℕ) × IsFirstStranded (amended b.policy a) (open_cases b.cases) n f tree
@@ -63,10 +69,12 @@ IsStrandingFor b given n tree = ⊥
 -- a view that is asked for: the user's work, or the open cases that the edit would strand
 abbrev pub IsViewFor : Book → Result Deed Denial → View → Type 0
 IsViewFor b (Ok (deed.Work u)) (view.Work items) = IsWorkOf b u items
-IsViewFor b (Ok (deed.WhatIf a)) (view.WhatIf numbers) = AreStranded (amended b.policy a) (open_cases b.cases) numbers
+IsViewFor b (Ok (deed.WhatIf a)) (view.WhatIf numbers) =
+    AreStranded (amended b.policy a) (open_cases b.cases) numbers
 IsViewFor b given v = ⊥
 
--- a verdict is right: no earlier check denies what is asked, `full` aside, and its plan, tree or view is one for the deed
+-- a verdict is right: no earlier check denies what is asked, `full` aside, and its plan, tree or
+-- view is one for the deed
 abbrev pub IsRight : Book → Ask → Verdict → Type 0
 IsRight b what verdict.Nothing = Unit {0}
 IsRight b what verdict.NoMemory = Unit {0}
@@ -83,11 +91,13 @@ IsCertificate b given (verdict.Plan plan) = IsPlanFor b given plan
 IsCertificate b given (verdict.Refuted tree) = IsTreeFor b given tree
 IsCertificate b given v = ⊥
 
--- a plan or a tree decides what is asked: no cause is against it, and nothing else is left to decide
+-- a plan or a tree decides what is asked: no cause is against it, and nothing else is left to
+-- decide
 abbrev pub IsCertified : Book → Ask → Verdict → Type 0
 IsCertified b what v = IsCertificate b (decision_of b what) v
 
--- the verdict is nothing exactly where an earlier check decides, `full` aside, or no verdict is needed
+-- the verdict is nothing exactly where an earlier check decides, `full` aside, or no verdict is
+-- needed
 pub record Decides (b : Book) (what : Ask) (v : Verdict) : Type 0 where
   pub right : IsRight b what v
   pub nothing : needs_verdict (decision_aside b what) ≡ false → v ≡ verdict.Nothing
@@ -98,10 +108,13 @@ abbrev pub IsMadeOf : Verdict → Reply → Type 0
 IsMadeOf v reply.NoMemory = Unit {0}
 IsMadeOf (verdict.Plan plan) (reply.Granted q) = q ≡ plan
 IsMadeOf (verdict.Plan plan) (reply.Opened n q) = q ≡ plan
-IsMadeOf (verdict.Refuted tree) (reply.Denied (denial.Stranded f t)) = (t ≡ tree) × (is_large tree ≡ false)
-IsMadeOf (verdict.Refuted tree) (reply.Denied (denial.Unsatisfiable f t)) = (t ≡ tree) × (is_large tree ≡ false)
+IsMadeOf (verdict.Refuted tree) (reply.Denied (denial.Stranded f t)) = (t ≡ tree) ×
+    (is_large tree ≡ false)
+IsMadeOf (verdict.Refuted tree) (reply.Denied (denial.Unsatisfiable f t)) = (t ≡ tree) ×
+    (is_large tree ≡ false)
 IsMadeOf (verdict.Edited edition) (reply.Edited number) = Unit {0}
-IsMadeOf (verdict.Strands n tree) (reply.Denied (denial.Strands m f t)) = (m ≡ n) × ((t ≡ tree) × (is_large tree ≡ false))
+IsMadeOf (verdict.Strands n tree) (reply.Denied (denial.Strands m f t)) = (m ≡ n) ×
+    ((t ≡ tree) × (is_large tree ≡ false))
 IsMadeOf (verdict.View (view.Work items)) (reply.Work given) = given ≡ items
 IsMadeOf (verdict.View (view.WhatIf numbers)) (reply.WhatIf given) = given ≡ numbers
 IsMadeOf v given = ⊥
@@ -126,50 +139,57 @@ abbrev pub is_opening : Result Deed Denial → Bool
 is_opening (Ok (deed.Open f)) = true
 is_opening given = false
 
--- a verdict that was not found out: there was no memory, or the search would keep more than its budget
+-- a verdict that was not found out: there was no memory, or the search would keep more than its
+-- budget
 abbrev pub is_want : Verdict → Bool
 is_want verdict.NoMemory = true
 is_want verdict.OverBudget = true
 is_want v = false
 
--- a verdict that no reply can be made of: it was not found out, or its tree is too large for an entry
+-- a verdict that no reply can be made of: it was not found out, or its tree is too large for an
+-- entry
 abbrev pub is_unusable : Verdict → Bool
 is_unusable (verdict.Refuted tree) = is_large tree
 is_unusable (verdict.Strands n tree) = is_large tree
 is_unusable v = is_want v
 
--- where want of memory may be answered: no reply can be made of the verdict, where one is needed, or there was none for the
--- list of roles of a denial, or for an opening without room
+-- where want of memory may be answered: no reply can be made of the verdict, where one is needed,
+-- or there was none for the list of roles of a denial, or for an opening without room
 abbrev pub MayLackMemory : BoardShape → Ask → Verdict → Type 0
 MayLackMemory b what v =
     ((is_unusable v ≡ true) × (needs_verdict (decision_of (state_on b).book what) ≡ true))
     ⊎ ((takes_memory (decision_of (state_on b).book what) ≡ true)
     ⊎ ((is_opening (decision_of (state_on b).book what) ≡ true) × (b.cases.spare ≡ 0)))
 
--- where want of memory may be answered once a decider was there: a verdict is needed, and none was given or no reply can be
--- made of it; or there was none for the list of roles of a denial, or for an opening without room
+-- where want of memory may be answered once a decider was there: a verdict is needed, and none was
+-- given or no reply can be made of it; or there was none for the list of roles of a denial, or for
+-- an opening without room
 abbrev pub LacksMemory : BoardShape → Ask → Verdict → Type 0
 LacksMemory b what v =
-    (((v ≡ verdict.Nothing) ⊎ (is_unusable v ≡ true)) × (needs_verdict (decision_of (state_on b).book what) ≡ true))
+    (((v ≡ verdict.Nothing) ⊎ (is_unusable v ≡ true)) ×
+    (needs_verdict (decision_of (state_on b).book what) ≡ true))
     ⊎ ((takes_memory (decision_of (state_on b).book what) ≡ true)
     ⊎ ((is_opening (decision_of (state_on b).book what) ≡ true) × (b.cases.spare ≡ 0)))
 
 -- the reply was decided with a verdict, or with a decider's where one was needed and none was given
 pub record IsDecided (b : BoardShape) (what : Ask) (v : Verdict) (given : Reply) : Type 0 where
   pub step : IsStep (state_on b) what given
-  pub made : needs_verdict (decision_of (state_on b).book what) ≡ true → v ≢ verdict.Nothing → IsMadeOf v given
+  pub made : needs_verdict (decision_of (state_on b).book what) ≡ true → v ≢ verdict.Nothing →
+      IsMadeOf v given
   pub memory : given ≡ reply.NoMemory → LacksMemory b what v
   pub small : shows_large given ≡ false
 
 -- the board has answered
 abbrev pub HasAnswered : BoardShape → BoardShape → Ask → Verdict → Answered → Type 0
 HasAnswered before after what v Needs =
-    (needs_verdict (decision_of (state_on before).book what) ≡ true) × ((v ≡ verdict.Nothing) × (after ≡ before))
+    (needs_verdict (decision_of (state_on before).book what) ≡ true) ×
+    ((v ≡ verdict.Nothing) × (after ≡ before))
 HasAnswered before after what v (Done given) =
-    IsStep (state_on before) what given × (state_on after ≡ state_after_step (state_on before) what given)
+    IsStep (state_on before) what given ×
+    (state_on after ≡ state_after_step (state_on before) what given)
 
--- the rows that a snapshot has for what is asked: the one case of a claim, the open cases for an edit or a view over them,
--- and else none
+-- the rows that a snapshot has for what is asked: the one case of a claim, the open cases for an
+-- edit or a view over them, and else none
 abbrev pub snap_rows : List Row → Ask → List Row
 snap_rows rows (ask.Request (request.Claim n step user)) = only n rows
 snap_rows rows (ask.Request (request.Change by edit)) = open_rows rows

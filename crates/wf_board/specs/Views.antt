@@ -1,4 +1,5 @@
--- What views over the open cases list: the steps that a user may be granted now, and the cases that an edit would strand.
+-- What views over the open cases list: the steps that a user may be granted now, and the cases that
+-- an edit would strand.
 use Rattle.std.specs.Prelude.{◌≡◌, ℕ, ◌+◌, zero, suc, List, [], ◌∷◌, ◌++◌, length, None}
 use Rattle.std.proofs.Common.{◌⊎◌}
 use Rattle.policy_book.specs.Shapes.{PolicyShape}
@@ -10,8 +11,10 @@ use Rattle.denial_reasons.specs.Causes.{assigned_with, first_cause}
 use Rattle.wf_board.specs.States.{Book, Numbered, open_cases}
 use Rattle.wf_board.specs.Edited.{CanBeCompleted}
 
--- a list names those of some values that have the one property, in their order; all others have the other property
-abbrev pub AreThose : {A B : Type 0} → (A → Type 0) → (A → Type 0) → (A → B) → List A → List B → Type 0
+-- a list names those of some values that have the one property, in their order; all others have the
+-- other property
+abbrev pub AreThose : {A B : Type 0} → (A → Type 0) → (A → Type 0) → (A → B) → List A → List B →
+    Type 0
 AreThose In Out name [] names = names ≡ []
 AreThose {A} {B} In Out name (x ∷ xs) names =
     (In x × ((more : List B) × ((names ≡ name x ∷ more) × AreThose In Out name xs more)))
@@ -32,7 +35,8 @@ abbrev pub steps_of : List Numbered → List Place
 steps_of [] = []
 steps_of (e ∷ es) = steps_from e (length e.case.states) 0 ++ steps_of es
 
--- a claim of a step of a case by a user would be granted: no cause is against it, and the case can then be completed
+-- a claim of a step of a case by a user would be granted: no cause is against it, and the case can
+-- then be completed
 pub record IsGrantable (p : PolicyShape) (c : CaseShape) (t u : ℕ) : Type 0 where
   pub clear : first_cause p c t u ≡ None
   pub completable : IsCompletable (problem_of p c.flow) (assigned_with c t u) (finished_of c)
@@ -41,12 +45,15 @@ pub record IsGrantable (p : PolicyShape) (c : CaseShape) (t u : ℕ) : Type 0 wh
 abbrev pub item_of : Place → WorkItem
 item_of x = record { case = x.of.number; flow = x.of.case.flow; step = x.step }
 
--- the work of a user: the steps of the open cases that would be granted to the user, by ascending case and step
+-- the work of a user: the steps of the open cases that would be granted to the user, by ascending
+-- case and step
 abbrev pub IsWorkOf : Book → ℕ → List WorkItem → Type 0
 IsWorkOf b u items =
-    AreThose (λ x. IsGrantable b.policy x.of.case x.step u) (λ x. ¬ IsGrantable b.policy x.of.case x.step u) item_of
+    AreThose (λ x. IsGrantable b.policy x.of.case x.step u)
+    (λ x. ¬ IsGrantable b.policy x.of.case x.step u) item_of
     (steps_of (open_cases b.cases)) items
 
 -- the numbers of those of these cases that cannot be completed under a policy
 abbrev pub AreStranded : PolicyShape → List Numbered → List ℕ → Type 0
-AreStranded p cases numbers = AreThose (λ e. ¬ CanBeCompleted p e.case) (λ e. CanBeCompleted p e.case) (λ e. e.number) cases numbers
+AreStranded p cases numbers = AreThose (λ e. ¬ CanBeCompleted p e.case)
+    (λ e. CanBeCompleted p e.case) (λ e. e.number) cases numbers

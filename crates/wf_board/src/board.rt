@@ -1,11 +1,13 @@
 //! The board: a policy and its cases.
-ghost use Rattle.std.specs.Prelude.{◌≡◌, ◌≢◌, ◌<◌, ◌≤◌, ◌+◌, ◌↔◌, map, false, true, IfOk, IfSome, IsErrOf, Ok, OnErr, OnOk, Some};
+ghost use Rattle.std.specs.Prelude.{◌≡◌, ◌≢◌, ◌<◌, ◌≤◌, ◌+◌, ◌↔◌, map, false, true, IfOk, IfSome};
+ghost use Rattle.std.specs.Prelude.{IsErrOf, Ok, OnErr, OnOk, Some};
 ghost use Rattle.std.specs.Arc.{arc_value};
 ghost use Rattle.wf_board.specs.Admission.{HasAdmittedStep};
 ghost use Rattle.wf_board.specs.Admitting.{HasVerdict, MayLackMemoryFor};
 ghost use Rattle.wf_board.specs.Boards.{book_of, state_on};
 ghost use Rattle.wf_board.specs.Decisions.{decision_aside, decision_of, needs_plan, needs_verdict};
-ghost use Rattle.wf_board.specs.Deeds.{answered_of, is_over_open, FitsDeed, HasStepped, IsUndecided};
+ghost use Rattle.wf_board.specs.Deeds.{answered_of, is_over_open, FitsDeed, HasStepped};
+ghost use Rattle.wf_board.specs.Deeds.{IsUndecided};
 ghost use Rattle.wf_board.specs.Found.{IsAllowed, IsFound};
 ghost use Rattle.wf_board.specs.KeptPlans.{kept_plans, KeepsPlans, KeepsPlansBy};
 ghost use Rattle.wf_board.specs.Kept.{AreNumbered, ArePlanned, IsSoundState, KeepsCompletable};
@@ -13,7 +15,9 @@ ghost use Rattle.wf_board.specs.States.{opening_state};
 ghost use Rattle.wf_board.specs.Steps.{room_taken, state_after_step, IsStep};
 ghost use Rattle.wf_board.specs.Taking.{keeps_policy, KeepsAll};
 ghost use Rattle.wf_board.specs.Trees.{shows_large};
-ghost use Rattle.wf_board.specs.Verdicts.{has_shown_large, HasAnswered, HasUsed, IsCertified, IsDecided, IsEditionFor, IsPlanFor, IsRight, MayLackMemory, room_used, snap_of, snap_rows};
+ghost use Rattle.wf_board.specs.Verdicts.{has_shown_large, HasAnswered, HasUsed, IsCertified};
+ghost use Rattle.wf_board.specs.Verdicts.{IsDecided, IsEditionFor, IsPlanFor, IsRight};
+ghost use Rattle.wf_board.specs.Verdicts.{MayLackMemory, room_used, snap_of, snap_rows};
 
 use crate::admit::admit;
 use crate::certified::accepts;
@@ -52,7 +56,8 @@ impl Model for Board {
 
     ghost view = { λ b. record { policy = arc_value b.policy; cases = b.cases; edits = b.edits } };
 
-    ghost invariant = { λ b. ArePlanned (arc_value b.policy) b.cases.rows × AreNumbered b.cases.rows b.cases.ever };
+    ghost invariant = { λ b. ArePlanned (arc_value b.policy) b.cases.rows ×
+        AreNumbered b.cases.rows b.cases.ever };
 }
 
 impl Board {

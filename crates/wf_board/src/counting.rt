@@ -1,6 +1,7 @@
 //! Which entries count for a request.
 ghost use Rattle.std.specs.Prelude.{◌≡◌};
-ghost use Rattle.wf_board.specs.Counting.{case_of_ask, case_of_request, changed_case, changes_any, counts_for, is_edited, is_number};
+ghost use Rattle.wf_board.specs.Counting.{case_of_ask, case_of_request, changed_case, changes_any};
+ghost use Rattle.wf_board.specs.Counting.{counts_for, is_edited, is_number};
 
 use wf_names::CaseId;
 use wf_talk::{Ask, Entry, Reply, Request};

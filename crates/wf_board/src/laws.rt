@@ -1,5 +1,8 @@
 //! Laws of sessions. Each function changes nothing; its contract is the law.
-ghost use Rattle.wf_board.specs.Laws.{ClaimsAreExact, EditsAreExact, GrantsAreExact, HistoriesAreExact, HistoriesKeepCompletable, HistoriesNumberCases, HistoriesStaySound, OutcomeIsFixed, PlansStayValid, SnapsSuffice, StepsKeepCompletable};
+ghost use Rattle.wf_board.specs.Laws.{ClaimsAreExact, EditsAreExact, GrantsAreExact};
+ghost use Rattle.wf_board.specs.Laws.{HistoriesAreExact, HistoriesKeepCompletable};
+ghost use Rattle.wf_board.specs.Laws.{HistoriesNumberCases, HistoriesStaySound, OutcomeIsFixed};
+ghost use Rattle.wf_board.specs.Laws.{PlansStayValid, SnapsSuffice, StepsKeepCompletable};
 
 /// Whatever is asked and answered, each open case can still be completed.
 pub fn steps_keep_completable()
@@ -11,8 +14,8 @@ pub fn histories_keep_completable()
     ensures { HistoriesKeepCompletable }
 {}
 
-/// After any number of entries of a legal history each case is of one of the workflows of the policy,
-/// as it then is.
+/// After any number of entries of a legal history each case is of one of the workflows of the
+/// policy, as it then is.
 pub fn histories_stay_sound()
     ensures { HistoriesStaySound }
 {}
@@ -29,21 +32,21 @@ pub fn histories_are_exact()
     ensures { HistoriesAreExact }
 {}
 
-/// In a state of one policy, a claim against which there is no cause and for which there is memory is
-/// granted exactly where its case can then be completed.
+/// In a state of one policy, a claim against which there is no cause and for which there is memory
+/// is granted exactly where its case can then be completed.
 pub fn claims_are_exact()
     ensures { ClaimsAreExact }
 {}
 
 /// In a state of one policy, a claim of a step and for a user that are there, in an open case, for
-/// which there is memory is granted exactly where its user is authorised, its step is ready, and its
-/// case can then be completed.
+/// which there is memory is granted exactly where its user is authorised, its step is ready, and
+/// its case can then be completed.
 pub fn grants_are_exact()
     ensures { GrantsAreExact }
 {}
 
-/// In a state of one policy, an edit against which there is no cause and for which there is memory is
-/// accepted exactly where each open case can be completed under the policy that it leaves.
+/// In a state of one policy, an edit against which there is no cause and for which there is memory
+/// is accepted exactly where each open case can be completed under the policy that it leaves.
 pub fn edits_are_exact()
     ensures { EditsAreExact }
 {}

@@ -13,14 +13,17 @@ ghost use Rattle.wf_board.specs.declared.deed.Deed.TheVariants as deeds;
 ghost use Rattle.wf_board.specs.declared.verdict.Verdict.TheVariants as verdicts;
 ghost use Rattle.wf_talk.specs.declared.reply.Reply.TheVariants as replies;
 ghost use Rattle.wf_board.specs.Boards.{book_of};
-ghost use Rattle.wf_board.specs.Decisions.{cause_aside, decision_aside, decision_of, needs_plan, needs_verdict};
+ghost use Rattle.wf_board.specs.Decisions.{cause_aside, decision_aside, decision_of, needs_plan};
+ghost use Rattle.wf_board.specs.Decisions.{needs_verdict};
 ghost use Rattle.wf_board.specs.Deeds.{answered_of, FitsDeed, IsLeftTo, IsUndecided};
 ghost use Rattle.wf_board.specs.Found.{AreFound, IsFound, IsOpenAt};
 ghost use Rattle.wf_board.specs.States.{is_full};
 ghost use Rattle.wf_board.specs.Steps.{face_of};
-ghost use Rattle.wf_board.specs.Taking.{full_or, keeps_policy, HasAnsweredAlone, HasAnsweredBy, HasChanged, HasTakenStep, IsKept, IsUsable};
+ghost use Rattle.wf_board.specs.Taking.{full_or, keeps_policy, HasAnsweredAlone, HasAnsweredBy};
+ghost use Rattle.wf_board.specs.Taking.{HasChanged, HasTakenStep, IsKept, IsUsable};
 ghost use Rattle.wf_board.specs.Trees.{is_large, shows_large};
-ghost use Rattle.wf_board.specs.Verdicts.{is_opening, is_unusable, IsMadeOf, IsPlanFor, IsRight, IsStrandingFor, IsTreeFor};
+ghost use Rattle.wf_board.specs.Verdicts.{is_opening, is_unusable, IsMadeOf, IsPlanFor, IsRight};
+ghost use Rattle.wf_board.specs.Verdicts.{IsStrandingFor, IsTreeFor};
 
 use crate::decision::{Refused, decision_of, is_full, needs_plan};
 use crate::resolve::resolve;
@@ -54,8 +57,8 @@ pub(crate) fn answer(
     answer_by(alloc, p, cases, ask, verdict)
 }
 
-/// Answers what needs no verdict, and else that there was no memory, whatever the verdict is that no
-/// reply can be made of.
+/// Answers what needs no verdict, and else that there was no memory, whatever the verdict is that
+/// no reply can be made of.
 fn answer_want(alloc: Global, p: &Policy, cases: &mut Cases, ask: &Ask) -> Answered
     requires { IsKept p.now cases.old }
     ensures { (v : Verdict) → is_unusable v ≡ true
@@ -165,7 +168,8 @@ pub(crate) fn take_plan(p: &Policy, cases: &mut Cases, ask: &Ask, deed: Deed, pl
     ensures made { IsMadeOf (verdicts.Plan plan) result }
     ensures small { shows_large result ≡ false }
     ensures memory { result ≡ replies.NoMemory
-        → (is_opening (decision_of (book_of p.now cases.old) ask.now) ≡ true) × (cases.old.spare ≡ 0) }
+        → (is_opening (decision_of (book_of p.now cases.old) ask.now) ≡ true) ×
+        (cases.old.spare ≡ 0) }
     ensures unchanged { result ≡ replies.NoMemory → cases.new ≡ cases.old }
 {
     let _ = ask;
@@ -182,7 +186,8 @@ fn by_plan(p: &Policy, cases: &mut Cases, ask: &Ask, plan: Plan) -> Reply
     ensures made { needs_verdict (decision_of (book_of p.now cases.old) ask.now) ≡ true
         → IsMadeOf (verdicts.Plan plan) result }
     ensures memory { result ≡ replies.NoMemory
-        → (is_opening (decision_of (book_of p.now cases.old) ask.now) ≡ true) × (cases.old.spare ≡ 0) }
+        → (is_opening (decision_of (book_of p.now cases.old) ask.now) ≡ true) ×
+        (cases.old.spare ≡ 0) }
     ensures unchanged { result ≡ replies.NoMemory → cases.new ≡ cases.old }
 {
     match resolve(p, cases, ask) {

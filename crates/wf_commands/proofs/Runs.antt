@@ -149,7 +149,8 @@ ends_answered A before after true text h wrote = (text, h, wrote)
 ends_answered A before after false text h wrote = (text, h, wrote)
 
 over_answered : (A : PolicyShape → RunFault → List ℕ → Type 0) (f : Filed) (before after : Option (List ℕ)) (answer : Answer) → AnswersFile A f (Ok answer)
-    → after ≡ with_bytes before answer.text.items → OverFile f (ending_with answer.found) (λ file. Ends (OverPolicy A file) before after (ending_with answer.found))
+    → after ≡ with_bytes before answer.text.items →
+    OverFile f (ending_with answer.found) (λ file. Ends (OverPolicy A file) before after (ending_with answer.found))
 over_answered A untold before after answer h wrote = (h.0, ends_answered (OverPolicy A h.0) before after answer.found answer.text.items h.1 wrote)
 over_answered A missing before after answer h wrote = cc
 over_answered A (told file) before after answer h wrote = ends_answered (OverPolicy A file) before after answer.found answer.text.items h wrote
@@ -178,7 +179,8 @@ answered_quiet : (found : Bool) (before after : Option (List ℕ)) → IsQuiet (
 answered_quiet true before after = tt
 answered_quiet false before after = tt
 
-answered_reads : (limit : Option ℕ) (found : Bool) (before after : Option (List ℕ)) → ReadsInput limit Nothing before after → ReadsInput limit (ending_with found) before after
+answered_reads : (limit : Option ℕ) (found : Bool) (before after : Option (List ℕ)) → ReadsInput limit Nothing before after →
+    ReadsInput limit (ending_with found) before after
 answered_reads None found before after reads = reads
 answered_reads (Some limit) true before after reads = reads
 answered_reads (Some limit) false before after reads = reads
@@ -194,7 +196,8 @@ loaded limit missing fault named = tt
 loaded limit (told file) fault named = λ long. let never = named long in cc
 
 -- what is known of a run that has an answer, before it is written
-pub record HasAnswer (limit : Option ℕ) (policy : List ℕ) (A : Option (List ℕ) → PolicyShape → RunFault → List ℕ → Type 0) (answer : Answer) (r : Run) : Type 0 where
+pub record HasAnswer (limit : Option ℕ) (policy : List ℕ) (A : Option (List ℕ) → PolicyShape → RunFault → List ℕ → Type 0) (answer : Answer) (r : Run) :
+    Type 0 where
   pub given : AnswersFile (A r.before.input) (r.files policy) (Ok answer)
   pub named : EndsTooLong POLICY_FILE_LIMIT (r.files policy) Nothing
   pub loads : r.load_faults_after ≡ r.load_faults
@@ -209,7 +212,8 @@ with_answer limit policy A answer r has is wrote writes = record {
   orderly = record {
     early = λ early. absurd (answered_late answer.found (subst (λ (x : RunFault). is_before_input x ≡ true) is early));
     loads = rw is (answered_counts answer.found r.load_faults r.load_faults_after has.loads).0;
-    reads = rw is (own_reads (ending_with answer.found) r.before.read_faults r.after.read_faults (answered_counts answer.found r.before.read_faults r.after.read_faults has.reads).1);
+    reads = rw is (own_reads (ending_with answer.found) r.before.read_faults r.after.read_faults
+        (answered_counts answer.found r.before.read_faults r.after.read_faults has.reads).1);
     writes = rw is (answered_counts answer.found r.before.write_faults r.after.write_faults writes).2;
   };
   once = record {

@@ -36,7 +36,8 @@ HasText fault = ⊥
 -- what the sink holds after a run with these answers, by how it ended: where loading, reading or
 -- memory failed, nothing more than before; after a write fault a part of one that has a text; and
 -- else all of one
-abbrev pub EndsSo : How → (RunFault → List ℕ → Type 0) → Option (List ℕ) → Option (List ℕ) → RunFault
+abbrev pub EndsSo : How → (RunFault → List ℕ → Type 0) → Option (List ℕ) → Option (List ℕ) →
+    RunFault
     → Type 0
 EndsSo unloaded Answers before after fault = after ≡ before
 EndsSo unread Answers before after fault = after ≡ before

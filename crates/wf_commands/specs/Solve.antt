@@ -17,7 +17,8 @@ use Rattle.wf_commands.specs.Once.{RunsOnce}
 -- a line tells a valid plan of a workflow
 abbrev pub TellsPlan : PolicyShape → ℕ → List ℕ → Type 0
 TellsPlan p f line =
-    (plan : List ℕ) × IsValidPlan (problem_of p f) no_users no_steps plan × (line ≡ plan_line p f plan)
+    (plan : List ℕ) × IsValidPlan (problem_of p f) no_users no_steps plan ×
+    (line ≡ plan_line p f plan)
 
 -- a line tells a lean tree that refutes, so that the workflow has no valid plan
 abbrev pub TellsTree : PolicyShape → ℕ → List ℕ → Type 0

@@ -68,7 +68,8 @@ new_jobs es new js more ends lane next =
     let stops = end_last ends x in
     let s = batch_start (ends ++ x ∷ []) (length ends) in
     let e = batch_end (ends ++ x ∷ []) (length ends) in
-    ap (lane_jobs lane) (ap (λ all. drop s (take e all)) (map-append job_of_entry es new) ∙ part_new s e ys zs (begins ∙ sym size) (omega (arith, stops, size, more_size)))
+    ap (lane_jobs lane)
+    (ap (λ all. drop s (take e all)) (map-append job_of_entry es new) ∙ part_new s e ys zs (begins ∙ sym size) (omega (arith, stops, size, more_size)))
     ∙ next.answers.lanes lane
     ∙ sym (ap (lane_jobs lane) (part_new s e js more begins stops))
 

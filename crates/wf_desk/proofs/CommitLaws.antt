@@ -1,5 +1,6 @@
 -- What is needed of a desk where a task is committed.
-use Rattle.std.proofs.Common.{◌≡◌, ℕ, zero, suc, ◌+◌, ◌-◌, get_or, ◌<◌, ◌≤◌, ◌⊎◌, inl, inr, max, Bool, true, false, not, nat_eq, nat_lt, nat_le, List, [], ◌∷◌, ◌++◌, length, take, drop, slice_set, slice_index_or, Some, refl, sym, ap, subst, ◌∙◌, arith, ◌==◌, if◌then◌else◌}
+use Rattle.std.proofs.Common.{◌≡◌, ℕ, zero, suc, ◌+◌, ◌-◌, get_or, ◌<◌, ◌≤◌, ◌⊎◌, inl, inr, max, Bool, true, false, not, nat_eq, nat_lt, nat_le, List, [], ◌∷◌}
+use Rattle.std.proofs.Common.{◌++◌, length, take, drop, slice_set, slice_index_or, Some, refl, sym, ap, subst, ◌∙◌, arith, ◌==◌, if◌then◌else◌}
 use Rattle.std.proofs.lemmas.Grind.{common_steps}
 use Rattle.std.proofs.lemmas.List.{take_more, length-take-le}
 use Rattle.basics.proofs.Booleans.{and_both, bool_cases, eq_is, same_by}
@@ -27,7 +28,8 @@ use Rattle.wf_desk.specs.declared.task.Task.{Task}
 use Rattle.wf_desk.specs.declared.outcome.Outcome.{Outcome}
 use Rattle.wf_desk.specs.declared.outcome.Outcome.TheVariants as outcome
 use Rattle.wf_desk.specs.Desks.{DeskShape, HasAdded, loss_of, next_job, no_loss, served}
-use Rattle.wf_desk.specs.Commits.{HasCommittedChecked, IsNext, IsReplyWhere, IsRightFor, IsTask, floor_of, is_fresh, is_fresh_or_change, is_last_round, is_lost, job_of_task}
+use Rattle.wf_desk.specs.Commits.{HasCommittedChecked, IsNext, IsReplyWhere, IsRightFor, IsTask, floor_of, is_fresh, is_fresh_or_change, is_last_round, is_lost}
+use Rattle.wf_desk.specs.Commits.{job_of_task}
 use Rattle.wf_desk.specs.Keeping.{HasCommittedNone, IsDesk, own_start}
 use Rattle.wf_desk.specs.Places.{IsNextPlace, entry_for}
 use Rattle.wf_desk.proofs.DeskLaws.{Grows, HasMoved, MayLose, desk_added, desk_lost, with_parts}
@@ -113,7 +115,8 @@ again_right d places t place is next stale lost last end =
       ),
     )
 
-pub again_grows : (d : DeskShape) (places : List ℕ) (t : Task) (place spare next_place : ℕ) → IsDesk d places → IsNext d t → is_fresh d t ≡ false → is_lost d t ≡ true →
+pub again_grows : (d : DeskShape) (places : List ℕ) (t : Task) (place spare next_place : ℕ) → IsDesk d places → IsNext d t → is_fresh d t ≡ false →
+    is_lost d t ≡ true →
     is_last_round d t.lane ≡ true → place + 1 ≡ counted_end t.ask d.entries → t.lane < LANE_LIMIT → t.lane < length places → d.spare ≤ spare + 1 →
     IsNextPlace d.jobs t.lane (slice_index_or places t.lane 0 + 1) next_place →
     Grows d places (entry_for (job_of_task t) (length d.entries) (reply.Again d.rounds place)) d.board spare next_place
@@ -164,7 +167,8 @@ next_before : (b : Bool) (m before : ℕ) → before ≤ m → (if b then m + 1 
 next_before true m before known = omega arith
 next_before false m before known = omega (arith, known)
 
-end_up_to : (test : Entry → Bool) (m before n : ℕ) (entries : List Entry) → before ≤ m → count_of test (drop n entries) ≡ 0 → last_end_from m before test entries ≤ m + n
+end_up_to : (test : Entry → Bool) (m before n : ℕ) (entries : List Entry) → before ≤ m → count_of test (drop n entries) ≡ 0 →
+    last_end_from m before test entries ≤ m + n
 end_up_to test m before n [] known none = omega (arith, known)
 end_up_to test m before zero (x ∷ xs) known none = let same = none_end test m before (x ∷ xs) none in omega (arith, known, same)
 end_up_to test m before (suc n) (x ∷ xs) known none =
@@ -179,7 +183,8 @@ end_past test m before (suc n) (x ∷ xs) some =
     omega (arith, rest)
 
 -- a lane's last entry stands before a place exactly where none of the later ones is of the lane
-pub lane_end_test : (lane n : ℕ) (entries : List Entry) → nat_le (lane_end lane entries) n ≡ not (nat_lt 0 (count_of (λ e. nat_eq e.lane lane) (drop n entries)))
+pub lane_end_test : (lane n : ℕ) (entries : List Entry) →
+    nat_le (lane_end lane entries) n ≡ not (nat_lt 0 (count_of (λ e. nat_eq e.lane lane) (drop n entries)))
 lane_end_test lane n entries =
     let test : Entry → Bool = λ e. nat_eq e.lane lane in
     elim (bool_cases (nat_lt 0 (count_of test (drop n entries)))) [
@@ -205,7 +210,8 @@ ended_at what entries p e within is =
     ap (counted_end what) (take_more entries p e within ∙ ap (λ x. take p entries ++ x ∷ []) (sym is)) ∙ end_more 0 0 test (take p entries) e
     ∙ ap (λ n. if test e then n else counted_end what (take p entries)) place
 
-pub last_here : (what : Ask) (entries : List Entry) (place : ℕ) (e : Entry) → 0 < place → place ≤ length entries → e ≡ get_or entries (place - 1) e → counts_for e what ≡ true →
+pub last_here : (what : Ask) (entries : List Entry) (place : ℕ) (e : Entry) → 0 < place → place ≤ length entries → e ≡ get_or entries (place - 1) e →
+    counts_for e what ≡ true →
     counted_end what (take place entries) ≡ counted_end what entries → place - 1 + 1 ≡ counted_end what entries
 last_here what entries place e some within is hit so_far =
     let next : place - 1 + 1 ≡ place = omega arith in
@@ -213,7 +219,8 @@ last_here what entries place e some within is hit so_far =
     sym (ended ∙ ap (λ b. if b then place - 1 + 1 else counted_end what (take (place - 1) entries)) hit)
     ∙ ap (λ n. counted_end what (take n entries)) next ∙ so_far
 
-pub last_before : (what : Ask) (entries : List Entry) (place : ℕ) (e : Entry) → 0 < place → place ≤ length entries → e ≡ get_or entries (place - 1) e → counts_for e what ≡ false →
+pub last_before : (what : Ask) (entries : List Entry) (place : ℕ) (e : Entry) → 0 < place → place ≤ length entries → e ≡ get_or entries (place - 1) e →
+    counts_for e what ≡ false →
     counted_end what (take place entries) ≡ counted_end what entries → counted_end what (take (place - 1) entries) ≡ counted_end what entries
 last_before what entries place e some within is miss so_far =
     let next : place - 1 + 1 ≡ place = omega arith in
@@ -221,7 +228,8 @@ last_before what entries place e some within is miss so_far =
     sym (ended ∙ ap (λ b. if b then place - 1 + 1 else counted_end what (take (place - 1) entries)) miss)
     ∙ ap (λ n. counted_end what (take n entries)) next ∙ so_far
 
-pub last_nowhere : (what : Ask) (entries : List Entry) (place : ℕ) → place ≤ 0 → 1 ≤ counted what entries → counted_end what (take place entries) ≡ counted_end what entries → ⊥
+pub last_nowhere : (what : Ask) (entries : List Entry) (place : ℕ) → place ≤ 0 → 1 ≤ counted what entries →
+    counted_end what (take place entries) ≡ counted_end what entries → ⊥
 last_nowhere what entries place none some so_far =
     let at_start : place ≡ 0 = omega arith in
     let nothing : counted_end what (take place entries) ≡ 0 = ap (λ n. counted_end what (take n entries)) at_start in
@@ -230,18 +238,24 @@ last_nowhere what entries place none some so_far =
 
 -- ---- a desk with one more entry of its own
 
-pub serve_keeps : (d : DeskShape) (places new : List ℕ) (j : Job) (v : Verdict) (given : Reply) (entries : List Entry) (b : BoardShape) (spare : ℕ) (loss : Loss) → IsDesk d places →
-    j.lane < d.lanes → j.lane < length places → next_job d j.lane ≡ Some j → IsDecided d.board j.ask v given → state_on b ≡ state_after_step (state_on d.board) j.ask given →
-    d.board.cases.spare ≤ b.cases.spare + 1 → d.spare ≤ spare + 1 → entries ≡ d.entries ++ entry_for j (length d.entries) given ∷ [] → loss ≡ no_loss → HasMoved d.jobs places new j.lane →
+pub serve_keeps : (d : DeskShape) (places new : List ℕ) (j : Job) (v : Verdict) (given : Reply) (entries : List Entry) (b : BoardShape) (spare : ℕ)
+    (loss : Loss) → IsDesk d places →
+    j.lane < d.lanes → j.lane < length places → next_job d j.lane ≡ Some j → IsDecided d.board j.ask v given →
+    state_on b ≡ state_after_step (state_on d.board) j.ask given →
+    d.board.cases.spare ≤ b.cases.spare + 1 → d.spare ≤ spare + 1 → entries ≡ d.entries ++ entry_for j (length d.entries) given ∷ [] → loss ≡ no_loss →
+    HasMoved d.jobs places new j.lane →
     IsDesk (with_parts d j.lane entries b spare loss) new
 serve_keeps d places new j v given entries b spare loss is known sized next decided state cases room added none moved =
     let few = is.few in
     desk_added d places new (entry_for j (length d.entries) given) entries b spare loss is
     (λ place goes_on. step_grows d places j v given b spare place is next decided state (omega (arith, few, known)) sized room cases goes_on) added none moved
 
-pub again_keeps : (d : DeskShape) (places new : List ℕ) (t : Task) (j : Job) (place : ℕ) (entries : List Entry) (spare : ℕ) (loss : Loss) → IsDesk d places → j ≡ job_of_task t →
-    t.lane < d.lanes → j.lane < length places → IsNext d t → is_fresh d t ≡ false → is_lost d t ≡ true → is_last_round d t.lane ≡ true → place + 1 ≡ counted_end j.ask d.entries →
-    d.spare ≤ spare + 1 → entries ≡ d.entries ++ entry_for j (length d.entries) (reply.Again d.rounds place) ∷ [] → loss ≡ no_loss → HasMoved d.jobs places new j.lane →
+pub again_keeps : (d : DeskShape) (places new : List ℕ) (t : Task) (j : Job) (place : ℕ) (entries : List Entry) (spare : ℕ) (loss : Loss) →
+    IsDesk d places → j ≡ job_of_task t →
+    t.lane < d.lanes → j.lane < length places → IsNext d t → is_fresh d t ≡ false → is_lost d t ≡ true → is_last_round d t.lane ≡ true →
+    place + 1 ≡ counted_end j.ask d.entries →
+    d.spare ≤ spare + 1 → entries ≡ d.entries ++ entry_for j (length d.entries) (reply.Again d.rounds place) ∷ [] → loss ≡ no_loss →
+    HasMoved d.jobs places new j.lane →
     IsDesk (with_parts d j.lane entries d.board spare loss) new
 again_keeps d places new t j place entries spare loss is same known sized next stale lost last end room added none moved =
     let few = is.few in
@@ -249,9 +263,11 @@ again_keeps d places new t j place entries spare loss is same known sized next s
     let e = entry_for job (length d.entries) (reply.Again d.rounds place) in
     subst (λ k. IsDesk (with_parts d k.lane entries d.board spare loss) new) (sym same)
     (desk_added d places new e entries d.board spare loss is
-    (λ next_place goes_on. again_grows d places t place spare next_place is next stale lost last (subst (λ k. place + 1 ≡ counted_end k.ask d.entries) same end) (omega (arith, few, known))
+    (λ next_place goes_on. again_grows d places t place spare next_place is next stale lost last
+    (subst (λ k. place + 1 ≡ counted_end k.ask d.entries) same end) (omega (arith, few, known))
     (subst (λ k. k.lane < length places) same sized) room goes_on)
-    (subst (λ k. entries ≡ d.entries ++ entry_for k (length d.entries) (reply.Again d.rounds place) ∷ []) same added) none (subst (λ k. HasMoved d.jobs places new k.lane) same moved))
+    (subst (λ k. entries ≡ d.entries ++ entry_for k (length d.entries) (reply.Again d.rounds place) ∷ []) same added) none
+    (subst (λ k. HasMoved d.jobs places new k.lane) same moved))
 
 -- something counts where a task is stale
 pub stale_counts : (d : DeskShape) (t : Task) (j : Job) → j ≡ job_of_task t → is_fresh d t ≡ false → 1 ≤ counted j.ask d.entries
@@ -260,7 +276,8 @@ stale_counts d t j same stale =
     let later = count_later (λ e. counts_for e t.ask) d.entries 0 t.number (omega arith) in
     subst (λ k. 1 ≤ counted k.ask d.entries) (sym same) (omega (arith, some, later))
 
-pub lose_keeps : (d : DeskShape) (places : List ℕ) (t : Task) (end : ℕ) → IsDesk d places → end ≡ length d.entries → IsNext d t → is_fresh d t ≡ false → is_lost d t ≡ true →
+pub lose_keeps : (d : DeskShape) (places : List ℕ) (t : Task) (end : ℕ) → IsDesk d places → end ≡ length d.entries → IsNext d t → is_fresh d t ≡ false →
+    is_lost d t ≡ true →
     IsDesk (record d { losses = slice_set d.losses t.lane (record { count = (loss_of d.losses t.lane).count + 1; end = end }) }) places
 lose_keeps d places t end is same next stale lost =
     subst (λ n. IsDesk (record d { losses = slice_set d.losses t.lane (record { count = (loss_of d.losses t.lane).count + 1; end = n }) }) places) (sym same)
@@ -290,7 +307,8 @@ pub floor_test : (d : DeskShape) (lane n : ℕ) → max d.start (loss_of d.losse
     not (nat_lt 0 (count_of (λ e. nat_eq e.lane lane) (drop n d.entries))) ≡ nat_le (floor_of d lane) n
 floor_test d lane n before =
     sym (lane_end_test lane n d.entries)
-    ∙ same_by (nat_le (lane_end lane d.entries) n) (nat_le (floor_of d lane) n) (λ within. grind (arith, common_steps, before)) (λ within. grind (arith, common_steps, before))
+    ∙ same_by (nat_le (lane_end lane d.entries) n) (nat_le (floor_of d lane) n) (λ within. grind (arith, common_steps, before))
+    (λ within. grind (arith, common_steps, before))
 
 pub floor_over : (d : DeskShape) (lane n : ℕ) → n < max d.start (loss_of d.losses lane).end → false ≡ nat_le (floor_of d lane) n
 floor_over d lane n over = grind (arith, common_steps, over)
@@ -306,7 +324,8 @@ fresh_test d t none = by_count (counted t.ask (drop t.number d.entries)) none
 
 -- ---- what became of a task
 
-added_as : (d e : DeskShape) (j : Job) (place : ℕ) (P Q : Reply → Type 0) → ((given : Reply) → P given → Q given) → HasAdded d e j place P → HasAdded d e j place Q
+added_as : (d e : DeskShape) (j : Job) (place : ℕ) (P Q : Reply → Type 0) → ((given : Reply) → P given → Q given) → HasAdded d e j place P →
+    HasAdded d e j place Q
 added_as d e j place P Q as_well added = record {
   entry = added.entry;
   last = added.last;
@@ -325,7 +344,8 @@ added_as d e j place P Q as_well added = record {
 }
 
 -- where its verdict is none that decides
-pub checked_none : (d e : DeskShape) (t : Task) (v : Verdict) (out : Outcome) → IsNext d t → ¬ IsCertified (state_on d.board).book t.ask v → HasCommittedNone d e t out →
+pub checked_none : (d e : DeskShape) (t : Task) (v : Verdict) (out : Outcome) → IsNext d t → ¬ IsCertified (state_on d.board).book t.ask v →
+    HasCommittedNone d e t out →
     HasCommittedChecked d e t v out
 checked_none d e t v outcome.NotNext next none has = absurd has
 checked_none d e t v outcome.Lost next none has = (next, (none, has))

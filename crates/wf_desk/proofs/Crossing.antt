@@ -22,7 +22,13 @@ desk_send =
           search sendable,
           (
             board_send,
-            (journal_send, (search (list_send, job_send) depth 20, (search sendable, (search sendable, (search (sendable, loss_send) depth 20, (search sendable depth 20, tt)))))),
+            (
+              journal_send,
+              (
+                search (list_send, job_send) depth 20,
+                (search sendable, (search sendable, (search (sendable, loss_send) depth 20, (search sendable depth 20, tt)))),
+              ),
+            ),
           ),
         ),
       ),

@@ -1,5 +1,6 @@
 -- A desk keeps what it is with one more entry, with one more loss, and with another batch.
-use Rattle.std.proofs.Common.{◌≡◌, ◌≢◌, ℕ, zero, suc, ◌+◌, ◌<◌, ◌≤◌, inl, inr, max, Bool, true, false, nat_eq, List, [], ◌∷◌, ◌++◌, length, take, drop, get_or, set, replicate, slice_get, slice_set, slice_index_or, Some, refl, sym, ap, subst, ◌∙◌, arith, if◌then◌else◌}
+use Rattle.std.proofs.Common.{◌≡◌, ◌≢◌, ℕ, zero, suc, ◌+◌, ◌<◌, ◌≤◌, inl, inr, max, Bool, true, false, nat_eq, List, [], ◌∷◌, ◌++◌, length, take, drop, get_or}
+use Rattle.std.proofs.Common.{set, replicate, slice_get, slice_set, slice_index_or, Some, refl, sym, ap, subst, ◌∙◌, arith, if◌then◌else◌}
 use Rattle.std.proofs.lemmas.Grind.{common_steps}
 use Rattle.std.proofs.lemmas.List.{drop-append-le, length-append, get_or-set_same, get_or-set_other, take_more}
 use Rattle.std.proofs.lemmas.Option.{get_or_from_slice_get, slice_get_within}
@@ -70,14 +71,16 @@ end_other entries e lane other =
     end_more 0 0 (λ x. nat_eq x.lane lane) entries e ∙ ap (λ b. if b then 0 + length entries + 1 else lane_end lane entries) other
 
 -- another lane's entry adds the same to both sides
-other_rests : (d : DeskShape) (e : Entry) (b : BoardShape) (spare lane : ℕ) (what : Ask) → d.start ≤ length d.entries → (loss_of d.losses lane).end ≤ length d.entries →
+other_rests : (d : DeskShape) (e : Entry) (b : BoardShape) (spare lane : ℕ) (what : Ask) → d.start ≤ length d.entries →
+    (loss_of d.losses lane).end ≤ length d.entries →
     nat_eq e.lane lane ≡ false → LossRests d lane what → LossRests (with_entry d e b spare) lane what
 other_rests d e b spare lane what begun ends other rests =
     let new = with_entry d e b spare in
     let test : Entry → Bool = λ x. counts_for x what in
     let loss = loss_other d.losses e.lane lane no_loss other in
     let own : own_start new lane ≡ own_start d lane = ap (λ n. max n d.start) (end_other d.entries e lane other) in
-    let floor : floor_of new lane ≡ floor_of d lane = ap (λ n. max n (loss_of new.losses lane).end) own ∙ ap (λ (l : Loss). max (own_start d lane) l.end) loss in
+    let floor : floor_of new lane ≡ floor_of d lane = ap (λ n. max n (loss_of new.losses lane).end) own ∙
+    ap (λ (l : Loss). max (own_start d lane) l.end) loss in
     let count = ap (λ (l : Loss). l.count) loss in
     let above = ap (λ n. counted what (drop n new.entries)) floor ∙ count_from_more test (floor_of d lane) d.entries e (floor_within d lane begun ends) in
     let all = ap (λ n. counted what (drop n new.entries)) own ∙ count_from_more test (own_start d lane) d.entries e (own_within d lane begun) in
@@ -108,8 +111,10 @@ front_grown d places e b spare place lane is grows = elim (bool_cases (nat_eq e.
   | inl own ↦
       let same : e.lane ≡ lane = eq_back e.lane lane own in
       let more = served_own d.start d.entries e lane is.sound.begun same in
-      let next : slice_get (lane_jobs lane d.jobs) (length (served d lane)) ≡ Some (job_of_entry e) = subst (λ n. next_job d n ≡ Some (job_of_entry e)) same grows.next in
-      subst (λ js. js ≡ take (length js) (lane_jobs lane d.jobs)) (sym more) (front_more (served d lane) (lane_jobs lane d.jobs) (job_of_entry e) (is.sound.front lane) next)
+      let next : slice_get (lane_jobs lane d.jobs) (length (served d lane)) ≡ Some (job_of_entry e) =
+      subst (λ n. next_job d n ≡ Some (job_of_entry e)) same grows.next in
+      subst (λ js. js ≡ take (length js) (lane_jobs lane d.jobs)) (sym more)
+      (front_more (served d lane) (lane_jobs lane d.jobs) (job_of_entry e) (is.sound.front lane) next)
   | inr other ↦
       subst (λ js. js ≡ take (length js) (lane_jobs lane d.jobs)) (sym (served_other d.start d.entries e lane is.sound.begun other)) (is.sound.front lane)
 ]
@@ -123,7 +128,8 @@ sound_grown d places e b spare place is grows = record {
   front = λ lane. front_grown d places e b spare place lane is grows;
   rests = rests_more d.start d.entries e is.sound.begun is.sound.rests grows.rests;
   kept = let kept = is.sound.kept in omega (arith, kept, length-append d.entries (e ∷ []));
-  wants = subst AreRightful (sym (drop-append-le d.restored d.entries (e ∷ []) is.sound.kept)) (wants_more (drop d.restored d.entries) e is.sound.wants grows.want);
+  wants = subst AreRightful (sym (drop-append-le d.restored d.entries (e ∷ []) is.sound.kept))
+      (wants_more (drop d.restored d.entries) e is.sound.wants grows.want);
   room = let old = is.sound.room in let cases = grows.cases in omega (arith, old, cases, length-append d.entries (e ∷ []));
 }
 
@@ -135,7 +141,8 @@ own_place d places e b spare place is grows =
     let job = job_of_entry e in
     let stands : slice_get d.jobs from ≡ Some job = sym (next_at d e.lane from old) ∙ grows.next in
     let taken : take (from + 1) d.jobs ≡ take from d.jobs ++ job ∷ [] =
-    take_more d.jobs from job (slice_get_within d.jobs from job stands) ∙ ap (λ j. take from d.jobs ++ j ∷ []) (get_or_from_slice_get d.jobs from job job stands) in
+    take_more d.jobs from job (slice_get_within d.jobs from job stands) ∙
+    ap (λ j. take from d.jobs ++ j ∷ []) (get_or_from_slice_get d.jobs from job job stands) in
     record {
       within = grows.moved.within;
       before = served_own d.start d.entries e e.lane is.sound.begun refl ∙ ap (λ js. js ++ job ∷ []) old.before
@@ -144,13 +151,15 @@ own_place d places e b spare place is grows =
       here = grows.moved.here;
     }
 
-place_grown : (d : DeskShape) (places : List ℕ) (e : Entry) (b : BoardShape) (spare place lane : ℕ) → IsDesk d places → Grows d places e b spare place → lane < LANE_LIMIT →
+place_grown : (d : DeskShape) (places : List ℕ) (e : Entry) (b : BoardShape) (spare place lane : ℕ) → IsDesk d places → Grows d places e b spare place →
+    lane < LANE_LIMIT →
     IsLanePlace (with_entry d e b spare) lane (slice_index_or (slice_set places e.lane place) lane 0)
 place_grown d places e b spare place lane is grows known = elim (bool_cases (nat_eq e.lane lane)) [
   | inl own ↦
       let same : e.lane ≡ lane = eq_back e.lane lane own in
       subst (λ n. IsLanePlace (with_entry d e b spare) n (slice_index_or (slice_set places e.lane place) n 0)) same
-      (subst (IsLanePlace (with_entry d e b spare) e.lane) (sym (get_or-set_same places e.lane place 0 grows.sized)) (own_place d places e b spare place is grows))
+      (subst (IsLanePlace (with_entry d e b spare) e.lane) (sym (get_or-set_same places e.lane place 0 grows.sized))
+      (own_place d places e b spare place is grows))
   | inr other ↦
       let old = is.placed lane known in
       subst (IsLanePlace (with_entry d e b spare) lane) (sym (get_or-set_other places e.lane lane place 0 (differs e.lane lane other))) record {
@@ -160,7 +169,8 @@ place_grown d places e b spare place lane is grows known = elim (bool_cases (nat
       }
 ]
 
-ends_grown : (d : DeskShape) (places : List ℕ) (e : Entry) (b : BoardShape) (spare lane : ℕ) → IsDesk d places → (loss_of (slice_set d.losses e.lane no_loss) lane).end ≤ length (d.entries ++ e ∷ [])
+ends_grown : (d : DeskShape) (places : List ℕ) (e : Entry) (b : BoardShape) (spare lane : ℕ) → IsDesk d places →
+    (loss_of (slice_set d.losses e.lane no_loss) lane).end ≤ length (d.entries ++ e ∷ [])
 ends_grown d places e b spare lane is = elim (bool_cases (nat_eq e.lane lane)) [
   | inl own ↦
       let same : e.lane ≡ lane = eq_back e.lane lane own in
@@ -172,7 +182,8 @@ ends_grown d places e b spare lane is = elim (bool_cases (nat_eq e.lane lane)) [
       omega (arith, old, same, length-append d.entries (e ∷ []))
 ]
 
-losses_grown : (d : DeskShape) (places : List ℕ) (e : Entry) (b : BoardShape) (spare lane : ℕ) (j : Job) → IsDesk d places → next_job (with_entry d e b spare) lane ≡ Some j →
+losses_grown : (d : DeskShape) (places : List ℕ) (e : Entry) (b : BoardShape) (spare lane : ℕ) (j : Job) → IsDesk d places →
+    next_job (with_entry d e b spare) lane ≡ Some j →
     LossRests (with_entry d e b spare) lane j.ask
 losses_grown d places e b spare lane j is next = elim (bool_cases (nat_eq e.lane lane)) [
   | inl own ↦
@@ -223,7 +234,8 @@ lost_ends d places lane other is = elim (bool_cases (nat_eq lane other)) [
 abbrev rests_by : DeskShape → ℕ → Ask → Loss → Type 0
 rests_by d lane what loss = loss.count + counted what (drop (max (own_start d lane) loss.end) d.entries) ≤ counted what (drop (own_start d lane) d.entries)
 
-lost_own : (d : DeskShape) (lane : ℕ) (what : Ask) → 1 ≤ counted what (drop (floor_of d lane) d.entries) → LossRests d lane what → LossRests (with_loss d lane) lane what
+lost_own : (d : DeskShape) (lane : ℕ) (what : Ask) → 1 ≤ counted what (drop (floor_of d lane) d.entries) → LossRests d lane what →
+    LossRests (with_loss d lane) lane what
 lost_own d lane what some rests =
     let test : Entry → Bool = λ x. counts_for x what in
     let own = own_start d lane in
@@ -231,21 +243,33 @@ lost_own d lane what some rests =
     (let past = count_past test d.entries (max own (length d.entries)) (omega arith) in omega (arith, past, some, rests))
     (let later = count_later test d.entries own (max own 0) (omega arith) in omega (arith, later))
 
-lost_losses : (d : DeskShape) (places : List ℕ) (lane : ℕ) (what : Ask) (other : ℕ) (j : Job) → IsDesk d places → MayLose d lane what → next_job d other ≡ Some j →
+lost_losses : (d : DeskShape) (places : List ℕ) (lane : ℕ) (what : Ask) (other : ℕ) (j : Job) → IsDesk d places → MayLose d lane what →
+    next_job d other ≡ Some j →
     LossRests (with_loss d lane) other j.ask
 lost_losses d places lane what other j is may next = elim (bool_cases (nat_eq lane other)) [
   | inl own ↦
       let same : other ≡ lane = sym (eq_back lane other own) in
       let asks : j.ask ≡ what = may.next j (subst (λ n. next_job d n ≡ Some j) same next) in
       subst (λ n. LossRests (with_loss d lane) n j.ask) (sym same)
-      (lost_own d lane j.ask (subst (λ a. 1 ≤ counted a (drop (floor_of d lane) d.entries)) (sym asks) may.some) (subst (λ n. LossRests d n j.ask) same (is.losses other j next)))
+      (lost_own d lane j.ask (subst (λ a. 1 ≤ counted a (drop (floor_of d lane) d.entries)) (sym asks) may.some)
+      (subst (λ n. LossRests d n j.ask) same (is.losses other j next)))
   | inr away ↦ subst (rests_by d other j.ask) (sym (loss_other d.losses lane other (lost_now d lane) away)) (is.losses other j next)
 ]
 
 -- with one more loss
 pub desk_lost : (d : DeskShape) (places : List ℕ) (lane : ℕ) (what : Ask) → IsDesk d places → MayLose d lane what → IsDesk (with_loss d lane) places
 desk_lost d places lane what is may = record {
-  sound = record { legal = is.sound.legal; state = is.sound.state; begun = is.sound.begun; front = is.sound.front; rests = is.sound.rests; kept = is.sound.kept; wants = is.sound.wants; room = is.sound.room };
+  sound = record {
+    legal = is.sound.legal;
+    state = is.sound.state;
+    begun = is.sound.begun;
+    front = is.sound.front;
+    rests = is.sound.rests;
+    kept =
+        is.sound.kept;
+    wants = is.sound.wants;
+    room = is.sound.room;
+  };
   few = is.few;
   of_lanes = is.of_lanes;
   room = is.room;

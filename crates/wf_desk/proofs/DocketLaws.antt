@@ -1,7 +1,9 @@
 -- The lanes of a docket, job after job.
-use Rattle.std.proofs.Common.{◌≡◌, ℕ, zero, suc, ◌+◌, ◌-◌, ◌<◌, ◌≤◌, inl, inr, false, nat_eq, List, [], ◌∷◌, ◌++◌, length, take, drop, map, get_or, slice_get, IfSome, None, Some, refl, sym, ap, subst, ◌∙◌, arith, append-nil}
+use Rattle.std.proofs.Common.{◌≡◌, ℕ, zero, suc, ◌+◌, ◌-◌, ◌<◌, ◌≤◌, inl, inr, false, nat_eq, List, [], ◌∷◌, ◌++◌, length, take, drop, map, get_or, slice_get}
+use Rattle.std.proofs.Common.{IfSome, None, Some, refl, sym, ap, subst, ◌∙◌, arith, append-nil}
 use Rattle.std.proofs.lemmas.Grind.{common_steps}
-use Rattle.std.proofs.lemmas.List.{map-append, length-map, length-append, length-drop, take-append-drop, drop-append-le, take_more, take_rest, take_all, length-take-le}
+use Rattle.std.proofs.lemmas.List.{map-append, length-map, length-append, length-drop, take-append-drop, drop-append-le, take_more, take_rest, take_all}
+use Rattle.std.proofs.lemmas.List.{length-take-le}
 use Rattle.std.proofs.lemmas.List.Elements.{filter-append}
 use Rattle.std.proofs.lemmas.Option.{slice_get_within, get_or_from_slice_get}
 use Rattle.std.proofs.Math.ListN.{drop_of_length-le}
@@ -123,7 +125,8 @@ next_lane lane n (x ∷ xs) j next = elim (bool_cases (nat_eq x.lane lane)) [
   | inr other ↦ next_lane lane n xs j (rw other at next)
 ]
   where
-    first_lane : (m : ℕ) → slice_get (x ∷ lane_jobs lane xs) m ≡ Some j → x.lane ≡ lane → ((k : ℕ) → slice_get (lane_jobs lane xs) k ≡ Some j → j.lane ≡ lane) → j.lane ≡ lane
+    first_lane : (m : ℕ) → slice_get (x ∷ lane_jobs lane xs) m ≡ Some j → x.lane ≡ lane →
+        ((k : ℕ) → slice_get (lane_jobs lane xs) k ≡ Some j → j.lane ≡ lane) → j.lane ≡ lane
     first_lane zero is own later = let same : x ≡ j = cc in ap (λ (k : Job). k.lane) (sym same) ∙ own
     first_lane (suc m) is own later = later m is
 
@@ -146,7 +149,8 @@ pub batch_short : (d : DeskShape) (lane : ℕ) (j : Job) → d.start ≤ length 
     length d.entries < d.start + length d.jobs
 batch_short d lane j begun front next =
     let done = map job_of_entry (drop d.start d.entries) in
-    let short = fronts_short (λ (k : Job). k.lane) lane done d.jobs (lanes_front d front) (slice_get_within (lane_jobs lane d.jobs) (length (served d lane)) j next) in
+    let short = fronts_short (λ (k : Job). k.lane) lane done d.jobs (lanes_front d front)
+    (slice_get_within (lane_jobs lane d.jobs) (length (served d lane)) j next) in
     let size = length-map (drop d.start d.entries) job_of_entry in
     omega (arith, short, size, begun, length-drop d.start d.entries)
 
@@ -173,17 +177,23 @@ none_past [] n none = omega arith
 none_past (x ∷ xs) zero none = absurd (cc)
 none_past (x ∷ xs) (suc n) none = let rest = none_past xs n none in omega (arith, rest)
 
-lane_done : (d : DeskShape) (lane : ℕ) → served d lane ≡ take (length (served d lane)) (lane_jobs lane d.jobs) → next_job d lane ≡ None → served d lane ≡ lane_jobs lane d.jobs
-lane_done d lane front none = front ∙ take_all (length (served d lane)) (lane_jobs lane d.jobs) (none_past (lane_jobs lane d.jobs) (length (served d lane)) none)
+lane_done : (d : DeskShape) (lane : ℕ) → served d lane ≡ take (length (served d lane)) (lane_jobs lane d.jobs) → next_job d lane ≡ None →
+    served d lane ≡ lane_jobs lane d.jobs
+lane_done d lane front none = front ∙
+    take_all (length (served d lane)) (lane_jobs lane d.jobs) (none_past (lane_jobs lane d.jobs) (length (served d lane)) none)
 
 -- where no lane has a job left, the entries of the batch answer its jobs
 pub all_done : (d : DeskShape) → d.start ≤ length d.entries → ((lane : ℕ) → served d lane ≡ take (length (served d lane)) (lane_jobs lane d.jobs)) →
-    EachAfter (RestsFrom d.start) (take d.start d.entries) (drop d.start d.entries) → IsDone d → AnswersBatch (take d.start d.entries) (drop d.start d.entries) d.jobs
+    EachAfter (RestsFrom d.start) (take d.start d.entries) (drop d.start d.entries) → IsDone d →
+    AnswersBatch (take d.start d.entries) (drop d.start d.entries) d.jobs
 all_done d begun front rests done =
     let same : (lane : ℕ) → served d lane ≡ lane_jobs lane d.jobs = λ lane. lane_done d lane (front lane) (done lane) in
     let answered = map job_of_entry (drop d.start d.entries) in
     let back : Fronts (λ (j : Job). j.lane) d.jobs answered =
-    record { front = λ lane. subst (λ js. take (length (lane_jobs lane d.jobs)) js ≡ lane_jobs lane d.jobs) (sym (same lane)) (take-length (lane_jobs lane d.jobs)) } in
+    record {
+      front =
+          λ lane. subst (λ js. take (length (lane_jobs lane d.jobs)) js ≡ lane_jobs lane d.jobs) (sym (same lane)) (take-length (lane_jobs lane d.jobs));
+    } in
     let above = fronts_within (λ (j : Job). j.lane) d.jobs answered back in
     let below = fronts_within (λ (j : Job). j.lane) answered d.jobs (lanes_front d front) in
     let size = length-map (drop d.start d.entries) job_of_entry in

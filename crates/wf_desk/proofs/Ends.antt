@@ -10,7 +10,8 @@ ends_last ends x =
     let one_more : length (ends ++ x ∷ []) ≡ suc (length ends) = omega (arith, length-append ends (x ∷ [])) in
     ap (batch_start (ends ++ x ∷ [])) one_more ∙ get_or-append_seam ends x [] 0
 
-end_within : (ends : List ℕ) (x k n : ℕ) → ((k : ℕ) → k < length ends → batch_end ends k ≤ n) → x ≤ n → k < length (ends ++ x ∷ []) → batch_end (ends ++ x ∷ []) k ≤ n
+end_within : (ends : List ℕ) (x k n : ℕ) → ((k : ℕ) → k < length ends → batch_end ends k ≤ n) → x ≤ n → k < length (ends ++ x ∷ []) →
+    batch_end (ends ++ x ∷ []) k ≤ n
 end_within [] x zero n within last lt = last
 end_within [] x (suc k) n within last lt = absurd (omega (arith, lt))
 end_within (e ∷ ends) x zero n within last lt = within zero (omega arith)

@@ -28,7 +28,8 @@ own_lane key lane (x ∷ xs) = elim (bool_cases (nat_eq (key x) lane)) [
   | inr miss ↦ rw (miss, miss) (own_lane key lane xs)
 ]
 
-other_lane : {A : Type 0} (key : A → ℕ) (lane other : ℕ) (xs : List A) → nat_eq other lane ≡ false → of_lane key other (without key lane xs) ≡ of_lane key other xs
+other_lane : {A : Type 0} (key : A → ℕ) (lane other : ℕ) (xs : List A) → nat_eq other lane ≡ false →
+    of_lane key other (without key lane xs) ≡ of_lane key other xs
 other_lane key lane other [] differ = refl
 other_lane key lane other (x ∷ xs) differ = elim (bool_cases (nat_eq (key x) lane)) [
   | inl hit ↦ let miss : nat_eq (key x) other ≡ false = grind (arith, common_steps) in rw (hit, miss) refl
@@ -86,7 +87,8 @@ rest_length [] some = omega (arith, some)
 rest_length (x ∷ xs) some = omega arith
 
 -- where in one lane fewer are done than there are, fewer are done of all
-pub fronts_short : {A : Type 0} (key : A → ℕ) (lane : ℕ) (done all : List A) → Fronts key done all → length (of_lane key lane done) < length (of_lane key lane all)
+pub fronts_short : {A : Type 0} (key : A → ℕ) (lane : ℕ) (done all : List A) → Fronts key done all →
+    length (of_lane key lane done) < length (of_lane key lane all)
     → length done < length all
 fronts_short key lane [] [] fronts short = omega (arith, short)
 fronts_short key lane [] (y ∷ all) fronts short = omega arith

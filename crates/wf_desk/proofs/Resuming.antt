@@ -1,5 +1,6 @@
 -- A desk that goes on from entries that stand already.
-use Rattle.std.proofs.Common.{◌≡◌, ℕ, zero, suc, ◌+◌, ◌<◌, ◌≤◌, inl, inr, false, nat_eq, nat_lt, List, [], ◌∷◌, ◌++◌, length, take, drop, get_or, map, slice_get, slice_index_or, slice_set, Option, None, Some, refl, sym, ap, subst, ◌∙◌, arith}
+use Rattle.std.proofs.Common.{◌≡◌, ℕ, zero, suc, ◌+◌, ◌<◌, ◌≤◌, inl, inr, false, nat_eq, nat_lt, List, [], ◌∷◌, ◌++◌, length, take, drop, get_or, map}
+use Rattle.std.proofs.Common.{slice_get, slice_index_or, slice_set, Option, None, Some, refl, sym, ap, subst, ◌∙◌, arith}
 use Rattle.std.proofs.lemmas.Grind.{common_steps}
 use Rattle.std.proofs.lemmas.List.{drop_all, drop_more, get_or-set_other, get_or-set_same, length-append, map-append, take-append-drop, take_more}
 use Rattle.std.proofs.lemmas.Option.{get_or_from_slice_get, slice_get_within}
@@ -23,7 +24,8 @@ use Rattle.wf_desk.proofs.DeskLaws.{differs, fresh_rests, same_all}
 pub first_behind : (jobs : List Job) (lane place : ℕ) → IsNextPlace jobs lane 0 place → IsPlaceBehind jobs [] lane place
 first_behind jobs lane place first = record { within = first.within; before = sym first.same; here = first.here }
 
-own_behind : (jobs : List Job) (entries : List Entry) (e : Entry) (from place : ℕ) → IsPlaceBehind jobs entries e.lane from → slice_get jobs from ≡ Some (job_of_entry e) →
+own_behind : (jobs : List Job) (entries : List Entry) (e : Entry) (from place : ℕ) → IsPlaceBehind jobs entries e.lane from →
+    slice_get jobs from ≡ Some (job_of_entry e) →
     IsNextPlace jobs e.lane (from + 1) place → IsPlaceBehind jobs (entries ++ e ∷ []) e.lane place
 own_behind jobs entries e from place old stands moved =
     let job = job_of_entry e in
@@ -48,7 +50,8 @@ other_behind jobs entries e lane place other old = record {
 -- each lane's place, where one lane goes on
 pub places_on : (jobs : List Job) (entries : List Entry) (places : List ℕ) (e : Entry) (place lane : ℕ) →
     ((lane : ℕ) → lane < LANE_LIMIT → IsPlaceBehind jobs entries lane (slice_index_or places lane 0)) → e.lane < LANE_LIMIT → e.lane < length places →
-    slice_get jobs (slice_index_or places e.lane 0) ≡ Some (job_of_entry e) → IsNextPlace jobs e.lane (slice_index_or places e.lane 0 + 1) place → lane < LANE_LIMIT →
+    slice_get jobs (slice_index_or places e.lane 0) ≡ Some (job_of_entry e) → IsNextPlace jobs e.lane (slice_index_or places e.lane 0 + 1) place →
+    lane < LANE_LIMIT →
     IsPlaceBehind jobs (entries ++ e ∷ []) lane (slice_index_or (slice_set places e.lane place) lane 0)
 places_on jobs entries places e place lane placed own_known sized stands moved known = elim (bool_cases (nat_eq e.lane lane)) [
   | inl own ↦
@@ -95,7 +98,8 @@ job_is jobs entries i e first within is =
     (ap (λ js. slice_get js (length front)) (sym (first lane) ∙ whole) ∙ get_behind front rest job)
 
 -- so its lane is known
-pub lane_known : (jobs : List Job) (entries : List Entry) (i : ℕ) (e : Entry) → AreOfLanes LANE_LIMIT jobs → AnswersFirst jobs entries → i < length entries → e ≡ get_or entries i e →
+pub lane_known : (jobs : List Job) (entries : List Entry) (i : ℕ) (e : Entry) → AreOfLanes LANE_LIMIT jobs → AnswersFirst jobs entries →
+    i < length entries → e ≡ get_or entries i e →
     e.lane < LANE_LIMIT
 lane_known jobs entries i e of_lanes first within is = elim (bool_cases (nat_lt e.lane LANE_LIMIT)) [
   | inl known ↦ grind (arith, common_steps)
@@ -106,7 +110,8 @@ lane_known jobs entries i e of_lanes first within is = elim (bool_cases (nat_lt 
 ]
 
 -- and its job stands at its lane's place
-pub job_stands : (jobs : List Job) (entries : List Entry) (i : ℕ) (e : Entry) (place : ℕ) → AnswersFirst jobs entries → i < length entries → e ≡ get_or entries i e →
+pub job_stands : (jobs : List Job) (entries : List Entry) (i : ℕ) (e : Entry) (place : ℕ) → AnswersFirst jobs entries → i < length entries →
+    e ≡ get_or entries i e →
     IsPlaceBehind jobs (take i entries) e.lane place → slice_get jobs place ≡ Some (job_of_entry e)
 job_stands jobs entries i e place first within is behind =
     sym (next_there jobs (answered_of (take i entries) e.lane) e.lane place behind.before behind.here) ∙ job_is jobs entries i e first within is
@@ -134,7 +139,8 @@ pub place_within : (jobs : List Job) (entries : List Entry) (i : ℕ) (e : Entry
     i < length entries → e ≡ get_or entries i e → ArePlacesBehind jobs (take i entries) places → slice_index_or places e.lane 0 < length jobs
 place_within jobs entries i e places of_lanes first within is placed =
     let own = lane_known jobs entries i e of_lanes first within is in
-    slice_get_within jobs (slice_index_or places e.lane 0) (job_of_entry e) (job_stands jobs entries i e (slice_index_or places e.lane 0) first within is (placed e.lane own))
+    slice_get_within jobs (slice_index_or places e.lane 0) (job_of_entry e)
+    (job_stands jobs entries i e (slice_index_or places e.lane 0) first within is (placed e.lane own))
 
 -- ---- the desk
 
@@ -147,7 +153,8 @@ none_answered : (entries : List Entry) (lane : ℕ) → served_jobs (length entr
 none_answered entries lane = ap (λ es. lane_jobs lane (map job_of_entry es)) (drop_all (length entries) entries (omega arith))
 
 -- before its first job
-pub desk_begins : (p : PolicyShape) (lanes rounds : ℕ) (board : BoardShape) (entries : List Entry) (spare : ℕ) (places : List ℕ) → lanes ≤ LANE_LIMIT → length entries < 4294967296 →
+pub desk_begins : (p : PolicyShape) (lanes rounds : ℕ) (board : BoardShape) (entries : List Entry) (spare : ℕ) (places : List ℕ) → lanes ≤ LANE_LIMIT →
+    length entries < 4294967296 →
     IsLegal (opening_state p) rounds entries → state_on board ≡ state_after (opening_state p) entries →
     ((lane : ℕ) → lane < LANE_LIMIT → IsNextPlace [] lane 0 (slice_index_or places lane 0)) → IsDesk (desk_with p lanes rounds board entries spare) places
 desk_begins p lanes rounds board entries spare places few small legal state placed =
@@ -169,11 +176,13 @@ desk_begins p lanes rounds board entries spare places few small legal state plac
       small = omega (arith, small);
       ends = λ lane. rw (same_all no_loss LANE_LIMIT lane) (omega arith);
       losses = λ lane j next. absurd (cc);
-      placed = λ lane known. let first = placed lane known in record { within = first.within; before = none_answered entries lane ∙ sym first.same; here = first.here };
+      placed = λ lane known. let first = placed lane known in
+          record { within = first.within; before = none_answered entries lane ∙ sym first.same; here = first.here };
     }
 
 -- with a batch of which some jobs have their entries
-pub desk_resumed : (d : DeskShape) (places new : List ℕ) (jobs : List Job) (n spare cases : ℕ) → IsDesk d places → AreOfLanes d.lanes jobs → n + length jobs < 4294967296 →
+pub desk_resumed : (d : DeskShape) (places new : List ℕ) (jobs : List Job) (n spare cases : ℕ) → IsDesk d places → AreOfLanes d.lanes jobs →
+    n + length jobs < 4294967296 →
     AnswersPart d.entries n jobs → length jobs ≤ spare → length jobs ≤ cases → ArePlacesBehind jobs (drop n d.entries) new →
     IsDesk (with_room (with_batch_from d jobs n) spare cases) new
 desk_resumed d places new jobs n spare cases is of_lanes small part room more placed =

@@ -1,5 +1,6 @@
 -- What lanes hold stays right while a schedule is gone through.
-use Rattle.std.proofs.Common.{◌≡◌, ℕ, zero, suc, ◌+◌, ◌-◌, ◌<◌, ◌≤◌, ◌⊎◌, inl, inr, Bool, true, false, List, [], ◌∷◌, ◌++◌, length, take, drop, map, get_or, slice_index_or, slice_set, replicate, Option, None, Some, append_assoc, append-nil, refl, sym, ap, subst, ◌∙◌, arith}
+use Rattle.std.proofs.Common.{◌≡◌, ℕ, zero, suc, ◌+◌, ◌-◌, ◌<◌, ◌≤◌, ◌⊎◌, inl, inr, Bool, true, false, List, [], ◌∷◌, ◌++◌, length, take, drop, map, get_or}
+use Rattle.std.proofs.Common.{slice_index_or, slice_set, replicate, Option, None, Some, append_assoc, append-nil, refl, sym, ap, subst, ◌∙◌, arith}
 use Rattle.std.specs.List.{filter}
 use Rattle.std.proofs.lemmas.List.{drop-append-le, drop-take, length-append, map-append, take-append-le}
 use Rattle.std.proofs.lemmas.List.Elements.{filter-append}
@@ -132,7 +133,8 @@ pub all_held_on : (d e : DeskShape) (held : List (Option Solved)) → HasGrown d
 all_held_on d e held grown are lane x is = held_on d e lane x grown (are lane x is)
 
 -- what a lane holds after a change: what was put there, or what it held before
-read_put : (held : List (Option Solved)) (lane m : ℕ) (put : Option Solved) (x : Solved) → held_by (slice_set held lane put) m ≡ Some x → ((m ≡ lane) × (put ≡ Some x)) ⊎ (held_by held m ≡ Some x)
+read_put : (held : List (Option Solved)) (lane m : ℕ) (put : Option Solved) (x : Solved) → held_by (slice_set held lane put) m ≡ Some x →
+    ((m ≡ lane) × (put ≡ Some x)) ⊎ (held_by held m ≡ Some x)
 read_put [] lane m put x is = inr is
 read_put (y ∷ ys) zero zero put x is = inl (refl, is)
 read_put (y ∷ ys) zero (suc m) put x is = inr is
@@ -146,7 +148,8 @@ read_put (y ∷ ys) (suc lane) (suc m) put x is = up (read_put ys lane m put x i
 unsome : (x y : Solved) → Some x ≡ Some y → x ≡ y
 unsome x y h = cc
 
-pub held_put : (d : DeskShape) (held : List (Option Solved)) (lane : ℕ) (x : Solved) → AreHeld d held → IsHeld d lane x → AreHeld d (slice_set held lane (Some x))
+pub held_put : (d : DeskShape) (held : List (Option Solved)) (lane : ℕ) (x : Solved) → AreHeld d held → IsHeld d lane x →
+    AreHeld d (slice_set held lane (Some x))
 held_put d held lane x are here m y is = by_read (read_put held lane m (Some x) y is)
   where
     by_read : ((m ≡ lane) × (Some x ≡ Some y)) ⊎ (held_by held m ≡ Some y) → IsHeld d m y
@@ -169,7 +172,8 @@ pub none_are_held : (d : DeskShape) → AreHeld d (replicate LANE_LIMIT None)
 none_are_held d lane x is = none_held LANE_LIMIT lane x is
 
 -- a task that was just taken is held
-pub begun_held : (d : DeskShape) (lane : ℕ) (x : Solved) → IsSoundDesk d → IsTask d lane x.task → Decides (book_on x.task.snap) x.task.ask x.verdict → IsHeld d lane x
+pub begun_held : (d : DeskShape) (lane : ℕ) (x : Solved) → IsSoundDesk d → IsTask d lane x.task → Decides (book_on x.task.snap) x.task.ask x.verdict →
+    IsHeld d lane x
 begun_held d lane x sound task decides = record {
   lane = task.lane;
   number = let same = task.number in omega (arith, same);
@@ -184,7 +188,8 @@ begun_held d lane x sound task decides = record {
 -- ---- events
 
 -- the events so far, and one more
-pub done_more : (s : Standing) (events : List Event) (marks : List Mark) (e : Event) (m : Mark) (t u : Standing) → HasDoneAll s events marks t → HasDone t e m u →
+pub done_more : (s : Standing) (events : List Event) (marks : List Mark) (e : Event) (m : Mark) (t u : Standing) → HasDoneAll s events marks t →
+    HasDone t e m u →
     HasDoneAll s (events ++ e ∷ []) (marks ++ m ∷ []) u
 done_more s [] [] e m t u all one = (u, (subst (λ x. HasDone x e m u) all one, refl))
 done_more s (x ∷ xs) (y ∷ ys) e m t u all one = (all.0, (all.1.0, done_more all.0 xs ys e m t u all.1.1 one))
@@ -200,7 +205,8 @@ lane_in lanes (x ∷ xs) (suc i) e are below = lane_in lanes xs i e are.1 (omega
 -- ---- places
 
 -- each entry of a legal history has its place
-placed_after : (s : State) (rounds : ℕ) (earlier entries : List Entry) (i : ℕ) (d : Entry) → EachAfter (IsRightAfter s rounds) earlier entries → i < length entries →
+placed_after : (s : State) (rounds : ℕ) (earlier entries : List Entry) (i : ℕ) (d : Entry) → EachAfter (IsRightAfter s rounds) earlier entries →
+    i < length entries →
     (slice_index_or entries i d).at ≡ length earlier + i
 placed_after s rounds earlier [] i d legal below = absurd (omega (arith, below))
 placed_after s rounds earlier (e ∷ es) zero d legal below = let at = legal.0.0 in omega (arith, at)

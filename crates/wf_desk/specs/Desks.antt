@@ -1,5 +1,6 @@
 -- The desk: one history, the state after it, and the jobs of a batch.
-use Rattle.std.specs.Prelude.{◌≡◌, ℕ, ◌+◌, ◌-◌, ◌≤◌, List, [], ◌∷◌, ◌++◌, length, take, drop, map, replicate, slice_get, slice_index_or, slice_set, Option, None}
+use Rattle.std.specs.Prelude.{◌≡◌, ℕ, ◌+◌, ◌-◌, ◌≤◌, List, [], ◌∷◌, ◌++◌, length, take, drop, map}
+use Rattle.std.specs.Prelude.{replicate, slice_get, slice_index_or, slice_set, Option, None}
 use Rattle.wf_names.specs.declared.limits.TheConstants.{LANE_LIMIT}
 use Rattle.policy_book.specs.Shapes.{PolicyShape}
 use Rattle.wf_talk.specs.declared.entry.Entry.{Entry}
@@ -9,12 +10,14 @@ use Rattle.wf_talk.specs.declared.reply.Reply.TheVariants.{NoMemory}
 pub use Rattle.wf_talk.specs.Jobs.{AreOfLanes}
 use Rattle.wf_board.specs.Boards.{BoardShape, state_on}
 use Rattle.wf_board.specs.States.{State, opening_state}
-use Rattle.wf_board.specs.Histories.{AreRightful, EachAfter, IsLegal, RestsFrom, job_of_entry, lane_jobs, state_after}
+use Rattle.wf_board.specs.Histories.{AreRightful, EachAfter, IsLegal, RestsFrom, job_of_entry}
+use Rattle.wf_board.specs.Histories.{lane_jobs, state_after}
 use Rattle.wf_desk.specs.declared.loss.Loss.{Loss}
 
--- the policy at the beginning, how many lanes there are, after how many lost rounds a request is answered again, the
--- board, the entries so far with the room that is left for more, the jobs of the batch, how many entries there were when
--- they came, how many it began with, taken up from an earlier session, and for each lane how its next job was lost
+-- the policy at the beginning, how many lanes there are, after how many lost rounds a request is
+-- answered again, the board, the entries so far with the room that is left for more, the jobs of
+-- the batch, how many entries there were when they came, how many it began with, taken up from an
+-- earlier session, and for each lane how its next job was lost
 pub record DeskShape : Type 0 where
   pub opening : PolicyShape
   pub lanes : ℕ
@@ -51,10 +54,11 @@ next_job d lane = slice_get (lane_jobs lane d.jobs) (length (served d lane))
 abbrev pub IsDone : DeskShape → Type 0
 IsDone d = (lane : ℕ) → next_job d lane ≡ None
 
--- what the type of a desk keeps: the entries are a legal history, and the board shows the state after it; each lane's
--- entries of the batch answer its first jobs, in order; what is answered again rests on entries of the batch; of the
--- entries that were not taken up, only an opening, a claim, an edit or a view over the open cases is answered with want
--- of memory, and none shows a tree that is too large; and there is room for a case for each job that is left
+-- what the type of a desk keeps: the entries are a legal history, and the board shows the state
+-- after it; each lane's entries of the batch answer its first jobs, in order; what is answered
+-- again rests on entries of the batch; of the entries that were not taken up, only an opening, a
+-- claim, an edit or a view over the open cases is answered with want of memory, and none shows a
+-- tree that is too large; and there is room for a case for each job that is left
 pub record IsSoundDesk (d : DeskShape) : Type 0 where
   pub legal : IsLegal (opening_state d.opening) d.rounds d.entries
   pub state : state_on d.board ≡ state_after (opening_state d.opening) d.entries
@@ -75,7 +79,8 @@ loss_of losses lane = slice_index_or losses lane no_loss
 
 -- with so much room in the journal and in the table of cases
 abbrev pub with_room : DeskShape → ℕ → ℕ → DeskShape
-with_room d spare cases = record d { spare = spare; board = record d.board { cases = record d.board.cases { spare = cases } } }
+with_room d spare cases = record d
+    { spare = spare; board = record d.board { cases = record d.board.cases { spare = cases } } }
 
 -- there is room for so many more entries, and for so many more cases
 pub record HasRoomFor (n : ℕ) (d : DeskShape) : Type 0 where
@@ -84,17 +89,21 @@ pub record HasRoomFor (n : ℕ) (d : DeskShape) : Type 0 where
 
 -- with the jobs of another batch
 abbrev pub with_batch : DeskShape → List Job → DeskShape
-with_batch d jobs = record d { jobs = jobs; start = length d.entries; losses = replicate LANE_LIMIT no_loss }
+with_batch d jobs =
+    record d { jobs = jobs; start = length d.entries; losses = replicate LANE_LIMIT no_loss }
 
--- the first n entries aside, those of a batch answer its first jobs lane by lane, and what is answered again rests on them
+-- the first n entries aside, those of a batch answer its first jobs lane by lane, and what is
+-- answered again rests on them
 pub record AnswersPart (entries : List Entry) (n : ℕ) (jobs : List Job) : Type 0 where
   pub begun : n ≤ length entries
-  pub front : (lane : ℕ) → served_jobs n entries lane ≡ take (length (served_jobs n entries lane)) (lane_jobs lane jobs)
+  pub front : (lane : ℕ) → served_jobs n entries lane ≡ take
+      (length (served_jobs n entries lane)) (lane_jobs lane jobs)
   pub rests : EachAfter (RestsFrom n) (take n entries) (drop n entries)
 
 -- with the jobs of a batch, whose entries begin at a place
 abbrev pub with_batch_from : DeskShape → List Job → ℕ → DeskShape
-with_batch_from d jobs n = record d { jobs = jobs; start = n; losses = replicate LANE_LIMIT no_loss }
+with_batch_from d jobs n =
+    record d { jobs = jobs; start = n; losses = replicate LANE_LIMIT no_loss }
 
 -- a desk before its first job, with these entries, the board after them, and room for so many more
 abbrev pub desk_with : PolicyShape → ℕ → ℕ → BoardShape → List Entry → ℕ → DeskShape
@@ -111,9 +120,10 @@ desk_with p lanes rounds board entries spare = record {
   losses = replicate LANE_LIMIT no_loss;
 }
 
--- there is one more entry, at this place: it answers a job with such a reply, and the job's lane goes on to its next;
--- want of memory leaves the board as it was
-pub record HasAdded (before after : DeskShape) (job : Job) (place : ℕ) (Is : Reply → Type 0) : Type 0 where
+-- there is one more entry, at this place: it answers a job with such a reply, and the job's lane
+-- goes on to its next; want of memory leaves the board as it was
+pub record HasAdded (before after : DeskShape) (job : Job) (place : ℕ) (Is : Reply → Type 0) :
+    Type 0 where
   pub entry : Entry
   pub last : place ≡ length before.entries
   pub stands : entry.at ≡ place

@@ -5,7 +5,8 @@ use Rattle.wf_talk.specs.declared.job.Job.{Job}
 use Rattle.wf_talk.specs.declared.reply.Reply.{Reply}
 use Rattle.wf_board.specs.Histories.{job_of_entry, lane_jobs}
 
--- a place among jobs from which a lane goes on: it is the first of the lane's from another place on, or behind all
+-- a place among jobs from which a lane goes on: it is the first of the lane's from another place
+-- on, or behind all
 pub record IsNextPlace (jobs : List Job) (lane from place : ℕ) : Type 0 where
   pub within : place ≤ length jobs
   pub same : lane_jobs lane (take place jobs) ≡ lane_jobs lane (take from jobs)
@@ -21,7 +22,8 @@ answered_of entries lane = lane_jobs lane (map job_of_entry entries)
 
 -- entries answer the first jobs of each lane, in order
 abbrev pub AnswersFirst : List Job → List Entry → Type 0
-AnswersFirst jobs entries = (lane : ℕ) → answered_of entries lane ≡ take (length (answered_of entries lane)) (lane_jobs lane jobs)
+AnswersFirst jobs entries = (lane : ℕ) →
+    answered_of entries lane ≡ take (length (answered_of entries lane)) (lane_jobs lane jobs)
 
 -- a lane goes on at a place among jobs of which these entries answer its first ones
 pub record IsPlaceBehind (jobs : List Job) (entries : List Entry) (lane place : ℕ) : Type 0 where

@@ -1,5 +1,6 @@
 -- Schedules: turns in a given order, and what each of them did.
-use Rattle.std.specs.Prelude.{◌≡◌, ◌≢◌, ℕ, ◌<◌, true, false, List, [], ◌∷◌, ◌++◌, length, take, drop, map, replicate, slice_index_or, slice_set, Option, None, Some}
+use Rattle.std.specs.Prelude.{◌≡◌, ◌≢◌, ℕ, ◌<◌, true, false, List, [], ◌∷◌, ◌++◌, length, take}
+use Rattle.std.specs.Prelude.{drop, map, replicate, slice_index_or, slice_set, Option, None, Some}
 use Rattle.wf_names.specs.declared.limits.TheConstants.{LANE_LIMIT}
 use Rattle.wf_talk.specs.declared.entry.Entry.{Entry}
 use Rattle.wf_talk.specs.declared.job.Job.{Job}
@@ -11,7 +12,8 @@ use Rattle.wf_desk.specs.declared.outcome.Outcome.TheVariants as outcome
 use Rattle.wf_desk.specs.declared.schedule.Event.{Event}
 use Rattle.wf_desk.specs.declared.schedule.Event.TheVariants.{Begin, Commit, Serve}
 use Rattle.wf_desk.specs.declared.schedule.Mark.{Mark}
-use Rattle.wf_desk.specs.declared.schedule.Mark.TheVariants.{Began, NoJob, NoMemory, Recorded, Lost, NotNext, NoTask, Served}
+use Rattle.wf_desk.specs.declared.schedule.Mark.TheVariants.{Began, NoJob, NoMemory, Recorded, Lost}
+use Rattle.wf_desk.specs.declared.schedule.Mark.TheVariants.{NotNext, NoTask, Served}
 use Rattle.wf_desk.specs.declared.schedule.Solved.{Solved}
 use Rattle.wf_desk.specs.Desks.{DeskShape, next_job, served}
 use Rattle.wf_desk.specs.Commits.{HasCommitted, HasServed, IsTask}
@@ -53,7 +55,8 @@ mark_of (outcome.Recorded n) = Recorded n
 -- a lane's task was committed, with its verdict, and is held no more
 abbrev pub HasCommittedHeld : Standing → ℕ → Outcome → Standing → Type 0
 HasCommittedHeld s lane result t =
-    (x : Solved) × ((held_by s.held lane ≡ Some x) × (HasCommitted s.desk t.desk x.task x.verdict result × (t.held ≡ slice_set s.held lane None)))
+    (x : Solved) × ((held_by s.held lane ≡ Some x) × (HasCommitted s.desk t.desk x.task
+    x.verdict result × (t.held ≡ slice_set s.held lane None)))
 
 -- what an event did that is marked so
 abbrev pub HasDone : Standing → Event → Mark → Standing → Type 0
@@ -67,19 +70,22 @@ HasDone s (Commit lane) NotNext t = HasCommittedHeld s lane outcome.NotNext t
 HasDone s (Commit lane) Lost t = HasCommittedHeld s lane outcome.Lost t
 HasDone s (Commit lane) (Recorded n) t = HasCommittedHeld s lane (outcome.Recorded n) t
 HasDone s (Serve lane) NoJob t = HasServed s.desk t.desk lane false × (t.held ≡ s.held)
-HasDone s (Serve lane) (Served n) t = HasServed s.desk t.desk lane true × ((n ≡ length s.desk.entries) × (t.held ≡ s.held))
+HasDone s (Serve lane) (Served n) t = HasServed s.desk t.desk lane true ×
+    ((n ≡ length s.desk.entries) × (t.held ≡ s.held))
 HasDone s e mark t = ⊥
 
 -- what the events did, one after the other, that are marked so
 abbrev pub HasDoneAll : Standing → List Event → List Mark → Standing → Type 0
 HasDoneAll s [] [] t = t ≡ s
-HasDoneAll s (e ∷ es) (m ∷ ms) t = (next : Standing) × (HasDone s e m next × HasDoneAll next es ms t)
+HasDoneAll s (e ∷ es) (m ∷ ms) t = (next : Standing) ×
+    (HasDone s e m next × HasDoneAll next es ms t)
 HasDoneAll s es ms t = ⊥
 
 -- the events were gone through, at first without tasks
 abbrev pub HasRunSchedule : DeskShape → List Event → List Mark → DeskShape → Type 0
 HasRunSchedule before events marks after =
-    (held : List (Option Solved)) × HasDoneAll (record { desk = before; held = no_tasks }) events marks (record { desk = after; held = held })
+    (held : List (Option Solved)) × HasDoneAll (record { desk = before; held = no_tasks })
+    events marks (record { desk = after; held = held })
 
 -- there are more entries; but for them nothing was changed but the board, the rooms and the losses
 pub record HasGrown (before after : DeskShape) : Type 0 where
@@ -103,4 +109,5 @@ lane_left d lane = drop (length (served d lane)) (lane_jobs lane d.jobs)
 -- there are more entries, and each lane's are its next jobs, in order
 pub record HasGoneOn (before after : DeskShape) : Type 0 where
   pub grown : HasGrown before after
-  pub next : (lane : ℕ) → lane_answers grown.more lane ≡ take (length (lane_answers grown.more lane)) (lane_left before lane)
+  pub next : (lane : ℕ) → lane_answers grown.more lane ≡ take
+      (length (lane_answers grown.more lane)) (lane_left before lane)

@@ -1,6 +1,9 @@
 //! The desk, with its calls.
-ghost use Rattle.std.specs.Prelude.{◌≡◌, ◌≤◌, ◌<◌, ◌+◌, ◌↔◌, ◌≢◌, nat_le, Bool, true, false, [], length, replicate, OnErr, OnOk, IfOk, IfSome, None, Some, Option, Ok};
-ghost use Rattle.wf_names.specs.declared.limits.TheConstants.{BATCH_LINE_LIMIT, LANE_LIMIT, ROUND_LIMIT};
+ghost use Rattle.std.specs.Prelude.{◌≡◌, ◌≤◌, ◌<◌, ◌+◌, ◌↔◌, ◌≢◌, nat_le, Bool, true, false, []};
+ghost use Rattle.std.specs.Prelude.{length, replicate, OnErr, OnOk, IfOk, IfSome, None, Some};
+ghost use Rattle.std.specs.Prelude.{Option, Ok};
+ghost use Rattle.wf_names.specs.declared.limits.TheConstants.{BATCH_LINE_LIMIT, LANE_LIMIT};
+ghost use Rattle.wf_names.specs.declared.limits.TheConstants.{ROUND_LIMIT};
 ghost use Rattle.wf_board.specs.Boards.{book_on, state_on};
 ghost use Rattle.wf_board.specs.States.{opening_state};
 ghost use Rattle.wf_board.specs.Deeds.{IsUndecided};
@@ -8,8 +11,13 @@ ghost use Rattle.wf_board.specs.Found.{IsFound};
 ghost use Rattle.wf_board.specs.Verdicts.{Decides, IsDecided, IsPlanFor, IsRight};
 ghost use Rattle.std.specs.Arc.{arc_value};
 ghost use Rattle.wf_board.specs.Histories.{IsLegal, state_after};
-ghost use Rattle.wf_desk.specs.Desks.{AnswersPart, AreOfLanes, HasAdded, HasRoomFor, IsDone, IsSoundDesk, desk_with, left_of, next_job, no_loss, with_batch, with_batch_from, with_room};
-ghost use Rattle.wf_desk.specs.Commits.{HasCommitted, HasCommittedChecked, HasServed, HasTakenUp, IsAgain, IsNext, IsRightFor, IsTask, floor_of, is_change, is_fresh, is_fresh_or_change, is_last_round, is_lost, job_of_task, with_loss};
+ghost use Rattle.wf_desk.specs.Desks.{AnswersPart, AreOfLanes, HasAdded, HasRoomFor, IsDone};
+ghost use Rattle.wf_desk.specs.Desks.{IsSoundDesk, desk_with, left_of, next_job, no_loss};
+ghost use Rattle.wf_desk.specs.Desks.{with_batch, with_batch_from, with_room};
+ghost use Rattle.wf_desk.specs.Commits.{HasCommitted, HasCommittedChecked, HasServed, HasTakenUp};
+ghost use Rattle.wf_desk.specs.Commits.{IsAgain, IsNext, IsRightFor, IsTask, floor_of, is_change};
+ghost use Rattle.wf_desk.specs.Commits.{is_fresh, is_fresh_or_change, is_last_round, is_lost};
+ghost use Rattle.wf_desk.specs.Commits.{job_of_task, with_loss};
 ghost use Rattle.wf_desk.specs.Keeping.{HasCommittedNone, HasLookedAt, HasMissed, may_lose};
 
 use crate::docket::{count_of_lane, first_places, go_on, job_at, places_after};
@@ -53,9 +61,36 @@ impl Model for Desk {
 
     ghost coded = { Prim.hlevel (codes, policy_code, kids_code) };
 
-    ghost view = { λ d. record { opening = arc_value d.opening; lanes = d.lanes; rounds = d.rounds; board = d.board; entries = d.journal.entries; spare = d.journal.spare; jobs = d.jobs; start = d.start; restored = d.restored; losses = d.losses } };
+    ghost view = { λ d. record {
+      opening = arc_value d.opening;
+      lanes = d.lanes;
+      rounds =
+          d.rounds;
+      board = d.board;
+      entries = d.journal.entries;
+      spare = d.journal.spare;
+      jobs =
+          d.jobs;
+      start = d.start;
+      restored = d.restored;
+      losses = d.losses;
+    } };
 
-    ghost invariant = { λ d. IsDesk (record { opening = arc_value d.opening; lanes = d.lanes; rounds = d.rounds; board = d.board; entries = d.journal.entries; spare = d.journal.spare; jobs = d.jobs; start = d.start; restored = d.restored; losses = d.losses }) d.places };
+    ghost invariant = { λ d. IsDesk
+        (record {
+          opening = arc_value d.opening;
+          lanes = d.lanes;
+          rounds = d.rounds;
+          board =
+              d.board;
+          entries = d.journal.entries;
+          spare = d.journal.spare;
+          jobs = d.jobs;
+          start =
+              d.start;
+          restored = d.restored;
+          losses = d.losses;
+        }) d.places };
 }
 
 impl Desk {
@@ -153,8 +188,8 @@ impl Desk {
         self.resume_batch(alloc, jobs, start)
     }
 
-    /// Takes the jobs of a batch of which the entries from a place on answer some already, and makes
-    /// room as for a whole batch. Without memory the desk stays as it was.
+    /// Takes the jobs of a batch of which the entries from a place on answer some already, and
+    /// makes room as for a whole batch. Without memory the desk stays as it was.
     pub fn resume_batch(&mut self, alloc: Global, jobs: &[Job], from: u32) -> Result<(), AllocError>
         requires done { IsDone self.old }
         requires few { length jobs.now ≤ BATCH_LINE_LIMIT }

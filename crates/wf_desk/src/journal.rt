@@ -1,5 +1,6 @@
 //! Entries of the journal, looked through and added.
-ghost use Rattle.std.specs.Prelude.{◌≡◌, ◌≤◌, ◌<◌, ◌+◌, [], ◌∷◌, ◌++◌, nat_eq, nat_lt, length, drop};
+ghost use Rattle.std.specs.Prelude.{◌≡◌, ◌≤◌, ◌<◌, ◌+◌, [], ◌∷◌, ◌++◌, nat_eq, nat_lt, length};
+ghost use Rattle.std.specs.Prelude.{drop};
 ghost use Rattle.wf_board.specs.Counting.{count_of, counted, counted_end};
 ghost use Rattle.wf_desk.specs.Places.{entry_for};
 

@@ -1,8 +1,10 @@
 //! Schedules: turns in a given order, on one thread.
-ghost use Rattle.std.specs.Prelude.{◌≡◌, ◌<◌, ◌≤◌, ◌+◌, [], length, slice_set, vec_capacity, vec_len, IfOk, None, OnErr};
+ghost use Rattle.std.specs.Prelude.{◌≡◌, ◌<◌, ◌≤◌, ◌+◌, [], length, slice_set, vec_capacity};
+ghost use Rattle.std.specs.Prelude.{vec_len, IfOk, None, OnErr};
 ghost use Rattle.wf_names.specs.declared.limits.TheConstants.{LANE_LIMIT};
 ghost use Rattle.wf_desk.specs.Holding.{AreHeld, standing};
-ghost use Rattle.wf_desk.specs.Schedules.{AreEventsOf, HasDone, HasGoneOn, HasGrown, HasRunSchedule, held_by, lane_of, mark_of, no_tasks};
+ghost use Rattle.wf_desk.specs.Schedules.{AreEventsOf, HasDone, HasGoneOn, HasGrown};
+ghost use Rattle.wf_desk.specs.Schedules.{HasRunSchedule, held_by, lane_of, mark_of, no_tasks};
 
 use crate::{Desk, Outcome, Task, solve_task};
 use basics::List;

@@ -23,5 +23,6 @@ grown_taken_up near d e lane (Ok taken.Planned) done = grown_planned d e lane do
 grown_taken_up near d e lane (Ok taken.Ended) done = grown_served d e lane false done
 grown_taken_up near d e lane (Err short) done = grown_none d e done.1
 
-pub grown_taken : (near : Bool) (a d e : DeskShape) (lane : ℕ) (result : Result Taken AllocError) → HasGrown a d → HasTakenUp near d e lane result → HasGrown a e
+pub grown_taken : (near : Bool) (a d e : DeskShape) (lane : ℕ) (result : Result Taken AllocError) → HasGrown a d → HasTakenUp near d e lane result →
+    HasGrown a e
 grown_taken near a d e lane result grown done = grown_then a d e grown (grown_taken_up near d e lane result done)

@@ -54,8 +54,11 @@ desk_table_sync = search (sendable, crosses, table_sync, desk_send) depth 20
 -- what the closure of a lane captures: the runtime, the allocator, the decider, the gate, whether the gate is told, the
 -- table, the lane and its number
 pub errand_send : (name : Sym) (R V G : RattleType) (r v g t : Lifetime) (ρ ν γ τ : Lft) → IsSync R → IsSync V → IsSync G →
-    IsSend (TupleAt name (ShrRef r ρ (param 0 R) ∷ Global.the_row ∷ ShrRef v ν (param 1 V) ∷ ShrRef g γ (param 2 G) ∷ bool-field.row ∷ ShrRef t τ the_table ∷ the_lane ∷ u8-field.row ∷ []))
+    IsSend (TupleAt name (ShrRef r ρ (param 0 R) ∷ Global.the_row ∷ ShrRef v ν (param 1 V) ∷ ShrRef g γ (param 2 G) ∷ bool-field.row ∷ ShrRef t τ
+    the_table ∷ the_lane ∷ u8-field.row ∷ []))
 errand_send name R V G r v g t ρ ν γ τ a b c =
-    eight_send name (ShrRef r ρ (param 0 R)) Global.the_row (ShrRef v ν (param 1 V)) (ShrRef g γ (param 2 G)) bool-field.row (ShrRef t τ the_table) the_lane u8-field.row
-    (shr_send r ρ (param 0 R) (param_sync 0 R a)) (search (sendable, crosses) depth 20) (shr_send v ν (param 1 V) (param_sync 1 V b)) (shr_send g γ (param 2 G) (param_sync 2 G c))
+    eight_send name (ShrRef r ρ (param 0 R)) Global.the_row (ShrRef v ν (param 1 V)) (ShrRef g γ (param 2 G)) bool-field.row (ShrRef t τ the_table) the_lane
+    u8-field.row
+    (shr_send r ρ (param 0 R) (param_sync 0 R a)) (search (sendable, crosses) depth 20) (shr_send v ν (param 1 V) (param_sync 1 V b))
+    (shr_send g γ (param 2 G) (param_sync 2 G c))
     (search sendable depth 20) (shr_send t τ the_table desk_table_sync) desk_lane_send (search sendable depth 20)

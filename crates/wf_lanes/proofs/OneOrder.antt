@@ -104,7 +104,8 @@ lane_rest k i j is js equal both = elim (bool_cases (nat_eq j.lane k)) [
 ]
 
 -- where each lane's jobs are the same, so is their order
-order_from : (f g xs ys : List Entry) → ((k : ℕ) → turns_of k f ≡ turns_of k g) → ((k : ℕ) → lane_jobs k (map job_of_entry xs) ≡ lane_jobs k (map job_of_entry ys))
+order_from : (f g xs ys : List Entry) → ((k : ℕ) → turns_of k f ≡ turns_of k g) →
+    ((k : ℕ) → lane_jobs k (map job_of_entry xs) ≡ lane_jobs k (map job_of_entry ys))
     → EachAfter IsInTurn f xs → EachAfter IsInTurn g ys → map job_of_entry xs ≡ map job_of_entry ys
 order_from f g [] [] fronts same first second = refl
 order_from f g [] (y ∷ ys) fronts same first second =
@@ -120,10 +121,12 @@ order_from f g (x ∷ xs) (y ∷ ys) fronts same first second =
         | inr most ↦
             let lanes : x.lane ≡ y.lane = grind (arith, nat_tests) in
             let heads : job_of_entry x ∷ lane_jobs x.lane (map job_of_entry xs) ≡ job_of_entry y ∷ lane_jobs x.lane (map job_of_entry ys) =
-            sym (lane_head x.lane (job_of_entry x) (map job_of_entry xs) refl) ∙ same x.lane ∙ lane_head x.lane (job_of_entry y) (map job_of_entry ys) (sym lanes) in
+            sym (lane_head x.lane (job_of_entry x) (map job_of_entry xs) refl) ∙ same x.lane ∙
+            lane_head x.lane (job_of_entry y) (map job_of_entry ys) (sym lanes) in
             let job : job_of_entry x ≡ job_of_entry y = cc in
             let rest = order_from (f ++ x ∷ []) (g ++ y ∷ [])
-            xs ys (λ k. turns_with k f x ∙ ap (λ n. n + cond (nat_eq x.lane k) 1 0) (fronts k) ∙ ap (λ l. turns_of k g + cond (nat_eq l k) 1 0) lanes ∙ sym (turns_with k g y))
+            xs ys (λ k. turns_with k f x ∙ ap (λ n. n + cond (nat_eq x.lane k) 1 0) (fronts k) ∙ ap (λ l. turns_of k g + cond (nat_eq l k) 1 0) lanes ∙
+            sym (turns_with k g y))
             (λ k. lane_rest k (job_of_entry x) (job_of_entry y) (map job_of_entry xs) (map job_of_entry ys) job (same k)) first.1 second.1 in
             ap (λ j. j ∷ map job_of_entry xs) job ∙ ap (λ js. job_of_entry y ∷ js) rest
       ]

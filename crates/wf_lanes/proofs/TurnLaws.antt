@@ -1,5 +1,6 @@
 -- How a batch is served by turns.
-use Rattle.std.proofs.Common.{◌≡◌, ℕ, ◌+◌, ◌<◌, ◌≤◌, Bool, true, false, nat_lt, nat_eq, [], ◌∷◌, ◌++◌, length, None, inl, inr, refl, sym, ◌∙◌, ap, subst, arith, append_assoc, append-nil, length-append}
+use Rattle.std.proofs.Common.{◌≡◌, ℕ, ◌+◌, ◌<◌, ◌≤◌, Bool, true, false, nat_lt, nat_eq, [], ◌∷◌, ◌++◌, length, None, inl, inr, refl, sym, ◌∙◌, ap, subst, arith}
+use Rattle.std.proofs.Common.{append_assoc, append-nil, length-append}
 use Rattle.std.proofs.lemmas.Bool.Decides.{nat_tests}
 use Rattle.basics.proofs.Booleans.{bool_cases}
 use Rattle.wf_board.specs.Boards.{state_on}
@@ -39,7 +40,17 @@ on_more a b c first second = record {
 -- a lane's next job was served, if it had one
 pub on_next : (b c : DeskShape) (lane : ℕ) (had : Bool) → HasServed b c lane had → HasServedOn b c
 on_next b c lane true (job, (next, more)) = record {
-  grown = record { more = more.entry ∷ []; extends = more.added; opening = more.opening; lanes = more.lanes; rounds = more.rounds; jobs = more.jobs; start = more.start; restored = more.restored };
+  grown = record {
+    more = more.entry ∷ [];
+    extends = more.added;
+    opening = more.opening;
+    lanes = more.lanes;
+    rounds = more.rounds;
+    jobs = more.jobs;
+    start =
+        more.start;
+    restored = more.restored;
+  };
   once = (λ n place. step_once (state_on b.board) job.ask more.entry.reply more.reply.step n place, tt);
 }
 on_next b c lane false (none, same) = rw same (on_none b)
@@ -72,7 +83,8 @@ turned_served a b c lane had turned served =
       turn = λ earlier turns at. subst (λ es. IsAtTurn es turns (lane + 1) c) (append_assoc earlier turned.on.grown.more (served.1.1.entry ∷ []))
           (at_served (earlier ++ turned.on.grown.more) turns lane b c (turned.turn earlier turns at) served);
       none = λ e. cc;
-      some = λ e. let one = ap length more in let old = ap length before in omega (arith, one, old, length-append b.entries (served.1.1.entry ∷ []), length-append a.entries turned.on.grown.more);
+      some = λ e. let one = ap length more in let old = ap length before in
+          omega (arith, one, old, length-append b.entries (served.1.1.entry ∷ []), length-append a.entries turned.on.grown.more);
     }
 
 -- or had none

@@ -1,5 +1,6 @@
 -- What turns at a table come to at the desk.
-use Rattle.std.proofs.Common.{◌≡◌, ℕ, ◌+◌, ◌-◌, ◌<◌, ◌⊎◌, inl, inr, true, false, List, [], ◌∷◌, ◌++◌, length, map, None, Some, IfSome, refl, sym, ap, subst, ◌∙◌, arith, append-nil, append_assoc}
+use Rattle.std.proofs.Common.{◌≡◌, ℕ, ◌+◌, ◌-◌, ◌<◌, ◌⊎◌, inl, inr, true, false, List, [], ◌∷◌, ◌++◌, length, map, None, Some, IfSome, refl, sym, ap, subst}
+use Rattle.std.proofs.Common.{◌∙◌, arith, append-nil, append_assoc}
 use Rattle.std.specs.List.{Contains}
 use Rattle.std.proofs.lemmas.List.{map-append}
 use mathlib.Core.Logic.{dite}
@@ -25,7 +26,8 @@ use Rattle.wf_desk.proofs.Scheduling.{begun_held, grown_committed, grown_served,
 use Rattle.wf_lanes.specs.declared.worker.Begun.{Begun}
 use Rattle.wf_lanes.specs.declared.worker.Begun.TheVariants as begun
 use Rattle.wf_lanes.proofs.Ahead.{grown_planned}
-use Rattle.wf_lanes.specs.Workers.{HasBegun, HasBegunAt, HasEnded, HasJoined, HasMadeAll, HasLanes, HasRoom, HasSeen, HasTurned, IsBegun, IsFirst, IsIdle, IsSameLane}
+use Rattle.wf_lanes.specs.Workers.{HasBegun, HasBegunAt, HasEnded, HasJoined, HasMadeAll, HasLanes, HasRoom, HasSeen, HasTurned, IsBegun, IsFirst, IsIdle}
+use Rattle.wf_lanes.specs.Workers.{IsSameLane}
 
 -- ---- entries without their lanes
 
@@ -87,7 +89,8 @@ lane_within s lane e (f, (is, enough)) fixed =
 grows_same : (n : ℕ) (d e : DeskShape) → e ≡ d → GrowsByOne n (tagged_of e) (tagged_of d)
 grows_same n d e same = inl (ap tagged_of same)
 
-grows_added : (n : ℕ) (d e : DeskShape) (job : Job) (place : ℕ) (Is : Reply → Type 0) → job.lane ≡ n → HasAdded d e job place Is → GrowsByOne n (tagged_of e) (tagged_of d)
+grows_added : (n : ℕ) (d e : DeskShape) (job : Job) (place : ℕ) (Is : Reply → Type 0) → job.lane ≡ n → HasAdded d e job place Is →
+    GrowsByOne n (tagged_of e) (tagged_of d)
 grows_added n d e job place Is own added =
     let lane : added.entry.lane ≡ n = ap (λ (j : Job). j.lane) added.answers ∙ own in
     inr (
@@ -96,7 +99,8 @@ grows_added n d e job place Is own added =
           ∙ ap (λ k. tagged_of d ++ (k, added.entry) ∷ []) lane,
     )
 
-pub grows_committed : (n : ℕ) (d e : DeskShape) (t : Task) (v : Verdict) (result : Outcome) → t.lane ≡ n → HasCommitted d e t v result → GrowsByOne n (tagged_of e) (tagged_of d)
+pub grows_committed : (n : ℕ) (d e : DeskShape) (t : Task) (v : Verdict) (result : Outcome) → t.lane ≡ n → HasCommitted d e t v result →
+    GrowsByOne n (tagged_of e) (tagged_of d)
 grows_committed n d e t v outcome.NotNext own done = grows_same n d e done.1
 grows_committed n d e t v outcome.Lost own done = inl (ap tagged (ap (λ (x : DeskShape). x.entries) done.1.1.1.1))
 grows_committed n d e t v (outcome.Recorded place) own done = grows_added n d e (job_of_task t) place _ own done.1
@@ -139,7 +143,8 @@ taken s d = record s { out = true; seen = tagged_of d }
 abbrev pub given : LaneShape Fixed Entry → DeskShape → List (ℕ × Entry) → LaneShape Fixed Entry
 given s e own = record s { out = false; seen = tagged_of e; own = own }
 
-pub has_turned : (s t u : LaneShape Fixed Entry) (d e : DeskShape) (own : List (ℕ × Entry)) (P : ℕ → Type 0) → Some (fixed_of d) ≡ s.fixed → Quiet P (tagged_of d) s.seen →
+pub has_turned : (s t u : LaneShape Fixed Entry) (d e : DeskShape) (own : List (ℕ × Entry)) (P : ℕ → Type 0) → Some (fixed_of d) ≡ s.fixed →
+    Quiet P (tagged_of d) s.seen →
     t ≡ taken s d → fixed_of e ≡ fixed_of d → u ≡ given t e own → HasTurned s u d e
 has_turned s t u d e own P fixed quiet take same give =
     let whole : u ≡ given (taken s d) e own = give ∙ ap (λ x. given x e own) take in
@@ -158,7 +163,8 @@ has_turned s t u d e own P fixed quiet take same give =
     }
 
 -- a lane has no desk in hand after it
-pub idle_after : (table : TableId) (s t u : LaneShape Fixed Entry) (d e : DeskShape) (own : List (ℕ × Entry)) (n : ℕ) → IsIdle table s n → t ≡ taken s d → u ≡ given t e own → IsIdle table u n
+pub idle_after : (table : TableId) (s t u : LaneShape Fixed Entry) (d e : DeskShape) (own : List (ℕ × Entry)) (n : ℕ) → IsIdle table s n → t ≡ taken s d →
+    u ≡ given t e own → IsIdle table u n
 idle_after table s t u d e own n idle take give =
     let whole : u ≡ given (taken s d) e own = give ∙ ap (λ x. given x e own) take in
     record {
@@ -175,7 +181,8 @@ may_give s t d e n number take grows =
     subst (λ (x : LaneShape Fixed Entry). IfSome x.number (λ k. GrowsByOne k (tagged_of e) x.seen)) (sym take)
     (subst (λ o. IfSome o (λ k. GrowsByOne k (tagged_of e) (tagged_of d))) (sym number) grows)
 
-pub fixed_kept : (s t : LaneShape Fixed Entry) (d e : DeskShape) → Some (fixed_of d) ≡ s.fixed → t ≡ taken s d → fixed_of e ≡ fixed_of d → Some (fixed_of e) ≡ t.fixed
+pub fixed_kept : (s t : LaneShape Fixed Entry) (d e : DeskShape) → Some (fixed_of d) ≡ s.fixed → t ≡ taken s d → fixed_of e ≡ fixed_of d →
+    Some (fixed_of e) ≡ t.fixed
 fixed_kept s t d e fixed take same = ap Some same ∙ fixed ∙ sym (ap (λ (x : LaneShape Fixed Entry). x.fixed) take)
 
 -- ---- turn after turn
@@ -207,7 +214,8 @@ first_made table s t first made = record {
   out = ap (λ (x : LaneShape Fixed Entry). x.out) made ∙ first.out;
 }
 
-pub room_made : (s t : LaneShape Fixed Entry) (next count : ℕ) → HasRoom s next count → 0 < count → t ≡ record s { made = s.made + 1 } → HasRoom t (next + 1) (count - 1)
+pub room_made : (s t : LaneShape Fixed Entry) (next count : ℕ) → HasRoom s next count → 0 < count → t ≡ record s { made = s.made + 1 } →
+    HasRoom t (next + 1) (count - 1)
 room_made s t next count room some made =
     let all : next + 1 + (count - 1) ≡ next + count = omega (arith, some) in
     record {
@@ -219,7 +227,8 @@ room_made s t next count room some made =
       );
     }
 
-pub idle_made : (table : TableId) (s w : LaneShape Fixed Entry) (next count : ℕ) → IsFirst table s → HasRoom s next count → 0 < count → w ≡ next_lane s → IsIdle table w next
+pub idle_made : (table : TableId) (s w : LaneShape Fixed Entry) (next count : ℕ) → IsFirst table s → HasRoom s next count → 0 < count → w ≡ next_lane s →
+    IsIdle table w next
 idle_made table s w next count first room some is = record {
   table = ap (λ (x : LaneShape Fixed Entry). x.table) is ∙ first.table;
   number = ap (λ (x : LaneShape Fixed Entry). x.number) is ∙ ap Some room.made;
@@ -265,25 +274,29 @@ first_joined table u v from first is = record {
 
 -- ---- the whole table
 
-pub first_is : (table : TableId) (s : LaneShape Fixed Entry) (d : DeskShape) (lanes : ℕ) → s ≡ first_lane table (fixed_of d) (tagged_of d) lanes → IsFirst table s
+pub first_is : (table : TableId) (s : LaneShape Fixed Entry) (d : DeskShape) (lanes : ℕ) → s ≡ first_lane table (fixed_of d) (tagged_of d) lanes →
+    IsFirst table s
 first_is table s d lanes is = record {
   table = ap (λ (x : LaneShape Fixed Entry). x.table) is;
   number = ap (λ (x : LaneShape Fixed Entry). x.number) is;
   out = ap (λ (x : LaneShape Fixed Entry). x.out) is;
 }
 
-pub first_room : (table : TableId) (s : LaneShape Fixed Entry) (d : DeskShape) (lanes : ℕ) → s ≡ first_lane table (fixed_of d) (tagged_of d) lanes → lanes ≡ d.lanes → HasRoom s 0 lanes
+pub first_room : (table : TableId) (s : LaneShape Fixed Entry) (d : DeskShape) (lanes : ℕ) → s ≡ first_lane table (fixed_of d) (tagged_of d) lanes →
+    lanes ≡ d.lanes → HasRoom s 0 lanes
 first_room table s d lanes is same = record {
   made = ap (λ (x : LaneShape Fixed Entry). x.made) is;
   table = let all = ap (λ (x : LaneShape Fixed Entry). x.lanes) is in omega (arith, all);
   desk = (fixed_of d, (ap (λ (x : LaneShape Fixed Entry). x.fixed) is, (omega (arith, same))));
 }
 
-pub whole_made : (table : TableId) (s t : LaneShape Fixed Entry) (d : DeskShape) (lanes : ℕ) → s ≡ first_lane table (fixed_of d) (tagged_of d) lanes → lanes ≡ d.lanes → HasJoined s t 0 lanes → HasMadeAll t
+pub whole_made : (table : TableId) (s t : LaneShape Fixed Entry) (d : DeskShape) (lanes : ℕ) → s ≡ first_lane table (fixed_of d) (tagged_of d) lanes →
+    lanes ≡ d.lanes → HasJoined s t 0 lanes → HasMadeAll t
 whole_made table s t d lanes is same joined =
     let made = joined.made in (fixed_of d, (joined.fixed ∙ ap (λ (x : LaneShape Fixed Entry). x.fixed) is, omega (arith, made, same)))
 
-pub closed_grown : (table : TableId) (s t : LaneShape Fixed Entry) (d e : DeskShape) (lanes : ℕ) → s ≡ first_lane table (fixed_of d) (tagged_of d) lanes → HasJoined s t 0 lanes →
+pub closed_grown : (table : TableId) (s t : LaneShape Fixed Entry) (d e : DeskShape) (lanes : ℕ) → s ≡ first_lane table (fixed_of d) (tagged_of d) lanes →
+    HasJoined s t 0 lanes →
     Some (fixed_of e) ≡ t.fixed → tagged_of e ≡ t.seen → HasGrown d e
 closed_grown table s t d e lanes is joined fixed list =
     grown_seen s d e

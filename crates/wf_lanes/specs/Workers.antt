@@ -40,10 +40,12 @@ is_task begun.Planned = false
 is_task begun.Lacking = false
 is_task begun.Ended = false
 
--- what came of beginning a lane's next job at a desk: a job that needs no search was decided inside the turn, and one
--- that needs it by a plan that was at hand, or it is a task, but where there was no memory for one
+-- what came of beginning a lane's next job at a desk: a job that needs no search was decided inside
+-- the turn, and one that needs it by a plan that was at hand, or it is a task, but where there was
+-- no memory for one
 abbrev pub HasBegunAt : DeskShape → DeskShape → ℕ → Begun → Type 0
-HasBegunAt d e lane (begun.Task t) = (next_asks_search d lane ≡ true) × (IsTask d lane t × (IsSoundDesk d × (e ≡ d)))
+HasBegunAt d e lane (begun.Task t) = (next_asks_search d lane ≡ true) ×
+    (IsTask d lane t × (IsSoundDesk d × (e ≡ d)))
 HasBegunAt d e lane begun.Served = (next_asks_search d lane ≡ false) × HasServed d e lane true
 HasBegunAt d e lane begun.Planned = (next_asks_search d lane ≡ true) × HasPlanned d e lane
 HasBegunAt d e lane begun.Lacking = (next_asks_search d lane ≡ true) × HasServed d e lane true
@@ -59,7 +61,8 @@ abbrev pub IsBegun : LaneShape Fixed Entry → ℕ → Task → Type 0
 IsBegun s lane t = (d : DeskShape) × (HasSeen s d × (IsTask d lane t × IsSoundDesk d))
 
 -- a task was committed in a turn
-abbrev pub HasCommittedTask : LaneShape Fixed Entry → LaneShape Fixed Entry → Task → Verdict → Outcome → Type 0
+abbrev pub HasCommittedTask : LaneShape Fixed Entry → LaneShape Fixed Entry → Task → Verdict →
+    Outcome → Type 0
 HasCommittedTask before after t v result =
     (d : DeskShape) × ((e : DeskShape) × (HasTurned before after d e × HasCommitted d e t v result))
 

@@ -5,7 +5,8 @@ ghost use Rattle.wf_board.specs.Boards.{book_on};
 ghost use Rattle.wf_board.specs.Verdicts.{Decides};
 ghost use Rattle.wf_talk.specs.declared.entry.Entry.{Entry};
 ghost use Rattle.wf_desk.specs.declared.tabled.Fixed.{Fixed};
-ghost use Rattle.wf_lanes.specs.Workers.{HasBegun, HasCommittedTask, HasEnded, IsBegun, IsSameLane, is_task};
+ghost use Rattle.wf_lanes.specs.Workers.{HasBegun, HasCommittedTask, HasEnded, IsBegun, IsSameLane};
+ghost use Rattle.wf_lanes.specs.Workers.{is_task};
 
 use crate::gate::{Gate, Gated};
 use std::alloc::Global;
@@ -64,8 +65,8 @@ pub(crate) trait Turns {
             verdict result };
 }
 
-/// Serves a lane's jobs until none is left. Each task that is begun is committed before the next is;
-/// one that is lost is begun again.
+/// Serves a lane's jobs until none is left. Each task that is begun is committed before the next
+/// is; one that is lost is begun again.
 pub(crate) fn work<R: Wait, V: Decider, G: Gate, T: Turns>(
     rt: &R,
     alloc: Global,

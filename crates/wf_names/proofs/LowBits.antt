@@ -1,5 +1,6 @@
 -- Words whose lowest bits are set, and sets that begin with full words.
-use Rattle.std.proofs.Common.{◌≡◌, ℕ, ◌+◌, ◌-◌, ◌*◌, ◌/◌, ◌%◌, ◌^◌, ◌<◌, ◌≤◌, nat_eq, nat_lt, false, List, length, get_or, set, slice_index_or, slice_set, sym, ap, ◌∙◌, inl, inr, arith, get_or-set_same, get_or-set_other, refl, subst, replicate}
+use Rattle.std.proofs.Common.{◌≡◌, ℕ, ◌+◌, ◌-◌, ◌*◌, ◌/◌, ◌%◌, ◌^◌, ◌<◌, ◌≤◌, nat_eq, nat_lt, false, List, length, get_or, set, slice_index_or, slice_set, sym}
+use Rattle.std.proofs.Common.{ap, ◌∙◌, inl, inr, arith, get_or-set_same, get_or-set_other, refl, subst, replicate}
 use Rattle.std.specs.Int.{bit_at}
 use Rattle.std.proofs.lemmas.Nat.Bits.{bit_at_ones, bit_at_ones_above, bit_at-zero}
 use Rattle.std.proofs.lemmas.Bool.{cases_lt, cases_eq, lt-ltb, le-ltb}
@@ -54,8 +55,10 @@ up_to_partly users words word within f low v = elim (cases_eq (v / 64) (users / 
   | inr ne ↦
       ap (λ w. has_bit w (v % 64)) (get_or-set_other words (users / 64) (v / 64) word 0 ne)
       ∙ elim (cases_lt (v / 64) (users / 64)) [
-        | inl lt ↦ ap (λ w. has_bit w (v % 64)) (f.full (v / 64) lt) ∙ lowest_bits 64 (v % 64) ∙ lt-ltb (v % 64) 64 (omega arith) ∙ sym (lt-ltb v users (omega (arith, lt)))
-        | inr ge ↦ ap (λ w. has_bit w (v % 64)) (f.none (v / 64) ge) ∙ ap (λ b. nat_eq b 1) (bit_at-zero (v % 64)) ∙ sym (le-ltb v users (omega (arith, ge, ne)))
+        | inl lt ↦ ap (λ w. has_bit w (v % 64)) (f.full (v / 64) lt) ∙ lowest_bits 64 (v % 64) ∙ lt-ltb (v % 64) 64 (omega arith) ∙
+            sym (lt-ltb v users (omega (arith, lt)))
+        | inr ge ↦ ap (λ w. has_bit w (v % 64)) (f.none (v / 64) ge) ∙ ap (λ b. nat_eq b 1) (bit_at-zero (v % 64)) ∙
+            sym (le-ltb v users (omega (arith, ge, ne)))
       ]
 ]
 
@@ -63,6 +66,8 @@ up_to_partly users words word within f low v = elim (cases_eq (v / 64) (users / 
 pub up_to_whole : (users : ℕ) (words : List ℕ) → users ≤ 64 * length words → length words ≤ users / 64 → AreFull (users / 64) words
     → (v : ℕ) → has_user words v ≡ nat_lt v users
 up_to_whole users words within whole f v = elim (cases_lt (v / 64) (users / 64)) [
-  | inl lt ↦ ap (λ w. has_bit w (v % 64)) (f.full (v / 64) lt) ∙ lowest_bits 64 (v % 64) ∙ lt-ltb (v % 64) 64 (omega arith) ∙ sym (lt-ltb v users (omega (arith, lt)))
-  | inr ge ↦ ap (λ w. has_bit w (v % 64)) (f.none (v / 64) ge) ∙ ap (λ b. nat_eq b 1) (bit_at-zero (v % 64)) ∙ sym (le-ltb v users (omega (arith, ge, within, whole)))
+  | inl lt ↦ ap (λ w. has_bit w (v % 64)) (f.full (v / 64) lt) ∙ lowest_bits 64 (v % 64) ∙ lt-ltb (v % 64) 64 (omega arith) ∙
+      sym (lt-ltb v users (omega (arith, lt)))
+  | inr ge ↦ ap (λ w. has_bit w (v % 64)) (f.none (v / 64) ge) ∙ ap (λ b. nat_eq b 1) (bit_at-zero (v % 64)) ∙
+      sym (le-ltb v users (omega (arith, ge, within, whole)))
 ]

@@ -5,7 +5,8 @@ use Rattle.std.proofs.lemmas.List.{drop-replicate, length-replicate}
 use Rattle.wf_names.specs.Padded.{IsPadded}
 
 -- a list written over the first of blank cells
-pub put_first : {X : Type 0} (limit : ℕ) (blank : X) (xs cells : List X) → cells ≡ replicate limit blank → length xs ≤ limit → IsPadded limit blank (xs ++ drop (length xs) cells) (length xs)
+pub put_first : {X : Type 0} (limit : ℕ) (blank : X) (xs cells : List X) → cells ≡ replicate limit blank → length xs ≤ limit →
+    IsPadded limit blank (xs ++ drop (length xs) cells) (length xs)
 put_first {X} limit blank xs cells e short =
     let all : length cells ≡ limit = ap length e ∙ length-replicate {A = X} limit blank in
     record {

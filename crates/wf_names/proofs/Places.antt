@@ -18,7 +18,8 @@ differs_at x [] n k h e = cc
 differs_at x (y ∷ ys) zero k h e = let same : y ≡ k = cc in subst (λ (z : List ℕ). pointwise nat_eq x z ≡ false) same h.0
 differs_at x (y ∷ ys) (suc n) k h e = differs_at x ys n k h.1 e
 
-first_place : (ks : List (List ℕ)) (n : ℕ) (k : List ℕ) → IsDistinct (pointwise nat_eq) ks → slice_get ks n ≡ Some k → position_or_len (pointwise nat_eq k) ks ≡ n
+first_place : (ks : List (List ℕ)) (n : ℕ) (k : List ℕ) → IsDistinct (pointwise nat_eq) ks → slice_get ks n ≡ Some k →
+    position_or_len (pointwise nat_eq k) ks ≡ n
 unfolding IsDistinct
 first_place [] n k h e = cc
 first_place (x ∷ xs) zero k h e =
@@ -31,7 +32,8 @@ first_place (x ∷ xs) (suc n) k h e =
     rw (other, rest) (omega arith)
 
 -- a name stands at one place alone
-pub place_of-name : (names : List (List ℕ)) (n : ℕ) (name : List ℕ) → IsDistinct (pointwise nat_eq) names → slice_get names n ≡ Some name → place_of names name ≡ Some n
+pub place_of-name : (names : List (List ℕ)) (n : ℕ) (name : List ℕ) → IsDistinct (pointwise nat_eq) names → slice_get names n ≡ Some name →
+    place_of names name ≡ Some n
 place_of-name names n name h e =
     let here : position_or_len (pointwise nat_eq name) names ≡ n = first_place names n name h e in
     let below : nat_lt n (length names) ≡ true = lt-ltb n (length names) (slice_get_within names n name e) in

@@ -1,7 +1,10 @@
 -- How the users of a set change with its words.
-use Rattle.std.proofs.Common.{◌≡◌, ℕ, zero, suc, min, max, ◌+◌, ◌*◌, ◌/◌, ◌%◌, ◌^◌, ◌-◌, ◌<◌, ◌≤◌, Bool, true, false, not, ◌&&◌, ◌||◌, nat_eq, List, length, get_or, set, slice_index_or, slice_set, cond, refl, sym, ap, subst, ◌∙◌, inl, inr, arith, bit_and, bit_or, get_or-set_same, get_or-set_other}
+use Rattle.std.proofs.Common.{◌≡◌, ℕ, zero, suc, min, max, ◌+◌, ◌*◌, ◌/◌, ◌%◌, ◌^◌, ◌-◌, ◌<◌, ◌≤◌, Bool, true, false, not, ◌&&◌, ◌||◌, nat_eq, List, length}
+use Rattle.std.proofs.Common.{get_or, set, slice_index_or, slice_set, cond, refl, sym, ap, subst, ◌∙◌, inl, inr, arith, bit_and, bit_or, get_or-set_same}
+use Rattle.std.proofs.Common.{get_or-set_other}
 use Rattle.std.specs.Int.{bit_at, bit_not, w64}
-use Rattle.std.proofs.lemmas.Nat.Bits.{bit_at_set_same, bit_at_set_other, bit_at_clear_same, bit_at_clear_other, bit_at_and, bit_at_or, bit_at_xor, bit_at-lt, bit_at-zero}
+use Rattle.std.proofs.lemmas.Nat.Bits.{bit_at_set_same, bit_at_set_other, bit_at_clear_same, bit_at_clear_other, bit_at_and, bit_at_or, bit_at_xor, bit_at-lt}
+use Rattle.std.proofs.lemmas.Nat.Bits.{bit_at-zero}
 use Rattle.std.proofs.lemmas.Bool.{cases_eq, cases_lt, eq-eqb, ne_eqb}
 use Rattle.std.proofs.lemmas.List.{get_or_past}
 use Rattle.std.proofs.lemmas.Simd.{length-zip2, get_or-zip2}
@@ -55,7 +58,8 @@ put_in words u v within =
 
 -- to clear the bit of a user takes the user out
 pub taken_out : (words : List ℕ) (u v : ℕ) → u / 64 < length words
-    → has_user (slice_set words (u / 64) (bit_and (slice_index_or words (u / 64) 0) (bit_not w64 (1 * 2 ^ (u % 64) % 2 ^ bits w64)))) v ≡ (not (nat_eq v u) && has_user words v)
+    → has_user (slice_set words (u / 64) (bit_and (slice_index_or words (u / 64) 0) (bit_not w64 (1 * 2 ^ (u % 64) % 2 ^ bits w64))))
+    v ≡ (not (nat_eq v u) && has_user words v)
 taken_out words u v within =
     let word = slice_index_or words (u / 64) 0 in
     let small : u % 64 < 64 = omega arith in
@@ -105,7 +109,8 @@ bit_of_minus a b k =
 -- a set whose words are mixed with those of another one, bit by bit
 mixed_users : (f : ℕ → ℕ → ℕ) (g : Bool → Bool → Bool) (xs ys : List ℕ) (v : ℕ) → length xs ≡ length ys
     → g false false ≡ false
-    → ((i : ℕ) → has_bit (f (slice_index_or xs i 0) (slice_index_or ys i 0)) (v % 64) ≡ g (has_bit (slice_index_or xs i 0) (v % 64)) (has_bit (slice_index_or ys i 0) (v % 64)))
+    → ((i : ℕ) → has_bit (f (slice_index_or xs i 0) (slice_index_or ys i 0)) (v % 64) ≡ g (has_bit (slice_index_or xs i 0) (v % 64))
+    (has_bit (slice_index_or ys i 0) (v % 64)))
     → has_user (zip2 f xs ys) v ≡ g (has_user xs v) (has_user ys v)
 mixed_users f g xs ys v same none bits =
     elim (cases_lt (v / 64) (length xs)) [

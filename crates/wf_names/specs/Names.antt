@@ -1,5 +1,6 @@
 -- The form of a name, and how one is kept.
-use Rattle.std.specs.Prelude.{ℕ, Bool, false, ◌&&◌, ◌||◌, ◌==◌, nat_le, List, [], ◌∷◌, length, take, IsTrue}
+use Rattle.std.specs.Prelude.{ℕ, Bool, false, ◌&&◌, ◌||◌, ◌==◌, nat_le, List, [], ◌∷◌, length, take}
+use Rattle.std.specs.Prelude.{IsTrue}
 use Rattle.std.specs.List.{list_all}
 use Rattle.wf_names.specs.Padded.{IsPadded}
 use Rattle.wf_names.specs.declared.limits.TheConstants.{NAME_LIMIT}

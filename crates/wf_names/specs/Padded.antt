@@ -13,9 +13,13 @@ pub record IsPadded {X : Type 0} (limit : ℕ) (blank : X) (cells : List X) (len
   pub whole : length cells ≡ limit
   pub rest : drop len cells ≡ replicate (limit - len) blank
 
-pub length-taken : {X : Type 0} (limit : ℕ) (blank : X) (cells : List X) (len : ℕ) → IsPadded limit blank cells len → length (take len cells) ≡ len
-length-taken limit blank cells len h = length-take-le len cells (subst (λ n. len ≤ n) (sym h.whole) h.fits)
+pub length-taken : {X : Type 0} (limit : ℕ) (blank : X) (cells : List X) (len : ℕ) →
+    IsPadded limit blank cells len → length (take len cells) ≡ len
+length-taken limit blank cells len h =
+    length-take-le len cells (subst (λ n. len ≤ n) (sym h.whole) h.fits)
 
-pub padded-take : {X : Type 0} (limit : ℕ) (blank : X) (cells : List X) (len : ℕ) → IsPadded limit blank cells len → padded limit blank (take len cells) ≡ cells
+pub padded-take : {X : Type 0} (limit : ℕ) (blank : X) (cells : List X) (len : ℕ) →
+    IsPadded limit blank cells len → padded limit blank (take len cells) ≡ cells
 unfolding padded
-padded-take limit blank cells len h = rw (length-taken limit blank cells len h, ← h.rest) (take-append-drop len cells)
+padded-take limit blank cells len h =
+    rw (length-taken limit blank cells len h, ← h.rest) (take-append-drop len cells)

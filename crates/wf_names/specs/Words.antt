@@ -5,10 +5,12 @@ use Rattle.std.specs.Prelude.{◌≡◌, ℕ, ◌+◌, ◌<◌, ◌≤◌, List,
 abbrev pub minus : ℕ → ℕ → ℕ
 minus a b = bit_xor a (bit_and a b)
 
--- the eight words from a place on are mixed with those of another list, and the others are as they were
+-- the eight words from a place on are mixed with those of another list, and the others are as they
+-- were
 pub record IsMixedFrom (f : ℕ → ℕ → ℕ) (at : ℕ) (old by new : List ℕ) : Type 0 where
   pub below : (i : ℕ) → i < at → slice_index new i ≡ slice_index old i
-  pub mixed : (i : ℕ) → i < 8 → slice_index new (at + i) ≡ f (slice_index old (at + i)) (slice_index by (at + i))
+  pub mixed : (i : ℕ) → i < 8 →
+      slice_index new (at + i) ≡ f (slice_index old (at + i)) (slice_index by (at + i))
   pub above : (i : ℕ) → at + 8 ≤ i → slice_index new i ≡ slice_index old i
 
 -- the words below a place are mixed with those of another list, and the others are as they were

@@ -1,4 +1,5 @@
-//! The numbers by which the parts of a policy and the cases are known. Contracts see each as its number.
+//! The numbers by which the parts of a policy and the cases are known. Contracts see each as its
+//! number.
 
 use std::marker::Model;
 

@@ -2,7 +2,16 @@
 //!
 //! The function does nothing; its contract is the law.
 ghost use Rattle.std.specs.Prelude.{◌≡◌};
-ghost use Rattle.wf_names.specs.declared.limits.TheConstants.{BATCH_LINE_LIMIT, CASE_LIMIT, CASE_NUMBER_LIMIT, DEFAULT_LANES, DEFAULT_ROUNDS, FLOW_LIMIT, LANE_LIMIT, LINE_LIMIT, NAME_LIMIT, OPEN_CASE_LIMIT, PAIR_LIMIT, POLICY_FILE_LIMIT, RELATION_LIMIT, REQUESTS_FILE_LIMIT, ROLE_LIMIT, ROUND_LIMIT, RULE_LIMIT, SESSION_LINE_LIMIT, STEP_LIMIT, TRANSCRIPT_LINE_LIMIT, USER_LIMIT};
+ghost use Rattle.wf_names.specs.declared.limits.TheConstants.{BATCH_LINE_LIMIT, CASE_LIMIT};
+ghost use Rattle.wf_names.specs.declared.limits.TheConstants.{CASE_NUMBER_LIMIT, DEFAULT_LANES};
+ghost use Rattle.wf_names.specs.declared.limits.TheConstants.{DEFAULT_ROUNDS, FLOW_LIMIT};
+ghost use Rattle.wf_names.specs.declared.limits.TheConstants.{LANE_LIMIT, LINE_LIMIT, NAME_LIMIT};
+ghost use Rattle.wf_names.specs.declared.limits.TheConstants.{OPEN_CASE_LIMIT, PAIR_LIMIT};
+ghost use Rattle.wf_names.specs.declared.limits.TheConstants.{POLICY_FILE_LIMIT, RELATION_LIMIT};
+ghost use Rattle.wf_names.specs.declared.limits.TheConstants.{REQUESTS_FILE_LIMIT, ROLE_LIMIT};
+ghost use Rattle.wf_names.specs.declared.limits.TheConstants.{ROUND_LIMIT, RULE_LIMIT};
+ghost use Rattle.wf_names.specs.declared.limits.TheConstants.{SESSION_LINE_LIMIT, STEP_LIMIT};
+ghost use Rattle.wf_names.specs.declared.limits.TheConstants.{TRANSCRIPT_LINE_LIMIT, USER_LIMIT};
 
 /// Each limit is this figure.
 pub fn limits_have_their_figures()

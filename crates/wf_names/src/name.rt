@@ -13,7 +13,8 @@ use std::hash::{Hash, Hasher};
 use std::marker::Model;
 use std::str;
 
-/// A name: 1 to 40 bytes of `a-z`, `0-9` and `_`, the first of them a letter. Contracts see its bytes.
+/// A name: 1 to 40 bytes of `a-z`, `0-9` and `_`, the first of them a letter. Contracts see its
+/// bytes.
 #[derive(Clone, Copy)]
 pub struct Name {
     bytes: [u8; NAME_LIMIT],
@@ -34,7 +35,11 @@ impl Model for Name {
 
     ghost inverse = { λ v. record { bytes = padded NAME_LIMIT 0 v; len = length v } };
 
-    ghost inverse_ok = { λ n h i. record { bytes = padded-take NAME_LIMIT 0 n.bytes n.len h.cells i; len = length-taken NAME_LIMIT 0 n.bytes n.len h.cells i } };
+    ghost inverse_ok = { λ n h i. record {
+      bytes = padded-take NAME_LIMIT 0 n.bytes n.len
+          h.cells i;
+      len = length-taken NAME_LIMIT 0 n.bytes n.len h.cells i;
+    } };
 }
 
 impl Name {

@@ -1,5 +1,6 @@
 //! The names of a table, as they are kept.
-ghost use Rattle.std.specs.Prelude.{◌≡◌, ◌<◌, ◌↔◌, IsTrue, List, [], ◌∷◌, ◌++◌, length, is_some, IfSome, OnOk, OnErr, false, slice_get, Some};
+ghost use Rattle.std.specs.Prelude.{◌≡◌, ◌<◌, ◌↔◌, IsTrue, List, [], ◌∷◌, ◌++◌, length, is_some};
+ghost use Rattle.std.specs.Prelude.{IfSome, OnOk, OnErr, false, slice_get, Some};
 ghost use Rattle.wf_names.specs.Table.{place_of, AreNames};
 
 use crate::Name;

@@ -1,5 +1,7 @@
 //! Tables of distinct names, each found by its number and by its text.
-ghost use Rattle.std.specs.Prelude.{◌≡◌, ◌<◌, ◌≤◌, ◌↔◌, IsTrue, ℕ, List, [], ◌∷◌, ◌++◌, length, is_some, IfOk, IfSome, OnOk, OnErr, IsErrOf, true, false, slice_get, Some};
+ghost use Rattle.std.specs.Prelude.{◌≡◌, ◌<◌, ◌≤◌, ◌↔◌, IsTrue, ℕ, List, [], ◌∷◌, ◌++◌, length};
+ghost use Rattle.std.specs.Prelude.{is_some, IfOk, IfSome, OnOk, OnErr, IsErrOf, true, false};
+ghost use Rattle.std.specs.Prelude.{slice_get, Some};
 ghost use Rattle.wf_names.specs.Table.{Table, place_of, AreNames};
 
 use crate::Name;

@@ -1,5 +1,6 @@
 //! Sets of users, kept as one bit for each user up to the limit.
-ghost use Rattle.std.specs.Prelude.{◌≡◌, ℕ, length, replicate, ◌<◌, ◌≤◌, ◌==◌, ◌&&◌, ◌||◌, not, true, false, nat_lt, IsTrue, MatchOption};
+ghost use Rattle.std.specs.Prelude.{◌≡◌, ℕ, length, replicate, ◌<◌, ◌≤◌, ◌==◌, ◌&&◌, ◌||◌, not};
+ghost use Rattle.std.specs.Prelude.{true, false, nat_lt, IsTrue, MatchOption};
 ghost use Rattle.wf_names.specs.declared.limits.TheConstants.{USER_LIMIT};
 ghost use Rattle.wf_names.specs.declared.user_set.TheConstants.{USER_WORDS};
 ghost use Rattle.wf_names.specs.UserSets.{count_below, has_bit, has_user, IsBitFrom, IsNextIn};

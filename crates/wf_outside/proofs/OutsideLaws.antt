@@ -1,5 +1,6 @@
 -- How what was taken and what was put composes over several calls.
-use Rattle.std.proofs.Common.{◌≡◌, ℕ, ◌+◌, ◌-◌, ◌<◌, ◌≤◌, List, [], ◌++◌, length, take, drop, Option, None, Some, IfSome, Ok, Err, refl, sym, ◌∙◌, ap, subst, arith, append_assoc}
+use Rattle.std.proofs.Common.{◌≡◌, ℕ, ◌+◌, ◌-◌, ◌<◌, ◌≤◌, List, [], ◌++◌, length, take, drop, Option, None, Some, IfSome, Ok, Err, refl, sym, ◌∙◌, ap, subst}
+use Rattle.std.proofs.Common.{arith, append_assoc}
 use Rattle.std.proofs.lemmas.Grind.{common_steps}
 use Rattle.std.proofs.lemmas.List.{take-append-drop, append-nil, take-append-le, length-append, length-take, take_rest}
 use Rattle.std.proofs.Math.Seq.{take-append-add, take-length, take-add}
@@ -68,14 +69,17 @@ pub put_on : (held middle after : Option (List ℕ)) (bytes : List ℕ) (done co
     → after ≡ with_bytes held (take (done + count) bytes)
 put_on held middle after bytes done count so_far now =
     let rest : after ≡ with_bytes middle (take count (drop done bytes)) = rw take_rest at now in
-    rest ∙ ap (λ h. with_bytes h (take count (drop done bytes))) so_far ∙ more_put held (take done bytes) (take count (drop done bytes)) ∙ ap (with_bytes held) (sym (take-add done count bytes))
+    rest ∙ ap (λ h. with_bytes h (take count (drop done bytes))) so_far ∙ more_put held (take done bytes) (take count (drop done bytes)) ∙
+    ap (with_bytes held) (sym (take-add done count bytes))
 
-whole_within : (left : Option (List ℕ)) (bytes : List ℕ) (limit : ℕ) → IsAtEnd left → length bytes ≤ limit → IfSome (bytes_before bytes left) (λ content. ReadsAll content limit (Ok bytes))
+whole_within : (left : Option (List ℕ)) (bytes : List ℕ) (limit : ℕ) → IsAtEnd left → length bytes ≤ limit →
+    IfSome (bytes_before bytes left) (λ content. ReadsAll content limit (Ok bytes))
 unfolding bytes_before
 whole_within None bytes limit ended within = tt
 whole_within (Some left) bytes limit ended within = rw (ended, append-nil bytes) (refl, within)
 
-more_than : (left : Option (List ℕ)) (bytes : List ℕ) (limit : ℕ) → limit < length bytes → IfSome (bytes_before bytes left) (λ content. ReadsAll content limit (Err TooLong))
+more_than : (left : Option (List ℕ)) (bytes : List ℕ) (limit : ℕ) → limit < length bytes →
+    IfSome (bytes_before bytes left) (λ content. ReadsAll content limit (Err TooLong))
 unfolding bytes_before
 more_than None bytes limit above = tt
 more_than (Some left) bytes limit above = omega (arith, length-append bytes left)

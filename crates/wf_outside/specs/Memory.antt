@@ -86,5 +86,6 @@ AnswersWith failing content (Err NoMemory) = failing ≡ false
 abbrev pub LoadsFrom : CountsShape → Filed → ℕ → Result (List ℕ) LoadFault → Type 0
 LoadsFrom c missing limit result = result ≡ Err Failed
 LoadsFrom c (told content) limit result =
-    MatchBool (nat_lt limit (length content)) (result ≡ Err TooLong) (AnswersWith (is_failing c) content result)
+    MatchBool (nat_lt limit (length content)) (result ≡ Err TooLong)
+    (AnswersWith (is_failing c) content result)
 LoadsFrom c untold limit result = ⊥

@@ -24,7 +24,8 @@ impl Model for MemSink {
 
     ghost Value = { MemSinkShape };
 
-    ghost view = { λ s. record { bytes = s.bytes.items; room = s.room; most = s.most; counts = s.counts } };
+    ghost view = { λ s.
+        record { bytes = s.bytes.items; room = s.room; most = s.most; counts = s.counts } };
 
     ghost invariant = { λ s. (length s.bytes.items ≤ s.room) × (s.room ≤ vec_capacity s.bytes) };
 }

@@ -23,7 +23,8 @@ impl Model for MemSource {
 
     ghost Value = { MemSourceShape };
 
-    ghost view = { λ s. record { left = drop s.at s.bytes.items; most = s.most; counts = s.counts } };
+    ghost view = { λ s.
+        record { left = drop s.at s.bytes.items; most = s.most; counts = s.counts } };
 
     ghost invariant = { λ s. (s.at ≤ length s.bytes.items) × (0 < s.most) };
 }

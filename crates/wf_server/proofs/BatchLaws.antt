@@ -1,7 +1,9 @@
 -- How the entries of a batch follow those before.
-use Rattle.std.proofs.Common.{◌≡◌, ℕ, zero, suc, ◌+◌, ◌-◌, ◌<◌, ◌≤◌, max, List, [], ◌∷◌, ◌++◌, length, take, drop, get_or, Option, Result, Ok, Err, OnOk, OnErr, IfErr, inl, inr, refl, sym, ◌∙◌, ap, subst, arith, append_assoc}
+use Rattle.std.proofs.Common.{◌≡◌, ℕ, zero, suc, ◌+◌, ◌-◌, ◌<◌, ◌≤◌, max, List, [], ◌∷◌, ◌++◌, length, take, drop, get_or, Option, Result, Ok, Err, OnOk, OnErr}
+use Rattle.std.proofs.Common.{IfErr, inl, inr, refl, sym, ◌∙◌, ap, subst, arith, append_assoc}
 use Rattle.std.proofs.lemmas.Grind.{common_steps}
-use Rattle.std.proofs.lemmas.List.{take-append-drop, take-append-le, take-take, take_all, append-nil, drop_more, take_more, length-append, length-drop, length-take-le, get_or_append_left}
+use Rattle.std.proofs.lemmas.List.{take-append-drop, take-append-le, take-take, take_all, append-nil, drop_more, take_more, length-append, length-drop}
+use Rattle.std.proofs.lemmas.List.{length-take-le, get_or_append_left}
 use Rattle.std.proofs.Math.Seq.{drop-append_seam, take-append_seam}
 use Rattle.wf_outside.specs.Outside.{with_bytes, HasPart}
 use Rattle.wf_outside.proofs.OutsideLaws.{more_put, part_first, part_second, part_all}
@@ -43,7 +45,8 @@ pub written_more : (p : PolicyShape) (held mid after : Option (List ℕ)) (es : 
     → mid ≡ with_bytes held (entries_text p (take i es)) → after ≡ with_bytes mid (entry_text p e) → after ≡ with_bytes held (entries_text p (take (i + 1) es))
 written_more p held mid after es i e within is so_far now =
     now ∙ ap (λ m. with_bytes m (entry_text p e)) so_far ∙ more_put held (entries_text p (take i es)) (entry_text p e)
-    ∙ ap (with_bytes held) (ap (λ t. entries_text p (take i es) ++ t) (sym (append-nil (entry_text p e))) ∙ sym (text_append p (take i es) (e ∷ [])) ∙ ap (entries_text p) (ap (λ y. take i es ++ y ∷ []) is ∙ sym (take_more es i e within)))
+    ∙ ap (with_bytes held) (ap (λ t. entries_text p (take i es) ++ t) (sym (append-nil (entry_text p e))) ∙ sym (text_append p (take i es) (e ∷ [])) ∙
+    ap (entries_text p) (ap (λ y. take i es ++ y ∷ []) is ∙ sym (take_more es i e within)))
 
 -- or only a part of it
 pub written_part : (p : PolicyShape) (held mid after : Option (List ℕ)) (es : List Entry) (i : ℕ) (e : Entry) → i < length es → e ≡ get_or es i e
@@ -51,14 +54,17 @@ pub written_part : (p : PolicyShape) (held mid after : Option (List ℕ)) (es : 
 written_part p held mid after es i e within is so_far part =
     let front = entries_text p (take i es) in
     let rest = entries_text p (drop (i + 1) es) in
-    let whole : entries_text p es ≡ front ++ (entry_text p e ++ rest) = ap (entries_text p) (split_at es i e within is) ∙ text_append p (take i es) (e ∷ drop (i + 1) es) in
+    let whole : entries_text p es ≡ front ++ (entry_text p e ++ rest) = ap (entries_text p) (split_at es i e within is) ∙
+    text_append p (take i es) (e ∷ drop (i + 1) es) in
     subst (HasPart held after) (sym whole)
-    (part_second held after front (entry_text p e ++ rest) (part_first (with_bytes held front) after (entry_text p e) rest (subst (λ m. HasPart m after (entry_text p e)) so_far part)))
+    (part_second held after front (entry_text p e ++ rest)
+    (part_first (with_bytes held front) after (entry_text p e) rest (subst (λ m. HasPart m after (entry_text p e)) so_far part)))
 
 -- ---- ends of batches
 
 -- the end of a batch, if it has a job
-pub end_added : (before after : List ℕ) (jobs batch : List Job) → (length batch ≡ 0 → after ≡ before) → (0 < length batch → after ≡ before ++ (length jobs + length batch) ∷ [])
+pub end_added : (before after : List ℕ) (jobs batch : List Job) → (length batch ≡ 0 → after ≡ before) →
+    (0 < length batch → after ≡ before ++ (length jobs + length batch) ∷ [])
     → after ≡ ends_after before (length jobs) batch
 end_added before after jobs batch none some = grind (arith, common_steps)
 
@@ -120,7 +126,8 @@ writes_whole set held after told written =
     let front = text_from set.policy set.restored (take n told.entries) in
     let rest = text_from set.policy n told.entries in
     let whole : text_from set.policy set.restored told.entries ≡ front ++ rest = text_split set.policy set.restored n told.entries (omega arith) in
-    subst (λ a. HasPart (with_bytes held front) a rest) (sym (written ∙ ap (with_bytes held) whole ∙ sym (more_put held front rest))) (part_all (with_bytes held front) rest)
+    subst (λ a. HasPart (with_bytes held front) a rest) (sym (written ∙ ap (with_bytes held) whole ∙ sym (more_put held front rest)))
+    (part_all (with_bytes held front) rest)
 
 setting_grown : (b c : DeskShape) → HasGrown b c → setting_of c ≡ setting_of b
 setting_grown b c grown = rw (grown.opening, grown.lanes, grown.rounds, grown.restored) refl
@@ -138,7 +145,8 @@ pub record HasServedLoaded (held mid : Option (List ℕ)) (l d : DeskShape) (bef
   pub sound : IsSoundDesk d
   pub done : IsDone d
 
-first_taken : (held mid : Option (List ℕ)) (l d : DeskShape) (before after : Told) → HasServedLoaded held mid l d before after → take l.start d.entries ≡ before.entries
+first_taken : (held mid : Option (List ℕ)) (l d : DeskShape) (before after : Told) → HasServedLoaded held mid l d before after →
+    take l.start d.entries ≡ before.entries
 first_taken held mid l d before after h =
     let here = h.loaded.here in
     ap (take l.start) h.grown.extends ∙ take-append-le l.start l.entries h.grown.more (omega (arith, here)) ∙ h.loaded.front
@@ -154,7 +162,8 @@ batch_filled : (held mid : Option (List ℕ)) (l d : DeskShape) (before after : 
     → FillsJobs after.entries after.jobs after.batch_ends
 batch_filled held mid l d before after h =
     let new = drop l.start d.entries in
-    let all : after.entries ≡ before.entries ++ new = h.same ∙ sym (take-append-drop l.start d.entries) ∙ ap (λ es. es ++ new) (first_taken held mid l d before after h) in
+    let all : after.entries ≡ before.entries ++ new = h.same ∙ sym (take-append-drop l.start d.entries) ∙
+    ap (λ es. es ++ new) (first_taken held mid l d before after h) in
     rw (h.added.jobs, h.added.ends, all)
     (fills_more before.entries new before.jobs l.jobs before.batch_ends
     record { fills = h.loaded.fills; at_end = h.loaded.ends; answers = the_batch held mid l d before after h })
@@ -175,7 +184,8 @@ last_here held mid l d before after h jobs =
 
 -- a part of the entries that came is a part of the last batch
 part_last : (held mid aft : Option (List ℕ)) (l d : DeskShape) (before after : Told) → (h : HasServedLoaded held mid l d before after)
-    → HasPart mid aft (batch_text l h.grown.more) → 0 < length h.grown.more → WritesPart (setting_of l) held aft (last_start l.restored after.batch_ends) after.entries
+    → HasPart mid aft (batch_text l h.grown.more) → 0 < length h.grown.more →
+    WritesPart (setting_of l) held aft (last_start l.restored after.batch_ends) after.entries
 part_last held mid aft l d before after h part some =
     let p = l.opening in
     let m = l.restored in
@@ -189,7 +199,8 @@ part_last held mid aft l d before after h part some =
     let front : take (length l.entries) after.entries ≡ l.entries = ap (take (length l.entries)) all ∙ take-append_seam l.entries new in
     let rest : drop (length l.entries) after.entries ≡ new = ap (drop (length l.entries)) all ∙ drop-append_seam l.entries new in
     subst (λ n. WritesPart (setting_of l) held aft n after.entries) (sym begins)
-    (subst (λ es. HasPart (with_bytes held (text_from p m es)) aft (transcript_text (state_after (opening_state p) es) (drop (length l.entries) after.entries))) (sym front)
+    (subst (λ es. HasPart (with_bytes held (text_from p m es)) aft
+    (transcript_text (state_after (opening_state p) es) (drop (length l.entries) after.entries))) (sym front)
     (subst (λ es. HasPart (with_bytes held (text_from p m l.entries)) aft (transcript_text (state_after (opening_state p) l.entries) es)) (sym rest)
     (subst (λ x. HasPart x aft (batch_text l new)) h.loaded.written part)))
 
@@ -197,11 +208,13 @@ part_answered : (held mid aft : Option (List ℕ)) (l d : DeskShape) (before aft
     → HasPart mid aft (batch_text l h.grown.more) → 0 < length h.grown.more → HasAnsweredPart (setting_of d) held aft after
 part_answered held mid aft l d before after h part some = record {
   fills = batch_filled held mid l d before after h;
-  written = subst (λ (s : Setting). WritesPart s held aft (last_start s.restored after.batch_ends) after.entries) (sym (setting_grown l d h.grown)) (part_last held mid aft l d before after h part some);
+  written = subst (λ (s : Setting). WritesPart s held aft (last_start s.restored after.batch_ends) after.entries) (sym (setting_grown l d h.grown))
+      (part_last held mid aft l d before after h part some);
 }
 
 -- the entries of one more batch are written behind those before
-text_more : (p : PolicyShape) (m : ℕ) (es new : List Entry) → m ≤ length es → text_from p m (es ++ new) ≡ text_from p m es ++ transcript_text (state_after (opening_state p) es) new
+text_more : (p : PolicyShape) (m : ℕ) (es new : List Entry) → m ≤ length es →
+    text_from p m (es ++ new) ≡ text_from p m es ++ transcript_text (state_after (opening_state p) es) new
 text_more p m es new within =
     let n = length es in
     let first : take n (es ++ new) ≡ es = take-append_seam es new in
@@ -233,36 +246,43 @@ loaded_to held mid aft l d before after text es (Err fault) h is new all part so
     part_answered held mid aft l d before after h (subst (HasPart mid aft) is part) (subst (λ xs. 0 < length xs) new some)
 
 -- the same is told
-pub same_told : (old d : DeskShape) (before after : Answered) → d.entries ≡ old.entries → after.jobs ≡ before.jobs → after.batch_ends ≡ before.batch_ends → told_of d after ≡ told_of old before
+pub same_told : (old d : DeskShape) (before after : Answered) → d.entries ≡ old.entries → after.jobs ≡ before.jobs → after.batch_ends ≡ before.batch_ends →
+    told_of d after ≡ told_of old before
 same_told old d before after entries jobs ends = rw (entries, jobs, ends) refl
 
 -- and where there was no room for the batch
 pub answers_none : (held aft : Option (List ℕ)) (old d : DeskShape) (before : Told) (batch : List Job) (after : Told) (result : Result (Unit {0}) RunFault)
-    → HasAnswered held aft old before → setting_of d ≡ setting_of old → after ≡ before → result ≡ Err fault.NoMemory → AnswersTo held aft before batch d after result
+    → HasAnswered held aft old before → setting_of d ≡ setting_of old → after ≡ before → result ≡ Err fault.NoMemory →
+    AnswersTo held aft before batch d after result
 answers_none held aft old d before batch after result answered setting same memory =
     rw (memory, same) (
       inl refl,
       record {
         fills = answered.fills;
-        written = subst (λ (s : Setting). WritesPart s held aft (last_start s.restored before.batch_ends) before.entries) (sym setting) (writes_whole (setting_of old) held aft before answered.written);
+        written = subst (λ (s : Setting). WritesPart s held aft (last_start s.restored before.batch_ends) before.entries) (sym setting)
+            (writes_whole (setting_of old) held aft before answered.written);
       },
     )
 
 -- the text of the entries of a batch with the names of the policy after it
-pub text_on : (old d : DeskShape) (q : PolicyShape) (new : List Entry) → KeepsTexts old → IsSoundDesk d → setting_of d ≡ setting_of old → d.entries ≡ old.entries ++ new → q ≡ d.board.policy →
+pub text_on : (old d : DeskShape) (q : PolicyShape) (new : List Entry) → KeepsTexts old → IsSoundDesk d → setting_of d ≡ setting_of old →
+    d.entries ≡ old.entries ++ new → q ≡ d.board.policy →
     entries_text q new ≡ transcript_text (state_after (opening_state old.opening) old.entries) new
 text_on old d q new texts sound setting entries found =
     let legal : IsLegal (opening_state old.opening) old.rounds (old.entries ++ new) =
-    subst (λ (s : Setting). IsLegal (opening_state s.policy) s.rounds (old.entries ++ new)) setting (subst (IsLegal (opening_state d.opening) d.rounds) entries sound.legal) in
+    subst (λ (s : Setting). IsLegal (opening_state s.policy) s.rounds (old.entries ++ new)) setting
+    (subst (IsLegal (opening_state d.opening) d.rounds) entries sound.legal) in
     let after : q ≡ (state_after (opening_state old.opening) (old.entries ++ new)).book.policy =
     found ∙ ap (λ (x : State). x.book.policy) sound.state ∙ ap (λ es. (state_after (opening_state d.opening) es).book.policy) entries
     ∙ ap (λ (s : Setting). (state_after (opening_state s.policy) (old.entries ++ new)).book.policy) setting in
     ap (λ x. entries_text x new) after ∙ sym (texts new legal)
 
 -- the jobs at a desk were answered, and the entries that came written
-pub loaded_answers : (held mid aft : Option (List ℕ)) (l d : DeskShape) (q : PolicyShape) (before after : Told) (n : ℕ) (es : List Entry) (result : Result (Unit {0}) RunFault)
+pub loaded_answers : (held mid aft : Option (List ℕ)) (l d : DeskShape) (q : PolicyShape) (before after : Told) (n : ℕ) (es : List Entry)
+    (result : Result (Unit {0}) RunFault)
     → HasServedLoaded held mid l d before after → KeepsTexts l → n ≡ length l.entries → es ≡ drop n d.entries → q ≡ d.board.policy
-    → OnOk result (aft ≡ with_bytes mid (entries_text q es)) → HasPart mid aft (entries_text q es) → OnErr result (0 < length es) → LoadedTo held aft d after result
+    → OnOk result (aft ≡ with_bytes mid (entries_text q es)) → HasPart mid aft (entries_text q es) → OnErr result (0 < length es) →
+    LoadedTo held aft d after result
 loaded_answers held mid aft l d q before after n es result h texts count behind found all part some =
     let new : es ≡ h.grown.more =
     behind ∙ ap (λ k. drop k d.entries) count ∙ ap (drop (length l.entries)) h.grown.extends ∙ drop-append_seam l.entries h.grown.more in
@@ -278,7 +298,8 @@ pub record HasLoadedBatch (old l : DeskShape) (a b : Answered) (batch : List Job
   pub jobs : b.jobs ≡ a.jobs ++ batch
   pub ends : b.batch_ends ≡ ends_after a.batch_ends (length a.jobs) batch
 
-loaded_batch : (held mid : Option (List ℕ)) (old l : DeskShape) (a b : Answered) (batch : List Job) → HasLoadedBatch old l a b batch → HasAnswered held mid old (told_of old a)
+loaded_batch : (held mid : Option (List ℕ)) (old l : DeskShape) (a b : Answered) (batch : List Job) → HasLoadedBatch old l a b batch →
+    HasAnswered held mid old (told_of old a)
     → HasLoaded held mid l (told_of old a)
 loaded_batch held mid old l a b batch h answered =
     let kept = answered.kept in
@@ -300,12 +321,15 @@ pub batch_answers : (held mid aft : Option (List ℕ)) (old l d : DeskShape) (a 
     → ((before after : Told) → HasLoaded held mid l before → IsAdded before l.jobs after → after.entries ≡ d.entries → LoadedTo held aft d after result)
     → IfErr result IsWriteEnding → AnswersTo held aft (told_of old a) batch d (told_of d b) result
 batch_answers held mid aft old l d a b batch result h answered answers ending =
-    by_result result (answers (told_of old a) (told_of d b) (loaded_batch held mid old l a b batch h answered) (record { jobs = h.jobs ∙ ap (λ js. a.jobs ++ js) (sym h.loads); ends = h.ends ∙ ap (ends_after a.batch_ends (length a.jobs)) (sym h.loads) }) refl) ending
+    by_result result (answers (told_of old a) (told_of d b) (loaded_batch held mid old l a b batch h answered)
+    (record { jobs = h.jobs ∙ ap (λ js. a.jobs ++ js) (sym h.loads); ends = h.ends ∙ ap (ends_after a.batch_ends (length a.jobs)) (sym h.loads) }) refl)
+    ending
   where
     added : IsAdded (told_of old a) batch (told_of d b)
     added = record { jobs = h.jobs; ends = h.ends }
 
-    by_result : (r : Result (Unit {0}) RunFault) → LoadedTo held aft d (told_of d b) r → IfErr r IsWriteEnding → AnswersTo held aft (told_of old a) batch d (told_of d b) r
+    by_result : (r : Result (Unit {0}) RunFault) → LoadedTo held aft d (told_of d b) r → IfErr r IsWriteEnding →
+        AnswersTo held aft (told_of old a) batch d (told_of d b) r
     by_result (Ok done) all end = (added, all)
     by_result (Err fault.NoMemory) part end = (inr added, part)
     by_result (Err fault.Write) part end = (added, part)

@@ -1,5 +1,6 @@
 -- How the batches of a requests file follow one another.
-use Rattle.std.proofs.Common.{◌≡◌, ℕ, suc, zero, ◌+◌, ◌-◌, ◌<◌, ◌≤◌, nat_lt, true, List, [], ◌∷◌, ◌++◌, length, take, drop, slice_index_or, Option, Result, Ok, Err, inl, inr, refl, sym, ap, subst, ◌∙◌, arith}
+use Rattle.std.proofs.Common.{◌≡◌, ℕ, suc, zero, ◌+◌, ◌-◌, ◌<◌, ◌≤◌, nat_lt, true, List, [], ◌∷◌, ◌++◌, length, take, drop, slice_index_or, Option, Result, Ok}
+use Rattle.std.proofs.Common.{Err, inl, inr, refl, sym, ap, subst, ◌∙◌, arith}
 use Rattle.std.proofs.lemmas.Bool.{lt-ltb}
 use Rattle.std.proofs.lemmas.List.{drop_all, length-append, length-take-le, take_more}
 use Rattle.wf_outside.specs.Outside.{with_bytes}
@@ -34,7 +35,8 @@ pub record IsNext (jobs : List Job) (ends : List ℕ) (count start stop : ℕ) :
   pub order : start < stop
   pub within : stop ≤ length jobs
 
-pub is_next : (lanes : ℕ) (jobs : List Job) (ends : List ℕ) (count : ℕ) (told : Told) → AreInOrder lanes jobs ends → count < length ends → IsToldTo jobs ends count told
+pub is_next : (lanes : ℕ) (jobs : List Job) (ends : List ℕ) (count : ℕ) (told : Told) → AreInOrder lanes jobs ends → count < length ends →
+    IsToldTo jobs ends count told
     → IsNext jobs ends count (length told.jobs) (slice_index_or ends count 0)
 is_next lanes jobs ends count told order known is =
     let lead = order.ends in
@@ -52,7 +54,8 @@ is_next lanes jobs ends count told order known is =
     }
 
 -- its jobs are a batch
-pub file_batch : (lanes : ℕ) (jobs : List Job) (ends : List ℕ) (count start stop : ℕ) → AreInOrder lanes jobs ends → count < length ends → IsNext jobs ends count start stop
+pub file_batch : (lanes : ℕ) (jobs : List Job) (ends : List ℕ) (count start stop : ℕ) → AreInOrder lanes jobs ends → count < length ends →
+    IsNext jobs ends count start stop
     → IsBatch lanes start (jobs_between start stop jobs)
 file_batch lanes jobs ends count start stop order known next =
     let above = next.order in
@@ -69,8 +72,10 @@ file_batch lanes jobs ends count start stop order known next =
     }
 
 -- and are told
-pub told_more : (lanes : ℕ) (jobs : List Job) (ends : List ℕ) (count : ℕ) (before after : Told) (batch : List Job) (start stop : ℕ) → AreInOrder lanes jobs ends → count < length ends
-    → IsToldTo jobs ends count before → IsNext jobs ends count start stop → start ≡ length before.jobs → batch ≡ jobs_between start stop jobs → IsAdded before batch after
+pub told_more : (lanes : ℕ) (jobs : List Job) (ends : List ℕ) (count : ℕ) (before after : Told) (batch : List Job) (start stop : ℕ) →
+    AreInOrder lanes jobs ends → count < length ends
+    → IsToldTo jobs ends count before → IsNext jobs ends count start stop → start ≡ length before.jobs → batch ≡ jobs_between start stop jobs →
+    IsAdded before batch after
     → IsToldTo jobs ends (count + 1) after
 told_more lanes jobs ends count before after batch start stop order known is next begins same added =
     let above = next.order in
@@ -96,8 +101,10 @@ told_some before after batch added some = let size = ap length added.jobs in ome
 
 -- ---- a fault
 
-pub file_fails : (lanes : ℕ) (jobs : List Job) (ends : List ℕ) (count : ℕ) (held aft : Option (List ℕ)) (before after : Told) (d : DeskShape) (batch : List Job) (start stop : ℕ) (ending : RunFault)
-    → AreInOrder lanes jobs ends → count < length ends → IsToldTo jobs ends count before → IsNext jobs ends count start stop → start ≡ length before.jobs → batch ≡ jobs_between start stop jobs
+pub file_fails : (lanes : ℕ) (jobs : List Job) (ends : List ℕ) (count : ℕ) (held aft : Option (List ℕ)) (before after : Told) (d : DeskShape)
+    (batch : List Job) (start stop : ℕ) (ending : RunFault)
+    → AreInOrder lanes jobs ends → count < length ends → IsToldTo jobs ends count before → IsNext jobs ends count start stop → start ≡ length before.jobs →
+    batch ≡ jobs_between start stop jobs
     → AnswersTo held aft before batch d after (Err ending) → IsWriteEnding ending → FileTo held aft jobs ends d after (Err ending)
 file_fails lanes jobs ends count held aft before after d batch start stop fault.Write order known is next begins same answers end =
     let above = next.order in
@@ -129,7 +136,8 @@ file_fails lanes jobs ends count held aft before after d batch start stop ending
 abbrev pub earlier : (d : DeskShape) (a : Answered) → StandsAt d.entries d.start d.jobs a.jobs a.batch_ends → Told
 earlier d a stands = record { entries = take d.start d.entries; jobs = stands.earlier_jobs; batch_ends = stands.earlier_ends }
 
-pub first_loaded : (held : Option (List ℕ)) (d : DeskShape) (a : Answered) → (stands : StandsAt d.entries d.start d.jobs a.jobs a.batch_ends) → d.restored ≡ length d.entries
+pub first_loaded : (held : Option (List ℕ)) (d : DeskShape) (a : Answered) → (stands : StandsAt d.entries d.start d.jobs a.jobs a.batch_ends) →
+    d.restored ≡ length d.entries
     → HasLoaded held held d (earlier d a stands)
 first_loaded held d a stands restored =
     let begun = stands.begun in
@@ -142,15 +150,18 @@ first_loaded held d a stands restored =
       written = rw none (sym (nothing_put held));
     }
 
-pub first_added : (d e : DeskShape) (a : Answered) → (stands : StandsAt d.entries d.start d.jobs a.jobs a.batch_ends) → IsAdded (earlier d a stands) d.jobs (told_of e a)
+pub first_added : (d e : DeskShape) (a : Answered) → (stands : StandsAt d.entries d.start d.jobs a.jobs a.batch_ends) →
+    IsAdded (earlier d a stands) d.jobs (told_of e a)
 first_added d e a stands = record { jobs = stands.all_jobs; ends = stands.all_ends }
 
 -- what is told is the same at another desk
-pub told_at : (jobs : List Job) (ends : List ℕ) (count : ℕ) (d e : DeskShape) (a : Answered) → IsToldTo jobs ends count (told_of d a) → IsToldTo jobs ends count (told_of e a)
+pub told_at : (jobs : List Job) (ends : List ℕ) (count : ℕ) (d e : DeskShape) (a : Answered) → IsToldTo jobs ends count (told_of d a) →
+    IsToldTo jobs ends count (told_of e a)
 told_at jobs ends count d e a is = record { known = is.known; all_jobs = is.all_jobs; all_ends = is.all_ends }
 
 -- its jobs are answered, but a fault ended the session
-pub first_fails : (jobs : List Job) (ends : List ℕ) (count : ℕ) (held aft : Option (List ℕ)) (d e : DeskShape) (a : Answered) (ending : RunFault) → IsToldTo jobs ends count (told_of d a)
+pub first_fails : (jobs : List Job) (ends : List ℕ) (count : ℕ) (held aft : Option (List ℕ)) (d e : DeskShape) (a : Answered) (ending : RunFault) →
+    IsToldTo jobs ends count (told_of d a)
     → HasAnsweredPart (setting_of e) held aft (told_of e a) → 0 < length e.entries → FileTo held aft jobs ends e (told_of e a) (Err ending)
 first_fails jobs ends count held aft d e a ending is part some =
     let size = part.fills.whole in

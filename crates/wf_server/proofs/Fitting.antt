@@ -84,11 +84,13 @@ served_fits p options room before after told ending law stay order within file n
     served names rightful
 
 -- of one behind entries that were taken up
-pub behind_fits : (p : PolicyShape) (options : Options) (requests transcript : List ℕ) (b : Beginning) (before after : Streams) (told : Told) (ending : RunFault) → LinesFit → JobsStayNamed →
+pub behind_fits : (p : PolicyShape) (options : Options) (requests transcript : List ℕ) (b : Beginning) (before after : Streams) (told : Told)
+    (ending : RunFault) → LinesFit → JobsStayNamed →
     AreOptions options → IsFilePolicy p →
     HasBegun (session_of p options.lanes options.rounds (jobs_of_input requests true options.lanes)) (jobs_of_input requests true options.lanes) transcript b →
     HasNames (state_after (opening_state b.desk.opening) b.desk.entries).book.policy →
-    Served (setting_behind (session_of p options.lanes options.rounds (jobs_of_input requests true options.lanes)) (length b.desk.entries)) (next_input (jobs_of_input requests true options.lanes)) PIECE
+    Served (setting_behind (session_of p options.lanes options.rounds (jobs_of_input requests true options.lanes)) (length b.desk.entries))
+    (next_input (jobs_of_input requests true options.lanes)) PIECE
     before after told ending → take (length b.desk.entries) told.entries ≡ b.desk.entries → AreRightful (drop (length b.desk.entries) told.entries) →
     FitLines (texts_of (state_after (opening_state p) b.desk.entries) (drop (length b.desk.entries) told.entries))
 behind_fits p options requests transcript b before after told ending law stay within file begun names served begins rightful =

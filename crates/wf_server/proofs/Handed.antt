@@ -1,5 +1,6 @@
 -- The jobs of a session are handed over up to an end of a batch, and its entries answer lines.
-use Rattle.std.proofs.Common.{◌≡◌, ℕ, zero, suc, ◌+◌, ◌<◌, ◌≤◌, ◌^◌, nat_eq, nat_lt, Bool, true, false, List, [], ◌∷◌, ◌++◌, length, take, drop, map, Option, inl, inr, if◌then◌else◌, refl, sym, ap, subst, ◌∙◌, arith}
+use Rattle.std.proofs.Common.{◌≡◌, ℕ, zero, suc, ◌+◌, ◌<◌, ◌≤◌, ◌^◌, nat_eq, nat_lt, Bool, true, false, List, [], ◌∷◌, ◌++◌, length, take, drop, map, Option}
+use Rattle.std.proofs.Common.{inl, inr, if◌then◌else◌, refl, sym, ap, subst, ◌∙◌, arith}
 use Rattle.std.proofs.lemmas.Grind.{common_steps}
 use Rattle.std.proofs.lemmas.List.{length-append, length-map, length-take-le, take_all}
 use Rattle.basics.proofs.Booleans.{eq_same, lt_no}
@@ -7,7 +8,8 @@ use Rattle.wf_names.specs.declared.limits.TheConstants.{BATCH_LINE_LIMIT, LANE_L
 use Rattle.wf_talk.specs.declared.entry.Entry.{Entry}
 use Rattle.wf_talk.specs.declared.job.Job.{Job}
 use Rattle.wf_talk.specs.Jobs.{AreOfLanes, IsNamedAsk}
-use Rattle.line_cutter.specs.Jobs.{Cut, UpToAnEnd, cut_all, end_batch, end_full_batch, end_line, flush, jobs_from, last_or, next_input, next_line, step, with_job, without_cr}
+use Rattle.line_cutter.specs.Jobs.{Cut, UpToAnEnd, cut_all, end_batch, end_full_batch, end_line, flush, jobs_from, last_or, next_input, next_line, step}
+use Rattle.line_cutter.specs.Jobs.{with_job, without_cr}
 use Rattle.line_cutter.specs.Laws.{AddsNamed, AreInOrder, AreLinesBelow, AreNamedJobs, GoesOn, LeadTo}
 use Rattle.line_cutter.proofs.CutLaws.{cut_all-append}
 use Rattle.batch_reader.specs.declared.reader.Paused.{Paused}
@@ -81,7 +83,8 @@ paused_up lanes first jobs batch_ends front last order same same_ends more =
     let grown : length c.ends < length (step c last).ends = omega (arith, more, ap length same_ends, ap (λ (x : Cut). length x.ends) cut) in
     let whole : end_batch (flush false (cut_all first (front ++ last ∷ []))) ≡ cut_all first (front ++ last ∷ []) =
     ap (λ x. end_batch (flush false x)) cut ∙ none_open (step c last) (closes c last grown) ∙ sym cut in
-    whole_up lanes first jobs batch_ends (front ++ last ∷ []) false order (same ∙ ap (λ (x : Cut). x.jobs) (sym whole)) (same_ends ∙ ap (λ (x : Cut). x.ends) (sym whole))
+    whole_up lanes first jobs batch_ends (front ++ last ∷ []) false order (same ∙ ap (λ (x : Cut). x.jobs) (sym whole))
+    (same_ends ∙ ap (λ (x : Cut). x.ends) (sym whole))
 
 paused_to : (lanes : ℕ) (first : Cut) (before after : Option (List ℕ)) (room : ℕ) (told : Told) (how : Paused) → AreInOrderFrom lanes first →
     ReadsTo before after room (handed_in first told) how → IsUpTo first told.jobs told.batch_ends
@@ -219,7 +222,8 @@ filled P es jobs ends fills at_end each =
     let all = map job_of_entry es in
     let size : length all ≡ length jobs = length-map es job_of_entry ∙ fills.whole in
     let closed = at_end.closed in
-    subst (EachJob P) (take_all (batch_start ends (length ends)) all (omega (arith, size, closed))) (filled_to P es jobs ends (length ends) fills each (omega arith))
+    subst (EachJob P) (take_all (batch_start ends (length ends)) all (omega (arith, size, closed)))
+    (filled_to P es jobs ends (length ends) fills each (omega arith))
 
 lines_of : (es : List Entry) → EachJob IsLineJob (map job_of_entry es) → AreOfLines es
 lines_of [] each = tt

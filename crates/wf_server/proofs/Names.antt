@@ -38,11 +38,13 @@ abbrev AreSteps : State → List Entry → Type 0
 AreSteps s [] = Unit {0}
 AreSteps s (e ∷ es) = IsStepOrAgain s e.ask e.reply × AreSteps (state_after_step s e.ask e.reply) es
 
-one_step : (start : State) (rounds : ℕ) (earlier : List Entry) (e : Entry) → IsRightAfter start rounds earlier e → IsStepOrAgain (state_after start earlier) e.ask e.reply
+one_step : (start : State) (rounds : ℕ) (earlier : List Entry) (e : Entry) → IsRightAfter start rounds earlier e → IsStepOrAgain
+    (state_after start earlier) e.ask e.reply
 one_step start rounds earlier e (at, inl step) = inl step
 one_step start rounds earlier e (at, inr retry) = inr (retry.0, (retry.1.0, retry.1.1.0))
 
-all_steps : (start : State) (rounds : ℕ) (earlier more : List Entry) → EachAfter (IsRightAfter start rounds) earlier more → AreSteps (state_after start earlier) more
+all_steps : (start : State) (rounds : ℕ) (earlier more : List Entry) → EachAfter (IsRightAfter start rounds) earlier more →
+    AreSteps (state_after start earlier) more
 all_steps start rounds earlier [] each = tt
 all_steps start rounds earlier (e ∷ es) each = (
   one_step start rounds earlier e each.0,
@@ -86,7 +88,8 @@ texts s (e ∷ es) steps names is all =
     let gone = goes_on s e.ask e.reply steps names is all.0 in
     let rest = texts t es steps names gone.next all.1 in
     let keeps = keeps_then s.book.policy t.book.policy q gone.names rest.0 in
-    let here : entry_text t.book.policy e ≡ entry_text q e = sym (text_same t.book.policy q e (gone.text q keeps ∙ sym (gone.text t.book.policy gone.names))) in (
+    let here : entry_text t.book.policy e ≡ entry_text q e =
+    sym (text_same t.book.policy q e (gone.text q keeps ∙ sym (gone.text t.book.policy gone.names))) in (
       keeps,
       ap (λ x. x ++ transcript_text t es) here ∙ ap (λ x. entry_text q e ++ x) rest.1,
     )

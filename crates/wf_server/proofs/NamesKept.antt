@@ -1,5 +1,6 @@
 -- The parts of a reply are written alike with the names of two policies where the later one keeps those of the other.
-use Rattle.std.proofs.Common.{◌≡◌, ℕ, zero, suc, ◌+◌, ◌<◌, Bool, true, false, ◌&&◌, ◌==◌, List, [], ◌∷◌, ◌++◌, length, map, slice_index_or, Option, Some, refl, sym, ap, subst, ◌∙◌, append-nil, append_assoc, codes, if◌then◌else◌}
+use Rattle.std.proofs.Common.{◌≡◌, ℕ, zero, suc, ◌+◌, ◌<◌, Bool, true, false, ◌&&◌, ◌==◌, List, [], ◌∷◌, ◌++◌, length, map, slice_index_or, Option, Some, refl}
+use Rattle.std.proofs.Common.{sym, ap, subst, ◌∙◌, append-nil, append_assoc, codes, if◌then◌else◌}
 use Rattle.std.proofs.lemmas.List.{get_or_append_left}
 use Rattle.serde_json.specs.Data.{string, array, object, no_members, member}
 use Rattle.serde_json.specs.View.{items_of}
@@ -118,7 +119,8 @@ mutual
       ∙ ap (λ ds. node_data p f s (array (items_of ds)))
       (branches_same p q f pr assigned finished s (authorised_users pr s) [] kids keeps known users tt inner.0 inner.1)
 
-  branches_same : (p q : PolicyShape) (f : ℕ) (pr : Problem) (assigned : List (Option ℕ)) (finished : List Bool) (s : ℕ) (us earlier : List ℕ) (kids : Kids) → KeepsNames p q
+  branches_same : (p q : PolicyShape) (f : ℕ) (pr : Problem) (assigned : List (Option ℕ)) (finished : List Bool) (s : ℕ) (us earlier : List ℕ)
+      (kids : Kids) → KeepsNames p q
       → IsKnownBelow (length p.roster.users) pr → AllBelow (length p.roster.users) us → AllBelow (length p.roster.users) earlier
       → have_users us kids ≡ true → all_refute pr assigned finished s earlier kids ≡ true → branches_data q f kids ≡ branches_data p f kids
   branches_same p q f pr assigned finished s us earlier no_kids keeps known users before have all = refl

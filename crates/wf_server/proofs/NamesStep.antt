@@ -1,5 +1,6 @@
 -- What a step answers is written alike with the names of a later policy, and a step keeps all names.
-use Rattle.std.proofs.Common.{◌≡◌, ℕ, zero, suc, ◌<◌, ◌≤◌, inl, inr, Bool, true, List, [], ◌∷◌, length, map, Result, Ok, Err, refl, sym, ap, subst, ◌∙◌, arith, codes}
+use Rattle.std.proofs.Common.{◌≡◌, ℕ, zero, suc, ◌<◌, ◌≤◌, inl, inr, Bool, true, List, [], ◌∷◌, length, map, Result, Ok, Err, refl, sym, ap, subst, ◌∙◌, arith}
+use Rattle.std.proofs.Common.{codes}
 use Rattle.std.specs.FinSet as set
 use Rattle.std.proofs.lemmas.List.{length-append}
 use Rattle.serde_json.specs.Data.{array, number, object, member, no_members, unsigned}
@@ -79,7 +80,8 @@ more_below m n members few below = record { each = λ u r has. let known = below
 
 -- ---- a step
 
-pub deed_names : (s : State) (given : Deed) (answer : Reply) → ChangesKeepNames → IsDeedOf s.book.policy given → KeepsNames s.book.policy (state_after_deed s given answer).book.policy
+pub deed_names : (s : State) (given : Deed) (answer : Reply) → ChangesKeepNames → IsDeedOf s.book.policy given →
+    KeepsNames s.book.policy (state_after_deed s given answer).book.policy
 deed_names s (deed.Change a) (reply.Edited n) names of = names s.book.policy a of
 deed_names s (deed.Open f) (reply.Opened n plan) names of = keeps_same s.book.policy s.book.policy refl
 deed_names s (deed.Claim n c t u) (reply.Granted plan) names of = keeps_same s.book.policy s.book.policy refl
@@ -117,7 +119,8 @@ decided_members s (Err d) answer Q names of below = below
 
 -- ---- replies
 
-stranded_same : (p q pol : PolicyShape) (cases : List Numbered) (n f : ℕ) (tree : Tree) → KeepsNames p q → AreMembersBelow (length p.roster.users) pol.roster.members
+stranded_same : (p q pol : PolicyShape) (cases : List Numbered) (n f : ℕ) (tree : Tree) → KeepsNames p q →
+    AreMembersBelow (length p.roster.users) pol.roster.members
     → IsFirstStranded pol cases n f tree → tree_data q f (shape_of tree) ≡ tree_data p f (shape_of tree)
 stranded_same p q pol [] n f tree keeps members is = absurd is
 stranded_same p q pol (e ∷ es) n f tree keeps members (inl here) =
@@ -127,8 +130,10 @@ stranded_same p q pol (e ∷ es) n f tree keeps members (inr later) = stranded_s
 
 face_same : (p q : PolicyShape) (c : CaseShape) → KeepsNames p q → IsOfPolicy p c → face_data q (face_of c) ≡ face_data p (face_of c)
 face_same p q c keeps of =
-    ap (λ names. object (member (codes "flow") (named names c.flow) (member (codes "phase") (phase_data c.phase) (member (codes "steps") (array (items_of (map (seen_data q) c.states))) no_members)))) keeps.flow_names
-    ∙ ap (λ ds. object (member (codes "flow") (named p.flow_names c.flow) (member (codes "phase") (phase_data c.phase) (member (codes "steps") (array (items_of ds)) no_members))))
+    ap (λ names. object (member (codes "flow") (named names c.flow)
+    (member (codes "phase") (phase_data c.phase) (member (codes "steps") (array (items_of (map (seen_data q) c.states))) no_members)))) keeps.flow_names
+    ∙ ap (λ ds. object (member (codes "flow") (named p.flow_names c.flow)
+    (member (codes "phase") (phase_data c.phase) (member (codes "steps") (array (items_of ds)) no_members))))
     (states_same p q c.states keeps (λ t u is. user_known p c t u of is))
 
 work_same : (p q : PolicyShape) (items : List WorkItem) → KeepsNames p q → map (work_data q) items ≡ map (work_data p) items
@@ -138,7 +143,8 @@ work_same p q (i ∷ is) keeps =
     ∙ ap (λ ds. work_data p i ∷ ds) (work_same p q is keeps)
 
 -- the reply to a deed of the policy is written alike
-deed_text : (s : State) (q : PolicyShape) (given : Deed) (answer : Reply) → KeepsNames s.book.policy q → AreMembersBelow (length s.book.policy.roster.users) s.book.policy.roster.members
+deed_text : (s : State) (q : PolicyShape) (given : Deed) (answer : Reply) → KeepsNames s.book.policy q →
+    AreMembersBelow (length s.book.policy.roster.users) s.book.policy.roster.members
     → IsDeedOf s.book.policy given → IsReplyTo s given answer → reply_data q answer ≡ reply_data s.book.policy answer
 deed_text s q given reply.NoMemory keeps members of is = refl
 deed_text s q (deed.Open f) (reply.Opened n plan) keeps members of is =
@@ -161,7 +167,8 @@ deed_text s q (deed.Change a) (reply.Denied (denial.Strands n f tree)) keeps mem
     ap (λ d. single (codes "denied") (single (codes "strands") (strands_data n d)))
     (stranded_same s.book.policy q (amended s.book.policy a) (open_cases s.book.cases) n f tree keeps (amended_below s.book.policy a of members) is)
 deed_text s q (deed.Show c) (reply.Shown face) keeps members of is =
-    subst (λ (x : Face). reply_data q (reply.Shown x) ≡ reply_data s.book.policy (reply.Shown x)) (sym is) (ap (single (codes "view")) (face_same s.book.policy q c keeps of))
+    subst (λ (x : Face). reply_data q (reply.Shown x) ≡ reply_data s.book.policy (reply.Shown x)) (sym is)
+    (ap (single (codes "view")) (face_same s.book.policy q c keeps of))
 deed_text s q (deed.Work u) (reply.Work items) keeps members of is =
     ap (λ ds. single (codes "worklist") (array (items_of ds))) (work_same s.book.policy q items keeps)
 deed_text s q (deed.WhatIf a) (reply.WhatIf numbers) keeps members of is = refl
@@ -170,7 +177,8 @@ deed_text s q given answer keeps members of is = absurd is
 
 -- and so is the reply to whatever is decided
 pub decided_text : (s : State) (q : PolicyShape) (r : Result Deed Denial) (answer : Reply) → KeepsNames s.book.policy q
-    → AreMembersBelow (length s.book.policy.roster.users) s.book.policy.roster.members → Fares (IsDeedOf s.book.policy) (IsToldAlike s.book.policy q) r → Answers s r answer
+    → AreMembersBelow (length s.book.policy.roster.users) s.book.policy.roster.members → Fares (IsDeedOf s.book.policy) (IsToldAlike s.book.policy q) r →
+    Answers s r answer
     → reply_data q answer ≡ reply_data s.book.policy answer
 decided_text s q (Ok given) answer keeps members of is = deed_text s q given answer keeps members of is
 decided_text s q (Err d) answer keeps members of (inl denied) =

@@ -58,7 +58,8 @@ fault_alike p q fault.Absent = refl
 fault_alike p q fault.Full = refl
 fault_alike p q fault.LastAdmin = refl
 
-edit_fares : (p q : PolicyShape) (make : Amendment → Deed) (by : List ℕ) (e : Edit) (r : Result Amendment EditCause) → ((a : Amendment) → edits.IsKnownChange p a → IsDeedOf p (make a))
+edit_fares : (p q : PolicyShape) (make : Amendment → Deed) (by : List ℕ) (e : Edit) (r : Result Amendment EditCause) →
+    ((a : Amendment) → edits.IsKnownChange p a → IsDeedOf p (make a))
     → IsSoundPolicy p → amendment_of p by e ≡ r → Fares (IsDeedOf p) (IsToldAlike p q) (on_edit make r)
 edit_fares p q make by e (Ok a) made sound is = made a (amendment_found p by e a sound is).0
 edit_fares p q make by e (Err why) made sound is = fault_alike p q why
@@ -68,8 +69,10 @@ edit_fares p q make by e (Err why) made sound is = fault_alike p q why
 case_fares : (s : State) (q : PolicyShape) (n : ℕ) → IsSoundState s → Fares (IsOfPolicy s.book.policy) (IsToldAlike s.book.policy q) (open_case_at s.book n)
 case_fares s q n sound =
     let Q = IsToldAlike s.book.policy q in
-    then_fares (λ c. numbered_case s.book.cases n ≡ Some c) (IsOfPolicy s.book.policy) Q (or_fault (numbered_case s.book.cases n) denial.NoCase) _ (or_fares Q (numbered_case s.book.cases n) denial.NoCase refl)
-    (λ c is. then_fares (λ _. Unit {0}) (IsOfPolicy s.book.policy) Q (check (is_open c) denial.Closed) _ (check_fares Q (is_open c) denial.Closed refl) (λ _ _. sound.cases n c is))
+    then_fares (λ c. numbered_case s.book.cases n ≡ Some c) (IsOfPolicy s.book.policy) Q (or_fault (numbered_case s.book.cases n) denial.NoCase) _
+    (or_fares Q (numbered_case s.book.cases n) denial.NoCase refl)
+    (λ c is. then_fares (λ _. Unit {0}) (IsOfPolicy s.book.policy) Q (check (is_open c) denial.Closed) _ (check_fares Q (is_open c) denial.Closed refl)
+    (λ _ _. sound.cases n c is))
 
 step_fares : (s : State) (q : PolicyShape) (make : ℕ → CaseShape → ℕ → ℕ → Deed) (n : ℕ) (step user : List ℕ) → IsSoundState s
     → ((c : CaseShape) (t u : ℕ) → IsOfPolicy s.book.policy c → IsDeedOf s.book.policy (make n c t u))
@@ -78,14 +81,17 @@ step_fares s q make n step user sound made =
     let P = IsDeedOf s.book.policy in
     let Q = IsToldAlike s.book.policy q in
     then_fares (IsOfPolicy s.book.policy) P Q (open_case_at s.book n) _ (case_fares s q n sound)
-    (λ c of. then_fares (λ t. step_named s.book c.flow step ≡ Some t) P Q (or_fault (step_named s.book c.flow step) denial.NoStep) _ (or_fares Q (step_named s.book c.flow step) denial.NoStep refl)
-    (λ t _. then_fares (λ u. user_named s.book user ≡ Some u) P Q (or_fault (user_named s.book user) denial.NoUser) _ (or_fares Q (user_named s.book user) denial.NoUser refl)
+    (λ c of. then_fares (λ t. step_named s.book c.flow step ≡ Some t) P Q (or_fault (step_named s.book c.flow step) denial.NoStep) _
+    (or_fares Q (step_named s.book c.flow step) denial.NoStep refl)
+    (λ t _. then_fares (λ u. user_named s.book user ≡ Some u) P Q (or_fault (user_named s.book user) denial.NoUser) _
+    (or_fares Q (user_named s.book user) denial.NoUser refl)
     (λ u _. made c t u of)))
 
 resolve_fares : (s : State) (q : PolicyShape) (what : Ask) → IsSoundState s → Fares (IsDeedOf s.book.policy) (IsToldAlike s.book.policy q) (resolve s.book what)
 resolve_fares s q (ask.Request (request.OpenCase flow)) sound =
     let Q = IsToldAlike s.book.policy q in
-    then_fares (λ f. flow_named s.book flow ≡ Some f) (IsDeedOf s.book.policy) Q (or_fault (flow_named s.book flow) denial.NoFlow) _ (or_fares Q (flow_named s.book flow) denial.NoFlow refl) (λ f _. tt)
+    then_fares (λ f. flow_named s.book flow ≡ Some f) (IsDeedOf s.book.policy) Q (or_fault (flow_named s.book flow) denial.NoFlow) _
+    (or_fares Q (flow_named s.book flow) denial.NoFlow refl) (λ f _. tt)
 resolve_fares s q (ask.Request (request.Claim n step user)) sound = step_fares s q deed.Claim n step user sound (λ c t u of. of)
 resolve_fares s q (ask.Request (request.Finish n step user)) sound = step_fares s q deed.Finish n step user sound (λ c t u of. of)
 resolve_fares s q (ask.Request (request.GiveBack n step user)) sound = step_fares s q deed.GiveBack n step user sound (λ c t u of. of)
@@ -94,20 +100,25 @@ resolve_fares s q (ask.Request (request.Release by n step)) sound =
     let Q = IsToldAlike s.book.policy q in
     then_fares (λ _. Unit {0}) P Q (check (is_admin s.book.policy by) denial.NotAdmin) _ (check_fares Q (is_admin s.book.policy by) denial.NotAdmin refl)
     (λ _ _. then_fares (IsOfPolicy s.book.policy) P Q (open_case_at s.book n) _ (case_fares s q n sound)
-    (λ c of. then_fares (λ t. step_named s.book c.flow step ≡ Some t) P Q (or_fault (step_named s.book c.flow step) denial.NoStep) _ (or_fares Q (step_named s.book c.flow step) denial.NoStep refl) (λ t _. of)))
+    (λ c of. then_fares (λ t. step_named s.book c.flow step ≡ Some t) P Q (or_fault (step_named s.book c.flow step) denial.NoStep) _
+    (or_fares Q (step_named s.book c.flow step) denial.NoStep refl) (λ t _. of)))
 resolve_fares s q (ask.Request (request.Withdraw by n)) sound =
     let P = IsDeedOf s.book.policy in
     let Q = IsToldAlike s.book.policy q in
     then_fares (λ _. Unit {0}) P Q (check (is_admin s.book.policy by) denial.NotAdmin) _ (check_fares Q (is_admin s.book.policy by) denial.NotAdmin refl)
     (λ _ _. then_fares (IsOfPolicy s.book.policy) P Q (open_case_at s.book n) _ (case_fares s q n sound) (λ c of. tt))
-resolve_fares s q (ask.Request (request.Change by e)) sound = edit_fares s.book.policy q deed.Change by e (amendment_of s.book.policy by e) (λ a found. found) sound.policy refl
+resolve_fares s q (ask.Request (request.Change by e)) sound =
+    edit_fares s.book.policy q deed.Change by e (amendment_of s.book.policy by e) (λ a found. found) sound.policy refl
 resolve_fares s q (ask.Request (request.Show n)) sound =
     let Q = IsToldAlike s.book.policy q in
-    then_fares (λ c. numbered_case s.book.cases n ≡ Some c) (IsDeedOf s.book.policy) Q (or_fault (numbered_case s.book.cases n) denial.NoCase) _ (or_fares Q (numbered_case s.book.cases n) denial.NoCase refl) (λ c is. sound.cases n c is)
+    then_fares (λ c. numbered_case s.book.cases n ≡ Some c) (IsDeedOf s.book.policy) Q (or_fault (numbered_case s.book.cases n) denial.NoCase) _
+    (or_fares Q (numbered_case s.book.cases n) denial.NoCase refl) (λ c is. sound.cases n c is)
 resolve_fares s q (ask.Request (request.Worklist user)) sound =
     let Q = IsToldAlike s.book.policy q in
-    then_fares (λ u. user_named s.book user ≡ Some u) (IsDeedOf s.book.policy) Q (or_fault (user_named s.book user) denial.NoUser) _ (or_fares Q (user_named s.book user) denial.NoUser refl) (λ u _. tt)
-resolve_fares s q (ask.Request (request.WhatIf by e)) sound = edit_fares s.book.policy q deed.WhatIf by e (amendment_of s.book.policy by e) (λ a found. found) sound.policy refl
+    then_fares (λ u. user_named s.book user ≡ Some u) (IsDeedOf s.book.policy) Q (or_fault (user_named s.book user) denial.NoUser) _
+    (or_fares Q (user_named s.book user) denial.NoUser refl) (λ u _. tt)
+resolve_fares s q (ask.Request (request.WhatIf by e)) sound =
+    edit_fares s.book.policy q deed.WhatIf by e (amendment_of s.book.policy by e) (λ a found. found) sound.policy refl
 resolve_fares s q (ask.Bad bad) sound = tt
 
 -- ---- causes
@@ -124,7 +135,8 @@ claim_so p q c t u keeps of =
     (unless_so Q _ (denial.Role _) (ap (single (codes "role")) (roles_same p q _ keeps)))
     (map_so Q denial.Rule _ (λ k is. refl))
 
-cause_so : (s : State) (q : PolicyShape) (given : Deed) → KeepsNames s.book.policy q → IsDeedOf s.book.policy given → IsCauseSo (IsToldAlike s.book.policy q) (cause_aside s.book given)
+cause_so : (s : State) (q : PolicyShape) (given : Deed) → KeepsNames s.book.policy q → IsDeedOf s.book.policy given →
+    IsCauseSo (IsToldAlike s.book.policy q) (cause_aside s.book given)
 cause_so s q (deed.Open f) keeps of = unless_so (IsToldAlike s.book.policy q) _ denial.Retired refl
 cause_so s q (deed.Claim n c t u) keeps of = claim_so s.book.policy q c t u keeps of
 cause_so s q (deed.Finish n c t u) keeps of = unless_so (IsToldAlike s.book.policy q) _ (denial.NotHeld (state_at c t)) (held_so s.book.policy q c t keeps of)
@@ -157,5 +169,6 @@ decision_fares s q what sound keeps =
     let P = IsDeedOf s.book.policy in
     let Q = IsToldAlike s.book.policy q in
     then_fares P P Q (decision_aside s.book what) _
-    (then_fares P P Q (resolve s.book what) _ (resolve_fares s q what sound) (λ given of. unless_fares P Q given (cause_aside s.book given) of (cause_so s q given keeps of)))
+    (then_fares P P Q (resolve s.book what) _ (resolve_fares s q what sound)
+    (λ given of. unless_fares P Q given (cause_aside s.book given) of (cause_so s q given keeps of)))
     (λ given of. unless_fares P Q given (cause_full s.book given) of (full_so s q given))

@@ -1,5 +1,6 @@
 -- A session behind the entries that were taken up, and the run of its command.
-use Rattle.std.proofs.Common.{◌≡◌, ◌≢◌, ℕ, zero, suc, ◌+◌, ◌<◌, ◌≤◌, nat_lt, Bool, true, false, List, [], ◌∷◌, ◌++◌, length, take, drop, slice_index_or, Option, None, Some, Result, Ok, Err, ◌&&◌, inl, inr, refl, sym, ap, subst, ◌∙◌, arith, ◌⊎◌}
+use Rattle.std.proofs.Common.{◌≡◌, ◌≢◌, ℕ, zero, suc, ◌+◌, ◌<◌, ◌≤◌, nat_lt, Bool, true, false, List, [], ◌∷◌, ◌++◌, length, take, drop, slice_index_or, Option}
+use Rattle.std.proofs.Common.{None, Some, Result, Ok, Err, ◌&&◌, inl, inr, refl, sym, ap, subst, ◌∙◌, arith, ◌⊎◌}
 use Rattle.std.proofs.lemmas.Grind.{common_steps}
 use Rattle.std.proofs.lemmas.List.{drop_all, take_all}
 use Rattle.wf_outside.specs.Outside.{Filed, HasPart, HasTaken, with_bytes}
@@ -58,7 +59,8 @@ last_first d ends zero known = refl
 last_first d [] (suc k) known = absurd (omega (arith, known))
 last_first d (x ∷ xs) (suc k) known = last_first x xs k (omega (arith, known))
 
-up_to : (s : Session) (cut : Cut) (count : ℕ) (told : Told) → s.jobs ≡ cut.jobs → s.batch_ends ≡ cut.ends → IsToldTo s.jobs s.batch_ends count told → UpToAnEnd told.jobs told.batch_ends (next_input cut)
+up_to : (s : Session) (cut : Cut) (count : ℕ) (told : Told) → s.jobs ≡ cut.jobs → s.batch_ends ≡ cut.ends → IsToldTo s.jobs s.batch_ends count told →
+    UpToAnEnd told.jobs told.batch_ends (next_input cut)
 up_to s cut count told jobs ends is = record {
   ends = (count, is.all_ends ∙ ap (take count) ends);
   within = is.all_jobs ∙ ap (λ js. take (batch_start s.batch_ends count) js) jobs
@@ -66,9 +68,11 @@ up_to s cut count told jobs ends is = record {
 }
 
 -- a fault ended the session while the jobs of the file were answered
-pub stops_serves : (s : Session) (cut : Cut) (lanes room : ℕ) (before after : Streams) (d : DeskShape) (told : Told) (ending : RunFault) → GoesOn lanes cut → s.jobs ≡ cut.jobs → s.batch_ends ≡ cut.ends
+pub stops_serves : (s : Session) (cut : Cut) (lanes room : ℕ) (before after : Streams) (d : DeskShape) (told : Told) (ending : RunFault) →
+    GoesOn lanes cut → s.jobs ≡ cut.jobs → s.batch_ends ≡ cut.ends
     → after.input ≡ before.input → after.read_faults ≡ before.read_faults → CountsWrites ending before.write_faults after.write_faults
-    → FileTo before.output after.output s.jobs s.batch_ends d told (Err ending) → IsWriteEnding ending → Serves (setting_of d) (next_input cut) room before after told ending
+    → FileTo before.output after.output s.jobs s.batch_ends d told (Err ending) → IsWriteEnding ending →
+    Serves (setting_of d) (next_input cut) room before after told ending
 stops_serves s cut lanes room before after d told fault.Write goes jobs ends unread reads writes stops end = record {
   reads = inr (record { unread = unread; some = stops.0.some refl; up = up_to s cut stops.0.count told jobs ends stops.0.to });
   fills = stops.1.fills;
@@ -92,15 +96,18 @@ stops_serves s cut lanes room before after d told fault.NoMemory goes jobs ends 
 stops_serves s cut lanes room before after d told ending goes jobs ends unread reads writes stops end = absurd end
 
 -- all jobs of the file are told
-whole_told : (s : Session) (told : Told) → AreInOrder s.lanes s.jobs s.batch_ends → IsToldTo s.jobs s.batch_ends (length s.batch_ends) told → (told.jobs ≡ s.jobs) × (told.batch_ends ≡ s.batch_ends)
+whole_told : (s : Session) (told : Told) → AreInOrder s.lanes s.jobs s.batch_ends → IsToldTo s.jobs s.batch_ends (length s.batch_ends) told →
+    (told.jobs ≡ s.jobs) × (told.batch_ends ≡ s.batch_ends)
 whole_told s told order is = (
   is.all_jobs ∙ ap (λ n. take n s.jobs) (last_start s.batch_ends (length s.jobs) order.ends) ∙ take_all (length s.jobs) s.jobs (omega arith),
   is.all_ends ∙ take_all (length s.batch_ends) s.batch_ends (omega arith),
 )
 
 -- the input is read behind them
-pub serving_on : (s : Session) (cut : Cut) (before after : Streams) (r : ReaderShape) (d : DeskShape) (told : Told) → AreInOrder s.lanes s.jobs s.batch_ends → GoesOn s.lanes cut
-    → s.jobs ≡ cut.jobs → s.batch_ends ≡ cut.ends → d.lanes ≡ s.lanes → r ≡ record { cut = start_at s.lanes (next_input cut).number; pending = []; room = PIECE }
+pub serving_on : (s : Session) (cut : Cut) (before after : Streams) (r : ReaderShape) (d : DeskShape) (told : Told) →
+    AreInOrder s.lanes s.jobs s.batch_ends → GoesOn s.lanes cut
+    → s.jobs ≡ cut.jobs → s.batch_ends ≡ cut.ends → d.lanes ≡ s.lanes →
+    r ≡ record { cut = start_at s.lanes (next_input cut).number; pending = []; room = PIECE }
     → after.input ≡ before.input → after.read_faults ≡ before.read_faults → after.write_faults ≡ before.write_faults
     → IsToldTo s.jobs s.batch_ends (length s.batch_ends) told → HasAnswered before.output after.output d told → IsServing (next_input cut) before after r d told
 serving_on s cut before after r d told order goes jobs ends lanes reads unread counts writes is answered =
@@ -124,66 +131,81 @@ serving_on s cut before after r d told order goes jobs ends lanes reads unread c
 -- ---- what begins a session
 
 -- how its desk serves
-pub set_behind : (s : Session) (cut : Cut) (transcript : List ℕ) (b : Beginning) (d : DeskShape) → HasBegun s cut transcript b → setting_of d ≡ setting_of b.desk
+pub set_behind : (s : Session) (cut : Cut) (transcript : List ℕ) (b : Beginning) (d : DeskShape) → HasBegun s cut transcript b →
+    setting_of d ≡ setting_of b.desk
     → setting_of d ≡ setting_behind s (length b.desk.entries)
 set_behind s cut transcript b d h same = same ∙ rw (h.opening, h.lanes, h.rounds, h.restored) refl
 
 pub begun_lanes : (s : Session) (cut : Cut) (transcript : List ℕ) (b : Beginning) → HasBegun s cut transcript b → AreOfLanes b.desk.lanes b.desk.jobs
 begun_lanes s cut transcript b h = subst (λ n. AreOfLanes n b.desk.jobs) (sym h.lanes) h.of_lanes
 
-pub begun_order : (s : Session) (cut : Cut) (transcript : List ℕ) (b : Beginning) → HasBegun s cut transcript b → AreInOrder b.desk.lanes b.file.jobs b.file.ends
+pub begun_order : (s : Session) (cut : Cut) (transcript : List ℕ) (b : Beginning) → HasBegun s cut transcript b →
+    AreInOrder b.desk.lanes b.file.jobs b.file.ends
 begun_order s cut transcript b h =
     subst (λ n. AreInOrder n b.file.jobs b.file.ends) (sym h.lanes)
     (subst (λ js. AreInOrder s.lanes js b.file.ends) (sym h.file_jobs) (subst (AreInOrder s.lanes s.jobs) (sym h.file_ends) h.order))
 
-pub begun_told : (s : Session) (cut : Cut) (transcript : List ℕ) (b : Beginning) (told : Told) → HasBegun s cut transcript b → told.jobs ≡ b.jobs → told.batch_ends ≡ b.ends
+pub begun_told : (s : Session) (cut : Cut) (transcript : List ℕ) (b : Beginning) (told : Told) → HasBegun s cut transcript b → told.jobs ≡ b.jobs →
+    told.batch_ends ≡ b.ends
     → IsToldTo b.file.jobs b.file.ends b.count told
 begun_told s cut transcript b told h jobs ends =
     subst (λ js. IsToldTo js b.file.ends b.count told) (sym h.file_jobs)
     (subst (λ es. IsToldTo s.jobs es b.count told) (sym h.file_ends)
     (record { known = h.known; all_jobs = jobs ∙ h.first_jobs; all_ends = ends ∙ h.first_ends }))
 
-file_of : (s : Session) (cut : Cut) (transcript : List ℕ) (b : Beginning) (held aft : Option (List ℕ)) (d : DeskShape) (told : Told) (result : Result (Unit {0}) RunFault) → HasBegun s cut transcript b
+file_of : (s : Session) (cut : Cut) (transcript : List ℕ) (b : Beginning) (held aft : Option (List ℕ)) (d : DeskShape) (told : Told)
+    (result : Result (Unit {0}) RunFault) → HasBegun s cut transcript b
     → FileTo held aft b.file.jobs b.file.ends d told result → FileTo held aft s.jobs s.batch_ends d told result
 file_of s cut transcript b held aft d told result h to =
     subst (λ js. FileTo held aft js s.batch_ends d told result) h.file_jobs (subst (λ es. FileTo held aft b.file.jobs es d told result) h.file_ends to)
 
 -- a fault ended it at the requests
-pub stops_begun : (s : Session) (cut : Cut) (transcript : List ℕ) (b : Beginning) (before after : Streams) (d : DeskShape) (told : Told) (ending : RunFault) → HasBegun s cut transcript b
+pub stops_begun : (s : Session) (cut : Cut) (transcript : List ℕ) (b : Beginning) (before after : Streams) (d : DeskShape) (told : Told)
+    (ending : RunFault) → HasBegun s cut transcript b
     → after.input ≡ before.input → after.read_faults ≡ before.read_faults → CountsWrites ending before.write_faults after.write_faults
-    → FileTo before.output after.output b.file.jobs b.file.ends d told (Err ending) → IsWriteEnding ending → Serves (setting_of d) (next_input cut) PIECE before after told ending
+    → FileTo before.output after.output b.file.jobs b.file.ends d told (Err ending) → IsWriteEnding ending →
+    Serves (setting_of d) (next_input cut) PIECE before after told ending
 stops_begun s cut transcript b before after d told ending h unread reads writes to end =
-    stops_serves s cut s.lanes PIECE before after d told ending h.goes_on h.cut_jobs h.cut_ends unread reads writes (file_of s cut transcript b before.output after.output d told (Err ending) h to) end
+    stops_serves s cut s.lanes PIECE before after d told ending h.goes_on h.cut_jobs h.cut_ends unread reads writes
+    (file_of s cut transcript b before.output after.output d told (Err ending) h to) end
 
 -- or it reads on
-pub serving_begun : (s : Session) (cut : Cut) (transcript : List ℕ) (b : Beginning) (before after : Streams) (d : DeskShape) (told : Told) → HasBegun s cut transcript b
+pub serving_begun : (s : Session) (cut : Cut) (transcript : List ℕ) (b : Beginning) (before after : Streams) (d : DeskShape) (told : Told) →
+    HasBegun s cut transcript b
     → setting_of d ≡ setting_of b.desk → after.input ≡ before.input → after.read_faults ≡ before.read_faults → after.write_faults ≡ before.write_faults
     → FileTo before.output after.output b.file.jobs b.file.ends d told (Ok tt) → IsServing (next_input cut) before after b.reader d told
 serving_begun s cut transcript b before after d told h same unread reads writes to =
     let file = file_of s cut transcript b before.output after.output d told (Ok tt) h to in
-    serving_on s cut before after b.reader d told h.order h.goes_on h.cut_jobs h.cut_ends (lanes_of b.desk d same ∙ h.lanes) h.reader unread reads writes file.0 file.1
+    serving_on s cut before after b.reader d told h.order h.goes_on h.cut_jobs h.cut_ends (lanes_of b.desk d same ∙ h.lanes) h.reader unread reads writes
+    file.0 file.1
 
 -- a session behind it is one as it is promised
-pub served_begun : (s : Session) (cut : Cut) (transcript : List ℕ) (b : Beginning) (d : DeskShape) (room : ℕ) (before after : Streams) (told : Told) (ending : RunFault) → HasBegun s cut transcript b
+pub served_begun : (s : Session) (cut : Cut) (transcript : List ℕ) (b : Beginning) (d : DeskShape) (room : ℕ) (before after : Streams) (told : Told)
+    (ending : RunFault) → HasBegun s cut transcript b
     → HistoriesKeepCompletable → HistoriesAreExact → setting_of d ≡ setting_of b.desk → room ≡ PIECE → IsLegal (opening_state d.opening) d.rounds told.entries
-    → Serves (setting_of d) (next_input cut) room before after told ending → Served (setting_behind s (length b.desk.entries)) (next_input cut) PIECE before after told ending
+    → Serves (setting_of d) (next_input cut) room before after told ending →
+    Served (setting_behind s (length b.desk.entries)) (next_input cut) PIECE before after told ending
 served_begun s cut transcript b d room before after told ending h keeps exact same size legal serves =
     let set = setting_behind s (length b.desk.entries) in
     let is = set_behind s cut transcript b d h same in
     serves_kept set (next_input cut) PIECE before after told ending h.policy keeps exact
     (subst (λ (x : Setting). IsLegal (opening_state x.policy) x.rounds told.entries) is legal)
-    (subst (λ n. Serves set (next_input cut) n before after told ending) size (subst (λ (x : Setting). Serves x (next_input cut) room before after told ending) is serves))
+    (subst (λ n. Serves set (next_input cut) n before after told ending) size
+    (subst (λ (x : Setting). Serves x (next_input cut) room before after told ending) is serves))
 
 -- how it ends
-pub late_begun : (set : Setting) (first : Cut) (room : ℕ) (before after : Streams) (told : Told) (ending : RunFault) → Served set first room before after told ending → is_before_input ending ≡ false
+pub late_begun : (set : Setting) (first : Cut) (room : ℕ) (before after : Streams) (told : Told) (ending : RunFault) →
+    Served set first room before after told ending → is_before_input ending ≡ false
 late_begun set first room before after told ending served = late_reads before.input after.input room (handed_in first told) ending served.reads
 
 -- ---- what was taken up
 
-pub begins_behind : (b d : DeskShape) (es : List Entry) → b.restored ≡ length b.entries → d.restored ≡ b.restored → take d.restored es ≡ take d.restored d.entries
+pub begins_behind : (b d : DeskShape) (es : List Entry) → b.restored ≡ length b.entries → d.restored ≡ b.restored →
+    take d.restored es ≡ take d.restored d.entries
     → take b.restored d.entries ≡ take b.restored b.entries → take (length b.entries) es ≡ b.entries
 begins_behind b d es size same later first =
-    ap (λ n. take n es) (sym (same ∙ size)) ∙ later ∙ ap (λ n. take n d.entries) same ∙ first ∙ ap (λ n. take n b.entries) size ∙ take_all (length b.entries) b.entries (omega arith)
+    ap (λ n. take n es) (sym (same ∙ size)) ∙ later ∙ ap (λ n. take n d.entries) same ∙ first ∙ ap (λ n. take n b.entries) size ∙
+    take_all (length b.entries) b.entries (omega arith)
 
 pub none_before : (b : DeskShape) → b.restored ≡ length b.entries → AreAnsweredOnce (drop b.restored b.entries)
 none_before b size = subst AreAnsweredOnce (sym (drop_all b.restored b.entries (omega (arith, size)))) tt
@@ -195,7 +217,8 @@ pub is_untouched : (r : Run) → r.after.input ≡ r.before.input → r.after.ou
 is_untouched r unread unwritten untold = record { unread = unread; unwritten = unwritten; untold = untold }
 
 -- a run that ends before its session keeps what every run keeps
-pub ended_orderly : (r : Run) → IsUntouched r → EndsBeginning (how_of r.fault) → CountsLoads r.fault r.load_faults r.load_faults_after → r.after.read_faults ≡ r.before.read_faults
+pub ended_orderly : (r : Run) → IsUntouched r → EndsBeginning (how_of r.fault) → CountsLoads r.fault r.load_faults r.load_faults_after →
+    r.after.read_faults ≡ r.before.read_faults
     → r.after.write_faults ≡ r.before.write_faults → IsOrderly r
 ended_orderly r nothing ending loads reads writes = record {
   early = λ early. nothing;
@@ -211,34 +234,48 @@ tells_late text before after fault.Write tells = refl
 tells_late text before after fault.NoMemory tells = refl
 tells_late text before after ending tells = absurd tells
 
-tells_reads : (text : List ℕ) (before after : Option (List ℕ)) (ending : RunFault) (count : ℕ) → TellsAs text before after ending → CountsReads ending count count
+tells_reads : (text : List ℕ) (before after : Option (List ℕ)) (ending : RunFault) (count : ℕ) → TellsAs text before after ending →
+    CountsReads ending count count
 tells_reads text before after fault.Found count tells = refl
 tells_reads text before after fault.Write count tells = omega arith
 tells_reads text before after fault.NoMemory count tells = omega arith
 tells_reads text before after ending count tells = absurd tells
 
-tells_loads : (text : List ℕ) (before after : Option (List ℕ)) (ending : RunFault) (count : ℕ) → TellsAs text before after ending → CountsLoads ending count count
+tells_loads : (text : List ℕ) (before after : Option (List ℕ)) (ending : RunFault) (count : ℕ) → TellsAs text before after ending →
+    CountsLoads ending count count
 tells_loads text before after fault.Found count tells = refl
 tells_loads text before after fault.Write count tells = refl
 tells_loads text before after fault.NoMemory count tells = refl
 tells_loads text before after ending count tells = absurd tells
 
-pub told_orderly : (text : List ℕ) (r : Run) → TellsAs text r.before.output r.after.output r.fault → r.load_faults_after ≡ r.load_faults → r.after.read_faults ≡ r.before.read_faults
+pub told_orderly : (text : List ℕ) (r : Run) → TellsAs text r.before.output r.after.output r.fault → r.load_faults_after ≡ r.load_faults →
+    r.after.read_faults ≡ r.before.read_faults
     → CountsWrites r.fault r.before.write_faults r.after.write_faults → IsOrderly r
 told_orderly text r tells loads reads writes = record {
   early = λ early. let late = tells_late text r.before.output r.after.output r.fault tells in absurd cc;
   loads = subst (λ n. CountsLoads r.fault r.load_faults n) (sym loads) (tells_loads text r.before.output r.after.output r.fault r.load_faults tells);
-  reads = subst (λ n. CountsReads r.fault r.before.read_faults n) (sym reads) (tells_reads text r.before.output r.after.output r.fault r.before.read_faults tells);
+  reads = subst (λ n. CountsReads r.fault r.before.read_faults n) (sym reads)
+      (tells_reads text r.before.output r.after.output r.fault r.before.read_faults tells);
   writes = writes;
 }
 
 -- a transcript that is refused
 told_refusal : (s : Session) (cut : Cut) (transcript : List ℕ) (repeats : Bool) (number : ℕ) (kind : AuditKind) (r : Run) → IsRefused s transcript number kind
-    → r.after.input ≡ r.before.input → r.told ≡ nothing_told → (ending : RunFault) → r.fault ≡ ending → TellsAs (fault_line number kind) r.before.output r.after.output ending
+    → r.after.input ≡ r.before.input → r.told ≡ nothing_told → (ending : RunFault) → r.fault ≡ ending →
+    TellsAs (fault_line number kind) r.before.output r.after.output ending
     → ResumesFrom s cut transcript repeats r
-told_refusal s cut transcript repeats number kind r refused unread untold fault.NoMemory is tells = inl (is, record { unread = unread; unwritten = tells; untold = untold })
+told_refusal s cut transcript repeats number kind r refused unread untold fault.NoMemory is tells =
+    inl (is, record { unread = unread; unwritten = tells; untold = untold })
 told_refusal s cut transcript repeats number kind r refused unread untold ending is tells =
-    inr (inl (record { number = number; kind = kind; refused = refused; unread = unread; untold = untold; tells = subst (TellsAs (fault_line number kind) r.before.output r.after.output) (sym is) tells }))
+    inr (inl (record {
+      number = number;
+      kind = kind;
+      refused = refused;
+      unread = unread;
+      untold = untold;
+      tells =
+          subst (TellsAs (fault_line number kind) r.before.output r.after.output) (sym is) tells;
+    }))
 
 -- entries behind a place are answered once where all are
 once_behind : (n : ℕ) (es : List Entry) → AreAnsweredOnce es → AreAnsweredOnce (drop n es)
@@ -249,8 +286,10 @@ once_behind (suc n) (e ∷ es) once = once_behind n es once.1
 -- ---- over the files
 
 -- a run that ended before its session
-pub ended_run : (names : Names) (options : Options) (repeats : Bool) (ending : RunFault) (r : Run) → AreOptions options → r.fault ≡ ending → IsUntouched r → IsOrderly r
-    → OverFiles r.files names options.lanes (StopsBy (Err (Ends ending))) (λ p cut transcript. BeginsBy (session_of p options.lanes options.rounds cut) cut transcript (Err (Ends ending)))
+pub ended_run : (names : Names) (options : Options) (repeats : Bool) (ending : RunFault) (r : Run) → AreOptions options → r.fault ≡ ending → IsUntouched r →
+    IsOrderly r
+    → OverFiles r.files names options.lanes (StopsBy (Err (Ends ending)))
+    (λ p cut transcript. BeginsBy (session_of p options.lanes options.rounds cut) cut transcript (Err (Ends ending)))
     → ResumesRun names options repeats r
 ended_run names options repeats ending r within is nothing orderly over = record {
   within = within;
@@ -265,7 +304,8 @@ ended_run names options repeats ending r within is nothing orderly over = record
 -- a run that told the first line of the transcript that is none
 pub refused_run : (names : Names) (options : Options) (repeats : Bool) (number : ℕ) (kind : AuditKind) (r : Run) → AreOptions options
     → r.after.input ≡ r.before.input → r.told ≡ nothing_told → TellsAs (fault_line number kind) r.before.output r.after.output r.fault → IsOrderly r
-    → OverFiles r.files names options.lanes (StopsBy (Err (Line number kind))) (λ p cut transcript. BeginsBy (session_of p options.lanes options.rounds cut) cut transcript (Err (Line number kind)))
+    → OverFiles r.files names options.lanes (StopsBy (Err (Line number kind)))
+    (λ p cut transcript. BeginsBy (session_of p options.lanes options.rounds cut) cut transcript (Err (Line number kind)))
     → ResumesRun names options repeats r
 refused_run names options repeats number kind r within unread untold tells orderly over = record {
   within = within;
@@ -289,7 +329,8 @@ begun_there files names options b over =
     (λ x stops. absurd cc)
     (λ p cut transcript begun. (session_of p options.lanes options.rounds cut, (cut, (transcript, begun)))) over
 
-went_orderly : (s : Session) (cut : Cut) (n : ℕ) (r : Run) → Served (setting_behind s n) (next_input cut) PIECE r.before r.after r.told r.fault → r.load_faults_after ≡ r.load_faults → IsOrderly r
+went_orderly : (s : Session) (cut : Cut) (n : ℕ) (r : Run) → Served (setting_behind s n) (next_input cut) PIECE r.before r.after r.told r.fault →
+    r.load_faults_after ≡ r.load_faults → IsOrderly r
 went_orderly s cut n r served loads =
     let late = late_begun (setting_behind s n) (next_input cut) PIECE r.before r.after r.told r.fault served in
     record {
@@ -301,11 +342,13 @@ went_orderly s cut n r served loads =
 
 -- a run whose session went on
 pub gone_on : (names : Names) (options : Options) (repeats : Bool) (b : Beginning) (r : Run) → AreOptions options → r.load_faults_after ≡ r.load_faults
-    → ((s : Session) (cut : Cut) (transcript : List ℕ) → HasBegun s cut transcript b → Served (setting_behind s (length b.desk.entries)) (next_input cut) PIECE r.before r.after r.told r.fault)
+    → ((s : Session) (cut : Cut) (transcript : List ℕ) → HasBegun s cut transcript b →
+    Served (setting_behind s (length b.desk.entries)) (next_input cut) PIECE r.before r.after r.told r.fault)
     → take (length b.desk.entries) r.told.entries ≡ b.desk.entries → AreRightful (drop (length b.desk.entries) r.told.entries)
     → LinesFit → JobsStayNamed → HasNames (state_after (opening_state b.desk.opening) b.desk.entries).book.policy
     → (repeats ≡ false → AreAnsweredOnce (drop (length b.desk.entries) r.told.entries) ⊎ (options.rounds ≡ 0))
-    → OverFiles r.files names options.lanes (StopsBy (Ok b)) (λ p cut transcript. BeginsBy (session_of p options.lanes options.rounds cut) cut transcript (Ok b))
+    → OverFiles r.files names options.lanes (StopsBy (Ok b))
+    (λ p cut transcript. BeginsBy (session_of p options.lanes options.rounds cut) cut transcript (Ok b))
     → ResumesRun names options repeats r
 gone_on names options repeats b r within loads served begins wants law stay named once over = record {
   within = within;
@@ -333,15 +376,19 @@ gone_on names options repeats b r within loads served begins wants law stay name
 }
 
 -- a run whose session does not go on, whatever the cause
-pub all_refused : (names : Names) (options : Options) (repeats : Bool) (refusal : Refusal) (r : Run) → AreOptions options → r.after.input ≡ r.before.input → r.told ≡ nothing_told
-    → r.after.read_faults ≡ r.before.read_faults → EndsBeginning (how_of (fault_by (Err refusal))) → CountsLoads (fault_by (Err refusal)) r.load_faults r.load_faults_after
+pub all_refused : (names : Names) (options : Options) (repeats : Bool) (refusal : Refusal) (r : Run) → AreOptions options → r.after.input ≡ r.before.input →
+    r.told ≡ nothing_told
+    → r.after.read_faults ≡ r.before.read_faults → EndsBeginning (how_of (fault_by (Err refusal))) →
+    CountsLoads (fault_by (Err refusal)) r.load_faults r.load_faults_after
     → RefusesAs refusal r.before.output r.after.output r.fault → CountsRefusal refusal r.before.write_faults r.after.write_faults r.fault
-    → OverFiles r.files names options.lanes (StopsBy (Err refusal)) (λ p cut transcript. BeginsBy (session_of p options.lanes options.rounds cut) cut transcript (Err refusal))
+    → OverFiles r.files names options.lanes (StopsBy (Err refusal))
+    (λ p cut transcript. BeginsBy (session_of p options.lanes options.rounds cut) cut transcript (Err refusal))
     → ResumesRun names options repeats r
 all_refused names options repeats (Ends ending) r within still untold reads quiet loads refuses counts over =
     let nothing = is_untouched r still refuses.1 untold in
     ended_run names options repeats ending r within refuses.0 nothing
-    (ended_orderly r nothing (subst (λ f. EndsBeginning (how_of f)) (sym refuses.0) quiet) (subst (λ f. CountsLoads f r.load_faults r.load_faults_after) (sym refuses.0) loads) reads counts) over
+    (ended_orderly r nothing (subst (λ f. EndsBeginning (how_of f)) (sym refuses.0) quiet)
+    (subst (λ f. CountsLoads f r.load_faults r.load_faults_after) (sym refuses.0) loads) reads counts) over
 all_refused names options repeats (Line number kind) r within still untold reads quiet loads refuses counts over =
     refused_run names options repeats number kind r within still untold refuses (told_orderly (fault_line number kind) r refuses loads reads counts) over
 
@@ -349,16 +396,20 @@ all_refused names options repeats (Line number kind) r within still untold reads
 tells_usage : (text : List ℕ) (before after : Option (List ℕ)) (ending : RunFault) → TellsAs text before after ending → ending ≡ fault.Usage → ⊥
 tells_usage text before after ending tells is = subst (TellsAs text before after) is tells
 
-pub refused_usage : (refusal : Refusal) (before after : Option (List ℕ)) (ending : RunFault) → EndsBeginning (how_of (fault_by (Err refusal))) → RefusesAs refusal before after ending → ending ≡ fault.Usage → ⊥
+pub refused_usage : (refusal : Refusal) (before after : Option (List ℕ)) (ending : RunFault) → EndsBeginning (how_of (fault_by (Err refusal))) →
+    RefusesAs refusal before after ending → ending ≡ fault.Usage → ⊥
 refused_usage (Ends fault) before after ending quiet refuses is = subst (λ f. EndsBeginning (how_of f)) (sym refuses.0 ∙ is) quiet
 refused_usage (Line number kind) before after ending quiet refuses is = tells_usage (fault_line number kind) before after ending refuses is
 
-pub served_usage : (set : Setting) (first : Cut) (room : ℕ) (before after : Streams) (told : Told) (ending : RunFault) → Served set first room before after told ending → ending ≡ fault.Usage → ⊥
+pub served_usage : (set : Setting) (first : Cut) (room : ℕ) (before after : Streams) (told : Told) (ending : RunFault) →
+    Served set first room before after told ending → ending ≡ fault.Usage → ⊥
 served_usage set first room before after told ending served is = subst (ReadsFor before.input after.input room (handed_in first told)) is served.reads
 
 -- on threads
-pub threaded : {A : Type 0} (command : Option Command) (names : Names) (options : Options) (r : Run) → command ≡ Some (resume names.policy names.requests names.transcript options)
-    → nat_lt 1 options.lanes ≡ true → ((repeats : Bool) → (repeats ≡ false → A ⊎ (options.rounds ≡ 0)) → ResumesRun names options repeats r) → HasRun (may_repeat command) command r
+pub threaded : {A : Type 0} (command : Option Command) (names : Names) (options : Options) (r : Run) →
+    command ≡ Some (resume names.policy names.requests names.transcript options)
+    → nat_lt 1 options.lanes ≡ true → ((repeats : Bool) → (repeats ≡ false → A ⊎ (options.rounds ≡ 0)) → ResumesRun names options repeats r) →
+    HasRun (may_repeat command) command r
 threaded command names options r is lanes resumes =
     subst (λ c. HasRun (may_repeat c) c r) (sym is)
     (inr (resumes (nat_lt 1 options.lanes && nat_lt 0 options.rounds) (λ never. inr (no_rounds (nat_lt 1 options.lanes) options.rounds lanes never))))

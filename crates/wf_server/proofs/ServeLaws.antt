@@ -4,7 +4,8 @@ use Rattle.wf_outside.specs.Outside.{Filed, told, missing, untold}
 use Rattle.policy_book.specs.Shapes.{PolicyShape}
 use Rattle.policy_reader.specs.FilePolicies.{IsFilePolicy}
 use Rattle.run_record.specs.declared.fault.RunFault.{RunFault}
-use Rattle.run_record.specs.declared.fault.RunFault.TheVariants.{Nothing, Found, Usage, Policy, Read, Write, Load, NoMemory, FileTooLong, LineTooLong, TooManyLines, BadInput, TooLarge}
+use Rattle.run_record.specs.declared.fault.RunFault.TheVariants.{Nothing, Found, Usage, Policy, Read, Write, Load, NoMemory, FileTooLong, LineTooLong}
+use Rattle.run_record.specs.declared.fault.RunFault.TheVariants.{TooManyLines, BadInput, TooLarge}
 use Rattle.run_record.specs.Fault.{is_before_input, CountsLoads, CountsReads, CountsWrites}
 use Rattle.run_record.specs.Run.{Run, IsUntouched, OverFile}
 use Rattle.wf_commands.specs.Load.{GivesPolicy, IsLoadEnding, PolicyOf}
@@ -71,8 +72,10 @@ no_writes (BadInput e) n ending = absurd ending
 no_writes TooLarge n ending = absurd ending
 
 -- and so the run ended
-pub refused_run : (policy : List ℕ) (options : Options) (r : Run) (fault : RunFault) → r.fault ≡ fault → GivesPolicy (r.files policy) (Err fault) → IsLoadEnding fault → IsUntouched r
-    → CountsLoads fault r.load_faults r.load_faults_after → r.after.read_faults ≡ r.before.read_faults → r.after.write_faults ≡ r.before.write_faults → AreOptions options
+pub refused_run : (policy : List ℕ) (options : Options) (r : Run) (fault : RunFault) → r.fault ≡ fault → GivesPolicy (r.files policy) (Err fault) →
+    IsLoadEnding fault → IsUntouched r
+    → CountsLoads fault r.load_faults r.load_faults_after → r.after.read_faults ≡ r.before.read_faults → r.after.write_faults ≡ r.before.write_faults →
+    AreOptions options
     → ServesRun policy options r
 refused_run policy options r fault is gives ending nothing loads reads writes limits =
     let given : GivesPolicy (r.files policy) (Err r.fault) = subst (λ (x : RunFault). GivesPolicy (r.files policy) (Err x)) (sym is) gives in

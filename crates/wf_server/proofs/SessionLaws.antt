@@ -1,5 +1,6 @@
 -- How the batches of a session follow one another.
-use Rattle.std.proofs.Common.{◌≡◌, ℕ, ◌+◌, ◌<◌, ◌≤◌, false, List, [], ◌∷◌, ◌++◌, length, take, drop, Option, Err, inl, inr, refl, sym, ◌∙◌, ap, subst, arith, append_assoc}
+use Rattle.std.proofs.Common.{◌≡◌, ℕ, ◌+◌, ◌<◌, ◌≤◌, false, List, [], ◌∷◌, ◌++◌, length, take, drop, Option, Err, inl, inr, refl, sym, ◌∙◌, ap, subst, arith}
+use Rattle.std.proofs.Common.{append_assoc}
 use Rattle.std.specs.Prelude.{◌≢◌}
 use Rattle.std.proofs.lemmas.List.{length-append, length-take, take-append-drop}
 use Rattle.wf_names.specs.declared.limits.TheConstants.{BATCH_LINE_LIMIT}
@@ -27,7 +28,8 @@ use Rattle.run_record.specs.Run.{Streams}
 use Rattle.wf_server.specs.Sessions.{ReadsFor, Served, Setting, handed_in, text_from}
 use Rattle.wf_server.specs.Ways.{setting_of}
 use Rattle.wf_server.specs.declared.batch.Answered.{Answered}
-use Rattle.wf_server.specs.Batches.{Serves, told_of, AreInOrderFrom, HasAnswered, IsAdded, IsBatch, AnswersTo, IsServing, BatchEnds, IsWriteEnding, ending_after}
+use Rattle.wf_server.specs.Batches.{Serves, told_of, AreInOrderFrom, HasAnswered, IsAdded, IsBatch, AnswersTo, IsServing, BatchEnds, IsWriteEnding}
+use Rattle.wf_server.specs.Batches.{ending_after}
 use Rattle.wf_server.proofs.BatchLaws.{ends_some, writes_whole}
 
 -- no count of faults falls
@@ -49,7 +51,8 @@ near_end before x total [] rest leads = leads.1
 near_end before x total (e ∷ ends) rest leads = near_end e x total ends rest leads.2
 
 -- a batch has not too many jobs
-short_batch : (before k total : ℕ) (batch : List Job) (ends all : List ℕ) → LeadTo 0 all total → last_or 0 ends ≡ before → ends_after ends before batch ≡ take k all
+short_batch : (before k total : ℕ) (batch : List Job) (ends all : List ℕ) → LeadTo 0 all total → last_or 0 ends ≡ before →
+    ends_after ends before batch ≡ take k all
     → length batch ≤ BATCH_LINE_LIMIT
 short_batch before k total [] ends all leads closed is = omega arith
 short_batch before k total (j ∷ batch) ends all leads closed is =
@@ -60,7 +63,8 @@ short_batch before k total (j ∷ batch) ends all leads closed is =
     omega (arith, near, closed)
 
 -- what is handed over next is a batch
-pub next_batch : (lanes : ℕ) (first : Cut) (before after : Option (List ℕ)) (told : Told) (more : List Job) → AreInOrderFrom lanes first → last_or 0 told.batch_ends ≡ length told.jobs
+pub next_batch : (lanes : ℕ) (first : Cut) (before after : Option (List ℕ)) (told : Told) (more : List Job) → AreInOrderFrom lanes first →
+    last_or 0 told.batch_ends ≡ length told.jobs
     → IsReadUp before after (handed_more (handed_in first told) more) → IsBatch lanes (length told.jobs) more
 next_batch lanes first before after told more order closed up =
     let all = jobs_from first up.bytes up.ended in
@@ -74,7 +78,8 @@ next_batch lanes first before after told more order closed up =
     }
 
 -- what is told with one more batch
-added_handed : (first : Cut) (before : Told) (batch : List Job) (after : Told) → IsAdded before batch after → handed_more (handed_in first before) batch ≡ handed_in first after
+added_handed : (first : Cut) (before : Told) (batch : List Job) (after : Told) → IsAdded before batch after →
+    handed_more (handed_in first before) batch ≡ handed_in first after
 added_handed first before batch after added = rw (added.jobs, added.ends) refl
 
 pub lanes_of : (d e : DeskShape) → setting_of e ≡ setting_of d → e.lanes ≡ d.lanes
@@ -82,7 +87,8 @@ lanes_of d e same = ap (λ (s : Setting). s.lanes) same
 
 -- memory was refused while a batch was read
 pub memory_serves : (first : Cut) (room : ℕ) (before mid aft : Streams) (r : ReaderShape) (d : DeskShape) (told : Told) (how : Paused)
-    → IsServing first before mid r d told → IsReadUp before.input aft.input (handed_in first told) → aft.output ≡ mid.output → CountsAs how mid.read_faults aft.read_faults
+    → IsServing first before mid r d told → IsReadUp before.input aft.input (handed_in first told) → aft.output ≡ mid.output →
+    CountsAs how mid.read_faults aft.read_faults
     → aft.write_faults ≡ mid.write_faults → Serves (setting_of d) first room before aft told fault.NoMemory
 memory_serves first room before mid aft r d told how serving up output reads writes = record {
   reads = up;
@@ -119,13 +125,15 @@ done_ends first before mid aft r t d e told after batch paused.Failed serving sa
   read_faults = λ small. let rose = counts.1 small in let same_count = serving.read_faults in omega arith;
   write_faults = writes ∙ serving.write_faults;
 }
-done_ends first before mid aft r t d e told after batch (paused.Stopped (stop.LineTooLong line)) serving same reads goes_on added answered counts writes = record {
-  reads = subst (λ (h : Handed). ReadsTo before.input aft.input t.room h (paused.Stopped (stop.LineTooLong line))) (added_handed first told batch after added) reads;
-  fills = answered.fills;
-  writes = answered.written;
-  read_faults = counts ∙ serving.read_faults;
-  write_faults = writes ∙ serving.write_faults;
-}
+done_ends first before mid aft r t d e told after batch (paused.Stopped (stop.LineTooLong line)) serving same reads goes_on added answered counts writes =
+    record {
+      reads = subst (λ (h : Handed). ReadsTo before.input aft.input t.room h (paused.Stopped (stop.LineTooLong line)))
+          (added_handed first told batch after added) reads;
+      fills = answered.fills;
+      writes = answered.written;
+      read_faults = counts ∙ serving.read_faults;
+      write_faults = writes ∙ serving.write_faults;
+    }
 done_ends first before mid aft r t d e told after batch (paused.Stopped stop.TooManyLines) serving same reads goes_on added answered counts writes = record {
   reads = subst (λ (h : Handed). ReadsTo before.input aft.input t.room h (paused.Stopped stop.TooManyLines)) (added_handed first told batch after added) reads;
   fills = answered.fills;
@@ -142,8 +150,10 @@ done_ends first before mid aft r t d e told after batch paused.NoMemory serving 
 }
 
 -- the session after a batch whose answering failed
-pub fault_ends : (first : Cut) (room : ℕ) (before mid aft : Streams) (r : ReaderShape) (d e : DeskShape) (told after : Told) (batch : List Job) (how : Paused) (ending : RunFault)
-    → IsServing first before mid r d told → setting_of e ≡ setting_of d → ReadsTo before.input aft.input room (handed_more (handed_in first told) batch) how → how ≢ paused.NoMemory
+pub fault_ends : (first : Cut) (room : ℕ) (before mid aft : Streams) (r : ReaderShape) (d e : DeskShape) (told after : Told) (batch : List Job)
+    (how : Paused) (ending : RunFault)
+    → IsServing first before mid r d told → setting_of e ≡ setting_of d →
+    ReadsTo before.input aft.input room (handed_more (handed_in first told) batch) how → how ≢ paused.NoMemory
     → IsReadUp before.input aft.input (handed_more (handed_in first told) batch) → IsReadUp before.input aft.input (handed_in first told)
     → AnswersTo before.output aft.output told batch e after (Err ending) → IsWriteEnding ending → CountsAs how mid.read_faults aft.read_faults
     → CountsWrites ending mid.write_faults aft.write_faults → Serves (setting_of e) first room before aft after ending
@@ -173,7 +183,8 @@ none_filled : FillsJobs [] [] []
 none_filled = record { whole = refl; batches = λ k lt lane. absurd (none_ends k lt); rests = λ k lt. absurd (none_ends k lt) }
 
 -- before the first batch
-pub opening_serves : (streams : Streams) (r : ReaderShape) (d : DeskShape) (told : Told) → JobsAreInOrder d.lanes → d.jobs ≡ [] → d.restored ≡ 0 → told ≡ nothing_told → r.cut ≡ start d.lanes → r.pending ≡ []
+pub opening_serves : (streams : Streams) (r : ReaderShape) (d : DeskShape) (told : Told) → JobsAreInOrder d.lanes → d.jobs ≡ [] → d.restored ≡ 0 →
+    told ≡ nothing_told → r.cut ≡ start d.lanes → r.pending ≡ []
     → IsServing (start d.lanes) streams streams r d told
 opening_serves streams r d told order jobs none_restored none begun empty = rw none (record {
   order = order;
@@ -195,14 +206,17 @@ opening_serves streams r d told order jobs none_restored none begun empty = rw n
 })
 
 -- so begins a session at a new desk
-pub session_begins : (streams : Streams) (r : ReaderShape) (d : DeskShape) (a : Answered) (lanes room : ℕ) → JobsAreInOrder lanes → d.lanes ≡ lanes → d.jobs ≡ [] → d.entries ≡ [] →
-    d.restored ≡ 0 → a.jobs ≡ [] → a.batch_ends ≡ [] → r ≡ record { cut = start lanes; pending = []; room = room } → IsServing (start d.lanes) streams streams r d (told_of d a)
+pub session_begins : (streams : Streams) (r : ReaderShape) (d : DeskShape) (a : Answered) (lanes room : ℕ) → JobsAreInOrder lanes → d.lanes ≡ lanes →
+    d.jobs ≡ [] → d.entries ≡ [] →
+    d.restored ≡ 0 → a.jobs ≡ [] → a.batch_ends ≡ [] → r ≡ record { cut = start lanes; pending = []; room = room } →
+    IsServing (start d.lanes) streams streams r d (told_of d a)
 session_begins streams r d a lanes room order same jobs entries restored none_jobs none_ends is =
     opening_serves streams r d (told_of d a) (subst JobsAreInOrder (sym same) order) jobs restored (rw (entries, none_jobs, none_ends) refl)
     (ap (λ (x : ReaderShape). x.cut) is ∙ ap start (sym same)) (ap (λ (x : ReaderShape). x.pending) is)
 
 -- where there was no memory for a session
-pub bare_serves : (set : Setting) (room : ℕ) (streams : Streams) (told : Told) (ending : RunFault) → set.restored ≡ 0 → told ≡ nothing_told → ending ≡ fault.NoMemory → Serves set (start set.lanes) room streams streams told ending
+pub bare_serves : (set : Setting) (room : ℕ) (streams : Streams) (told : Told) (ending : RunFault) → set.restored ≡ 0 → told ≡ nothing_told →
+    ending ≡ fault.NoMemory → Serves set (start set.lanes) room streams streams told ending
 bare_serves set room streams told ending none_restored nothing memory = rw (nothing, memory) (record {
   reads = record {
     bytes = [];
@@ -212,14 +226,17 @@ bare_serves set room streams told ending none_restored nothing memory = rw (noth
     up = record { ends = (0, refl); within = refl };
   };
   fills = none_filled;
-  writes = writes_whole set streams.output streams.output nothing_told (subst (λ n. streams.output ≡ with_bytes streams.output (text_from set.policy n [])) (sym none_restored) (sym (nothing_put streams.output)));
+  writes = writes_whole set streams.output streams.output nothing_told
+      (subst (λ n. streams.output ≡ with_bytes streams.output (text_from set.policy n [])) (sym none_restored) (sym (nothing_put streams.output)));
   read_faults = omega arith;
   write_faults = refl;
 })
 
 -- a session is one as it is promised
-pub serves_kept : (set : Setting) (first : Cut) (room : ℕ) (before after : Streams) (told : Told) (ending : RunFault) → IsSoundPolicy set.policy → HistoriesKeepCompletable → HistoriesAreExact
-    → IsLegal (opening_state set.policy) set.rounds told.entries → Serves set first room before after told ending → Served set first room before after told ending
+pub serves_kept : (set : Setting) (first : Cut) (room : ℕ) (before after : Streams) (told : Told) (ending : RunFault) → IsSoundPolicy set.policy →
+    HistoriesKeepCompletable → HistoriesAreExact
+    → IsLegal (opening_state set.policy) set.rounds told.entries → Serves set first room before after told ending →
+    Served set first room before after told ending
 serves_kept set first room before after told ending sound keeps exact legal h = record {
   reads = h.reads;
   legal = legal;
@@ -232,7 +249,8 @@ serves_kept set first room before after told ending sound keeps exact legal h = 
 }
 
 -- a session ends with its own endings alone
-pub late_reads : (before after : Option (List ℕ)) (room : ℕ) (handed : Handed) (ending : RunFault) → ReadsFor before after room handed ending → is_before_input ending ≡ false
+pub late_reads : (before after : Option (List ℕ)) (room : ℕ) (handed : Handed) (ending : RunFault) → ReadsFor before after room handed ending →
+    is_before_input ending ≡ false
 late_reads before after room handed fault.Nothing h = refl
 late_reads before after room handed fault.Read h = refl
 late_reads before after room handed (fault.LineTooLong line) h = refl
@@ -247,5 +265,6 @@ late_reads before after room handed fault.FileTooLong h = absurd h
 late_reads before after room handed (fault.BadInput e) h = absurd h
 late_reads before after room handed fault.TooLarge h = absurd h
 
-pub serves_late : (set : Setting) (first : Cut) (room : ℕ) (before after : Streams) (told : Told) (ending : RunFault) → Serves set first room before after told ending → is_before_input ending ≡ false
+pub serves_late : (set : Setting) (first : Cut) (room : ℕ) (before after : Streams) (told : Told) (ending : RunFault) →
+    Serves set first room before after told ending → is_before_input ending ≡ false
 serves_late set first room before after told ending h = late_reads before.input after.input room (handed_in first told) ending h.reads

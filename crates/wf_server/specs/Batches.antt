@@ -1,5 +1,6 @@
 -- Inside: where a session stands between its batches.
-use Rattle.std.specs.Prelude.{◌≡◌, ℕ, Bool, ◌+◌, ◌≤◌, max, List, [], ◌∷◌, ◌++◌, length, take, Option, None, Some, Result, Ok, Err}
+use Rattle.std.specs.Prelude.{◌≡◌, ℕ, Bool, ◌+◌, ◌≤◌, max, List, [], ◌∷◌, ◌++◌, length, take}
+use Rattle.std.specs.Prelude.{Option, None, Some, Result, Ok, Err}
 use Rattle.std.proofs.Common.{◌⊎◌}
 use Rattle.wf_names.specs.declared.limits.TheConstants.{BATCH_LINE_LIMIT, SESSION_LINE_LIMIT}
 use Rattle.wf_outside.specs.Outside.{with_bytes}
@@ -18,12 +19,14 @@ use Rattle.wf_board.specs.Histories.{FillsJobs}
 use Rattle.wf_desk.specs.BatchLaws.{EndAt}
 use Rattle.wf_desk.specs.Desks.{AreOfLanes, DeskShape, IsDone}
 use Rattle.run_record.specs.declared.fault.RunFault.{RunFault}
-use Rattle.run_record.specs.declared.fault.RunFault.TheVariants.{Nothing, Read, Write, NoMemory, LineTooLong, TooManyLines}
+use Rattle.run_record.specs.declared.fault.RunFault.TheVariants.{Nothing, Read, Write, NoMemory}
+use Rattle.run_record.specs.declared.fault.RunFault.TheVariants.{LineTooLong, TooManyLines}
 use Rattle.run_record.specs.Fault.{CountsReads, CountsWrites}
 use Rattle.run_record.specs.Report.{Told}
 use Rattle.run_record.specs.Run.{Streams}
 use Rattle.wf_server.specs.declared.batch.Answered.{Answered}
-use Rattle.wf_server.specs.Sessions.{Setting, handed_in, last_start, text_from, ReadsFor, WritesFor, WritesPart}
+use Rattle.wf_server.specs.Sessions.{Setting, handed_in, last_start, text_from, ReadsFor, WritesFor}
+use Rattle.wf_server.specs.Sessions.{WritesPart}
 use Rattle.wf_server.specs.Ways.{setting_of}
 
 -- the texts of entries, in order, with the names of one policy
@@ -32,7 +35,8 @@ entries_text p [] = []
 entries_text p (e ∷ es) = entry_text p e ++ entries_text p es
 
 -- a session, but that its history is legal and keeps each open case completable
-pub record Serves (set : Setting) (first : Cut) (room : ℕ) (before after : Streams) (told : Told) (fault : RunFault) : Type 0 where
+pub record Serves (set : Setting) (first : Cut) (room : ℕ) (before after : Streams)
+    (told : Told) (fault : RunFault) : Type 0 where
   pub reads : ReadsFor before.input after.input room (handed_in first told) fault
   pub fills : FillsJobs told.entries told.jobs told.batch_ends
   pub writes : WritesFor set before.output after.output told fault
@@ -50,7 +54,8 @@ pub record IsBatch (lanes before : ℕ) (batch : List Job) : Type 0 where
   pub of_lanes : AreOfLanes lanes batch
 
 -- the jobs so far are answered, and the entries written
-pub record HasAnswered (held held-after : Option (List ℕ)) (d : DeskShape) (told : Told) : Type 0 where
+pub record HasAnswered (held held-after : Option (List ℕ)) (d : DeskShape) (told : Told) : Type
+    0 where
   pub done : IsDone d
   pub fills : FillsJobs told.entries told.jobs told.batch_ends
   pub ends : EndAt told.batch_ends (length told.jobs)
@@ -58,18 +63,21 @@ pub record HasAnswered (held held-after : Option (List ℕ)) (d : DeskShape) (to
   pub written : held-after ≡ with_bytes held (text_from d.opening d.restored told.entries)
 
 -- the jobs so far are answered, and the entries of the last batch written in part
-pub record HasAnsweredPart (set : Setting) (held held-after : Option (List ℕ)) (told : Told) : Type 0 where
+pub record HasAnsweredPart (set : Setting) (held held-after : Option (List ℕ)) (told : Told) :
+    Type 0 where
   pub fills : FillsJobs told.entries told.jobs told.batch_ends
-  pub written : WritesPart set held held-after (last_start set.restored told.batch_ends) told.entries
+  pub written : WritesPart set held held-after (last_start set.restored told.batch_ends)
+      told.entries
 
 -- the jobs of one more batch are told, with its end
 pub record IsAdded (before : Told) (batch : List Job) (after : Told) : Type 0 where
   pub jobs : after.jobs ≡ before.jobs ++ batch
   pub ends : after.batch_ends ≡ ends_after before.batch_ends (length before.jobs) batch
 
--- a batch is at a desk behind those that are told: their jobs are answered; of the entries of the batch those alone are there
--- that were taken up; and what was not taken up is written
-pub record HasLoaded (held held-after : Option (List ℕ)) (d : DeskShape) (told : Told) : Type 0 where
+-- a batch is at a desk behind those that are told: their jobs are answered; of the entries of the
+-- batch those alone are there that were taken up; and what was not taken up is written
+pub record HasLoaded (held held-after : Option (List ℕ)) (d : DeskShape) (told : Told) : Type
+    0 where
   pub fills : FillsJobs told.entries told.jobs told.batch_ends
   pub ends : EndAt told.batch_ends (length told.jobs)
   pub front : take d.start d.entries ≡ told.entries
@@ -77,15 +85,19 @@ pub record HasLoaded (held held-after : Option (List ℕ)) (d : DeskShape) (told
   pub written : held-after ≡ with_bytes held (text_from d.opening d.restored d.entries)
 
 -- what came of answering the jobs at a desk, where all told jobs are answered then
-abbrev pub LoadedTo : Option (List ℕ) → Option (List ℕ) → DeskShape → Told → Result (Unit {0}) RunFault → Type 0
+abbrev pub LoadedTo : Option (List ℕ) → Option (List ℕ) → DeskShape → Told →
+    Result (Unit {0}) RunFault → Type 0
 LoadedTo held held-after d after (Ok done) = HasAnswered held held-after d after
 LoadedTo held held-after d after (Err fault) = HasAnsweredPart (setting_of d) held held-after after
 
 -- what came of answering a batch
-abbrev pub AnswersTo : Option (List ℕ) → Option (List ℕ) → Told → List Job → DeskShape → Told → Result (Unit {0}) RunFault → Type 0
-AnswersTo held held-after before batch d after (Ok done) = IsAdded before batch after × HasAnswered held held-after d after
+abbrev pub AnswersTo : Option (List ℕ) → Option (List ℕ) → Told → List Job → DeskShape → Told →
+    Result (Unit {0}) RunFault → Type 0
+AnswersTo held held-after before batch d after (Ok done) = IsAdded before batch after ×
+    HasAnswered held held-after d after
 AnswersTo held held-after before batch d after (Err NoMemory) =
-    ((after ≡ before) ⊎ IsAdded before batch after) × HasAnsweredPart (setting_of d) held held-after after
+    ((after ≡ before) ⊎ IsAdded before batch after) ×
+    HasAnsweredPart (setting_of d) held held-after after
 AnswersTo held held-after before batch d after (Err fault) =
     IsAdded before batch after × HasAnsweredPart (setting_of d) held held-after after
 
@@ -107,10 +119,12 @@ ending_after paused.NoMemory = Some NoMemory
 -- whatever is read behind what was cut before, all jobs are in order
 abbrev pub AreInOrderFrom : ℕ → Cut → Type 0
 AreInOrderFrom lanes first =
-    (bytes : List ℕ) (ended : Bool) → AreInOrder lanes (jobs_from first bytes ended).jobs (jobs_from first bytes ended).ends
+    (bytes : List ℕ) (ended : Bool) →
+    AreInOrder lanes (jobs_from first bytes ended).jobs (jobs_from first bytes ended).ends
 
 -- between two batches: all that was handed over is answered and written, and no call has failed
-pub record IsServing (first : Cut) (before after : Streams) (r : ReaderShape) (d : DeskShape) (told : Told) : Type 0 where
+pub record IsServing (first : Cut) (before after : Streams) (r : ReaderShape) (d : DeskShape)
+    (told : Told) : Type 0 where
   pub order : AreInOrderFrom d.lanes first
   pub read : HasRead before.input after.input (handed_in first told) r
   pub answered : HasAnswered before.output after.output d told
@@ -118,6 +132,8 @@ pub record IsServing (first : Cut) (before after : Streams) (r : ReaderShape) (d
   pub write_faults : after.write_faults ≡ before.write_faults
 
 -- after a batch the session goes on, or ends
-abbrev pub BatchEnds : Cut → Streams → Streams → ReaderShape → DeskShape → Told → Option RunFault → Type 0
+abbrev pub BatchEnds : Cut → Streams → Streams → ReaderShape → DeskShape → Told →
+    Option RunFault → Type 0
 BatchEnds first before after r d told None = IsServing first before after r d told
-BatchEnds first before after r d told (Some fault) = Serves (setting_of d) first r.room before after told fault
+BatchEnds first before after r d told (Some fault) =
+    Serves (setting_of d) first r.room before after told fault

@@ -15,14 +15,17 @@ pub record IsToldTo (jobs : List Job) (batch_ends : List ℕ) (count : ℕ) (tol
   pub all_jobs : told.jobs ≡ take (batch_start batch_ends count) jobs
   pub all_ends : told.batch_ends ≡ take count batch_ends
 
--- the jobs of some batches are told, where a fault ends the session; where writing failed there are some
-pub record StopsIn (jobs : List Job) (batch_ends : List ℕ) (fault : RunFault) (told : Told) : Type 0 where
+-- the jobs of some batches are told, where a fault ends the session; where writing failed there are
+-- some
+pub record StopsIn (jobs : List Job) (batch_ends : List ℕ) (fault : RunFault) (told : Told) :
+    Type 0 where
   pub count : ℕ
   pub to : IsToldTo jobs batch_ends count told
   pub some : fault ≡ Write → 0 < length told.jobs
 
 -- what came of answering the jobs of a file
-abbrev pub FileTo : Option (List ℕ) → Option (List ℕ) → List Job → List ℕ → DeskShape → Told → Result (Unit {0}) RunFault → Type 0
+abbrev pub FileTo : Option (List ℕ) → Option (List ℕ) → List Job → List ℕ → DeskShape → Told →
+    Result (Unit {0}) RunFault → Type 0
 FileTo held held-after jobs batch_ends d told (Ok done) =
     IsToldTo jobs batch_ends (length batch_ends) told × HasAnswered held held-after d told
 FileTo held held-after jobs batch_ends d told (Err fault) =

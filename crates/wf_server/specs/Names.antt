@@ -15,13 +15,15 @@ pub record IsKeptState (s : State) : Type 0 where
   pub kept : KeepsCompletable s
   pub roster : IsSoundRoster s.book.policy.roster
 
--- the last entries of a legal history, each written with the names of the policy after it, are written as with the names
--- of the policy after them all
+-- the last entries of a legal history, each written with the names of the policy after it, are
+-- written as with the names of the policy after them all
 abbrev pub TextsStay : Type 0
 TextsStay =
-    (start : State) (rounds : ℕ) (earlier more : List Entry) → IsKeptState (state_after start earlier) →
+    (start : State) (rounds : ℕ) (earlier more : List Entry) →
+    IsKeptState (state_after start earlier) →
     IsLegal start rounds (earlier ++ more) →
-    transcript_text (state_after start earlier) more ≡ entries_text (state_after start (earlier ++ more)).book.policy more
+    transcript_text (state_after start earlier) more ≡ entries_text
+    (state_after start (earlier ++ more)).book.policy more
 
 -- whatever entries come behind those of a desk, in a legal history, are written so
 abbrev pub KeepsTexts : DeskShape → Type 0

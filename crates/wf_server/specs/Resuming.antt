@@ -27,7 +27,8 @@ use Rattle.wf_server.specs.Sessions.{Served, Setting}
 
 -- a session is served behind so many entries of an earlier one
 abbrev pub setting_behind : Session → ℕ → Setting
-setting_behind s restored = record { policy = s.policy; lanes = s.lanes; rounds = s.rounds; restored = restored }
+setting_behind s restored =
+    record { policy = s.policy; lanes = s.lanes; rounds = s.rounds; restored = restored }
 
 -- a run ends so, and touches nothing
 abbrev pub EndsBy : Run → RunFault → Type 0
@@ -52,20 +53,22 @@ pub record RefusesFrom (s : Session) (transcript : List ℕ) (r : Run) : Type 0 
 -- the entries of the transcript are taken up, and a session goes on behind them: it answers the
 -- jobs of the requests that have none, and then what is read; what was taken up stays as it is and
 -- is not written again; of the entries that come, the text of each fits a line of an audit, only an
--- opening, a claim, an edit or a view over the open cases is answered with want of memory, and where
--- it may not be so, none is answered again
-pub record GoesOnFrom (s : Session) (cut : Cut) (transcript : List ℕ) (repeats : Bool) (r : Run) : Type 0 where
+-- opening, a claim, an edit or a view over the open cases is answered with want of memory, and
+-- where it may not be so, none is answered again
+pub record GoesOnFrom (s : Session) (cut : Cut) (transcript : List ℕ) (repeats : Bool)
+    (r : Run) : Type 0 where
   pub entries : List Entry
   pub taken : IsTakenUp s transcript entries
   pub begins : take (length entries) r.told.entries ≡ entries
-  pub served : Served (setting_behind s (length entries)) (next_input cut) PIECE r.before r.after r.told r.fault
+  pub served : Served (setting_behind s (length entries)) (next_input cut) PIECE r.before
+      r.after r.told r.fault
   pub wants : AreRightful (drop (length entries) r.told.entries)
   pub fits : FitLines (texts_of (state_after (opening_state s.policy) entries)
       (drop (length entries) r.told.entries))
   pub once : repeats ≡ false → AreAnsweredOnce (drop (length entries) r.told.entries)
 
--- what becomes of a transcript of which no line is too long: there is no memory before it is taken up, or it is refused, or
--- the session goes on
+-- what becomes of a transcript of which no line is too long: there is no memory before it is taken
+-- up, or it is refused, or the session goes on
 abbrev pub ResumesFrom : Session → Cut → List ℕ → Bool → Run → Type 0
 ResumesFrom s cut transcript repeats r =
     EndsBy r NoMemory ⊎ (RefusesFrom s transcript r ⊎ GoesOnFrom s cut transcript repeats r)
@@ -74,13 +77,15 @@ ResumesFrom s cut transcript repeats r =
 pub record ResumesRun (names : Names) (options : Options) (repeats : Bool) (r : Run) : Type 0 where
   pub within : AreOptions options
   pub resumes : OverFiles r.files names options.lanes (EndsBy r)
-      (λ p cut transcript. ResumesFrom (session_of p options.lanes options.rounds cut) cut transcript repeats r)
+      (λ p cut transcript. ResumesFrom (session_of p options.lanes options.rounds cut) cut
+      transcript repeats r)
   pub orderly : IsOrderly r
 
 -- Inside: what a run writes whose session does not go on
 abbrev pub RefusesAs : Refusal → Option (List ℕ) → Option (List ℕ) → RunFault → Type 0
 RefusesAs (Ends fault) before after ending = (ending ≡ fault) × (after ≡ before)
-RefusesAs (Line number kind) before after ending = TellsAs (fault_line number kind) before after ending
+RefusesAs (Line number kind) before after ending =
+    TellsAs (fault_line number kind) before after ending
 
 abbrev pub CountsRefusal : Refusal → ℕ → ℕ → RunFault → Type 0
 CountsRefusal (Ends fault) before after ending = after ≡ before

@@ -11,12 +11,13 @@ use Rattle.wf_commands.specs.Resilience.{ChecksResilience}
 use Rattle.audit_command.specs.Running.{AuditsRun}
 use Rattle.cnf_command.specs.Running.{ReadsModelFile, WritesClauses}
 use Rattle.trial_command.specs.Running.{RunsTrial}
-use Rattle.command_words.specs.Words.{Command, plan, show, solve, resilience, cnf, serve, audit, resume, trial}
+use Rattle.command_words.specs.Words.{Command, plan, show, solve, resilience, cnf, serve, audit}
+use Rattle.command_words.specs.Words.{resume, trial}
 use Rattle.wf_server.specs.Serving.{ServesRun}
 use Rattle.wf_server.specs.Resuming.{ResumesRun}
 
--- a run does what its command is, where a request may be answered again or not; where the words are none it ends before
--- anything
+-- a run does what its command is, where a request may be answered again or not; where the words are
+-- none it ends before anything
 abbrev pub Does : Bool → Option Command → Run → Type 0
 Does repeats None r = IsOrderly r × (r.fault ≡ Usage)
 Does repeats (Some (plan policy flow)) r = Plans policy flow r
@@ -26,9 +27,11 @@ Does repeats (Some (resilience policy flow absences)) r = ChecksResilience polic
 Does repeats (Some (cnf policy flow None)) r = WritesClauses policy flow r
 Does repeats (Some (cnf policy flow (Some model))) r = ReadsModelFile policy flow model r
 Does repeats (Some (serve policy options)) r = ServesRun policy options r
-Does repeats (Some (audit policy requests options)) r = AuditsRun policy requests options.lanes options.rounds r
+Does repeats (Some (audit policy requests options)) r =
+    AuditsRun policy requests options.lanes options.rounds r
 Does repeats (Some (resume policy requests transcript options)) r =
-    ResumesRun (record { policy = policy; requests = requests; transcript = transcript }) options repeats r
+    ResumesRun (record { policy = policy; requests = requests; transcript = transcript })
+    options repeats r
 Does repeats (Some (trial seed)) r = IsOrderly r × RunsTrial seed (record {
   output = r.before.output;
   output_after = r.after.output;

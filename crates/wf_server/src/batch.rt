@@ -1,5 +1,6 @@
 //! Answering the jobs of a batch, and writing the entries.
-ghost use Rattle.std.specs.Prelude.{◌≡◌, ◌≢◌, ◌≤◌, ◌<◌, ◌+◌, ℕ, List, [], ◌∷◌, ◌++◌, length, take, drop, Option, Err, IfErr, OnOk, OnErr};
+ghost use Rattle.std.specs.Prelude.{◌≡◌, ◌≢◌, ◌≤◌, ◌<◌, ◌+◌, ℕ, List, [], ◌∷◌, ◌++◌, length, take};
+ghost use Rattle.std.specs.Prelude.{drop, Option, Err, IfErr, OnOk, OnErr};
 ghost use Rattle.wf_outside.specs.Outside.{HasPart, with_bytes};
 ghost use Rattle.wf_names.specs.declared.limits.TheConstants.{SESSION_LINE_LIMIT};
 ghost use Rattle.line_cutter.specs.Cutter.{ends_after};
@@ -9,7 +10,8 @@ ghost use Rattle.wf_desk.specs.Schedules.{HasGrown};
 ghost use Rattle.wire_json.specs.Replies.{entry_text};
 ghost use Rattle.run_record.specs.Fault.{fault_in, CountsWrites};
 ghost use Rattle.run_record.specs.Report.{Told};
-ghost use Rattle.wf_server.specs.Batches.{entries_text, told_of, HasAnswered, HasLoaded, IsAdded, IsBatch, AnswersTo, LoadedTo, IsWriteEnding};
+ghost use Rattle.wf_server.specs.Batches.{entries_text, told_of, HasAnswered, HasLoaded, IsAdded};
+ghost use Rattle.wf_server.specs.Batches.{IsBatch, AnswersTo, LoadedTo, IsWriteEnding};
 ghost use Rattle.wf_server.specs.Ways.{IsWay, ServesOnce, setting_of};
 
 use crate::texts::texts_stay;
@@ -63,7 +65,8 @@ pub(crate) fn answer_batch<K: Sink, W: Fn(Desk) -> Desk>(
     ensures begins { take desk.restored result.0.entries ≡ take desk.restored desk.entries }
     ensures answers { (held : Option (List ℕ)) →
         HasAnswered held (K.held sink.old) desk (told_of desk told.old) →
-        AnswersTo held (K.held sink.new) (told_of desk told.old) batch.now result.0 (told_of result.0 told.new) result.1 }
+        AnswersTo held (K.held sink.new) (told_of desk told.old) batch.now result.0
+        (told_of result.0 told.new) result.1 }
     ensures once { ServesOnce (W.post way.now) → AreAnsweredOnce (drop desk.restored desk.entries)
         → AreAnsweredOnce (drop desk.restored result.0.entries) }
     ensures ending { IfErr result.1 IsWriteEnding }
@@ -77,8 +80,8 @@ pub(crate) fn answer_batch<K: Sink, W: Fn(Desk) -> Desk>(
     }
 }
 
-/// Answers the jobs that a desk has in a way of serving, and writes the entries that come of it. The
-/// desk comes back.
+/// Answers the jobs that a desk has in a way of serving, and writes the entries that come of it.
+/// The desk comes back.
 pub(crate) fn answer_loaded<K: Sink, W: Fn(Desk) -> Desk>(
     alloc: Global,
     way: &W,

@@ -19,8 +19,8 @@ use wf_outside::Sink;
 use wf_talk::Job;
 
 /// Answers the jobs of a file from the batch on that is at the desk, where the file has so many
-/// batches up to that one and with it, in a way of serving, and writes their entries. The desk comes
-/// back.
+/// batches up to that one and with it, in a way of serving, and writes their entries. The desk
+/// comes back.
 pub(crate) fn answer_requests<K: Sink, W: Fn(Desk) -> Desk>(
     alloc: Global,
     way: &W,
@@ -73,7 +73,8 @@ fn answer_file<K: Sink, W: Fn(Desk) -> Desk>(
     ensures begins { take desk.restored result.0.entries ≡ take desk.restored desk.entries }
     ensures answers { (held : Option (List ℕ)) →
         HasAnswered held (K.held sink.old) desk (told_of desk told.old) →
-        FileTo held (K.held sink.new) file.now.jobs file.now.ends result.0 (told_of result.0 told.new) result.1 }
+        FileTo held (K.held sink.new) file.now.jobs file.now.ends result.0
+        (told_of result.0 told.new) result.1 }
     ensures once { ServesOnce (W.post way.now) → AreAnsweredOnce (drop desk.restored desk.entries)
         → AreAnsweredOnce (drop desk.restored result.0.entries) }
     ensures ending { IfErr result.1 IsWriteEnding }

@@ -15,7 +15,8 @@ ghost use Rattle.audit_command.specs.Auditing.{fault_line};
 ghost use Rattle.command_words.specs.Words.{AreOptions};
 ghost use Rattle.command_words.specs.Asked.{options_in};
 ghost use Rattle.wf_server.specs.Sessions.{Served};
-ghost use Rattle.wf_server.specs.Resuming.{CountsRefusal, RefusesAs, ResumesRun, TellsAs, setting_behind};
+ghost use Rattle.wf_server.specs.Resuming.{CountsRefusal, RefusesAs, ResumesRun, TellsAs};
+ghost use Rattle.wf_server.specs.Resuming.{setting_behind};
 ghost use Rattle.wf_server.specs.Ways.{IsWay, ServesOnce};
 
 use crate::batch::Answered;

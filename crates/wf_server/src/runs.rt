@@ -1,5 +1,6 @@
 //! The top calls: one run of the program over a source, a sink and a shelf, with threads or alone.
-ghost use Rattle.std.specs.Prelude.{◌≡◌, ◌<◌, Bool, map, nat_lt, string_bytes, None, Some, IfErr, IfOk, false};
+ghost use Rattle.std.specs.Prelude.{◌≡◌, ◌<◌, Bool, map, nat_lt, string_bytes, None, Some, IfErr};
+ghost use Rattle.std.specs.Prelude.{IfOk, false};
 ghost use Rattle.run_record.specs.Fault.{status_of};
 ghost use Rattle.run_record.specs.Report.{told_by};
 ghost use Rattle.run_record.specs.Run.{run_of, streams_of};
@@ -29,7 +30,8 @@ use wf_outside::{Shelf, Sink, Source};
 
 /// Runs the command that the words are, which are those after the program's name. `serve` and
 /// `resume` with two or more lanes run each lane on a thread of its own, and tell the gate of each
-/// search that is about to begin; all else runs as `run_alone` does it. It may wait for its threads.
+/// search that is about to begin; all else runs as `run_alone` does it. It may wait for its
+/// threads.
 pub fn run<R: Threads + Wait + Sync, F: Shelf, S: Source, K: Sink, G: Gate + Sync>(
     rt: &R,
     alloc: Global,

@@ -18,4 +18,5 @@ writer_held contents s = contents s.writer
 -- there is more; where nothing could be opened or read, that this failed
 abbrev pub HandsOn : {R : Type 0} → (R → Option (List ℕ)) → ℕ → Result (List ℕ) LoadFault → Type 0
 HandsOn remaining limit (Err Failed) = Unit {0}
-HandsOn {R} remaining limit result = (reader : R) × IfSome (remaining reader) (λ content. ReadsAll content limit result)
+HandsOn {R} remaining limit result = (reader : R) ×
+    IfSome (remaining reader) (λ content. ReadsAll content limit result)

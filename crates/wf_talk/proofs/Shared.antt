@@ -118,7 +118,16 @@ denial_crosses =
                         (flow_crosses, (step_crosses, tt)),
                         (
                           (roles_crosses, tt),
-                          ((search (sendable, crosses), tt), ((flow_crosses, (tree_crosses, tt)), ((state_crosses, tt), (tt, ((missing_crosses, tt), (tt, (tt, (tt, (tt, ((case_crosses, (flow_crosses, (tree_crosses, tt))), tt)))))))))),
+                          (
+                            (search (sendable, crosses), tt),
+                            (
+                              (flow_crosses, (tree_crosses, tt)),
+                              (
+                                (state_crosses, tt),
+                                (tt, ((missing_crosses, tt), (tt, (tt, (tt, (tt, ((case_crosses, (flow_crosses, (tree_crosses, tt))), tt))))))),
+                              ),
+                            ),
+                          ),
                         ),
                       ),
                     ),
@@ -166,7 +175,8 @@ reply_crosses =
     )
 
 entry_crosses : Crosses Entry.the_row
-entry_crosses = both_fields Entry.the_type (search (sendable, crosses), (search (sendable, crosses), (search (sendable, crosses), (ask_crosses, (reply_crosses, tt)))))
+entry_crosses =
+    both_fields Entry.the_type (search (sendable, crosses), (search (sendable, crosses), (search (sendable, crosses), (ask_crosses, (reply_crosses, tt)))))
 
 entry_send : IsSend Entry.the_row
 entry_send = entry_crosses.0

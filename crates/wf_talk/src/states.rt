@@ -26,9 +26,14 @@ impl Model for States {
 
     ghost invariant = { λ s. IsPadded STEP_LIMIT Free s.cells s.len };
 
-    ghost inverse = { λ states. record { cells = padded STEP_LIMIT Free states; len = length states } };
+    ghost inverse = { λ states.
+        record { cells = padded STEP_LIMIT Free states; len = length states } };
 
-    ghost inverse_ok = { λ s h i. record { cells = padded-take STEP_LIMIT Free s.cells s.len h i; len = length-taken STEP_LIMIT Free s.cells s.len h i } };
+    ghost inverse_ok = { λ s h i. record {
+      cells = padded-take STEP_LIMIT Free s.cells s.len h
+          i;
+      len = length-taken STEP_LIMIT Free s.cells s.len h i;
+    } };
 }
 
 impl States {

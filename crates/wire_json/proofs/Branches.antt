@@ -33,7 +33,8 @@ pub if_ok : {E : Type 0} (P Q : Value → Type 0) (r : Result Value E) → ((v :
 if_ok P Q (Ok v) more here = more v here
 if_ok P Q (Err e) more here = tt
 
-pub branch_added : (p : PolicyShape) (f : ℕ) (bs : List Branch) (i : ℕ) (b : Branch) (old new : List Value) (v : Value) (whole : List Data) → i < length bs → b ≡ get_or bs i b
+pub branch_added : (p : PolicyShape) (f : ℕ) (bs : List Branch) (i : ℕ) (b : Branch) (old new : List Value) (v : Value) (whole : List Data) →
+    i < length bs → b ≡ get_or bs i b
     → ((rest : Kids) → branches_data p f (branch_onto b rest) ≡ view v ∷ branches_data p f rest) → new ≡ old ++ v ∷ []
     → map view old ++ branches_data p f (kids_of_items (drop i bs)) ≡ whole → map view new ++ branches_data p f (kids_of_items (drop (i + 1) bs)) ≡ whole
 branch_added p f bs i b old new v whole within is here e before =

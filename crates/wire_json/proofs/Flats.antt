@@ -1,5 +1,6 @@
 -- Objects that are read part by part.
-use Rattle.std.proofs.Common.{◌≡◌, ℕ, ◌-◌, ◌<◌, ◌≤◌, List, [], ◌∷◌, length, Bool, true, false, Option, Some, None, option_map, option_and_then, Ordering, Less, Equal, Greater, is_eq, bytes_eq, nat_cmp, nat_eq, true≢false, refl, sym, ap, ◌∙◌, arith}
+use Rattle.std.proofs.Common.{◌≡◌, ℕ, ◌-◌, ◌<◌, ◌≤◌, List, [], ◌∷◌, length, Bool, true, false, Option, Some, None, option_map, option_and_then, Ordering, Less}
+use Rattle.std.proofs.Common.{Equal, Greater, is_eq, bytes_eq, nat_cmp, nat_eq, true≢false, refl, sym, ap, ◌∙◌, arith}
 use Rattle.std.specs.Prelude.{zero, suc, drop, slice_index_or, ◌&&◌, fold, if◌then◌else◌}
 use Rattle.std.specs.List.{list_any}
 use Rattle.std.specs.Cmp.Lexicographic.{pointwise, slice_cmp}
@@ -46,7 +47,8 @@ found (Some y) r s b e = let same = ap (pick (y, r)) e in (ap (λ p. p.1) same, 
 abbrev whole : Option (json.Json × List Token) → Option Data
 whole o = option_and_then of_json (option_and_then (λ p. if_last p.0 p.1) o)
 
-object_whole : (o : Option (json.Members × List Token)) (ms : Members) → converted (λ x. of_members x no_members) o ≡ Some (ms, []) → whole (parse_map json.object o) ≡ Some (object ms)
+object_whole : (o : Option (json.Members × List Token)) (ms : Members) → converted (λ x. of_members x no_members) o ≡ Some (ms, []) →
+    whole (parse_map json.object o) ≡ Some (object ms)
 object_whole None ms e = absurd (cc)
 object_whole (Some (m, [])) ms e = ap (option_map object) (found (of_members m no_members) [] [] ms e).1
 object_whole (Some (m, t ∷ r)) ms e = let never = (found (of_members m no_members) (t ∷ r) [] ms e).0 in absurd (cc)
@@ -85,7 +87,8 @@ each_is_among keys [] = true
 each_is_among keys (p ∷ ps) = list_any (pointwise nat_eq p.key.now) keys && each_is_among keys ps
 
 -- a part whose key is none of them
-pub out_at : (keys : List (List ℕ)) (ps : List Part) (i : ℕ) (d : Part) → i < length ps → list_any (pointwise nat_eq (slice_index_or ps i d).key.now) keys ≡ false → each_is_among keys (drop i ps) ≡ false
+pub out_at : (keys : List (List ℕ)) (ps : List Part) (i : ℕ) (d : Part) → i < length ps →
+    list_any (pointwise nat_eq (slice_index_or ps i d).key.now) keys ≡ false → each_is_among keys (drop i ps) ≡ false
 out_at keys [] i d h e = absurd (omega (arith, h))
 out_at keys (p ∷ ps) zero d h e = ap (λ x. x && each_is_among keys ps) e
 out_at keys (p ∷ ps) (suc i) d h e = out_at keys ps i d (omega (arith, h)) e

@@ -46,7 +46,8 @@ pub edit_refused : (others : List (List ℕ)) (r : Row Edit) (is : Data → Requ
 unfolding request_by
 edit_refused others r is d ms name b h e = rw (named_by d (name_at by d) name h, no_edit r d b e) refl
 
-pub key_refused : (others : List (List ℕ)) (r : Row Edit) (is : Data → Request) (d : Data) (ms : Members) (known : List (List ℕ)) (name : List ℕ) (x : Edit) (b : Bad)
+pub key_refused : (others : List (List ℕ)) (r : Row Edit) (is : Data → Request) (d : Data) (ms : Members) (known : List (List ℕ)) (name : List ℕ) (x : Edit)
+    (b : Bad)
     → known ≡ r.keys → or_fault (name_at by d) (Key by) ≡ Ok name → edit_by r d ≡ Ok x → check (has_only (others ++ by ∷ known) ms) Extra ≡ Err b
     → request_by others (by ∷ r.keys) is d ms ≡ Err b
 unfolding request_by

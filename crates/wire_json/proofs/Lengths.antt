@@ -1,5 +1,6 @@
 -- How long the texts of trees are.
-use Rattle.std.proofs.Common.{◌≡◌, ℕ, zero, suc, ◌+◌, ◌*◌, ◌<◌, ◌≤◌, ◌^◌, List, [], ◌∷◌, ◌++◌, length, Bool, true, false, refl, ap, ◌∙◌, ◌⊎◌, inl, inr, arith, Some, slice_get}
+use Rattle.std.proofs.Common.{◌≡◌, ℕ, zero, suc, ◌+◌, ◌*◌, ◌<◌, ◌≤◌, ◌^◌, List, [], ◌∷◌, ◌++◌, length, Bool, true, false, refl, ap, ◌∙◌, ◌⊎◌, inl, inr, arith}
+use Rattle.std.proofs.Common.{Some, slice_get}
 use Rattle.std.specs.Prelude.{codes, decimal, slice_index_or}
 use Rattle.std.proofs.lemmas.Fmt.{length-decimal-le}
 use Rattle.std.proofs.lemmas.Grind.{common_steps}
@@ -53,7 +54,8 @@ named_short names n known = at (there_or_not names n)
 holder_short : (p : PolicyShape) (f s : ℕ) → AreNames (flow_at p f).flow.steps → length (compact_text (tree_data p f (holder s))) ≤ 62
 unfolding escape_byte
 holder_short p f s steps =
-    let parts : length (compact_text (tree_data p f (holder s))) ≡ 10 + (length (compact_text (step_data p f s)) + 1) = around (codes "{\"holder\":") (compact_text (step_data p f s)) (codes "}") in
+    let parts : length (compact_text (tree_data p f (holder s))) ≡ 10 + (length (compact_text (step_data p f s)) + 1) =
+    around (codes "{\"holder\":") (compact_text (step_data p f s)) (codes "}") in
     omega (arith, parts, named_short (flow_at p f).flow.steps s steps)
 
 rule_short : (p : PolicyShape) (f k : ℕ) → k < 2 ^ 8 → length (compact_text (tree_data p f (rule k))) ≤ 62
@@ -65,7 +67,8 @@ rule_short p f k small =
 twin_short : (p : PolicyShape) (v : ℕ) → AreNames p.roster.users → length (compact_text (single (codes "twin") (user_data p v))) ≤ 51
 unfolding escape_byte
 twin_short p v users =
-    let parts : length (compact_text (single (codes "twin") (user_data p v))) ≡ 8 + (length (compact_text (user_data p v)) + 1) = around (codes "{\"twin\":") (compact_text (user_data p v)) (codes "}") in
+    let parts : length (compact_text (single (codes "twin") (user_data p v))) ≡ 8 + (length (compact_text (user_data p v)) + 1) =
+    around (codes "{\"twin\":") (compact_text (user_data p v)) (codes "}") in
     omega (arith, parts, named_short p.roster.users v users)
 
 -- ---- nodes
@@ -85,7 +88,8 @@ comma_short true = omega arith
 comma_short false = omega arith
 
 -- a branch before others
-branch_long : (later : Bool) (user kid rest : List ℕ) → length (comma_if later ++ ((91 ∷ (user ++ (44 ∷ (kid ++ 93 ∷ [])))) ++ rest)) ≤ 4 + (length user + (length kid + length rest))
+branch_long : (later : Bool) (user kid rest : List ℕ) →
+    length (comma_if later ++ ((91 ∷ (user ++ (44 ∷ (kid ++ 93 ∷ [])))) ++ rest)) ≤ 4 + (length user + (length kid + length rest))
 branch_long later user kid rest =
     let ending : List ℕ = 93 ∷ [] in
     let tail : List ℕ = 44 ∷ (kid ++ ending) in
@@ -100,20 +104,38 @@ branch_long later user kid rest =
 mutual
   unfolding escape_byte
 
-  tree_short : (p : PolicyShape) (f : ℕ) → AreNames p.roster.users → AreNames (flow_at p f).flow.steps → (t : Shape) → HasSmallRules t → length (compact_text (tree_data p f t)) + 46 ≤ 108 * nodes_of t
+  tree_short : (p : PolicyShape) (f : ℕ) → AreNames p.roster.users → AreNames (flow_at p f).flow.steps → (t : Shape) → HasSmallRules t →
+      length (compact_text (tree_data p f t)) + 46 ≤ 108 * nodes_of t
   tree_short p f users steps (holder s) small = omega (arith, holder_short p f s steps)
   tree_short p f users steps (rule k) small = omega (arith, rule_short p f k small)
   tree_short p f users steps (node s kids) small =
-      let parts : length (compact_text (tree_data p f (node s kids))) ≡ 18 + (length (compact_text (step_data p f s)) + length (compact_text (array (items_of (branches_data p f kids))))) = node_long (compact_text (step_data p f s)) (compact_text (array (items_of (branches_data p f kids)))) in
-      let whole : length (compact_text (array (items_of (branches_data p f kids)))) ≡ suc (length (items_text false (items_of (branches_data p f kids)))) = refl in
+      let parts : length (compact_text (tree_data p f (node s kids))) ≡
+      18 + (length (compact_text (step_data p f s)) + length (compact_text (array (items_of (branches_data p f kids))))) =
+      node_long (compact_text (step_data p f s)) (compact_text (array (items_of (branches_data p f kids)))) in
+      let whole : length (compact_text (array (items_of (branches_data p f kids)))) ≡ suc (length (items_text false (items_of (branches_data p f kids)))) =
+      refl in
       omega (arith, parts, whole, named_short (flow_at p f).flow.steps s steps, kids_short p f users steps kids small false)
 
-  kids_short : (p : PolicyShape) (f : ℕ) → AreNames p.roster.users → AreNames (flow_at p f).flow.steps → (kids : Kids) → HaveSmallRules kids → (later : Bool) → length (items_text later (items_of (branches_data p f kids))) ≤ 108 * nodes_of_kids kids + 1
+  kids_short : (p : PolicyShape) (f : ℕ) → AreNames p.roster.users → AreNames (flow_at p f).flow.steps → (kids : Kids) → HaveSmallRules kids →
+      (later : Bool) → length (items_text later (items_of (branches_data p f kids))) ≤ 108 * nodes_of_kids kids + 1
   kids_short p f users steps no_kids small later = omega arith
   kids_short p f users steps (tree_kid u t kids) small later =
-      omega (arith, branch_long later (compact_text (user_data p u)) (compact_text (tree_data p f t)) (items_text true (items_of (branches_data p f kids))), named_short p.roster.users u users, tree_short p f users steps t small.0, kids_short p f users steps kids small.1 true)
+      omega (
+        arith,
+        branch_long later (compact_text (user_data p u)) (compact_text (tree_data p f t)) (items_text true (items_of (branches_data p f kids))),
+        named_short p.roster.users u users,
+        tree_short p f users steps t small.0,
+        kids_short p f users steps kids small.1 true,
+      )
   kids_short p f users steps (twin_kid u v kids) small later =
-      omega (arith, branch_long later (compact_text (user_data p u)) (compact_text (single (codes "twin") (user_data p v))) (items_text true (items_of (branches_data p f kids))), named_short p.roster.users u users, twin_short p v users, kids_short p f users steps kids small true)
+      omega (
+        arith,
+        branch_long later (compact_text (user_data p u)) (compact_text (single (codes "twin") (user_data p v))) (items_text true
+            (items_of (branches_data p f kids))),
+        named_short p.roster.users u users,
+        twin_short p v users,
+        kids_short p f users steps kids small true,
+      )
 
 pub tree_texts_are_short : TreeTextsAreShort
 tree_texts_are_short p f t users steps small = tree_short p f users steps t small

@@ -1,6 +1,7 @@
 -- What is read of the requests about a step as they are mostly written: their tokens are those of which they are a print,
 -- with blanks, and the value of those is known.
-use Rattle.std.proofs.Common.{◌≡◌, ℕ, ◌<◌, ◌≤◌, ◌^◌, List, [], ◌∷◌, ◌++◌, refl, sym, ap, subst, ◌∙◌, arith, rules, append_assoc, le-leb, lt-ltb, true, Ok, inl, inr, Option, Some, option_and_then, option_map, decimal, map, false}
+use Rattle.std.proofs.Common.{◌≡◌, ℕ, ◌<◌, ◌≤◌, ◌^◌, List, [], ◌∷◌, ◌++◌, refl, sym, ap, subst, ◌∙◌, arith, rules, append_assoc, le-leb, lt-ltb, true, Ok, inl}
+use Rattle.std.proofs.Common.{inr, Option, Some, option_and_then, option_map, decimal, map, false}
 use Rattle.std.specs.Prelude.{zero, suc, nat_lt, codes, slice_index, IsUtf8}
 use Rattle.std.specs.List.{list_all}
 use Rattle.std.proofs.lemmas.Grind.{common_steps}
@@ -56,7 +57,10 @@ bare ps = map (λ p. p.1) ps
 
 abbrev spaced_to : Style → Act → ℕ → List ℕ → List ℕ → Spaced → Spaced
 spaced_to st a n s u ps =
-    ([], begin_object) ∷ ([], key (codes "do")) ∷ (gap st, string (word a)) ∷ (gap st, key case) ∷ (gap st, number (decimal n)) ∷ (gap st, key step) ∷ (gap st, string s) ∷ (gap st, key user) ∷ (gap st, string u) ∷ ps
+    ([], begin_object) ∷ ([], key (codes "do")) ∷ (gap st, string (word a)) ∷ (gap st, key case) ∷ (gap st, number (decimal n)) ∷ (
+      gap st,
+      key step,
+    ) ∷ (gap st, string s) ∷ (gap st, key user) ∷ (gap st, string u) ∷ ps
 
 abbrev end_spaced : Spaced
 end_spaced = ([], end_object) ∷ []
@@ -101,12 +105,18 @@ names_closed st s u rest es eu = closed s _ es ∙ ap (λ x. s ++ 34 ∷ (to_use
 printed : (st : Style) (a : Act) (n : ℕ) (s u : List ℕ) (ps : Spaced) → escape s ≡ s → escape u ≡ u
     → print_spaced false (spaced_to st a n s u ps) ≡ front st a ++ (decimal n ++ (to_step st ++ (s ++ 34 ∷ (to_user st ++ (u ++ 34 ∷ print_spaced true ps)))))
 unfolding print_spaced escape_byte
-printed style.Tight act.Claim n s u ps es eu = ap (λ x. front style.Tight act.Claim ++ (decimal n ++ (to_step style.Tight ++ x))) (names_closed style.Tight s u _ es eu)
-printed style.Tight act.Finish n s u ps es eu = ap (λ x. front style.Tight act.Finish ++ (decimal n ++ (to_step style.Tight ++ x))) (names_closed style.Tight s u _ es eu)
-printed style.Tight act.GiveBack n s u ps es eu = ap (λ x. front style.Tight act.GiveBack ++ (decimal n ++ (to_step style.Tight ++ x))) (names_closed style.Tight s u _ es eu)
-printed style.Spaced act.Claim n s u ps es eu = ap (λ x. front style.Spaced act.Claim ++ (decimal n ++ (to_step style.Spaced ++ x))) (names_closed style.Spaced s u _ es eu)
-printed style.Spaced act.Finish n s u ps es eu = ap (λ x. front style.Spaced act.Finish ++ (decimal n ++ (to_step style.Spaced ++ x))) (names_closed style.Spaced s u _ es eu)
-printed style.Spaced act.GiveBack n s u ps es eu = ap (λ x. front style.Spaced act.GiveBack ++ (decimal n ++ (to_step style.Spaced ++ x))) (names_closed style.Spaced s u _ es eu)
+printed style.Tight act.Claim n s u ps es eu =
+    ap (λ x. front style.Tight act.Claim ++ (decimal n ++ (to_step style.Tight ++ x))) (names_closed style.Tight s u _ es eu)
+printed style.Tight act.Finish n s u ps es eu =
+    ap (λ x. front style.Tight act.Finish ++ (decimal n ++ (to_step style.Tight ++ x))) (names_closed style.Tight s u _ es eu)
+printed style.Tight act.GiveBack n s u ps es eu =
+    ap (λ x. front style.Tight act.GiveBack ++ (decimal n ++ (to_step style.Tight ++ x))) (names_closed style.Tight s u _ es eu)
+printed style.Spaced act.Claim n s u ps es eu =
+    ap (λ x. front style.Spaced act.Claim ++ (decimal n ++ (to_step style.Spaced ++ x))) (names_closed style.Spaced s u _ es eu)
+printed style.Spaced act.Finish n s u ps es eu =
+    ap (λ x. front style.Spaced act.Finish ++ (decimal n ++ (to_step style.Spaced ++ x))) (names_closed style.Spaced s u _ es eu)
+printed style.Spaced act.GiveBack n s u ps es eu =
+    ap (λ x. front style.Spaced act.GiveBack ++ (decimal n ++ (to_step style.Spaced ++ x))) (names_closed style.Spaced s u _ es eu)
 
 printed_lane : (st : Style) (l : ℕ) → print_spaced true (lane_spaced st l) ≡ lane_text st l
 unfolding print_spaced escape_byte
@@ -128,7 +138,8 @@ without_lane w n s u =
 
 abbrev with_lane : List ℕ → ℕ → List ℕ → List ℕ → ℕ → Data
 with_lane w n s u l =
-    object (member case (v.number (unsigned n)) (member (codes "do") (v.string w) (member lane (v.number (unsigned l)) (member step (v.string s) (member user (v.string u) no_members)))))
+    object (member case (v.number (unsigned n))
+    (member (codes "do") (v.string w) (member lane (v.number (unsigned l)) (member step (v.string s) (member user (v.string u) no_members)))))
 
 abbrev read_tokens : List Token → Option Data
 read_tokens ts = option_and_then of_json (option_and_then (λ p. json.if_last p.0 p.1) (json.value max_depth ts))
@@ -138,13 +149,17 @@ unfolding json.value json.members
 value_without a n s u h =
     ap (λ o. option_map object (option_and_then (λ x. Some (put_in (word a) s u x)) (option_map v.number o))) (number_of-decimal n h)
 
-value_with : (a : Act) (n : ℕ) (s u : List ℕ) (l : ℕ) → n < 2 ^ 64 → l < 2 ^ 64 → read_tokens (tokens_to a n s u (lane_tokens l)) ≡ Some (with_lane (word a) n s u l)
+value_with : (a : Act) (n : ℕ) (s u : List ℕ) (l : ℕ) → n < 2 ^ 64 → l < 2 ^ 64 →
+    read_tokens (tokens_to a n s u (lane_tokens l)) ≡ Some (with_lane (word a) n s u l)
 unfolding json.value json.members
 value_with a n s u l h k =
-    ap (λ o. option_map object (option_and_then (λ x. option_and_then (λ y. Some (put lane y (put_in (word a) s u x))) (option_map v.number (number_of (decimal l)))) (option_map v.number o))) (number_of-decimal n h)
-    ∙ ap (λ o. option_map object (option_and_then (λ y. Some (put lane y (put_in (word a) s u (v.number (unsigned n))))) (option_map v.number o))) (number_of-decimal l k)
+    ap (λ o. option_map object (option_and_then (λ x. option_and_then (λ y. Some (put lane y (put_in (word a) s u x)))
+    (option_map v.number (number_of (decimal l)))) (option_map v.number o))) (number_of-decimal n h)
+    ∙ ap (λ o. option_map object (option_and_then (λ y. Some (put lane y (put_in (word a) s u (v.number (unsigned n))))) (option_map v.number o)))
+    (number_of-decimal l k)
 
-value_read : (line : List ℕ) (ps : Spaced) (d : Data) → IsUtf8 line → line ≡ print_spaced false ps → AreGaps ps → ArePrintable (bare ps) → read_tokens (bare ps) ≡ Some d → value_of line ≡ Some d
+value_read : (line : List ℕ) (ps : Spaced) (d : Data) → IsUtf8 line → line ≡ print_spaced false ps → AreGaps ps → ArePrintable (bare ps) →
+    read_tokens (bare ps) ≡ Some d → value_of line ≡ Some d
 value_read line ps d utf8 is gaps h e = value_of_utf8 line line d refl utf8 (ap read is ∙ ap read_tokens (tokens-print_spaced ps gaps h) ∙ e)
 
 -- ---- what the value asks
@@ -167,7 +182,8 @@ requested_of act.GiveBack lanes n s u l h hs hu below = rw (lt-ltb l lanes below
 
 -- the text of a line that was read in parts
 pub plain_parts : (st : Style) (a : Act) (n : ℕ) (s u line r1 r2 r3 s' r4 after_s r5 u' rest after_u : List ℕ)
-    → line ≡ front st a ++ r1 → r1 ≡ decimal n ++ r2 → r2 ≡ to_step st ++ r3 → r3 ≡ s' ++ 34 ∷ after_s → s ≡ s' → r4 ≡ after_s → r4 ≡ to_user st ++ r5 → r5 ≡ u' ++ 34 ∷ after_u → u ≡ u' → rest ≡ after_u
+    → line ≡ front st a ++ r1 → r1 ≡ decimal n ++ r2 → r2 ≡ to_step st ++ r3 → r3 ≡ s' ++ 34 ∷ after_s → s ≡ s' → r4 ≡ after_s → r4 ≡ to_user st ++ r5 →
+    r5 ≡ u' ++ 34 ∷ after_u → u ≡ u' → rest ≡ after_u
     → line ≡ plain_text st a n s u rest
 plain_parts st a n s u line r1 r2 r3 s' r4 after_s r5 u' rest after_u e1 e2 e3 e4 e5 e6 e7 e8 e9 e10 = cc
 
@@ -219,7 +235,8 @@ end_utf8 = text_utf8 (125 ∷ []) refl
 lane_utf8 : (st : Style) (l : ℕ) → l < 65536 → IsUtf8 (lane_text st l)
 lane_utf8 st l h = IsUtf8-append (to_lane st) _ (to_lane_utf8 st) (IsUtf8-append (decimal l) _ (decimal_utf8 l h) end_utf8)
 
-module _ (lanes : ℕ) (st : Style) (a : Act) (n : ℕ) (s u line rest : List ℕ) (few : lanes < 256) (small : n < 65536) (hs : is_name s ≡ true) (hu : is_name u ≡ true) (us : IsUtf8 s) (uu : IsUtf8 u) (is : line ≡ plain_text st a n s u rest) where
+module _ (lanes : ℕ) (st : Style) (a : Act) (n : ℕ) (s u line rest : List ℕ) (few : lanes < 256) (small : n < 65536) (hs : is_name s ≡ true)
+    (hu : is_name u ≡ true) (us : IsUtf8 s) (uu : IsUtf8 u) (is : line ≡ plain_text st a n s u rest) where
   print_is : (ps : Spaced) → rest ≡ print_spaced true ps → line ≡ print_spaced false (spaced_to st a n s u ps)
   print_is ps e = is ∙ ap (plain_text st a n s u) e ∙ sym (printed st a n s u ps (name_stays s hs) (name_stays u hu))
 
@@ -230,7 +247,8 @@ module _ (lanes : ℕ) (st : Style) (a : Act) (n : ℕ) (s u line rest : List �
   unfolding asked_of
   first_lane e =
       let h : n < 2 ^ 64 = omega arith in
-      rw (value_read line _ _ (line_utf8 (subst IsUtf8 (sym e) end_utf8)) (print_is end_spaced (e ∙ sym printed_end)) (gaps_to st a n s u end_spaced gaps_end) (printable a n s u h) (value_without a n s u h))
+      rw (value_read line _ _ (line_utf8 (subst IsUtf8 (sym e) end_utf8)) (print_is end_spaced (e ∙ sym printed_end))
+      (gaps_to st a n s u end_spaced gaps_end) (printable a n s u h) (value_without a n s u h))
       (ap asked (requested a lanes n s u (omega arith) hs hu))
 
   named_lane : (l : ℕ) → rest ≡ lane_text st l → l < lanes → asked_of lanes line ≡ record { lane = l; ask = ask.Request (request_of a n s u) }
@@ -238,7 +256,8 @@ module _ (lanes : ℕ) (st : Style) (a : Act) (n : ℕ) (s u line rest : List �
   named_lane l e below =
       let h : n < 2 ^ 64 = omega arith in
       let k : l < 2 ^ 64 = omega arith in
-      rw (value_read line _ _ (line_utf8 (subst IsUtf8 (sym e) (lane_utf8 st l (omega arith)))) (print_is (lane_spaced st l) (e ∙ sym (printed_lane st l))) (gaps_to st a n s u (lane_spaced st l) (gaps_lane st l)) (printable_lane a n s u l h k) (value_with a n s u l h k))
+      rw (value_read line _ _ (line_utf8 (subst IsUtf8 (sym e) (lane_utf8 st l (omega arith)))) (print_is (lane_spaced st l) (e ∙ sym (printed_lane st l)))
+      (gaps_to st a n s u (lane_spaced st l) (gaps_lane st l)) (printable_lane a n s u l h k) (value_with a n s u l h k))
       (ap asked (requested_of a lanes n s u l (omega arith) hs hu below))
 
   pub asked_plainly : (l : ℕ) → EndsWithLane st lanes l rest → record { lane = l; ask = ask.Request (request_of a n s u) } ≡ asked_of lanes line

@@ -1,5 +1,6 @@
 -- Text that is added in parts.
-use Rattle.std.proofs.Common.{◌≡◌, ℕ, zero, suc, ◌+◌, ◌<◌, ◌≤◌, List, [], ◌∷◌, ◌++◌, length, drop, get_or, map, Bool, true, refl, sym, ap, ◌∙◌, arith, append_assoc}
+use Rattle.std.proofs.Common.{◌≡◌, ℕ, zero, suc, ◌+◌, ◌<◌, ◌≤◌, List, [], ◌∷◌, ◌++◌, length, drop, get_or, map, Bool, true, refl, sym, ap, ◌∙◌, arith}
+use Rattle.std.proofs.Common.{append_assoc}
 use Rattle.std.specs.List.{list_all}
 use Rattle.std.proofs.lemmas.List.{drop_more}
 use Rattle.std.proofs.lemmas.Grind.{common_steps}
@@ -18,15 +19,19 @@ added_3 x0 x1 x2 x3 a b c e1 e2 e3 = added_2 x0 x1 x3 a (b ++ c) e1 (added_2 x1 
 pub added_4 : (x0 x1 x2 x3 x4 a b c d : List ℕ) → x1 ≡ x0 ++ a → x2 ≡ x1 ++ b → x3 ≡ x2 ++ c → x4 ≡ x3 ++ d → x4 ≡ x0 ++ (a ++ (b ++ (c ++ d)))
 added_4 x0 x1 x2 x3 x4 a b c d e1 e2 e3 e4 = added_2 x0 x1 x4 a (b ++ (c ++ d)) e1 (added_3 x1 x2 x3 x4 b c d e2 e3 e4)
 
-pub added_5 : (x0 x1 x2 x3 x4 x5 a b c d e : List ℕ) → x1 ≡ x0 ++ a → x2 ≡ x1 ++ b → x3 ≡ x2 ++ c → x4 ≡ x3 ++ d → x5 ≡ x4 ++ e → x5 ≡ x0 ++ (a ++ (b ++ (c ++ (d ++ e))))
+pub added_5 : (x0 x1 x2 x3 x4 x5 a b c d e : List ℕ) → x1 ≡ x0 ++ a → x2 ≡ x1 ++ b → x3 ≡ x2 ++ c → x4 ≡ x3 ++ d → x5 ≡ x4 ++ e →
+    x5 ≡ x0 ++ (a ++ (b ++ (c ++ (d ++ e))))
 added_5 x0 x1 x2 x3 x4 x5 a b c d e e1 e2 e3 e4 e5 = added_3 x0 x1 x2 x5 a b (c ++ (d ++ e)) e1 e2 (added_3 x2 x3 x4 x5 c d e e3 e4 e5)
 
-pub added_6 : (x0 x1 x2 x3 x4 x5 x6 a b c d e f : List ℕ) → x1 ≡ x0 ++ a → x2 ≡ x1 ++ b → x3 ≡ x2 ++ c → x4 ≡ x3 ++ d → x5 ≡ x4 ++ e → x6 ≡ x5 ++ f → x6 ≡ x0 ++ (a ++ (b ++ (c ++ (d ++ (e ++ f)))))
+pub added_6 : (x0 x1 x2 x3 x4 x5 x6 a b c d e f : List ℕ) → x1 ≡ x0 ++ a → x2 ≡ x1 ++ b → x3 ≡ x2 ++ c → x4 ≡ x3 ++ d → x5 ≡ x4 ++ e → x6 ≡ x5 ++ f →
+    x6 ≡ x0 ++ (a ++ (b ++ (c ++ (d ++ (e ++ f)))))
 added_6 x0 x1 x2 x3 x4 x5 x6 a b c d e f e1 e2 e3 e4 e5 e6 = added_3 x0 x1 x2 x6 a b (c ++ (d ++ (e ++ f))) e1 e2 (added_4 x2 x3 x4 x5 x6 c d e f e3 e4 e5 e6)
 
-pub added_7 : (x0 x1 x2 x3 x4 x5 x6 x7 a b c d e f g : List ℕ) → x1 ≡ x0 ++ a → x2 ≡ x1 ++ b → x3 ≡ x2 ++ c → x4 ≡ x3 ++ d → x5 ≡ x4 ++ e → x6 ≡ x5 ++ f → x7 ≡ x6 ++ g
+pub added_7 : (x0 x1 x2 x3 x4 x5 x6 x7 a b c d e f g : List ℕ) → x1 ≡ x0 ++ a → x2 ≡ x1 ++ b → x3 ≡ x2 ++ c → x4 ≡ x3 ++ d → x5 ≡ x4 ++ e → x6 ≡ x5 ++ f →
+    x7 ≡ x6 ++ g
     → x7 ≡ x0 ++ (a ++ (b ++ (c ++ (d ++ (e ++ (f ++ g))))))
-added_7 x0 x1 x2 x3 x4 x5 x6 x7 a b c d e f g e1 e2 e3 e4 e5 e6 e7 = added_3 x0 x1 x2 x7 a b (c ++ (d ++ (e ++ (f ++ g)))) e1 e2 (added_5 x2 x3 x4 x5 x6 x7 c d e f g e3 e4 e5 e6 e7)
+added_7 x0 x1 x2 x3 x4 x5 x6 x7 a b c d e f g e1 e2 e3 e4 e5 e6 e7 =
+    added_3 x0 x1 x2 x7 a b (c ++ (d ++ (e ++ (f ++ g)))) e1 e2 (added_5 x2 x3 x4 x5 x6 x7 c d e f g e3 e4 e5 e6 e7)
 
 -- ---- objects within objects, whose braces are added at once
 
@@ -40,7 +45,8 @@ pub number_added_in_two : (x0 x1 x2 x3 x4 a n b d : List ℕ) → x1 ≡ x0 ++ (
     → x4 ≡ x0 ++ (a ++ ((n ++ (b ++ (d ++ 125 ∷ []))) ++ 125 ∷ []))
 number_added_in_two x0 x1 x2 x3 x4 a n b d e1 e2 e3 e4 = rw (e4, e3, e2, e1) (simp append_assoc)
 
-pub numbers_added_in_two : (x0 x1 x2 x3 a n b m : List ℕ) → x1 ≡ x0 ++ (a ++ n) → x2 ≡ x1 ++ (b ++ m) → x3 ≡ x2 ++ 125 ∷ 125 ∷ [] → x3 ≡ x0 ++ (a ++ ((n ++ (b ++ (m ++ 125 ∷ []))) ++ 125 ∷ []))
+pub numbers_added_in_two : (x0 x1 x2 x3 a n b m : List ℕ) → x1 ≡ x0 ++ (a ++ n) → x2 ≡ x1 ++ (b ++ m) → x3 ≡ x2 ++ 125 ∷ 125 ∷ [] →
+    x3 ≡ x0 ++ (a ++ ((n ++ (b ++ (m ++ 125 ∷ []))) ++ 125 ∷ []))
 numbers_added_in_two x0 x1 x2 x3 a n b m e1 e2 e3 = rw (e3, e2, e1) (simp append_assoc)
 
 -- a number and a text in brackets
@@ -49,7 +55,8 @@ pub number_and_text_added : (x0 x1 x2 x3 x4 n d : List ℕ) → x1 ≡ x0 ++ 91 
 number_and_text_added x0 x1 x2 x3 x4 n d e1 e2 e3 e4 = rw (e4, e3, e2, e1) (simp append_assoc)
 
 -- one more item behind a text, and the others behind it
-pub one_more : (old new : List ℕ) (later : Bool) (d : Data) (rest : Items) → new ≡ old ++ (comma_if later ++ compact_text d) → new ++ items_text true rest ≡ old ++ items_text later (item d rest)
+pub one_more : (old new : List ℕ) (later : Bool) (d : Data) (rest : Items) → new ≡ old ++ (comma_if later ++ compact_text d) →
+    new ++ items_text true rest ≡ old ++ items_text later (item d rest)
 one_more old new later d rest e =
     ap (λ x. x ++ items_text true rest) e ∙ append_assoc old (comma_if later ++ compact_text d) (items_text true rest)
     ∙ ap (λ x. old ++ x) (append_assoc (comma_if later) (compact_text d) (items_text true rest))

@@ -10,12 +10,14 @@ use Rattle.wire_json.specs.Trees.{tree_data}
 -- a workflow's name, and a plan for it
 abbrev pub plan_found : PolicyShape → ℕ → List ℕ → Data
 plan_found p f plan =
-    object (member (codes "flow") (named p.flow_names f) (member (codes "plan") (plan_data p.roster.users plan) no_members))
+    object (member (codes "flow") (named p.flow_names f)
+    (member (codes "plan") (plan_data p.roster.users plan) no_members))
 
 -- a workflow's name, and a tree over its steps
 abbrev pub tree_found : PolicyShape → ℕ → Shape → Data
 tree_found p f tree =
-    object (member (codes "flow") (named p.flow_names f) (member (codes "tree") (tree_data p f tree) no_members))
+    object (member (codes "flow") (named p.flow_names f)
+    (member (codes "tree") (tree_data p f tree) no_members))
 
 -- their lines: JSON without blanks, and LF
 unfoldable pub plan_line : PolicyShape → ℕ → List ℕ → List ℕ

@@ -1,4 +1,5 @@
--- Inside: a list of names, in the pieces in which it is written: what closes a name comes with what follows it.
+-- Inside: a list of names, in the pieces in which it is written: what closes a name comes with what
+-- follows it.
 use Rattle.std.specs.Prelude.{ℕ, Bool, true, false, List, [], ◌∷◌}
 use Rattle.serde_json.specs.Data.{Items}
 use Rattle.serde_json.specs.Written.{items_text}

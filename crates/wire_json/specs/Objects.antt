@@ -1,4 +1,5 @@
--- Inside: the object that a request is read from, as a value of JSON or as the parts that it was read in.
+-- Inside: the object that a request is read from, as a value of JSON or as the parts that it was
+-- read in.
 use Rattle.std.specs.Prelude.{List, fold, unwrap_or, decimal}
 use Rattle.json.specs.Json.{Json}
 use Rattle.json.specs.Json as json

@@ -1,5 +1,7 @@
 -- What a line asks, and which lane serves it.
-use Rattle.std.specs.Prelude.{ℕ, nat_le, nat_lt, nat_eq, Bool, true, ◌&&◌, List, [], ◌∷◌, ◌++◌, codes, Option, Some, None, is_some, unwrap_or, option_map, option_and_then, Result, Ok, Err, if◌then◌else◌}
+use Rattle.std.specs.Prelude.{ℕ, nat_le, nat_lt, nat_eq, Bool, true, ◌&&◌, List, [], ◌∷◌, ◌++◌}
+use Rattle.std.specs.Prelude.{codes, Option, Some, None, is_some, unwrap_or, option_map}
+use Rattle.std.specs.Prelude.{option_and_then, Result, Ok, Err, if◌then◌else◌}
 use Rattle.std.specs.List.{list_any, find}
 use Rattle.std.specs.Option.{option_or}
 use Rattle.std.specs.Cmp.Lexicographic.{pointwise}
@@ -9,7 +11,9 @@ use Rattle.first_fault.specs.Reading.{◌>>=◌, or_fault, check, each}
 use Rattle.wf_names.specs.declared.limits.TheConstants.{CASE_NUMBER_LIMIT}
 use Rattle.wf_names.specs.Names.{is_name}
 use Rattle.wf_talk.specs.declared.request.Request.{Request}
-use Rattle.wf_talk.specs.declared.request.Request.TheVariants.{OpenCase, Claim, Finish, GiveBack, Release, Withdraw, Change, Show, Worklist, WhatIf}
+use Rattle.wf_talk.specs.declared.request.Request.TheVariants.{OpenCase, Claim, Finish, GiveBack}
+use Rattle.wf_talk.specs.declared.request.Request.TheVariants.{Release, Withdraw, Change, Show}
+use Rattle.wf_talk.specs.declared.request.Request.TheVariants.{Worklist, WhatIf}
 use Rattle.wf_talk.specs.declared.edit.Edit.{Edit}
 use Rattle.wf_talk.specs.declared.edit.Edit.TheVariants as edit
 use Rattle.wf_talk.specs.declared.request.Bad.{Bad}
@@ -32,14 +36,16 @@ name_at key d = option_and_then (λ text. if is_name text then Some text else No
 
 -- the number of a case, at the key case
 abbrev pub read_case : Data → Option ℕ
-read_case d = option_and_then (λ n. if nat_le n CASE_NUMBER_LIMIT then Some n else None) (number_at (codes "case") d)
+read_case d = option_and_then (λ n. if nat_le n CASE_NUMBER_LIMIT then Some n else None)
+    (number_at (codes "case") d)
 
 -- what a request needs at a key is there: the number of a case, or a name at any other key
 abbrev pub has_form : Data → List ℕ → Bool
-has_form d key = if pointwise nat_eq key (codes "case") then is_some (read_case d) else is_some (name_at key d)
+has_form d key = if pointwise nat_eq key (codes "case") then is_some (read_case d) else is_some
+    (name_at key d)
 
--- a request or an edit: its word, its further keys in the order in which they are checked, and what it is where each of
--- them has its form
+-- a request or an edit: its word, its further keys in the order in which they are checked, and what
+-- it is where each of them has its form
 pub record Row (A : Type 0) : Type 0 where
   pub word : List ℕ
   pub keys : List (List ℕ)
@@ -92,10 +98,14 @@ of_permit e d = e (the_name flow d) (the_name role d) (the_name step d)
 abbrev pub rows : List (Row Request)
 rows =
     row (codes "open") (flow ∷ []) (λ d. OpenCase (the_name flow d))
-    ∷ row (codes "claim") (case ∷ step ∷ user ∷ []) (λ d. Claim (the_case d) (the_name step d) (the_name user d))
-    ∷ row (codes "finish") (case ∷ step ∷ user ∷ []) (λ d. Finish (the_case d) (the_name step d) (the_name user d))
-    ∷ row (codes "give_back") (case ∷ step ∷ user ∷ []) (λ d. GiveBack (the_case d) (the_name step d) (the_name user d))
-    ∷ row (codes "release") (by ∷ case ∷ step ∷ []) (λ d. Release (the_name by d) (the_case d) (the_name step d))
+    ∷ row (codes "claim") (case ∷ step ∷ user ∷ [])
+    (λ d. Claim (the_case d) (the_name step d) (the_name user d))
+    ∷ row (codes "finish") (case ∷ step ∷ user ∷ [])
+    (λ d. Finish (the_case d) (the_name step d) (the_name user d))
+    ∷ row (codes "give_back") (case ∷ step ∷ user ∷ [])
+    (λ d. GiveBack (the_case d) (the_name step d) (the_name user d))
+    ∷ row (codes "release") (by ∷ case ∷ step ∷ [])
+    (λ d. Release (the_name by d) (the_case d) (the_name step d))
     ∷ row (codes "withdraw") (by ∷ case ∷ []) (λ d. Withdraw (the_name by d) (the_case d))
     ∷ row (codes "view") (case ∷ []) (λ d. Show (the_case d))
     ∷ row (codes "worklist") (user ∷ []) (λ d. Worklist (the_name user d))
@@ -107,7 +117,8 @@ edits =
     row (codes "add_user") (user ∷ []) (λ d. edit.AddUser (the_name user d))
     ∷ row (codes "leave") (user ∷ []) (λ d. edit.Leave (the_name user d))
     ∷ row (codes "enrol") (role ∷ user ∷ []) (λ d. edit.Enrol (the_name role d) (the_name user d))
-    ∷ row (codes "dismiss") (role ∷ user ∷ []) (λ d. edit.Dismiss (the_name role d) (the_name user d))
+    ∷ row (codes "dismiss") (role ∷ user ∷ [])
+    (λ d. edit.Dismiss (the_name role d) (the_name user d))
     ∷ row (codes "relate") (first ∷ relation ∷ second ∷ []) (of_pair edit.Relate)
     ∷ row (codes "unrelate") (first ∷ relation ∷ second ∷ []) (of_pair edit.Unrelate)
     ∷ row (codes "permit") (flow ∷ role ∷ step ∷ []) (of_permit edit.Permit)
@@ -122,7 +133,8 @@ row_of rs word = find (λ r. pointwise nat_eq word r.word) rs
 -- the lane at the key lane, which is below their number; the first one where there is no such key
 abbrev pub lane_at : ℕ → Data → Option ℕ
 lane_at lanes d =
-    if is_some (get (codes "lane") d) then option_and_then (λ n. if nat_lt n lanes then Some n else None) (number_at (codes "lane") d)
+    if is_some (get (codes "lane") d) then option_and_then
+    (λ n. if nat_lt n lanes then Some n else None) (number_at (codes "lane") d)
     else Some 0
 
 -- each key of an object is one of these
@@ -131,7 +143,8 @@ has_only keys no_members = true
 has_only keys (member key d ms) = list_any (pointwise nat_eq key) keys && has_only keys ms
 
 -- a request: the further keys in their order, and then no key but these and some others
-unfoldable pub request_by : List (List ℕ) → List (List ℕ) → (Data → Request) → Data → Members → Result Request Bad
+unfoldable pub request_by : List (List ℕ) → List (List ℕ) → (Data → Request) → Data → Members →
+    Result Request Bad
 request_by others keys is d ms = do
   _ ← each (λ _ key. check (has_form d key) (Key key)) tt keys
   _ ← check (has_only (others ++ keys) ms) Extra
@@ -147,11 +160,13 @@ asked_by r = request_by (codes "do" ∷ codes "lane" ∷ []) r.keys r.is
 
 -- an edit by its row, which is to be made
 abbrev pub change_by : Row Edit → Reading
-change_by r = request_by (codes "do" ∷ codes "lane" ∷ []) (by ∷ r.keys) (λ d. Change (the_name by d) (r.is d))
+change_by r = request_by (codes "do" ∷ codes "lane" ∷ []) (by ∷ r.keys)
+    (λ d. Change (the_name by d) (r.is d))
 
 -- an edit by its row, of which is asked what it would strand
 abbrev pub what_if_by : Row Edit → Reading
-what_if_by r = request_by (codes "do" ∷ codes "lane" ∷ codes "edit" ∷ []) (by ∷ r.keys) (λ d. WhatIf (the_name by d) (r.is d))
+what_if_by r = request_by (codes "do" ∷ codes "lane" ∷ codes "edit" ∷ []) (by ∷ r.keys)
+    (λ d. WhatIf (the_name by d) (r.is d))
 
 -- what an edit would strand: the word of an edit at the key edit, and then the edit by its row
 unfoldable pub what_if_in : Reading
@@ -163,7 +178,8 @@ what_if_in d ms = do
 abbrev pub reading_of : List ℕ → Option Reading
 reading_of word =
     if pointwise nat_eq word (codes "what_if") then Some what_if_in
-    else option_or (option_map asked_by (row_of rows word)) (option_map change_by (row_of edits word))
+    else option_or (option_map asked_by (row_of rows word))
+    (option_map change_by (row_of edits word))
 
 -- a value that is a request of a lane; the faults in the order in which they are checked
 unfoldable pub request_in : ℕ → Data → Result Asked Bad

@@ -2,7 +2,8 @@
 use Rattle.std.specs.Prelude.{ℕ, List, [], ◌∷◌, codes}
 use Rattle.serde_json.specs.Data.{Data, number, unsigned, array, object, no_members, member}
 use Rattle.serde_json.specs.View.{items_of}
-use Rattle.refutation_tree.specs.Shapes.{Shape, Kids, holder, rule, node, no_kids, tree_kid, twin_kid}
+use Rattle.refutation_tree.specs.Shapes.{Shape, Kids, holder, rule, node, no_kids, tree_kid}
+use Rattle.refutation_tree.specs.Shapes.{twin_kid}
 use Rattle.refutation_tree.specs.Views.{shape_of}
 use Rattle.refutation_tree.specs.declared.tree.Branch.{Branch}
 use Rattle.refutation_tree.specs.declared.tree.Kid.{Kid}
@@ -28,7 +29,8 @@ abbrev mutual
   branches_data p f (tree_kid u t kids) =
       array (items_of (user_data p u ∷ tree_data p f t ∷ [])) ∷ branches_data p f kids
   branches_data p f (twin_kid u v kids) =
-      array (items_of (user_data p u ∷ single (codes "twin") (user_data p v) ∷ [])) ∷ branches_data p f kids
+      array (items_of (user_data p u ∷ single (codes "twin") (user_data p v) ∷ [])) ∷
+      branches_data p f kids
 
 -- inside: the tree of a branch, or the leaf that names a twin
 abbrev pub kid_data : PolicyShape → ℕ → Kid → Data

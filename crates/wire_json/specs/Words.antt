@@ -14,7 +14,8 @@ use Rattle.wire_json.specs.declared.word.EditWord.{EditWord}
 use Rattle.wire_json.specs.declared.word.EditWord.TheVariants as edit
 use Rattle.wire_json.specs.declared.plain.Act.{Act}
 use Rattle.wire_json.specs.Plain.{request_of}
-use Rattle.wire_json.specs.Requests.{Row, Reading, rows, edits, row, has_form, the_case, the_name, case, step, user, request_by, asked_by, change_by, what_if_in}
+use Rattle.wire_json.specs.Requests.{Row, Reading, rows, edits, row, has_form, the_case, the_name}
+use Rattle.wire_json.specs.Requests.{case, step, user, request_by, asked_by, change_by, what_if_in}
 
 abbrev row_at : ℕ → Row Request
 row_at n = slice_index_or rows n (row [] [] (λ d. Show 0))
@@ -49,7 +50,8 @@ reading_of_word word.WhatIf = what_if_in
 -- what a user asks of a step
 abbrev pub act_by : Act → Reading
 act_by a =
-    request_by (codes "do" ∷ codes "lane" ∷ []) (case ∷ step ∷ user ∷ []) (λ d. request_of a (the_case d) (the_name step d) (the_name user d))
+    request_by (codes "do" ∷ codes "lane" ∷ []) (case ∷ step ∷ user ∷ [])
+    (λ d. request_of a (the_case d) (the_name step d) (the_name user d))
 
 -- an edit by its row
 abbrev pub edit_by : Row Edit → Data → Result Edit Bad

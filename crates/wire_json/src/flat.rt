@@ -1,5 +1,6 @@
 //! Reading an object of a few texts and small numbers without making a value of it.
-ghost use Rattle.std.specs.Prelude.{◌≡◌, ◌<◌, [], ◌∷◌, ◌++◌, length, true, Some, IfOk, IfSome, OnOk, decimal, option_map};
+ghost use Rattle.std.specs.Prelude.{◌≡◌, ◌<◌, [], ◌∷◌, ◌++◌, length, true, Some, IfOk, IfSome};
+ghost use Rattle.std.specs.Prelude.{OnOk, decimal, option_map};
 ghost use Rattle.json.specs.Token.{begin_object};
 ghost use Rattle.json.specs.Json.{value, members};
 ghost use Rattle.serde_json.specs.Data.{object, no_members};

@@ -1,5 +1,6 @@
 //! Reading a request about a step without making a value of its line.
-ghost use Rattle.std.specs.Prelude.{◌≡◌, ◌<◌, ◌+◌, ◌∷◌, [], ◌++◌, length, take, drop, decimal, IfSome, IsTrue, true};
+ghost use Rattle.std.specs.Prelude.{◌≡◌, ◌<◌, ◌+◌, ◌∷◌, [], ◌++◌, length, take, drop, decimal};
+ghost use Rattle.std.specs.Prelude.{IfSome, IsTrue, true};
 ghost use Rattle.std.specs.Str.{IsUtf8};
 ghost use Rattle.wf_names.specs.Names.{is_name};
 ghost use Rattle.wire_json.specs.declared.plain.Style.TheVariants as Style;
@@ -103,7 +104,8 @@ impl Act {
     }
 }
 
-// What is asked, at the front of a text without blanks, and what follows up to the number of the case.
+// What is asked, at the front of a text without blanks, and what follows up to the number of the
+// case.
 fn take_tight(text: &[u8]) -> Option<(Act, &[u8])>
     ensures { IfSome result (λ p. text.now ≡ front Style.Tight p.0 ++ p.1.now) }
 {

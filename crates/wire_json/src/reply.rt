@@ -3,8 +3,10 @@ ghost use Rattle.std.specs.Prelude.{◌≡◌, ◌++◌, codes, map, IfOk, OnOk}
 ghost use Rattle.serde_json.specs.Data.{boolean, number, unsigned, array};
 ghost use Rattle.serde_json.specs.View.{items_of};
 ghost use Rattle.serde_json.specs.Written.{comma_if, compact_text};
-ghost use Rattle.wire_json.specs.Entries.{single, named, plan_data, seen_data, phase_data, bad_data};
-ghost use Rattle.wire_json.specs.Replies.{denial_data, face_data, again_data, reply_data, entry_data, entry_text};
+ghost use Rattle.wire_json.specs.Entries.{single, named, plan_data, seen_data, phase_data};
+ghost use Rattle.wire_json.specs.Entries.{bad_data};
+ghost use Rattle.wire_json.specs.Replies.{denial_data, face_data, again_data, reply_data};
+ghost use Rattle.wire_json.specs.Replies.{entry_data, entry_text};
 
 use crate::denial::push_denial;
 use crate::text::{

@@ -1,5 +1,6 @@
 -- A workflow that is made of lists of pairs, and the cycles of such a list.
-use Rattle.std.proofs.Common.{◌≡◌, ◌≢◌, ℕ, suc, ◌<◌, ◌≤◌, inl, inr, true, false, ◌&&◌, nat_eq, nat_lt, nat_le, List, [], ◌∷◌, length, refl, sym, subst, ◌∙◌, arith}
+use Rattle.std.proofs.Common.{◌≡◌, ◌≢◌, ℕ, suc, ◌<◌, ◌≤◌, inl, inr, true, false, ◌&&◌, nat_eq, nat_lt, nat_le, List, [], ◌∷◌, length, refl, sym, subst, ◌∙◌}
+use Rattle.std.proofs.Common.{arith}
 use Rattle.std.specs.List.{All}
 use Rattle.std.specs.FinSet as set
 use Rattle.pair_set.specs.Pairs.{Pairs, pair_cmp}
@@ -20,7 +21,8 @@ counted n count e some few = and_from (nat_lt 0 n) (nat_le n STEP_LIMIT) (lt_yes
 pub all_of : (P : (ℕ × ℕ) → Type 0) (ps : List (ℕ × ℕ)) (a b : ℕ) → All P ps → set.contains (set.from_list {R = pair_cmp} ps) (a, b) ≡ true → P (a, b)
 all_of P [] a b h found = let none = set.contains-empty pair_cmp (a, b) in absurd (cc)
 all_of P (p ∷ ps) a b h found =
-    elim (or_cases (nat_eq a p.0 && nat_eq b p.1) (set.contains (set.from_list {R = pair_cmp} ps) (a, b)) (sym (contains-one_more (set.from_list ps) p.0 p.1 a b) ∙ found)) [
+    elim (or_cases (nat_eq a p.0 && nat_eq b p.1) (set.contains (set.from_list {R = pair_cmp} ps) (a, b))
+    (sym (contains-one_more (set.from_list ps) p.0 p.1 a b) ∙ found)) [
       | inl e ↦
           let both = and_both (nat_eq a p.0) (nat_eq b p.1) e in
           subst P (λ i. (sym (eq_back a p.0 both.0) i, sym (eq_back b p.1 both.1) i)) (h 0 p (omega arith))
@@ -81,7 +83,10 @@ built_flow steps order permits later roles count orders_in permits_in closed non
     counted = count;
     orders = record { each = λ a b found. all_of (λ (p : ℕ × ℕ). (p.0 < length steps) × (p.1 < length steps)) order a b orders_in found };
     acyclic = λ s. no_cycle (length steps) order later (few_steps (length steps) count) orders_in closed s (none s);
-    permitted = record { each = λ r s found. all_of (λ (p : ℕ × ℕ). (p.0 < ROLE_LIMIT) × (p.1 < length steps)) permits r s permits_in (sym (same s r) ∙ sym (permitted_by-has roles r s) ∙ found) };
+    permitted = record {
+      each = λ r s found. all_of (λ (p : ℕ × ℕ). (p.0 < ROLE_LIMIT) × (p.1 < length steps)) permits r s permits_in
+          (sym (same s r) ∙ sym (permitted_by-has roles r s) ∙ found);
+    };
   };
   closed = closed;
   rows = whole;

@@ -72,7 +72,8 @@ chain_of order (suc n) s t h =
       | inr e ↦ append (chain_of order n s n (and_both _ _ e).0) (chain_of order n n t (and_both _ _ e).1)
     ]
 
-of_chain : {order : Pairs} {s t : ℕ} (n : ℕ) → ((a b : ℕ) → set.contains order (a, b) ≡ true → b < n) → Precedes order s t → leads n (λ a b. set.contains order (a, b)) s t ≡ true
+of_chain : {order : Pairs} {s t : ℕ} (n : ℕ) → ((a b : ℕ) → set.contains order (a, b) ≡ true → b < n) → Precedes order s t →
+    leads n (λ a b. set.contains order (a, b)) s t ≡ true
 of_chain n h (next e) = leads_pair _ n _ _ e
 of_chain n h (through e r) = leads_chain _ n _ _ _ (h _ _ e) (leads_pair _ n _ _ e) (of_chain n h r)
 
@@ -80,6 +81,7 @@ pub before_is_chain : (order : Pairs) (s t : ℕ) → is_before order s t ≡ tr
 unfolding is_before
 before_is_chain order s t h = chain_of order STEP_LIMIT s t h
 
-pub chain_is_before : (order : Pairs) (s t : ℕ) → ((a b : ℕ) → set.contains order (a, b) ≡ true → b < STEP_LIMIT) → Precedes order s t → is_before order s t ≡ true
+pub chain_is_before : (order : Pairs) (s t : ℕ) → ((a b : ℕ) → set.contains order (a, b) ≡ true → b < STEP_LIMIT) → Precedes order s t →
+    is_before order s t ≡ true
 unfolding is_before
 chain_is_before order s t h r = of_chain STEP_LIMIT h r

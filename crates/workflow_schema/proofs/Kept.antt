@@ -15,7 +15,8 @@ pub few_steps : (n : ℕ) → is_count n ≡ true → n ≤ STEP_LIMIT
 few_steps n h = le_back n STEP_LIMIT (and_both (nat_lt 0 n) (nat_le n STEP_LIMIT) h).1
 
 -- the test of the closed table tells the chains
-pub tells_chains : (f : FlowShape) (s t : ℕ) (answer : Bool) → IsFlow f → answer ≡ is_before f.order s t → (IsTrue answer → Precedes f.order s t) × (Precedes f.order s t → IsTrue answer)
+pub tells_chains : (f : FlowShape) (s t : ℕ) (answer : Bool) → IsFlow f → answer ≡ is_before f.order s t → (IsTrue answer → Precedes f.order s t) ×
+    (Precedes f.order s t → IsTrue answer)
 tells_chains f s t answer kept is =
     let below : (a b : ℕ) → set.contains f.order (a, b) ≡ true → b < STEP_LIMIT =
     λ a b found. let e = (kept.orders.each a b found).1 in let few = few_steps (length f.steps) kept.counted in omega arith
@@ -59,7 +60,8 @@ keeps_forbidden steps order later old rows r s kept h whole = record {
     permitted = record {
       each = λ a b found.
           kept.flow.permitted.each a b
-          (permitted_by-has old a b ∙ (and_both (not (nat_eq b s && nat_eq a r)) (table_has old b a) (sym (h b a) ∙ sym (permitted_by-has rows a b) ∙ found)).1);
+          (permitted_by-has old a b ∙
+          (and_both (not (nat_eq b s && nat_eq a r)) (table_has old b a) (sym (h b a) ∙ sym (permitted_by-has rows a b) ∙ found)).1);
     };
   };
   closed = kept.closed;

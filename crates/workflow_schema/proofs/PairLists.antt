@@ -1,5 +1,6 @@
 -- Lists of pairs, read from their ends.
-use Rattle.std.proofs.Common.{◌≡◌, ℕ, zero, suc, ◌+◌, ◌<◌, true, false, ◌&&◌, ◌||◌, nat_eq, List, [], ◌∷◌, length, drop, get_or, refl, sym, ap, subst, ◌∙◌, add-one, drop-cons, replicate}
+use Rattle.std.proofs.Common.{◌≡◌, ℕ, zero, suc, ◌+◌, ◌<◌, true, false, ◌&&◌, ◌||◌, nat_eq, List, [], ◌∷◌, length, drop, get_or, refl, sym, ap, subst, ◌∙◌}
+use Rattle.std.proofs.Common.{add-one, drop-cons, replicate}
 use Rattle.std.proofs.lemmas.List.{get_or_default}
 use Rattle.std.specs.FinSet as set
 use Rattle.std.specs.Ordering.{eq_by_cmp, is_eq, nat_cmp, ordering_then}
@@ -20,7 +21,8 @@ set_from ps i = set.from_list (drop i ps)
 pub set_from-step : (ps : List (ℕ × ℕ)) (i : ℕ) (d : ℕ × ℕ) → i < length ps → set_from ps i ≡ set.insert (set_from ps (i + 1)) (get_or ps i d)
 set_from-step ps i d h = rw (add-one i) (ap set.from_list (drop-cons ps i d h))
 
-pub twice-step : (ps : List (ℕ × ℕ)) (i : ℕ) (d : ℕ × ℕ) → i < length ps → has_twice (drop i ps) ≡ (set.contains (set_from ps (i + 1)) (get_or ps i d) || has_twice (drop (i + 1) ps))
+pub twice-step : (ps : List (ℕ × ℕ)) (i : ℕ) (d : ℕ × ℕ) → i < length ps →
+    has_twice (drop i ps) ≡ (set.contains (set_from ps (i + 1)) (get_or ps i d) || has_twice (drop (i + 1) ps))
 twice-step ps i d h = rw (add-one i) (ap has_twice (drop-cons ps i d h))
 
 pub twice-drop : (ps : List (ℕ × ℕ)) (i : ℕ) → has_twice (drop i ps) ≡ true → has_twice ps ≡ true
@@ -44,7 +46,8 @@ tied a b = unsigned_tied a b
 pub eq_pair : (a b c d : ℕ) → eq_by_cmp pair_cmp (a, b) (c, d) ≡ (nat_eq a c && nat_eq b d)
 eq_pair a b c d = then_equal (nat_cmp a c) (nat_cmp b d) ∙ (λ i. tied a c i && tied b d i)
 
-pub contains-one_more : (pairs : Pairs) (s t a b : ℕ) → set.contains (set.insert pairs (s, t)) (a, b) ≡ ((nat_eq a s && nat_eq b t) || set.contains pairs (a, b))
+pub contains-one_more : (pairs : Pairs) (s t a b : ℕ) →
+    set.contains (set.insert pairs (s, t)) (a, b) ≡ ((nat_eq a s && nat_eq b t) || set.contains pairs (a, b))
 contains-one_more pairs s t a b = set.contains-insert pair_cmp_total pairs (s, t) (a, b) ∙ ap (λ x. x || set.contains pairs (a, b)) (eq_pair a b s t)
 
 zero_at : (n i : ℕ) → get_or {A = ℕ} (replicate n 0) i 0 ≡ 0

@@ -1,5 +1,6 @@
 -- What the flags of tables are after a step of the code.
-use Rattle.std.proofs.Common.{◌≡◌, ◌≢◌, ℕ, ◌+◌, ◌<◌, ◌≤◌, inl, inr, Bool, true, false, not, ◌&&◌, ◌||◌, nat_eq, nat_lt, List, length, get_or, set, refl, sym, ap, subst, ◌∙◌, arith, add-one, get_or-set_same, get_or-set_other}
+use Rattle.std.proofs.Common.{◌≡◌, ◌≢◌, ℕ, ◌+◌, ◌<◌, ◌≤◌, inl, inr, Bool, true, false, not, ◌&&◌, ◌||◌, nat_eq, nat_lt, List, length, get_or, set, refl, sym}
+use Rattle.std.proofs.Common.{ap, subst, ◌∙◌, arith, add-one, get_or-set_same, get_or-set_other}
 use Rattle.std.proofs.Math.Nat.{le_trans}
 use Rattle.std.proofs.lemmas.List.{get_or_past}
 use Rattle.std.proofs.lemmas.Bool.{cases_eq}
@@ -11,7 +12,8 @@ pub table_past : (rows : List ℕ) (a b : ℕ) → length rows ≤ a → table_h
 table_past rows a b h = ap (λ w. is_set w b) (get_or_past rows a 0 h) ∙ is_set-zero b
 
 -- a row is replaced by one that differs in one flag
-pub flag_set : (rows : List ℕ) (row bit word : ℕ) → row < length rows → ((b : ℕ) → is_set word b ≡ (nat_eq b bit || is_set (get_or rows row 0) b)) → (a b : ℕ) → table_has (set rows row word) a b ≡ ((nat_eq a row && nat_eq b bit) || table_has rows a b)
+pub flag_set : (rows : List ℕ) (row bit word : ℕ) → row < length rows → ((b : ℕ) → is_set word b ≡ (nat_eq b bit || is_set (get_or rows row 0) b)) →
+    (a b : ℕ) → table_has (set rows row word) a b ≡ ((nat_eq a row && nat_eq b bit) || table_has rows a b)
 flag_set rows row bit word h is a b =
     elim (cases_eq a row) [
       | inl e ↦
@@ -23,7 +25,9 @@ flag_set rows row bit word h is a b =
           ∙ sym (ap (λ t. (t && nat_eq b bit) || table_has rows a b) (eq_other a row ne))
     ]
 
-pub flag_cleared : (rows : List ℕ) (row bit word : ℕ) → row < length rows → ((b : ℕ) → is_set word b ≡ (not (nat_eq b bit) && is_set (get_or rows row 0) b)) → (a b : ℕ) → table_has (set rows row word) a b ≡ (not (nat_eq a row && nat_eq b bit) && table_has rows a b)
+pub flag_cleared : (rows : List ℕ) (row bit word : ℕ) →
+    row < length rows → ((b : ℕ) → is_set word b ≡ (not (nat_eq b bit) && is_set (get_or rows row 0) b)) → (a b : ℕ) →
+    table_has (set rows row word) a b ≡ (not (nat_eq a row && nat_eq b bit) && table_has rows a b)
 flag_cleared rows row bit word h is a b =
     elim (cases_eq a row) [
       | inl e ↦
@@ -60,17 +64,20 @@ join_step old rows k place word h joined is a b =
       | inl e ↦
           subst (λ c. table_has (set rows place word) c b ≡ joined_before old k (place + 1) c b) (sym e)
           (ap (λ w. is_set w b) (get_or-set_same rows place word 0 h) ∙ is b
-          ∙ (λ i. (joined place b ∙ join_none old k place b place (omega arith)) i || ((joined place k ∙ join_none old k place k place (omega arith)) i && table_has old k b))
+          ∙ (λ i. (joined place b ∙ join_none old k place b place (omega arith)) i ||
+          ((joined place k ∙ join_none old k place k place (omega arith)) i && table_has old k b))
           ∙ sym (ap (λ t. table_has old place b || (t && (table_has old place k && table_has old k b))) (lt_yes place (place + 1) (omega arith))))
       | inr ne ↦
           ap (λ w. is_set w b) (get_or-set_other rows place a word 0 ne) ∙ joined a b
           ∙ ap (λ t. table_has old a b || (t && (table_has old a k && table_has old k b))) (before_next a place ne)
     ]
 
-pub join_end : (old rows : List ℕ) (k place : ℕ) → length rows ≤ place → AreJoined old rows k place → (a b : ℕ) → table_has rows a b ≡ (table_has old a b || (table_has old a k && table_has old k b))
+pub join_end : (old rows : List ℕ) (k place : ℕ) → length rows ≤ place → AreJoined old rows k place → (a b : ℕ) →
+    table_has rows a b ≡ (table_has old a b || (table_has old a k && table_has old k b))
 join_end old rows k place h joined a b =
     joined a b
-    ∙ elim (nat_lt a place) as (λ t. nat_lt a place ≡ t → (table_has old a b || (t && (table_has old a k && table_has old k b))) ≡ (table_has old a b || (table_has old a k && table_has old k b))) [
+    ∙ elim (nat_lt a place) as (λ t. nat_lt a place ≡ t →
+    (table_has old a b || (t && (table_has old a k && table_has old k b))) ≡ (table_has old a b || (table_has old a k && table_has old k b))) [
       | true ↦ λ e. refl
       | false ↦ λ e.
           let past : place ≤ a = lt_back_no a place e in

@@ -1,5 +1,6 @@
 -- What the bits of words are after a step of the code.
-use Rattle.std.proofs.Common.{◌≡◌, ℕ, zero, suc, ◌*◌, ◌/◌, ◌%◌, ◌^◌, max, ◌<◌, ◌≤◌, inl, inr, false, not, ◌&&◌, ◌||◌, nat_eq, nat_lt, refl, sym, ap, subst, ◌∙◌, arith, bit_and, bit_or}
+use Rattle.std.proofs.Common.{◌≡◌, ℕ, zero, suc, ◌*◌, ◌/◌, ◌%◌, ◌^◌, max, ◌<◌, ◌≤◌, inl, inr, false, not, ◌&&◌, ◌||◌, nat_eq, nat_lt, refl, sym, ap, subst, ◌∙◌}
+use Rattle.std.proofs.Common.{arith, bit_and, bit_or}
 use Rattle.std.specs.Int.{bit_at, bit_not, w64}
 use Rattle.std.proofs.lemmas.Nat.Bits.{bit_at-lt, bit_at_or, bit_at-zero, shr_and_one, bit_at_set_same, bit_at_set_other, bit_at_clear_same, bit_at_clear_other}
 use Rattle.std.proofs.lemmas.Bool.{cases_eq}
@@ -46,7 +47,8 @@ unfolding is_set
 is_set-with w k i h =
     elim (cases_eq i k) [
       | inl e ↦
-          subst (λ j. (nat_lt j WORD_BITS && nat_eq (bit_at (bit_or w (1 * 2 ^ k % 2 ^ bits w64)) j) 1) ≡ (nat_eq j k || (nat_lt j WORD_BITS && nat_eq (bit_at w j) 1))) (sym e)
+          subst (λ j. (nat_lt j WORD_BITS && nat_eq (bit_at (bit_or w (1 * 2 ^ k % 2 ^ bits w64)) j) 1) ≡ (nat_eq j k ||
+          (nat_lt j WORD_BITS && nat_eq (bit_at w j) 1))) (sym e)
           ((λ j. lt_yes k WORD_BITS h j && nat_eq (bit_at_set_same w64 w k h j) 1)
           ∙ sym (ap (λ t. t || (nat_lt k WORD_BITS && nat_eq (bit_at w k) 1)) (eq_same k)))
       | inr ne ↦
@@ -59,7 +61,8 @@ unfolding is_set
 is_set-without w k i h =
     elim (cases_eq i k) [
       | inl e ↦
-          subst (λ j. (nat_lt j WORD_BITS && nat_eq (bit_at (bit_and w (bit_not w64 (1 * 2 ^ k % 2 ^ bits w64))) j) 1) ≡ (not (nat_eq j k) && (nat_lt j WORD_BITS && nat_eq (bit_at w j) 1))) (sym e)
+          subst (λ j. (nat_lt j WORD_BITS && nat_eq (bit_at (bit_and w (bit_not w64 (1 * 2 ^ k % 2 ^ bits w64))) j) 1) ≡ (not (nat_eq j k) &&
+          (nat_lt j WORD_BITS && nat_eq (bit_at w j) 1))) (sym e)
           ((λ j. lt_yes k WORD_BITS h j && nat_eq (bit_at_clear_same w64 w k h j) 1)
           ∙ sym (ap (λ t. not t && (nat_lt k WORD_BITS && nat_eq (bit_at w k) 1)) (eq_same k)))
       | inr ne ↦

@@ -1,5 +1,6 @@
 -- A workflow's steps, order and permissions, as contracts see them.
-use Rattle.std.specs.Prelude.{◌≡◌, ℕ, ◌<◌, Bool, true, false, ◌&&◌, ◌||◌, nat_lt, nat_le, List, [], ◌∷◌, length, refl}
+use Rattle.std.specs.Prelude.{◌≡◌, ℕ, ◌<◌, Bool, true, false, ◌&&◌, ◌||◌, nat_lt, nat_le, List, []}
+use Rattle.std.specs.Prelude.{◌∷◌, length, refl}
 use Rattle.std.specs.Coded.{Coded, code_by, coded×, coded_ℕ, coded_list}
 use Rattle.std.specs.FinSet as set
 use Rattle.pair_set.specs.Pairs.{Pairs, pair_cmp, pairs_code, AllPairs}
@@ -15,13 +16,16 @@ pub record FlowShape : Type 0 where
 -- by which values that hold a workflow are told apart
 abbrev pub flow_code : Coded FlowShape
 flow_code =
-    code_by (List (List ℕ) × (Pairs × Pairs)) (coded× (coded_list (coded_list coded_ℕ)) (coded× pairs_code pairs_code))
-    (λ f. (f.steps, (f.order, f.permits))) (λ p. record { steps = p.0; order = p.1.0; permits = p.1.1 }) (λ _. refl)
+    code_by (List (List ℕ) × (Pairs × Pairs))
+    (coded× (coded_list (coded_list coded_ℕ)) (coded× pairs_code pairs_code))
+    (λ f. (f.steps, (f.order, f.permits)))
+    (λ p. record { steps = p.0; order = p.1.0; permits = p.1.1 }) (λ _. refl)
 
 -- a chain of one or more order pairs leads from one step to another
 pub data Precedes : Pairs → ℕ → ℕ → Type 0 where
   next : {order : Pairs} {s t : ℕ} → set.contains order (s, t) ≡ true → Precedes order s t
-  through : {order : Pairs} {s t u : ℕ} → set.contains order (s, t) ≡ true → Precedes order t u → Precedes order s u
+  through : {order : Pairs} {s t u : ℕ} → set.contains order (s, t) ≡ true →
+      Precedes order t u → Precedes order s u
 
 -- the same as a test, for steps below the limit of steps
 unfoldable pub is_before : Pairs → ℕ → ℕ → Bool

@@ -1,5 +1,6 @@
 -- Inside: how orders and permissions are kept, as tables of flags, one word of bits a row.
-use Rattle.std.specs.Prelude.{ℕ, ◌+◌, Bool, ◌&&◌, ◌||◌, cond, nat_lt, nat_eq, List, [], ◌∷◌, ◌++◌, slice_index}
+use Rattle.std.specs.Prelude.{ℕ, ◌+◌, Bool, ◌&&◌, ◌||◌, cond, nat_lt, nat_eq, List, [], ◌∷◌, ◌++◌}
+use Rattle.std.specs.Prelude.{slice_index}
 use Rattle.std.proofs.Common.{zero, suc}
 use Rattle.std.specs.Int.{bit_at}
 use Rattle.std.specs.FinSet as set
@@ -22,7 +23,8 @@ leads (suc n) next a b = leads n next a b || (leads n next a n && leads n next n
 -- the pairs (bit, row) of the lowest n bits of a row
 unfoldable pub row_pairs : ℕ → ℕ → ℕ → List (ℕ × ℕ)
 row_pairs row word zero = []
-row_pairs row word (suc n) = cond (is_set word n) ((n, row) ∷ row_pairs row word n) (row_pairs row word n)
+row_pairs row word (suc n) =
+    cond (is_set word n) ((n, row) ∷ row_pairs row word n) (row_pairs row word n)
 
 -- the pairs (bit, row) of a table whose first row has this number
 unfoldable pub table_pairs : ℕ → List ℕ → List (ℕ × ℕ)

@@ -1,9 +1,11 @@
 //! Workflows: steps with their order and permissions.
-ghost use Rattle.std.specs.Prelude.{◌≡◌, ℕ, ◌<◌, ◌↔◌, true, false, not, ◌||◌, length, IfOk, IsErrOf, IsTrue};
+ghost use Rattle.std.specs.Prelude.{◌≡◌, ℕ, ◌<◌, ◌↔◌, true, false, not, ◌||◌, length, IfOk};
+ghost use Rattle.std.specs.Prelude.{IsErrOf, IsTrue};
 ghost use Rattle.std.specs.List.{All};
 ghost use Rattle.std.specs.FinSet as set;
 ghost use Rattle.wf_names.specs.declared.limits.TheConstants.{ROLE_LIMIT};
-ghost use Rattle.workflow_schema.specs.Flows.{has_twice, is_before, is_count, IsFlow, IsLeastCycle, Precedes};
+ghost use Rattle.workflow_schema.specs.Flows.{has_twice, is_before, is_count, IsFlow, IsLeastCycle};
+ghost use Rattle.workflow_schema.specs.Flows.{Precedes};
 
 use crate::FlowFault;
 use crate::lists::{order_set, order_table, permit_table};
@@ -41,7 +43,12 @@ impl Model for Flow {
     ghost use Rattle.workflow_schema.specs.Tables.{permitted_by};
     ghost use Rattle.workflow_schema.specs.Stored.{IsStored};
 
-    ghost view = { λ f. record { steps = f.frame.steps.names; order = f.frame.order; permits = permitted_by f.roles } };
+    ghost view = { λ f. record {
+      steps = f.frame.steps.names;
+      order = f.frame.order;
+      permits =
+          permitted_by f.roles;
+    } };
 
     ghost invariant = { λ f. IsStored f.frame.steps.names f.frame.order f.frame.later f.roles };
 }

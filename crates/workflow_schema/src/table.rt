@@ -1,5 +1,6 @@
 //! Tables of flags: one word of bits a row.
-ghost use Rattle.std.specs.Prelude.{◌≡◌, ℕ, ◌<◌, ◌≤◌, Bool, true, false, not, ◌&&◌, ◌||◌, nat_eq, length, MatchOption};
+ghost use Rattle.std.specs.Prelude.{◌≡◌, ℕ, ◌<◌, ◌≤◌, Bool, true, false, not, ◌&&◌, ◌||◌, nat_eq};
+ghost use Rattle.std.specs.Prelude.{length, MatchOption};
 ghost use Rattle.workflow_schema.specs.Tables.{is_set, table_has, leads};
 ghost use Rattle.workflow_schema.specs.declared.table.TheConstants.{WORD_BITS};
 
@@ -62,7 +63,8 @@ pub(crate) fn join_through(rows: &mut [u64], k: usize)
     }
 }
 
-/// Closes a table of direct successors: then row `a` has the flag `b` where a chain leads from `a` to `b`.
+/// Closes a table of direct successors: then row `a` has the flag `b` where a chain leads from `a`
+/// to `b`.
 pub(crate) fn close(rows: &mut [u64])
     requires { length rows.old ≤ WORD_BITS }
     ensures { (a b : ℕ) → table_has rows.new a b

@@ -1,5 +1,6 @@
 -- What a search knows of each user.
-use Rattle.std.proofs.Common.{◌≡◌, ◌≢◌, refl, sym, ap, ◌∙◌, ℕ, zero, suc, ◌+◌, ◌<◌, ◌≤◌, Bool, true, false, not, ◌&&◌, ◌||◌, ◌==◌, nat_lt, List, [], ◌∷◌, length, Option, None, Some, slice_get, slice_set, if◌then◌else◌, subst, replicate, leb, ◌⊎◌, inl, inr, arith}
+use Rattle.std.proofs.Common.{◌≡◌, ◌≢◌, refl, sym, ap, ◌∙◌, ℕ, zero, suc, ◌+◌, ◌<◌, ◌≤◌, Bool, true, false, not, ◌&&◌, ◌||◌, ◌==◌, nat_lt, List, [], ◌∷◌}
+use Rattle.std.proofs.Common.{length, Option, None, Some, slice_get, slice_set, if◌then◌else◌, subst, replicate, leb, ◌⊎◌, inl, inr, arith}
 use Rattle.std.proofs.lemmas.Bool.{false≢true}
 use Rattle.std.proofs.lemmas.Bool.Decides.{leb_tells}
 use Rattle.std.proofs.lemmas.List.{get_or-replicate, get_or_past, length-replicate}
@@ -13,7 +14,8 @@ use Rattle.constraint_forms.specs.Rules.{any_read, reads}
 use Rattle.constraint_forms.proofs.Reading.{all_as_each, each_read, some_read}
 use Rattle.constraint_forms.proofs.Members.{none_member}
 use Rattle.policy_book.specs.Plans.{Problem}
-use Rattle.policy_book.specs.Twins.{agree, are_related_alike, are_twins, has_no_step, has_twin, is_alike_to, is_given_to, is_rule_alike, may_do_the_same, treats_alike}
+use Rattle.policy_book.specs.Twins.{agree, are_related_alike, are_twins, has_no_step, has_twin, is_alike_to, is_given_to, is_rule_alike, may_do_the_same}
+use Rattle.policy_book.specs.Twins.{treats_alike}
 use Rattle.certificate_check.proofs.Below.{all_pass, one_fails, same_agree}
 use Rattle.certificate_check.proofs.TwinLaws.{mean_twins, twins_chain, twins_mean, twins_turned}
 use Rattle.certificate_check.proofs.Assigned.{given, none_not_some}
@@ -31,11 +33,13 @@ duties-length p u (suc n) none = at (p.authorised n u) (duties-length p u n none
     at false known = known
 
 -- who is in a set with one more step where that is wanted
-pub member_if : (set : List Bool) (n t : ℕ) (b : Bool) → n < length set → is_member (if b then slice_set set n true else set) t ≡ (is_member set t || (b && t == n))
+pub member_if : (set : List Bool) (n t : ℕ) (b : Bool) → n < length set →
+    is_member (if b then slice_set set n true else set) t ≡ (is_member set t || (b && t == n))
 member_if set n t true below = member_added set n t below
 member_if set n t false below = sym (or-false (is_member set t))
 
-duties-member : (p : Problem) (u n t : ℕ) → length no_steps ≡ STEP_LIMIT → ((s : ℕ) → is_member no_steps s ≡ false) → n ≤ STEP_LIMIT → is_member (duties_below p u n) t ≡ (nat_lt t n && p.authorised t u)
+duties-member : (p : Problem) (u n t : ℕ) → length no_steps ≡ STEP_LIMIT → ((s : ℕ) → is_member no_steps s ≡ false) → n ≤ STEP_LIMIT →
+    is_member (duties_below p u n) t ≡ (nat_lt t n && p.authorised t u)
 duties-member p u zero t long none few = none t ∙ sym (ap (λ b. b && p.authorised t u) (lt_no t 0 (omega arith)))
 duties-member p u (suc n) t long none few =
     let below : n < length (duties_below p u n) = omega (arith, few, duties-length p u n long) in
@@ -60,7 +64,8 @@ duties-same p u v (suc n) same =
     ∙ ap (λ d. if p.authorised n v then slice_set d n true else d) (duties-same p u v n (λ s below. same s (omega (arith, below))))
 
 -- users with different steps are no twins
-pub apart_by_duties : (p : Problem) (duties : List (List Bool)) (u v : ℕ) → u < p.users → v < p.users → AreDuties p duties → duties_of duties u ≢ duties_of duties v → are_twins p [] u v ≡ false
+pub apart_by_duties : (p : Problem) (duties : List (List Bool)) (u v : ℕ) → u < p.users → v < p.users → AreDuties p duties →
+    duties_of duties u ≢ duties_of duties v → are_twins p [] u v ≡ false
 apart_by_duties p duties u v u_in v_in right differ =
     not_true (are_twins p [] u v) (λ twins. differ (right u u_in ∙ duties-same p u v p.steps (twins_mean p [] u v twins).steps ∙ sym (right v v_in)))
 
@@ -87,7 +92,8 @@ idle_twins p a u v idle =
     ∙ and_swap (has_no_step a v) (may_do_the_same p u v && are_related_alike p u v)
 
 pub twins_when_free : (p : Problem) (a : List (Option ℕ)) (u v : ℕ) → ((s : ℕ) → user_at a s ≡ None) → are_twins p a u v ≡ are_twins p [] u v
-twins_when_free p a u v free = idle_twins p a u v (idle_when_free a u free) ∙ ap (λ b. are_twins p [] u v && b) (idle_when_free a v free) ∙ and_true (are_twins p [] u v)
+twins_when_free p a u v free = idle_twins p a u v (idle_when_free a u free) ∙ ap (λ b. are_twins p [] u v && b) (idle_when_free a v free) ∙
+    and_true (are_twins p [] u v)
   where
     and_true : (b : Bool) → (b && true) ≡ b
     and_true true = refl
@@ -121,9 +127,11 @@ twins_of_twins p u v w u_in v_in w_in twins =
     (λ h. twins_chain p [] w u v w_in u_in v_in h (turned p v u twins))
 
 -- users with the same steps are twins exactly where each relation treats them alike
-pub alike_by_duties : (p : Problem) (duties : List (List Bool)) (u v : ℕ) → u < p.users → v < p.users → p.steps ≤ STEP_LIMIT → AreDuties p duties → word_of (duties_of duties u) ≡ word_of (duties_of duties v) → are_twins p [] u v ≡ are_related_alike p u v
+pub alike_by_duties : (p : Problem) (duties : List (List Bool)) (u v : ℕ) → u < p.users → v < p.users → p.steps ≤ STEP_LIMIT → AreDuties p duties →
+    word_of (duties_of duties u) ≡ word_of (duties_of duties v) → are_twins p [] u v ≡ are_related_alike p u v
 alike_by_duties p duties u v u_in v_in few right one =
-    let long : (w : ℕ) → w < p.users → length (duties_of duties w) ≡ STEP_LIMIT = λ w w_in. ap length (right w w_in) ∙ duties-length p w p.steps no_steps-length in
+    let long : (w : ℕ) → w < p.users → length (duties_of duties w) ≡ STEP_LIMIT = λ w w_in. ap length (right w w_in) ∙
+    duties-length p w p.steps no_steps-length in
     let same = word_one (duties_of duties u) (duties_of duties v) (long u u_in ∙ sym (long v v_in)) one in
     ap (λ b. b && are_related_alike p u v)
     (all_pass p.steps (λ s. agree (p.authorised s u) (p.authorised s v))
@@ -140,10 +148,12 @@ read_alike p u v (Some x) (Some y) h alike = all_as_each y test (λ rho read. ea
     test rho = treats_alike p.users (p.related rho) u v
 
 -- a rule that reads a relation that treats two users differently at a third one tells them apart
-apart_by_rule : (p : Problem) (k : ℕ) (r : Rule) (u v w : ℕ) → k < length p.rules → slice_get p.rules k ≡ Some r → w < p.users → any_read r (λ rho. tells_apart (p.related rho) u v w) ≡ true → are_related_alike p u v ≡ false
+apart_by_rule : (p : Problem) (k : ℕ) (r : Rule) (u v w : ℕ) → k < length p.rules → slice_get p.rules k ≡ Some r → w < p.users →
+    any_read r (λ rho. tells_apart (p.related rho) u v w) ≡ true → are_related_alike p u v ≡ false
 apart_by_rule p k r u v w known is below apart =
     one_fails (length p.rules) k (λ j. is_rule_alike p u v (slice_get p.rules j)) known
-    (ap (is_rule_alike p u v) is ∙ some_read r (λ rho. tells_apart (p.related rho) u v w) (λ rho. treats_alike p.users (p.related rho) u v) apart (λ rho. differs (p.related rho)))
+    (ap (is_rule_alike p u v) is ∙
+    some_read r (λ rho. tells_apart (p.related rho) u v w) (λ rho. treats_alike p.users (p.related rho) u v) apart (λ rho. differs (p.related rho)))
   where
     unlike : (b : Bool) → not b ≡ true → b ≡ false
     unlike true h = absurd (false≢true h)
@@ -207,7 +217,8 @@ none_known p n u first known = at (leb_tells n u)
     at (inl past) = none_not_some first (sym (get_or_past (replicate n None) u None (omega (arith, past.1, length-replicate n none))) ∙ known)
     at (inr below) = none_not_some first (sym (get_or-replicate n u None None below.1) ∙ known)
 
-pub one_more_known : (p : Problem) (classes : List (Option ℕ)) (u first : ℕ) → AreFirstTwins p classes → IsFirstTwin p u first → AreFirstTwins p (slice_set classes u (Some first))
+pub one_more_known : (p : Problem) (classes : List (Option ℕ)) (u first : ℕ) → AreFirstTwins p classes → IsFirstTwin p u first →
+    AreFirstTwins p (slice_set classes u (Some first))
 one_more_known p classes u first right new v c known = at (given classes u first v c known)
   where
     at : ((v ≡ u) × (c ≡ first)) ⊎ (user_at classes v ≡ Some c) → IsFirstTwin p v c

@@ -1,5 +1,6 @@
 -- Sets of steps with one more, and what trees mention.
-use Rattle.std.proofs.Common.{◌≡◌, ◌≢◌, refl, sym, ap, ◌∙◌, ℕ, zero, suc, ◌+◌, ◌<◌, ◌≤◌, Bool, true, false, ◌&&◌, ◌||◌, ◌==◌, nat_lt, Option, None, Some, List, [], ◌∷◌, length, slice_set, ◌⊎◌, inl, inr, eqb, leb, arith}
+use Rattle.std.proofs.Common.{◌≡◌, ◌≢◌, refl, sym, ap, ◌∙◌, ℕ, zero, suc, ◌+◌, ◌<◌, ◌≤◌, Bool, true, false, ◌&&◌, ◌||◌, ◌==◌, nat_lt, Option, None, Some, List}
+use Rattle.std.proofs.Common.{[], ◌∷◌, length, slice_set, ◌⊎◌, inl, inr, eqb, leb, arith}
 use Rattle.std.proofs.lemmas.Bool.Decides.{eqb_tells, leb_tells}
 use Rattle.std.proofs.lemmas.List.{get_or-set_same, get_or-set_other, length-set}
 use Rattle.constraint_forms.specs.declared.rule.Rule.{Rule}
@@ -28,7 +29,8 @@ member_added set s t below = at (eqb_tells t s)
   where
     at : ((eqb t s ≡ true) × (t ≡ s)) ⊎ ((eqb t s ≡ false) × (t ≢ s)) → is_member (slice_set set s true) t ≡ (is_member set t || (t == s))
     at (inl same) =
-        ap (is_member (slice_set set s true)) same.1 ∙ get_or-set_same set s true false below ∙ sym (or-true (is_member set t)) ∙ ap (λ b. is_member set t || b) (sym same.0)
+        ap (is_member (slice_set set s true)) same.1 ∙ get_or-set_same set s true false below ∙ sym (or-true (is_member set t)) ∙
+        ap (λ b. is_member set t || b) (sym same.0)
     at (inr apart) = get_or-set_other set s t true false apart.1 ∙ sym (or-false (is_member set t)) ∙ ap (λ b. is_member set t || b) (sym apart.0)
 
 -- one more step of a set of those below n that pass
@@ -46,7 +48,8 @@ passing_more p rest n t = at (eqb_tells t n) (leb_tells n t)
     gone true false q = refl
     gone false false q = and-false q
 
-    at : ((eqb t n ≡ true) × (t ≡ n)) ⊎ ((eqb t n ≡ false) × (t ≢ n)) → ((leb n t ≡ true) × (n ≤ t)) ⊎ ((leb n t ≡ false) × (t < n)) → ((rest || (nat_lt t n && p t)) || (p n && t == n)) ≡ (rest || (nat_lt t (n + 1) && p t))
+    at : ((eqb t n ≡ true) × (t ≡ n)) ⊎ ((eqb t n ≡ false) × (t ≢ n)) → ((leb n t ≡ true) × (n ≤ t)) ⊎ ((leb n t ≡ false) × (t < n)) →
+        ((rest || (nat_lt t n && p t)) || (p n && t == n)) ≡ (rest || (nat_lt t (n + 1) && p t))
     at (inl same) where_t =
         ap (λ b. (rest || (b && p t)) || (p n && t == n)) (lt_no t n (omega (arith, same.1)))
         ∙ ap (λ b. (rest || false) || (p n && b)) same.0 ∙ here (p n) rest
@@ -64,11 +67,13 @@ pub eq_turned : (m n : ℕ) → (m == n) ≡ (n == m)
 eq_turned m n = same_by (m == n) (n == m) (λ e. eq_is n m (sym (eq_back m n e))) (λ e. eq_is m n (sym (eq_back n m e)))
 
 -- the set of one step has what its leaf mentions
-pub holder_mentioned : (none set : List Bool) (s : ℕ) (rules : List Rule) → ((t : ℕ) → is_member none t ≡ false) → ((t : ℕ) → is_member set t ≡ (is_member none t || (true && t == s))) → AreMentioned rules (holder s) set
+pub holder_mentioned : (none set : List Bool) (s : ℕ) (rules : List Rule) → ((t : ℕ) → is_member none t ≡ false) →
+    ((t : ℕ) → is_member set t ≡ (is_member none t || (true && t == s))) → AreMentioned rules (holder s) set
 holder_mentioned none set s rules empty added t = sym (added t ∙ ap (λ b. b || t == s) (empty t))
 
 -- a rule in range names the steps of the set of its steps
-pub rule_mentioned : (n most : ℕ) (s : ℕ) (o : Option Rule) (set : List Bool) → n ≤ most → ((r : Rule) → o ≡ Some r → IsRuleOf n r) → (o ≡ None → is_member set s ≡ false) → ((r : Rule) → o ≡ Some r → is_member set s ≡ (nat_lt s most && names r s)) → is_rule_naming s o ≡ is_member set s
+pub rule_mentioned : (n most : ℕ) (s : ℕ) (o : Option Rule) (set : List Bool) → n ≤ most → ((r : Rule) → o ≡ Some r → IsRuleOf n r) →
+    (o ≡ None → is_member set s ≡ false) → ((r : Rule) → o ≡ Some r → is_member set s ≡ (nat_lt s most && names r s)) → is_rule_naming s o ≡ is_member set s
 rule_mentioned n most s None set few formed empty known = sym (empty refl)
 rule_mentioned n most s (Some r) set few formed empty known = at (bool_cases (names r s))
   where
@@ -82,9 +87,11 @@ or_assoc true b c = refl
 or_assoc false b c = refl
 
 -- what branches and one more mention
-any_push : (rules : List Rule) (s u : ℕ) (t : Shape) (front : Kids) → any_mentions rules s (joined front (tree_kid u t no_kids)) ≡ (any_mentions rules s front || mentions rules s t)
+any_push : (rules : List Rule) (s u : ℕ) (t : Shape) (front : Kids) →
+    any_mentions rules s (joined front (tree_kid u t no_kids)) ≡ (any_mentions rules s front || mentions rules s t)
 any_push rules s u t no_kids = or-false (mentions rules s t)
-any_push rules s u t (tree_kid v w kids) = ap (λ b. mentions rules s w || b) (any_push rules s u t kids) ∙ or_assoc (mentions rules s w) (any_mentions rules s kids) (mentions rules s t)
+any_push rules s u t (tree_kid v w kids) = ap (λ b. mentions rules s w || b) (any_push rules s u t kids) ∙
+    or_assoc (mentions rules s w) (any_mentions rules s kids) (mentions rules s t)
 any_push rules s u t (twin_kid v w kids) = any_push rules s u t kids
 
 any_push_twin : (rules : List Rule) (s u v : ℕ) (front : Kids) → any_mentions rules s (joined front (twin_kid u v no_kids)) ≡ any_mentions rules s front
@@ -93,9 +100,11 @@ any_push_twin rules s u v (tree_kid x w kids) = ap (λ b. mentions rules s w || 
 any_push_twin rules s u v (twin_kid x w kids) = any_push_twin rules s u v kids
 
 -- the sets of what branches mention, with one more branch
-pub mentioned_push : (rules : List Rule) (front : Kids) (u : ℕ) (t : Shape) (before here set : List Bool) → AreMentionedIn rules front before → AreMentioned rules t here → ((s : ℕ) → is_member set s ≡ (is_member before s || is_member here s)) → AreMentionedIn rules (joined front (tree_kid u t no_kids)) set
+pub mentioned_push : (rules : List Rule) (front : Kids) (u : ℕ) (t : Shape) (before here set : List Bool) → AreMentionedIn rules front before → AreMentioned
+    rules t here → ((s : ℕ) → is_member set s ≡ (is_member before s || is_member here s)) → AreMentionedIn rules (joined front (tree_kid u t no_kids)) set
 mentioned_push rules front u t before here set so_far now both s =
     any_push rules s u t front ∙ ap (λ b. b || mentions rules s t) (so_far s) ∙ ap (λ b. is_member before s || b) (now s) ∙ sym (both s)
 
-pub mentioned_push_twin : (rules : List Rule) (front : Kids) (u v : ℕ) (set : List Bool) → AreMentionedIn rules front set → AreMentionedIn rules (joined front (twin_kid u v no_kids)) set
+pub mentioned_push_twin : (rules : List Rule) (front : Kids) (u v : ℕ) (set : List Bool) → AreMentionedIn rules front set →
+    AreMentionedIn rules (joined front (twin_kid u v no_kids)) set
 mentioned_push_twin rules front u v set so_far s = any_push_twin rules s u v front ∙ so_far s

@@ -14,14 +14,16 @@ use Rattle.wsp_solver.proofs.Crews.{apart_by_duties}
 use Rattle.wsp_solver.proofs.Searching.{users_skip, users_end}
 
 -- nobody below n passes, nor n itself
-pub none_more : (test : ℕ → Bool) (k n m : ℕ) → ((w : ℕ) → k ≤ w → w < n → test w ≡ false) → test n ≡ false → m ≡ n → (w : ℕ) → k ≤ w → w < m + 1 → test w ≡ false
+pub none_more : (test : ℕ → Bool) (k n m : ℕ) → ((w : ℕ) → k ≤ w → w < n → test w ≡ false) → test n ≡ false → m ≡ n → (w : ℕ) → k ≤ w → w < m + 1 →
+    test w ≡ false
 none_more test k n m before here same w from below = elim (cases_eq w n) [
   | inl e ↦ ap test e ∙ here
   | inr ne ↦ before w from (omega (arith, below, same, ne))
 ]
 
 -- a user who has other steps is no twin
-pub none_between : (p : Problem) (duties : List (List Bool)) (steps : List Bool) (u from v : ℕ) → AreDuties p duties → u < p.users → v ≤ u → steps ≡ duties_of duties u
+pub none_between : (p : Problem) (duties : List (List Bool)) (steps : List Bool) (u from v : ℕ) → AreDuties p duties → u < p.users → v ≤ u →
+    steps ≡ duties_of duties u
     → ((w : ℕ) → 0 ≤ w → w < from → are_twins p [] w u ≡ false) → ((w : ℕ) → from ≤ w → w < v → has_steps duties steps w ≡ false)
     → (w : ℕ) → 0 ≤ w → w < v → are_twins p [] w u ≡ false
 none_between p duties steps u from v right u_in within own before between w low below = elim (cases_lt w from) [

@@ -1,5 +1,6 @@
 -- Branches with one more at the end: with a tree, or with the leaf of a twin.
-use Rattle.std.proofs.Common.{◌≡◌, refl, ap, ◌∙◌, ℕ, ◌+◌, ◌-◌, ◌<◌, Bool, true, not, ◌&&◌, ◌==◌, List, ◌∷◌, Option, Some, slice_set, if◌then◌else◌, eq-eqb, arith}
+use Rattle.std.proofs.Common.{◌≡◌, refl, ap, ◌∙◌, ℕ, ◌+◌, ◌-◌, ◌<◌, Bool, true, not, ◌&&◌, ◌==◌, List, ◌∷◌, Option, Some, slice_set, if◌then◌else◌, eq-eqb}
+use Rattle.std.proofs.Common.{arith}
 use Rattle.std.proofs.lemmas.Bool.{and_from}
 use Rattle.basics.proofs.Booleans.{and_both}
 use Rattle.refutation_tree.specs.Shapes.{Shape, Kids, no_kids, tree_kid, twin_kid, joined, nodes_of, nodes_of_kids}
@@ -15,17 +16,21 @@ use Rattle.wsp_solver.specs.Trims.{kid_users}
 
 -- ---- users
 
-pub users_push : (test : ℕ → Bool) (u n : ℕ) (front : Kids) (t : Shape) → u < n → test u ≡ true → AreOfUsersBelow test u n front → AreOfUsersBelow test (u + 1) n (joined front (tree_kid u t no_kids))
+pub users_push : (test : ℕ → Bool) (u n : ℕ) (front : Kids) (t : Shape) → u < n → test u ≡ true → AreOfUsersBelow test u n front →
+    AreOfUsersBelow test (u + 1) n (joined front (tree_kid u t no_kids))
 users_push test u n front t below passes so_far rest have =
     let take = passing_at test u n below ∙ ap (λ b. if b then u ∷ passing test (u + 1) (n - (u + 1)) else passing test (u + 1) (n - (u + 1))) passes in
     ap (have_users (passing test 0 n)) (joined-assoc front (tree_kid u t no_kids) rest)
-    ∙ so_far (tree_kid u t rest) (ap (λ us. have_users us (tree_kid u t rest)) take ∙ and_from (u == u) (have_users (passing test (u + 1) (n - (u + 1))) rest) (eq-eqb u u refl) have)
+    ∙ so_far (tree_kid u t rest) (ap (λ us. have_users us (tree_kid u t rest)) take ∙
+    and_from (u == u) (have_users (passing test (u + 1) (n - (u + 1))) rest) (eq-eqb u u refl) have)
 
-pub users_push_twin : (test : ℕ → Bool) (u v n : ℕ) (front : Kids) → u < n → test u ≡ true → AreOfUsersBelow test u n front → AreOfUsersBelow test (u + 1) n (joined front (twin_kid u v no_kids))
+pub users_push_twin : (test : ℕ → Bool) (u v n : ℕ) (front : Kids) → u < n → test u ≡ true → AreOfUsersBelow test u n front →
+    AreOfUsersBelow test (u + 1) n (joined front (twin_kid u v no_kids))
 users_push_twin test u v n front below passes so_far rest have =
     let take = passing_at test u n below ∙ ap (λ b. if b then u ∷ passing test (u + 1) (n - (u + 1)) else passing test (u + 1) (n - (u + 1))) passes in
     ap (have_users (passing test 0 n)) (joined-assoc front (twin_kid u v no_kids) rest)
-    ∙ so_far (twin_kid u v rest) (ap (λ us. have_users us (twin_kid u v rest)) take ∙ and_from (u == u) (have_users (passing test (u + 1) (n - (u + 1))) rest) (eq-eqb u u refl) have)
+    ∙ so_far (twin_kid u v rest) (ap (λ us. have_users us (twin_kid u v rest)) take ∙
+    and_from (u == u) (have_users (passing test (u + 1) (n - (u + 1))) rest) (eq-eqb u u refl) have)
 
 pub below_push : (n u : ℕ) (t : Shape) (front : Kids) → u < n → AreUsersBelow n front → AreUsersBelow n (joined front (tree_kid u t no_kids))
 below_push n u t no_kids known h = (known, h)
@@ -49,23 +54,31 @@ tree_users_push_twin u v (twin_kid x w front) users = tree_users_push_twin u v f
 
 -- ---- refuting
 
-pub refute_push : (p : Problem) (a : List (Option ℕ)) (done : List Bool) (s u : ℕ) (t : Shape) (front : Kids) (earlier : List ℕ) → all_refute p a done s earlier front ≡ true → refutes p (slice_set a s (Some u)) done t ≡ true → all_refute p a done s earlier (joined front (tree_kid u t no_kids)) ≡ true
+pub refute_push : (p : Problem) (a : List (Option ℕ)) (done : List Bool) (s u : ℕ) (t : Shape) (front : Kids) (earlier : List ℕ) → all_refute p a done s
+    earlier front ≡ true → refutes p (slice_set a s (Some u)) done t ≡ true → all_refute p a done s earlier (joined front (tree_kid u t no_kids)) ≡ true
 refute_push p a done s u t no_kids earlier so_far here = and_from (refutes p (slice_set a s (Some u)) done t) true here refl
 refute_push p a done s u t (tree_kid v w front) earlier so_far here =
     let both = and_both (refutes p (slice_set a s (Some v)) done w) (all_refute p a done s (v ∷ earlier) front) so_far in
-    and_from (refutes p (slice_set a s (Some v)) done w) (all_refute p a done s (v ∷ earlier) (joined front (tree_kid u t no_kids))) both.0 (refute_push p a done s u t front (v ∷ earlier) both.1 here)
+    and_from (refutes p (slice_set a s (Some v)) done w) (all_refute p a done s (v ∷ earlier) (joined front (tree_kid u t no_kids))) both.0
+    (refute_push p a done s u t front (v ∷ earlier) both.1 here)
 refute_push p a done s u t (twin_kid v w front) earlier so_far here =
     let both = and_both (is_one_of earlier w && are_twins p a v w) (all_refute p a done s earlier front) so_far in
-    and_from (is_one_of earlier w && are_twins p a v w) (all_refute p a done s earlier (joined front (tree_kid u t no_kids))) both.0 (refute_push p a done s u t front earlier both.1 here)
+    and_from (is_one_of earlier w && are_twins p a v w) (all_refute p a done s earlier (joined front (tree_kid u t no_kids))) both.0
+    (refute_push p a done s u t front earlier both.1 here)
 
-pub refute_push_twin : (p : Problem) (a : List (Option ℕ)) (done : List Bool) (s u v : ℕ) (front : Kids) (earlier : List ℕ) → all_refute p a done s earlier front ≡ true → is_one_of (kid_users earlier front) v ≡ true → are_twins p a u v ≡ true → all_refute p a done s earlier (joined front (twin_kid u v no_kids)) ≡ true
-refute_push_twin p a done s u v no_kids earlier so_far among twins = and_from (is_one_of earlier v && are_twins p a u v) true (and_from (is_one_of earlier v) (are_twins p a u v) among twins) refl
+pub refute_push_twin : (p : Problem) (a : List (Option ℕ)) (done : List Bool) (s u v : ℕ) (front : Kids) (earlier : List ℕ) →
+    all_refute p a done s earlier front ≡ true → is_one_of (kid_users earlier front) v ≡ true → are_twins p a u v ≡ true →
+    all_refute p a done s earlier (joined front (twin_kid u v no_kids)) ≡ true
+refute_push_twin p a done s u v no_kids earlier so_far among twins =
+    and_from (is_one_of earlier v && are_twins p a u v) true (and_from (is_one_of earlier v) (are_twins p a u v) among twins) refl
 refute_push_twin p a done s u v (tree_kid x w front) earlier so_far among twins =
     let both = and_both (refutes p (slice_set a s (Some x)) done w) (all_refute p a done s (x ∷ earlier) front) so_far in
-    and_from (refutes p (slice_set a s (Some x)) done w) (all_refute p a done s (x ∷ earlier) (joined front (twin_kid u v no_kids))) both.0 (refute_push_twin p a done s u v front (x ∷ earlier) both.1 among twins)
+    and_from (refutes p (slice_set a s (Some x)) done w) (all_refute p a done s (x ∷ earlier) (joined front (twin_kid u v no_kids))) both.0
+    (refute_push_twin p a done s u v front (x ∷ earlier) both.1 among twins)
 refute_push_twin p a done s u v (twin_kid x w front) earlier so_far among twins =
     let both = and_both (is_one_of earlier w && are_twins p a x w) (all_refute p a done s earlier front) so_far in
-    and_from (is_one_of earlier w && are_twins p a x w) (all_refute p a done s earlier (joined front (twin_kid u v no_kids))) both.0 (refute_push_twin p a done s u v front earlier both.1 among twins)
+    and_from (is_one_of earlier w && are_twins p a x w) (all_refute p a done s earlier (joined front (twin_kid u v no_kids))) both.0
+    (refute_push_twin p a done s u v front earlier both.1 among twins)
 
 -- ---- lean
 
@@ -73,18 +86,22 @@ refute_push_twin p a done s u v (twin_kid x w front) earlier so_far among twins 
 abbrev pub is_lean_branch : Problem → List (Option ℕ) → ℕ → List ℕ → ℕ → Shape → Bool
 is_lean_branch p a s users u t = is_lean p (slice_set a s (Some u)) t && (mentions p.rules s t && not (has_twin p a u users))
 
-pub lean_push : (p : Problem) (a : List (Option ℕ)) (s u : ℕ) (t : Shape) (front : Kids) (earlier : List ℕ) → are_lean p a s earlier front ≡ true → is_lean_branch p a s (kid_users earlier front) u t ≡ true → are_lean p a s earlier (joined front (tree_kid u t no_kids)) ≡ true
+pub lean_push : (p : Problem) (a : List (Option ℕ)) (s u : ℕ) (t : Shape) (front : Kids) (earlier : List ℕ) → are_lean p a s earlier front ≡ true →
+    is_lean_branch p a s (kid_users earlier front) u t ≡ true → are_lean p a s earlier (joined front (tree_kid u t no_kids)) ≡ true
 lean_push p a s u t no_kids earlier so_far here = and_from (is_lean_branch p a s earlier u t) true here refl
 lean_push p a s u t (tree_kid v w front) earlier so_far here =
     let both = and_both (is_lean_branch p a s earlier v w) (are_lean p a s (v ∷ earlier) front) so_far in
-    and_from (is_lean_branch p a s earlier v w) (are_lean p a s (v ∷ earlier) (joined front (tree_kid u t no_kids))) both.0 (lean_push p a s u t front (v ∷ earlier) both.1 here)
+    and_from (is_lean_branch p a s earlier v w) (are_lean p a s (v ∷ earlier) (joined front (tree_kid u t no_kids))) both.0
+    (lean_push p a s u t front (v ∷ earlier) both.1 here)
 lean_push p a s u t (twin_kid v w front) earlier so_far here = lean_push p a s u t front earlier so_far here
 
-pub lean_push_twin : (p : Problem) (a : List (Option ℕ)) (s u v : ℕ) (front : Kids) (earlier : List ℕ) → are_lean p a s earlier front ≡ true → are_lean p a s earlier (joined front (twin_kid u v no_kids)) ≡ true
+pub lean_push_twin : (p : Problem) (a : List (Option ℕ)) (s u v : ℕ) (front : Kids) (earlier : List ℕ) → are_lean p a s earlier front ≡ true →
+    are_lean p a s earlier (joined front (twin_kid u v no_kids)) ≡ true
 lean_push_twin p a s u v no_kids earlier so_far = refl
 lean_push_twin p a s u v (tree_kid x w front) earlier so_far =
     let both = and_both (is_lean_branch p a s earlier x w) (are_lean p a s (x ∷ earlier) front) so_far in
-    and_from (is_lean_branch p a s earlier x w) (are_lean p a s (x ∷ earlier) (joined front (twin_kid u v no_kids))) both.0 (lean_push_twin p a s u v front (x ∷ earlier) both.1)
+    and_from (is_lean_branch p a s earlier x w) (are_lean p a s (x ∷ earlier) (joined front (twin_kid u v no_kids))) both.0
+    (lean_push_twin p a s u v front (x ∷ earlier) both.1)
 lean_push_twin p a s u v (twin_kid x w front) earlier so_far = lean_push_twin p a s u v front earlier so_far
 
 -- ---- leaves and nodes

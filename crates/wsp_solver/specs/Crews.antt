@@ -1,5 +1,6 @@
 -- Inside: what a search knows of each user.
-use Rattle.std.specs.Prelude.{◌≡◌, ℕ, ◌<◌, ◌≤◌, ◌+◌, Bool, true, false, not, ◌&&◌, ◌||◌, ◌==◌, nat_lt, List, [], length, Option, None, Some, slice_index_or}
+use Rattle.std.specs.Prelude.{◌≡◌, ℕ, ◌<◌, ◌≤◌, ◌+◌, Bool, true, false, not, ◌&&◌, ◌||◌, ◌==◌}
+use Rattle.std.specs.Prelude.{nat_lt, List, [], length, Option, None, Some, slice_index_or}
 use Rattle.wf_names.specs.declared.limits.TheConstants.{STEP_LIMIT}
 use Rattle.constraint_forms.specs.declared.rule.Rule.{Rule}
 use Rattle.constraint_forms.specs.Assigned.{no_steps}
@@ -28,7 +29,8 @@ abbrev pub has_steps : List (List Bool) → List Bool → ℕ → Bool
 has_steps duties steps u = word_of (duties_of duties u) == word_of steps
 
 -- the first user from one on and below a number who has certain steps in a table
-pub record IsNextWith (duties : List (List Bool)) (steps : List Bool) (from end v : ℕ) : Type 0 where
+pub record IsNextWith (duties : List (List Bool)) (steps : List Bool) (from end v : ℕ) : Type
+    0 where
   pub within : v < end
   pub from_on : from ≤ v
   pub has : has_steps duties steps v ≡ true
@@ -62,7 +64,8 @@ tells_apart holds u v w = not ((w == u || w == v) || is_alike_to holds u v w)
 -- there is a rule, and some relation that it reads treats two users differently at a third one
 abbrev pub is_told_apart : Problem → ℕ → ℕ → ℕ → Option Rule → Bool
 is_told_apart p u v w None = false
-is_told_apart p u v w (Some rule) = nat_lt w p.users && any_read rule (λ rho. tells_apart (p.related rho) u v w)
+is_told_apart p u v w (Some rule) = nat_lt w p.users &&
+    any_read rule (λ rho. tells_apart (p.related rho) u v w)
 
 -- there are two rules, and the second reads no relation but those that the first reads
 abbrev pub reads_as : Option Rule → Option Rule → Bool

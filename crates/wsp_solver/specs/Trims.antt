@@ -10,13 +10,15 @@ use Rattle.wsp_solver.specs.declared.leaf.Refutation.{Refutation}
 use Rattle.wsp_solver.specs.Searches.{AreMentioned}
 
 -- a tree refutes and is lean, and has at most as many leaves and nodes as another
-pub record IsTrimmed (p : Problem) (assigned : List (Option ℕ)) (finished : List Bool) (old : Shape) (tree : Tree) : Type 0 where
+pub record IsTrimmed (p : Problem) (assigned : List (Option ℕ)) (finished : List Bool)
+    (old : Shape) (tree : Tree) : Type 0 where
   pub refutes : IsTrue (refutes p assigned finished (shape_of tree))
   pub lean : IsTrue (is_lean p assigned (shape_of tree))
   pub few : nodes_of (shape_of tree) ≤ nodes_of old
 
 -- the same, and the set beside the tree has the steps that it mentions
-pub record IsTrimming (p : Problem) (assigned : List (Option ℕ)) (finished : List Bool) (old : Shape) (r : Refutation) : Type 0 where
+pub record IsTrimming (p : Problem) (assigned : List (Option ℕ)) (finished : List Bool)
+    (old : Shape) (r : Refutation) : Type 0 where
   pub tree : IsTrimmed p assigned finished old r.tree
   pub steps : AreMentioned p.rules (shape_of r.tree) r.steps
 

@@ -1,10 +1,14 @@
-//! What a search knows of each user: the steps for which the user is authorised, and the first twin,
-//! so that users with one first twin are twins wherever neither has a step.
-ghost use Rattle.std.specs.Prelude.{◌≡◌, ◌<◌, ◌≤◌, ◌||◌, ◌==◌, ℕ, [], None, Some, length, replicate, slice_get, false, IfOk, IsTrue, MatchOption};
+//! What a search knows of each user: the steps for which the user is authorised, and the first
+//! twin, so that users with one first twin are twins wherever neither has a step.
+ghost use Rattle.std.specs.Prelude.{◌≡◌, ◌<◌, ◌≤◌, ◌||◌, ◌==◌, ℕ, [], None, Some, length};
+ghost use Rattle.std.specs.Prelude.{replicate, slice_get, false, IfOk, IsTrue, MatchOption};
 ghost use Rattle.policy_book.specs.Policies.{problem_of};
 ghost use Rattle.constraint_forms.specs.Rules.{all_read, any_read, reads};
-ghost use Rattle.policy_book.specs.Twins.{agree, all_below, are_related_alike, are_twins, is_alike_to, is_rule_alike, treats_alike};
-ghost use Rattle.wsp_solver.specs.Crews.{AreDuties, AreFirstTwins, IsCrewOf, IsFirstTwin, IsNextWith, class_in, duties_below, duties_of, has_steps, is_told_apart, reads_as, tells_apart};
+ghost use Rattle.policy_book.specs.Twins.{agree, all_below, are_related_alike, are_twins};
+ghost use Rattle.policy_book.specs.Twins.{is_alike_to, is_rule_alike, treats_alike};
+ghost use Rattle.wsp_solver.specs.Crews.{AreDuties, AreFirstTwins, IsCrewOf, IsFirstTwin};
+ghost use Rattle.wsp_solver.specs.Crews.{IsNextWith, class_in, duties_below, duties_of, has_steps};
+ghost use Rattle.wsp_solver.specs.Crews.{is_told_apart, reads_as, tells_apart};
 ghost use Rattle.wsp_solver.specs.Searches.{AreNamed};
 
 use crate::leaf::steps_of_rule;

@@ -9,8 +9,8 @@ use policy_book::{Assign, Plan, Policy, StepSet};
 use std::alloc::{AllocError, Global};
 use wf_names::FlowId;
 
-/// A valid plan, where one more run of the plan finder finds one. Where it finds none, there may be one
-/// all the same.
+/// A valid plan, where one more run of the plan finder finds one. Where it finds none, there may be
+/// one all the same.
 pub(crate) fn found(
     alloc: Global,
     p: &Policy,

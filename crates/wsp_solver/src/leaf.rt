@@ -1,5 +1,6 @@
 //! Leaves that refute.
-ghost use Rattle.std.specs.Prelude.{◌≡◌, ◌<◌, ◌≤◌, ◌&&◌, ℕ, List, length, slice_get, Some, false, IfSome, IsTrue, MatchOption};
+ghost use Rattle.std.specs.Prelude.{◌≡◌, ◌<◌, ◌≤◌, ◌&&◌, ℕ, List, length, slice_get, Some, false};
+ghost use Rattle.std.specs.Prelude.{IfSome, IsTrue, MatchOption};
 ghost use Rattle.wf_names.specs.declared.limits.TheConstants.{STEP_LIMIT};
 ghost use Rattle.constraint_forms.specs.declared.rule.Rule.{Rule as AnyRule};
 ghost use Rattle.refutation_tree.specs.Shapes.{holder, rule};
@@ -9,7 +10,8 @@ ghost use Rattle.policy_book.specs.Policies.{problem_of};
 ghost use Rattle.policy_book.specs.Refuting.{is_rule_naming, refutes};
 ghost use Rattle.policy_book.specs.Lean.{is_lean};
 ghost use Rattle.wsp_solver.specs.Crews.{IsCrewOf};
-ghost use Rattle.wsp_solver.specs.Searches.{AreMentioned, AreNamed, IsRefutation, NoLeafRefutes, NoLeafRefutesWithout};
+ghost use Rattle.wsp_solver.specs.Searches.{AreMentioned, AreNamed, IsRefutation, NoLeafRefutes};
+ghost use Rattle.wsp_solver.specs.Searches.{NoLeafRefutesWithout};
 
 use crate::crew::Crew;
 use crate::steps::{steps_named, with_if};

@@ -5,7 +5,8 @@ ghost use Rattle.refutation_tree.specs.Shapes.{node};
 ghost use Rattle.refutation_tree.specs.Views.{kids_of_items, shape_of};
 ghost use Rattle.policy_book.specs.Plans.{IsWithin};
 ghost use Rattle.policy_book.specs.Policies.{problem_of};
-ghost use Rattle.policy_book.specs.Refuting.{all_refute, authorised_users, have_users, is_unassigned, refutes};
+ghost use Rattle.policy_book.specs.Refuting.{all_refute, authorised_users, have_users};
+ghost use Rattle.policy_book.specs.Refuting.{is_unassigned, refutes};
 ghost use Rattle.wsp_solver.specs.Crews.{IsCrewOf};
 ghost use Rattle.wsp_solver.specs.Trims.{IsTrimmed, IsTrimming};
 
@@ -19,8 +20,9 @@ use refutation_tree::{Branch, Branches, Kid, Tree};
 use std::alloc::{AllocError, Global};
 use wf_names::{FlowId, STEP_LIMIT, StepId, UserId};
 
-/// A lean tree made of one that refutes: it has leaves for twins of earlier users, and no node whose
-/// step its branches do not mention. Where memory is wanted, the tree that was handed in is lost.
+/// A lean tree made of one that refutes: it has leaves for twins of earlier users, and no node
+/// whose step its branches do not mention. Where memory is wanted, the tree that was handed in is
+/// lost.
 pub fn trim(
     alloc: Global,
     p: &Policy,
@@ -72,8 +74,8 @@ pub(crate) fn trim_tree(
 }
 
 // Each branch becomes the leaf of a twin where it can, and else its tree is trimmed. A trimmed tree
-// that does not mention the step takes the node's place, and is trimmed again: without the step given
-// more users may be twins.
+// that does not mention the step takes the node's place, and is trimmed again: without the step
+// given more users may be twins.
 #[cycle(trim)]
 fn trim_node(
     alloc: Global,

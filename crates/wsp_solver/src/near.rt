@@ -10,9 +10,9 @@ use constraint_forms::{Rule, falsified};
 use policy_book::{Assign, Plan, Policy, StepSet};
 use wf_names::{FlowId, STEP_LIMIT, StepId, UserId};
 
-/// A valid plan near another plan: what is assigned stands in it, and while it is not valid, one step
-/// that is not assigned is given to another user, as many times as a workflow may have steps at most.
-/// Where there is none, there may be a valid plan all the same. Takes no memory.
+/// A valid plan near another plan: what is assigned stands in it, and while it is not valid, one
+/// step that is not assigned is given to another user, as many times as a workflow may have steps
+/// at most. Where there is none, there may be a valid plan all the same. Takes no memory.
 pub fn plan_near(p: &Policy, f: FlowId, a: &Assign, done: &StepSet, plan: &Plan) -> Option<Plan>
     requires flow { f < length p.now.flows }
     requires within { IsWithin (problem_of p.now f) a.now }

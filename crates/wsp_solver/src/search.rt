@@ -5,7 +5,8 @@ ghost use Rattle.policy_book.specs.Plans.{AreAssigned, IsWithin};
 ghost use Rattle.policy_book.specs.Policies.{problem_of};
 ghost use Rattle.policy_book.specs.Refuting.{is_unassigned};
 ghost use Rattle.wsp_solver.specs.Crews.{IsCrewOf};
-ghost use Rattle.wsp_solver.specs.Searches.{HasDecided, HasRoom, HasSolved, HasSearched, NoLeafRefutes, NoLeafRefutesWithout};
+ghost use Rattle.wsp_solver.specs.Searches.{HasDecided, HasRoom, HasSolved, HasSearched};
+ghost use Rattle.wsp_solver.specs.Searches.{NoLeafRefutes, NoLeafRefutesWithout};
 
 use crate::crew::{Crew, know_class};
 use crate::found::found;
@@ -131,8 +132,8 @@ fn decided(
     }
 }
 
-// A search for a tree and one for a plan, in turns that go further and further, so that a small tree is
-// found where there is one, and a plan soon.
+// A search for a tree and one for a plan, in turns that go further and further, so that a small
+// tree is found where there is one, and a plan soon.
 fn search(
     alloc: Global,
     p: &Policy,
@@ -197,8 +198,8 @@ fn decide(
 }
 
 // Gives a free step to each user who is authorised for it, one after the other, until one of them
-// leads to a plan. A twin of a user who was tried is not tried. A tree that does not mention the step
-// refutes without it, so that nobody else needs to be tried.
+// leads to a plan. A twin of a user who was tried is not tried. A tree that does not mention the
+// step refutes without it, so that nobody else needs to be tried.
 #[cycle(search)]
 fn try_users(
     alloc: Global,

@@ -1,5 +1,6 @@
 //! Steps and sets of steps.
-ghost use Rattle.std.specs.Prelude.{◌≡◌, ◌<◌, ◌≤◌, length, ◌||◌, ◌&&◌, ◌==◌, ℕ, nat_lt, true, slice_set, if◌then◌else◌};
+ghost use Rattle.std.specs.Prelude.{◌≡◌, ◌<◌, ◌≤◌, length, ◌||◌, ◌&&◌, ◌==◌, ℕ, nat_lt, true};
+ghost use Rattle.std.specs.Prelude.{slice_set, if◌then◌else◌};
 ghost use Rattle.constraint_forms.specs.Assigned.{is_member};
 ghost use Rattle.constraint_forms.specs.Rules.{names};
 ghost use Rattle.policy_book.specs.Policies.{problem_of};

@@ -7,7 +7,8 @@ use Rattle.pair_set.specs.PairLaws.{pair_cmp_total}
 use Rattle.pair_set.proofs.Ascending.{searchable}
 use Rattle.pair_set.proofs.place_of.Goals as goal
 
-gap_from_search : (pairs : List (ℕ × ℕ)) (pair : ℕ × ℕ) (r : Result ℕ ℕ) → IsAscending pairs → IsSearchInRange r (Rattle.std.specs.Prelude.length pairs) → IsBinarySearchResult (λ y. pair_cmp y pair) pairs r → IfErr r (IsGapFor pairs pair)
+gap_from_search : (pairs : List (ℕ × ℕ)) (pair : ℕ × ℕ) (r : Result ℕ ℕ) → IsAscending pairs → IsSearchInRange r (Rattle.std.specs.Prelude.length pairs) →
+    IsBinarySearchResult (λ y. pair_cmp y pair) pairs r → IfErr r (IsGapFor pairs pair)
 gap_from_search pairs pair (Ok i) s bound position = tt
 gap_from_search pairs pair (Err i) s bound position =
     let sides = position (searchable pair_cmp_total pairs pair s) in

@@ -7,7 +7,8 @@ use Rattle.audit_command.specs.Auditing.{AreShort, IsAudited}
 use Rattle.audit_command.proofs.Legal.{next_of}
 use Rattle.audit_command.proofs.laws.legal_is_next.Goals as goal
 
-audited_of : (a : AuditShape) (lines : List (List ℕ)) (es : List Entry) → AreShort lines → AreNext a lines es → length a.entries + length es ≡ length a.jobs → IsAudited a lines Legal
+audited_of : (a : AuditShape) (lines : List (List ℕ)) (es : List Entry) → AreShort lines → AreNext a lines es →
+    length a.entries + length es ≡ length a.jobs → IsAudited a lines Legal
 audited_of a [] [] short next size = omega (arith, size)
 audited_of a [] (e ∷ es) short next size = absurd next
 audited_of a (line ∷ lines) [] short next size = absurd next

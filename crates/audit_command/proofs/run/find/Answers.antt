@@ -8,14 +8,16 @@ use Rattle.audit_command.proofs.Runs.{unread_after}
 use Rattle.audit_command.proofs.run.find.Goals as goal
 
 pub returns-in_err-p-clause-input : goal.returns-in_err-p-clause-input
-returns-in_err-p-clause-input g c = unread_after c.from_residual.result c.in_err-p.field-0.0 (g.S.Source.left c.args.source.now) c.from_residual.ensures.1 c.in_err-p.ensures.ending
+returns-in_err-p-clause-input g c =
+    unread_after c.from_residual.result c.in_err-p.field-0.0 (g.S.Source.left c.args.source.now) c.from_residual.ensures.1 c.in_err-p.ensures.ending
 
 pub returns-in_err-p-clause-finds : goal.returns-in_err-p-clause-finds
 returns-in_err-p-clause-finds g c =
     no_policy
     (AuditsPolicy (record { requests = g.F.Shelf.file c.args.shelf.now c.args.requests.now; lanes = c.args.lanes; rounds = c.args.rounds })
     (record { before = g.S.Source.left c.args.source.now; after = g.S.Source.left c.args.source.now }))
-    (g.F.Shelf.file c.args.shelf.now c.args.policy.now) c.from_residual.result c.in_err-p.field-0.0 c.from_residual.ensures.1 c.in_err-p.ensures.policy c.in_err-p.ensures.ending
+    (g.F.Shelf.file c.args.shelf.now c.args.policy.now) c.from_residual.result c.in_err-p.field-0.0 c.from_residual.ensures.1 c.in_err-p.ensures.policy
+    c.in_err-p.ensures.ending
 
 pub returns-clause-finds : goal.returns-clause-finds
 returns-clause-finds g c =

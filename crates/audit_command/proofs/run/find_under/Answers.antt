@@ -24,8 +24,10 @@ returns-in_err-auditor-clause-input g c =
 
 pub returns-clause-finds : goal.returns-clause-finds
 returns-clause-finds g c =
-    finds_under c.legal_is_exact.ensures c.args.policy (record { requests = g.F.Shelf.file c.args.shelf.now c.args.requests.now; lanes = c.args.lanes; rounds = c.args.rounds })
-    (record { before = g.S.Source.left c.args.source.now; after = g.S.Source.left c.audit_input.new.source }) c.in_ok-batch.batch c.audit_input.result c.in_ok-batch.ensures.jobs c.know_session.ensures
+    finds_under c.legal_is_exact.ensures c.args.policy
+    (record { requests = g.F.Shelf.file c.args.shelf.now c.args.requests.now; lanes = c.args.lanes; rounds = c.args.rounds })
+    (record { before = g.S.Source.left c.args.source.now; after = g.S.Source.left c.audit_input.new.source }) c.in_ok-batch.batch c.audit_input.result
+    c.in_ok-batch.ensures.jobs c.know_session.ensures
     (subst (λ (a : AuditShape). IfOk c.audit_input.result (λ f. HasFound a f (g.S.Source.left c.args.source.now) (g.S.Source.left c.audit_input.new.source)))
     c.in_ok-auditor.ensures c.audit_input.ensures.found)
     c.audit_input.ensures.ending

@@ -7,5 +7,6 @@ use Rattle.case_page.proofs.escape.push_escaped.Goals as goal
 
 pub returns : goal.returns
 returns c =
-    let end = YieldsList-end (YieldsList-from_chars c.args.value.now c.utf8.value cc) c.chars.yielded _ c.chars.yielded_by _ _ c.in-None.is c.next.ensures.steps in
+    let end = YieldsList-end (YieldsList-from_chars c.args.value.now c.utf8.value cc) c.chars.yielded _ c.chars.yielded_by _ _ c.in-None.is
+    c.next.ensures.steps in
     c.chars.invariant ∙ ap (λ l. string_bytes c.args.out.now ++ flat_map escape l) (sym (map-id c.chars.yielded) ∙ end.0)

@@ -6,7 +6,8 @@ use Rattle.case_record.specs.Cases.{state_at}
 use Rattle.basics.proofs.Booleans.{differ}
 use Rattle.case_record.proofs.Missing.{passed_over, one_more}
 use Rattle.case_record.proofs.order.first_unfinished.Goals as goal
-use Rattle.case_record.proofs.order.first_unfinished.Goals.{else-not-is_finished-via-then-not-is_finished+else-before, else-not-is_finished-via-else-not-is_finished}
+use Rattle.case_record.proofs.order.first_unfinished.Goals.{else-not-is_finished-via-then-not-is_finished+else-before}
+use Rattle.case_record.proofs.order.first_unfinished.Goals.{else-not-is_finished-via-else-not-is_finished}
 
 pub steps-preserved : goal.steps-preserved
 steps-preserved c =
@@ -23,7 +24,8 @@ steps-preserved c =
             passed = one_more P t c.steps.invariant.passed (λ h. absurd (differ _ (w.before-then-not-is_finished.ensures.chain.1 h) w.if-before.false));
           }
       | else-not-is_finished-via-else-not-is_finished w ↦
-          let finished : is_finished (slice_index_or states t Free) ≡ true = ap is_finished (sym c.state.ensures) ∙ sym c.is_finished.ensures ∙ w.if-not-is_finished.false in
+          let finished : is_finished (slice_index_or states t Free) ≡ true = ap is_finished (sym c.state.ensures) ∙ sym c.is_finished.ensures ∙
+          w.if-not-is_finished.false in
           record {
             left = passed_over order s t states _ within (inr finished) c.steps.invariant.left;
             passed = one_more P t c.steps.invariant.passed (λ _. finished);

@@ -11,9 +11,11 @@ steps-preserved c = record {
   written = elim c.match-user.branch [
     | in-Some w ↦
         written_more user_of c.args.cells.now c.empty-users.result _ _ c.steps.s _ c.index-cells-s.result _
-        c.steps-test.true c.steps.invariant.len (omega (arith, c.requires)) c.index-cells-s.is (sym w.in-Some.is ∙ c.user.ensures) c.steps.invariant.written (w.users-is ∙ w.with-users.ensures.given)
+        c.steps-test.true c.steps.invariant.len (omega (arith, c.requires)) c.index-cells-s.is (sym w.in-Some.is ∙ c.user.ensures) c.steps.invariant.written
+        (w.users-is ∙ w.with-users.ensures.given)
     | in-None w ↦
         there_more user_of c.args.cells.now c.empty-users.result _ _ c.steps.s c.index-cells-s.result None
-        c.steps-test.true c.steps.invariant.len c.index-cells-s.is (c.steps.invariant.none c.steps.s ∙ sym w.in-None.is ∙ c.user.ensures) c.steps.invariant.written w.users-is
+        c.steps-test.true c.steps.invariant.len c.index-cells-s.is (c.steps.invariant.none c.steps.s ∙ sym w.in-None.is ∙ c.user.ensures)
+        c.steps.invariant.written w.users-is
   ];
 }

@@ -27,7 +27,8 @@ returns-in_ok-see-in-Ok-clause-steps g c first h =
       line = c.first_len-count.ensures.line;
       behind = c.first_len-count.ensures.behind;
     } in
-    one_more first c.args.auditor.now c.line.new.self text rest c.args.place.now after count r (sym c.is_long.ensures ∙ c.if-is_long.false) c.in-Ok.ensures.taken refl refl h
+    one_more first c.args.auditor.now c.line.new.self text rest c.args.place.now after count r (sym c.is_long.ensures ∙ c.if-is_long.false)
+    c.in-Ok.ensures.taken refl refl h
 
 pub returns-in-Err-At-clause-steps : goal.returns-in-Err-At-clause-steps
 returns-in-Err-At-clause-steps g c first h =
@@ -42,5 +43,6 @@ returns-in-Err-At-clause-steps g c first h =
       behind = c.first_len-count.ensures.behind;
     } in
     subst (λ k. StopsTo first c.line.new.self text (Fault c.args.place.now.number k)) (sym c.in-Err-At.kind-is)
-    (wrong_line first c.args.auditor.now c.line.new.self text rest c.args.place.now count _ c.in-Err-At.kind r (sym c.is_long.ensures ∙ c.if-is_long.false) c.requires.at.going
+    (wrong_line first c.args.auditor.now c.line.new.self text rest c.args.place.now count _ c.in-Err-At.kind r (sym c.is_long.ensures ∙ c.if-is_long.false)
+    c.requires.at.going
     (subst (λ e. HasTakenLine c.args.auditor.now c.line.new.self (take count rest) (Err e)) c.in-Err-At.field-0-is c.in-Err-At.ensures.taken) h)

@@ -6,7 +6,8 @@ use Rattle.case_story.proofs.follow.follow_rest.Goals as goal
 
 pub returns-in-Some-clause-stops : goal.returns-in-Some-clause-stops
 returns-in-Some-clause-stops g c first h =
-    stepped first c.follow_to.new.auditor c.args.text.now c.follow_to.new.place c.in_ok-verdict.field-0 c.in-Some.verdict c.in-Some.is (c.in_ok-verdict.ensures.steps first h)
+    stepped first c.follow_to.new.auditor c.args.text.now c.follow_to.new.place c.in_ok-verdict.field-0 c.in-Some.verdict c.in-Some.is
+    (c.in_ok-verdict.ensures.steps first h)
 
 pub returns-in-None-clause-stops : goal.returns-in-None-clause-stops
 returns-in-None-clause-stops g c first h =
@@ -16,5 +17,6 @@ returns-in-None-clause-stops g c first h =
     let within = there.within in
     let short = c.requires.short in
     let below : c.follow_to.new.place.number < 4294967295 = omega (arith, few, within, short) in
-    at_end first c.follow_to.new.auditor c.args.text.now c.follow_to.new.place c.find_end.result (c.in_ok-verdict.ensures.all (ap Ok none) below) c.find_end.ensures.ends
+    at_end first c.follow_to.new.auditor c.args.text.now c.follow_to.new.place c.find_end.result (c.in_ok-verdict.ensures.all (ap Ok none) below)
+    c.find_end.ensures.ends
     (walked first c.follow_to.new.auditor c.args.text.now c.follow_to.new.place c.in_ok-verdict.field-0 none (c.in_ok-verdict.ensures.steps first h))

@@ -6,7 +6,8 @@ use Rattle.case_story.proofs.run.find.Goals as goal
 pub returns-in_err-s-clause-finds : goal.returns-in_err-s-clause-finds
 returns-in_err-s-clause-finds g c =
     let n : Names = record { policy = c.args.policy.now; requests = c.args.requests.now; transcript = c.args.transcript.now } in
-    found_none (g.F.Shelf.file c.args.shelf.now) n c.args.lanes c.args.rounds (Tells c.args.what) c.from_residual.result c.in_err-s.field-0.0 c.from_residual.ensures.1 c.in_err-s.ensures.ending c.in_err-s.ensures.gives
+    found_none (g.F.Shelf.file c.args.shelf.now) n c.args.lanes c.args.rounds (Tells c.args.what) c.from_residual.result c.in_err-s.field-0.0
+    c.from_residual.ensures.1 c.in_err-s.ensures.ending c.in_err-s.ensures.gives
 
 pub returns-clause-finds : goal.returns-clause-finds
 returns-clause-finds g c =

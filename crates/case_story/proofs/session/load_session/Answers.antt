@@ -14,14 +14,16 @@ returns-in_err-requests-clause-gives g c =
       c.in_ok-policy.policy,
       (
         c.in_ok-policy.ensures.policy,
-        inl (subst (λ f. GivesBytes REQUESTS_FILE_LIMIT f (Err c.in_err-requests.field-0.0)) (c.in_ok-policy.ensures.kept c.args.requests.now) c.in_err-requests.ensures.bytes),
+        inl (subst (λ f. GivesBytes REQUESTS_FILE_LIMIT f (Err c.in_err-requests.field-0.0)) (c.in_ok-policy.ensures.kept c.args.requests.now)
+            c.in_err-requests.ensures.bytes),
       ),
     ))
 
 pub returns-in_err-transcript-clause-gives : goal.returns-in_err-transcript-clause-gives
 returns-in_err-transcript-clause-gives g c =
     let n : Names = record { policy = c.args.policy.now; requests = c.args.requests.now; transcript = c.args.transcript.now } in
-    not_given (g.F.Shelf.file c.args.shelf.now) n c.from_residual-in_err-transcript.result c.in_err-transcript.field-0.0 c.from_residual-in_err-transcript.ensures.1
+    not_given (g.F.Shelf.file c.args.shelf.now) n c.from_residual-in_err-transcript.result c.in_err-transcript.field-0.0
+    c.from_residual-in_err-transcript.ensures.1
     (inr (
       c.in_ok-policy.policy,
       (
@@ -29,8 +31,10 @@ returns-in_err-transcript-clause-gives g c =
         inr (
           c.in_ok-requests.requests,
           (
-            subst (λ f. GivesBytes REQUESTS_FILE_LIMIT f (Ok c.in_ok-requests.requests)) (c.in_ok-policy.ensures.kept c.args.requests.now) c.in_ok-requests.ensures.bytes,
-            subst (λ f. GivesBytes TRANSCRIPT_FILE_LIMIT f (Err c.in_err-transcript.field-0.0)) (c.in_ok-requests.ensures.kept c.args.transcript.now ∙ c.in_ok-policy.ensures.kept c.args.transcript.now) c.in_err-transcript.ensures.bytes,
+            subst (λ f. GivesBytes REQUESTS_FILE_LIMIT f (Ok c.in_ok-requests.requests)) (c.in_ok-policy.ensures.kept c.args.requests.now)
+                c.in_ok-requests.ensures.bytes,
+            subst (λ f. GivesBytes TRANSCRIPT_FILE_LIMIT f (Err c.in_err-transcript.field-0.0))
+                (c.in_ok-requests.ensures.kept c.args.transcript.now ∙ c.in_ok-policy.ensures.kept c.args.transcript.now) c.in_err-transcript.ensures.bytes,
           ),
         ),
       ),

@@ -9,12 +9,14 @@ use Rattle.case_views.proofs.decider.claim_verdict.Goals as goal
 pub outcome_with-requires-clause-valid : goal.outcome_with-requires-clause-valid
 outcome_with-requires-clause-valid c =
     let k = c.args.case.now in
-    kept_valid c.args.p.now c.args.cases.now.rows c.args.number k c.in-Some.kept c.requires.kept c.requires.found.case.found c.requires.found.case.live (sym c.in-Some.ensures.plan)
+    kept_valid c.args.p.now c.args.cases.now.rows c.args.number k c.in-Some.kept c.requires.kept c.requires.found.case.found c.requires.found.case.live
+    (sym c.in-Some.ensures.plan)
 
 pub returns-in-Ok : goal.returns-in-Ok
 returns-in-Ok c =
     let k = c.args.case.now in
-    verdict_decides (problem_of c.args.p.now k.flow) (assigned_with k c.args.step c.args.user) (finished_of k) c.in-Ok.outcome c.verdict_of.result c.in-Ok.ensures c.verdict_of.ensures
+    verdict_decides (problem_of c.args.p.now k.flow) (assigned_with k c.args.step c.args.user) (finished_of k) c.in-Ok.outcome c.verdict_of.result
+    c.in-Ok.ensures c.verdict_of.ensures
 
 pub returns-in-Err : goal.returns-in-Err
 returns-in-Err c =

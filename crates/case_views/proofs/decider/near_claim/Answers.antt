@@ -4,4 +4,5 @@ use Rattle.case_views.proofs.decider.near_claim.Goals as goal
 
 pub plan_with-requires-clause-valid : goal.plan_with-requires-clause-valid
 plan_with-requires-clause-valid c =
-    kept_valid c.args.p.now c.args.cases.now.rows c.args.number c.args.case.now c.in-Some.kept c.requires.kept c.requires.found.case.found c.requires.found.case.live (sym c.in-Some.ensures.plan)
+    kept_valid c.args.p.now c.args.cases.now.rows c.args.number c.args.case.now c.in-Some.kept c.requires.kept c.requires.found.case.found
+    c.requires.found.case.live (sym c.in-Some.ensures.plan)

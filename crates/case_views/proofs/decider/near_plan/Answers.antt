@@ -10,7 +10,8 @@ use Rattle.wf_board.specs.Verdicts.{IsPlanFor}
 use Rattle.case_views.proofs.decider.near_plan.Goals as goal
 
 -- a valid plan with the step given is one for the claim
-claim_planned : (b : Book) (n : ℕ) (c : CaseShape) (t u : ℕ) (o : Option (List ℕ)) → IfSome o (IsValidPlan (problem_of b.policy c.flow) (assigned_with c t u) (finished_of c)) →
+claim_planned : (b : Book) (n : ℕ) (c : CaseShape) (t u : ℕ) (o : Option (List ℕ)) →
+    IfSome o (IsValidPlan (problem_of b.policy c.flow) (assigned_with c t u) (finished_of c)) →
     IfSome o (IsPlanFor b (Ok (deed.Claim n c t u)))
 claim_planned b n c t u None valid = tt
 claim_planned b n c t u (Some plan) valid = valid

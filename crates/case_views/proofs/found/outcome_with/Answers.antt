@@ -20,5 +20,6 @@ solve_for_entry-requires-clause-assigned c =
 pub returns-in-None : goal.returns-in-None
 returns-in-None c =
     let k = c.args.case.now in
-    said_same (λ q a d. IfOk c.solve_for_entry.result (HasSolved q a d)) c.args.p.now k.flow c.flow.result (assigned_with k c.args.step c.args.user) c.assigned_with-assigned.result (finished_of k) c.finished.result
+    said_same (λ q a d. IfOk c.solve_for_entry.result (HasSolved q a d)) c.args.p.now k.flow c.flow.result (assigned_with k c.args.step c.args.user)
+    c.assigned_with-assigned.result (finished_of k) c.finished.result
     c.flow.ensures c.assigned_with-assigned.ensures.given c.finished.ensures.value c.solve_for_entry.ensures

@@ -27,5 +27,6 @@ plan_near-requires-clause-within c =
 pub returns : goal.returns
 returns c =
     let k = c.args.case.now in
-    said_same (λ q a d. IfSome c.plan_near.result (IsValidPlan q a d)) c.args.p.now k.flow c.flow.result (assigned_with k c.args.step c.args.user) c.assigned_with-assigned.result (finished_of k) c.finished.result
+    said_same (λ q a d. IfSome c.plan_near.result (IsValidPlan q a d)) c.args.p.now k.flow c.flow.result (assigned_with k c.args.step c.args.user)
+    c.assigned_with-assigned.result (finished_of k) c.finished.result
     c.flow.ensures c.assigned_with-assigned.ensures.given c.finished.ensures.value c.plan_near.ensures

@@ -7,5 +7,6 @@ pub returns : goal.returns
 returns c =
     let p = c.args.p.now in
     let k = c.args.case.now in
-    let told = subst (IsTold p k) (sym c.is_plan-completable.ensures) (told_of p k c.in_ok-outcome.outcome c.admin-sound.ensures.sound c.in_ok-outcome.ensures) in
+    let told =
+    subst (IsTold p k) (sym c.is_plan-completable.ensures) (told_of p k c.in_ok-outcome.outcome c.admin-sound.ensures.sound c.in_ok-outcome.ensures) in
     record { told = told; right = c.keep.ensures p c.requires.right told }

@@ -10,4 +10,6 @@ users_known n names users count same = count ∙ ap length same
 pub returns-then-not-are_alike_to : goal.returns-then-not-are_alike_to
 returns-then-not-are_alike_to c =
     let known = users_known _ _ _ c.len-w-end.ensures.count (c.users-2.ensures.names ∙ ap (λ r. r.users) c.roster.ensures.roster) in
-    sym (one_fails (problem_of c.args.p.now c.args.f).users c.users.w (λ w. (w == c.args.u || w == c.args.v) || is_alike_to ((problem_of c.args.p.now c.args.f).related c.args.rho) c.args.u c.args.v w) (omega (arith, known, c.users-test.true)) (sym c.if-not-are_alike_to.ensures))
+    sym (one_fails (problem_of c.args.p.now c.args.f).users
+    c.users.w (λ w. (w == c.args.u || w == c.args.v) || is_alike_to ((problem_of c.args.p.now c.args.f).related c.args.rho) c.args.u c.args.v w)
+    (omega (arith, known, c.users-test.true)) (sym c.if-not-are_alike_to.ensures))

@@ -10,4 +10,5 @@ rules-preserved c =
     let n = length p.rules in
     let rest = first_failing (λ k. is_obeyed p c.args.plan.now (slice_get p.rules k)) (c.rules.k + 1) (n - (c.rules.k + 1)) in
     let known : c.rules.k < n = omega (arith, c.rules-test.true, c.len-k-end.ensures, ap length c.rules-2.ensures.rules) in
-    sym (first_failing_at (λ k. is_obeyed p c.args.plan.now (slice_get p.rules k)) c.rules.k n known ∙ ap (λ b. if b then rest else Some c.rules.k) (sym c.if-not-is_obeyed.ensures)) ∙ c.rules.invariant
+    sym (first_failing_at (λ k. is_obeyed p c.args.plan.now (slice_get p.rules k)) c.rules.k n known ∙
+    ap (λ b. if b then rest else Some c.rules.k) (sym c.if-not-is_obeyed.ensures)) ∙ c.rules.invariant

@@ -4,4 +4,5 @@ use Rattle.certificate_check.specs.Faults.{first_failing, is_kept}
 use Rattle.certificate_check.proofs.plan.first_moved.Given as goal
 
 abbrev pub invariant-steps : goal.invariant-steps
-invariant-steps l = first_failing (λ s. is_kept (user_at l.a s) (planned l.plan s)) l.s (length l.plan - l.s) ≡ first_failing (λ s. is_kept (user_at l.a s) (planned l.plan s)) 0 (length l.plan)
+invariant-steps l = first_failing (λ s. is_kept (user_at l.a s) (planned l.plan s)) l.s (length l.plan - l.s) ≡ first_failing
+    (λ s. is_kept (user_at l.a s) (planned l.plan s)) 0 (length l.plan)

@@ -9,7 +9,8 @@ use Rattle.certificate_check.proofs.tree.+check.Given as goal
 
 abbrev pub invariant-all_refute-branches : goal.invariant-all_refute-branches
 invariant-all_refute-branches l =
-    all_refute (problem_of l.p l.f) l.a l.done l.s (tree_users [] (take l.i l.branches)) (kids_of_items (drop l.i l.branches)) ≡ all_refute (problem_of l.p l.f) l.a l.done l.s [] (kids_of_items l.branches)
+    all_refute (problem_of l.p l.f) l.a l.done l.s (tree_users [] (take l.i l.branches)) (kids_of_items (drop l.i l.branches)) ≡ all_refute
+    (problem_of l.p l.f) l.a l.done l.s [] (kids_of_items l.branches)
 
 abbrev pub decreases-check_tree : goal.decreases-check_tree
 decreases-check_tree l = 3 * (4 * deep-Tree l.tree.now)

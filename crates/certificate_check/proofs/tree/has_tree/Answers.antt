@@ -10,11 +10,13 @@ returns-then-is_tree_of c =
     let b = c.branch-item.result in
     let bs = c.args.branches.now in
     let i = c.branches.branch-index in
-    sym (one_of_all (i + 1) bs c.args.u (one_of_more bs i b c.args.u c.branches-test.true c.branch-item.is ∙ or_left (is_one_of (user_onto b.kid b.user []) c.args.u) (is_one_of (tree_users [] (take i bs)) c.args.u) (sym c.if-is_tree_of.ensures)))
+    sym (one_of_all (i + 1) bs c.args.u (one_of_more bs i b c.args.u c.branches-test.true c.branch-item.is ∙
+    or_left (is_one_of (user_onto b.kid b.user []) c.args.u) (is_one_of (tree_users [] (take i bs)) c.args.u) (sym c.if-is_tree_of.ensures)))
 
 pub branches-preserved : goal.branches-preserved
 branches-preserved c =
     let b = c.branch-item.result in
     let bs = c.args.branches.now in
     let i = c.branches.branch-index in
-    one_of_more bs i b c.args.u c.branches-test.true c.branch-item.is ∙ ap (λ x. x || is_one_of (tree_users [] (take i bs)) c.args.u) (sym c.if-is_tree_of.ensures) ∙ c.branches.invariant
+    one_of_more bs i b c.args.u c.branches-test.true c.branch-item.is ∙
+    ap (λ x. x || is_one_of (tree_users [] (take i bs)) c.args.u) (sym c.if-is_tree_of.ensures) ∙ c.branches.invariant

@@ -16,4 +16,5 @@ returns-in-Some-clause-user c =
     let found = c.in-Some.ensures.lookup in
     let b = c.in-Some.branch.now in
     let bs = c.args.branches.now in
-    c.eq.ensures ∙ begins c.args.u b.user b.kid (kids_of_items (drop (c.args.place + 1) bs)) ∙ ap (begins_with c.args.u) (sym (kids_of_items-drop bs c.args.place b found.3.0 found.1))
+    c.eq.ensures ∙ begins c.args.u b.user b.kid (kids_of_items (drop (c.args.place + 1) bs)) ∙
+    ap (begins_with c.args.u) (sym (kids_of_items-drop bs c.args.place b found.3.0 found.1))

@@ -9,10 +9,13 @@ pub returns : goal.returns
 returns c =
     let p = c.args.p.now in
     let problem = problem_of p c.args.f in
-    let users : c.len-users.result ≡ length p.roster.users = c.len-users.ensures.count ∙ ap length (c.users.ensures.names ∙ ap (λ r. r.users) c.roster.ensures.roster) in
-    let steps : c.len-steps.result ≡ length (flow_at p c.args.f).flow.steps = c.len-steps.ensures.count ∙ ap length (c.steps.ensures.names ∙ ap (λ w. w.steps) c.flow.ensures.flow) in
+    let users : c.len-users.result ≡ length p.roster.users = c.len-users.ensures.count ∙
+    ap length (c.users.ensures.names ∙ ap (λ r. r.users) c.roster.ensures.roster) in
+    let steps : c.len-steps.result ≡ length (flow_at p c.args.f).flow.steps = c.len-steps.ensures.count ∙
+    ap length (c.steps.ensures.names ∙ ap (λ w. w.steps) c.flow.ensures.flow) in
     same_encoding c.new.result problem c.args.a.now c.args.done.now
     (ap (λ t. t.users) c.new.ensures ∙ users)
     (ap (λ t. t.steps) c.new.ensures ∙ steps)
-    (subst (λ (d : List (List ℕ)). AreDomains problem c.args.a.now c.args.done.now problem.steps d) (sym (ap (λ t. t.domains) c.new.ensures)) c.in_ok-domains.ensures)
+    (subst (λ (d : List (List ℕ)). AreDomains problem c.args.a.now c.args.done.now problem.steps d) (sym (ap (λ t. t.domains) c.new.ensures))
+    c.in_ok-domains.ensures)
     (ap (λ t. is_related t.relations) c.new.ensures ∙ ap is_related (c.in_ok-relations.ensures ∙ c.relations.ensures.relations))

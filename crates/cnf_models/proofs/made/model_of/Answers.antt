@@ -14,7 +14,8 @@ returns-clause-flags c =
     let problem = problem_of c.args.p.now c.args.f in
     let plan = c.args.plan.now in
     let steps : c.len-steps.result ≡ problem.steps = c.len-steps.ensures.count ∙ ap length (c.steps.ensures.names ∙ ap (λ w. w.steps) c.flow.ensures.flow) in
-    let users : c.len-users.result ≡ problem.users = c.len-users.ensures.count ∙ ap length (c.users.ensures.names ∙ ap (λ r. r.users) c.roster.ensures.roster) in
+    let users : c.len-users.result ≡ problem.users = c.len-users.ensures.count ∙
+    ap length (c.users.ensures.names ∙ ap (λ r. r.users) c.roster.ensures.roster) in
     let first = grid (λ s u. planned plan s == u) c.len-steps.result c.len-users.result in
     let second = grid (λ s u. nat_le (planned plan s) u) c.len-steps.result c.len-users.result in
     let third = rules_flags c.len-users.result plan c.rules.result.now in
@@ -22,7 +23,8 @@ returns-clause-flags c =
     c.in_ok-say_rules.ensures
     ∙ ap (λ xs. xs ++ third) until
     ∙ append_assoc first second third
-    ∙ (λ i. grid (λ s u. planned plan s == u) (steps i) (users i) ++ (grid (λ s u. nat_le (planned plan s) u) (steps i) (users i) ++ rules_flags (users i) plan (c.rules.ensures.rules i)))
+    ∙ (λ i. grid (λ s u. planned plan s == u) (steps i)
+    (users i) ++ (grid (λ s u. nat_le (planned plan s) u) (steps i) (users i) ++ rules_flags (users i) plan (c.rules.ensures.rules i)))
 
 pub returns-clause-satisfies : goal.returns-clause-satisfies
 returns-clause-satisfies c assigned finished all valid =
@@ -30,7 +32,8 @@ returns-clause-satisfies c assigned finished all valid =
     let plan = c.args.plan.now in
     let sound : AreSound problem = record { named = c.rules.ensures.well_formed; members = λ k r is. (c.rules.ensures.ruled k r is).members } in
     subst (λ m. IsModelOf (has_variable m) (clauses_of problem assigned finished)) (sym (returns-clause-flags c))
-    (c.plans_are_models.ensures problem assigned finished plan (has_variable (flags_of problem plan)) sound all valid (says_plan problem plan assigned finished))
+    (c.plans_are_models.ensures problem assigned finished plan (has_variable (flags_of problem plan)) sound all valid
+    (says_plan problem plan assigned finished))
 
 pub returns-clause-back : goal.returns-clause-back
 returns-clause-back c assigned finished valid =

@@ -28,7 +28,8 @@ users-preserved c =
     let one = one_at_most c.takes_some.result in
     let more = c.count_on-count.ensures in
     let counted : c.count_on-count.result ≡ count_below (suc u) test =
-    more ∙ ap (λ n. n + cond c.takes_some.result 1 0) c.users.invariant.counted ∙ ap (λ b. count_below u test + cond b 1 0) c.takes_some.ensures ∙ sym (count_next test u) in
+    more ∙ ap (λ n. n + cond c.takes_some.result 1 0) c.users.invariant.counted ∙ ap (λ b. count_below u test + cond b 1 0) c.takes_some.ensures ∙
+    sym (count_next test u) in
     record {
       so_far = next_number f c.users.into c.say_below.new.into u c.args.users (omega (arith, c.users-test.true))
           (c.in_ok-say_below.ensures ∙ ap (λ n. c.users.into ++ map (λ j. nat_lt j n) (numbers 0 c.args.high)) counted) ∙ c.users.invariant.so_far;

@@ -7,7 +7,8 @@ use Rattle.cnf_models.proofs.text.read_parts.Given as goal
 -- the rest of the parts say the same
 abbrev pub invariant-parts : goal.invariant-parts
 invariant-parts l = record {
-  rest : each (next_part l.limit) (l.flags, l.after) (slice_split is_blank l.rest) ≡ each (next_part l.limit) (l.fn.flags, l.fn.words) (slice_split is_blank l.line);
+  rest : each (next_part l.limit) (l.flags, l.after) (slice_split is_blank l.rest) ≡ each (next_part l.limit) (l.fn.flags, l.fn.words)
+      (slice_split is_blank l.line);
   places : length l.flags ≡ length l.fn.flags;
   few : count_of l.after + length l.rest ≤ count_of l.fn.words + length l.line;
 }

@@ -9,7 +9,8 @@ returns-in_err-push_header-clause-part g c = part_none _ _
 
 pub writing-init : goal.writing-init
 writing-init g c = record {
-  put = none_put (g.K.Sink.held c.args.sink.now) _ _ (start_is c.args.encoder.now c.variables.result c.clauses.result c.new-out.result.items c.push_header.new.out.items c.requires c.variables.ensures c.clauses.ensures (let fresh = c.new-out.ensures in cc) c.in_ok-push_header.ensures);
+  put = none_put (g.K.Sink.held c.args.sink.now) _ _ (start_is c.args.encoder.now c.variables.result c.clauses.result c.new-out.result.items
+      c.push_header.new.out.items c.requires c.variables.ensures c.clauses.ensures (let fresh = c.new-out.ensures in cc) c.in_ok-push_header.ensures);
   faults = refl;
 }
 
@@ -19,7 +20,8 @@ returns-in_err-next-clause-part g c = so_far _ _ _ _ c.writing.invariant.put
 pub returns-in_err-put_and_flush-clause-part : goal.returns-in_err-put_and_flush-clause-part
 returns-in_err-put_and_flush-clause-part g c =
     part_put _ _ _ _ c.writing.out.items _ c.writing.invariant.put
-    (subst (λ (bytes : List ℕ). HasPart (g.K.Sink.held c.writing.sink) (g.K.Sink.held c.put_and_flush.new.sink) bytes) c.deref.ensures.value c.put_and_flush.ensures.part)
+    (subst (λ (bytes : List ℕ). HasPart (g.K.Sink.held c.writing.sink) (g.K.Sink.held c.put_and_flush.new.sink) bytes) c.deref.ensures.value
+    c.put_and_flush.ensures.part)
 
 pub returns-then-not-branch-clause-all : goal.returns-then-not-branch-clause-all
 returns-then-not-branch-clause-all g c =
@@ -30,7 +32,8 @@ returns-then-not-branch-clause-all g c =
 pub returns-then-not-branch-clause-part : goal.returns-then-not-branch-clause-part
 returns-then-not-branch-clause-part g c =
     part_put _ _ _ _ c.writing.out.items _ c.writing.invariant.put
-    (subst (λ (bytes : List ℕ). HasPart (g.K.Sink.held c.writing.sink) (g.K.Sink.held c.put_and_flush.new.sink) bytes) c.deref.ensures.value c.put_and_flush.ensures.part)
+    (subst (λ (bytes : List ℕ). HasPart (g.K.Sink.held c.writing.sink) (g.K.Sink.held c.put_and_flush.new.sink) bytes) c.deref.ensures.value
+    c.put_and_flush.ensures.part)
 
 pub returns-in_err-push_clause-clause-part : goal.returns-in_err-push_clause-clause-part
 returns-in_err-push_clause-clause-part g c = so_far _ _ _ _ c.writing.invariant.put

@@ -7,7 +7,8 @@ use Rattle.cnf_text.proofs.writing.write_clauses.Given as goal
 -- all of the text is put but what is kept and the clauses that are left
 abbrev pub invariant-writing : goal.invariant-writing
 invariant-writing g l = record {
-  put : HasPut (g.K.Sink.held l.fn.sink) (g.K.Sink.held l.sink) (dimacs_text l.fn.encoder.variables l.fn.encoder.all) (l.out.items ++ flat_map clause_line l.encoder.left);
+  put : HasPut (g.K.Sink.held l.fn.sink) (g.K.Sink.held l.sink) (dimacs_text l.fn.encoder.variables l.fn.encoder.all)
+      (l.out.items ++ flat_map clause_line l.encoder.left);
   faults : g.K.Sink.faults l.sink ≡ g.K.Sink.faults l.fn.sink;
 }
 

@@ -24,5 +24,6 @@ members-preserved c =
 
 pub returns-clause-users : goal.returns-clause-users
 returns-clause-users c =
-    let none = ap different (users_end (user_at c.args.a.now) c.args.group.now c.members.from c.next.ensures.len c.members.invariant.below c.in_default.ensures.next) in
+    let none = ap different
+    (users_end (user_at c.args.a.now) c.args.group.now c.members.from c.next.ensures.len c.members.invariant.below c.in_default.ensures.next) in
     omega (arith, none, c.members.invariant.rest)

@@ -8,7 +8,8 @@ use Rattle.constraint_forms.proofs.count.users_of.Given as goal
 abbrev pub invariant-members : goal.invariant-members
 invariant-members l = record {
   below : l.from ≤ STEP_LIMIT;
-  rest : (u : ℕ) → u < USER_LIMIT → (is_among (users_from l.from (drop l.from l.group) (user_at l.a)) u || has_user l.users u) ≡ is_among (users_from 0 l.group (user_at l.a)) u;
+  rest : (u : ℕ) → u < USER_LIMIT →
+      (is_among (users_from l.from (drop l.from l.group) (user_at l.a)) u || has_user l.users u) ≡ is_among (users_from 0 l.group (user_at l.a)) u;
 }
 
 abbrev pub decreases-members : goal.decreases-members

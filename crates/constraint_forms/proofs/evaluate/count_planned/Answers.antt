@@ -9,4 +9,5 @@ returns c =
     let plan = c.args.plan.now in
     let group = c.args.group.now in
     c.count_users.ensures.users
-    ∙ ap different (users_from-same (user_at c.assigned_by.result) (λ s. Some (planned plan s)) 0 group (from_zero group (user_at c.assigned_by.result) (λ s. Some (planned plan s)) (λ s h. c.assigned_by.ensures s (c.requires s h))))
+    ∙ ap different (users_from-same (user_at c.assigned_by.result) (λ s. Some (planned plan s)) 0 group
+    (from_zero group (user_at c.assigned_by.result) (λ s. Some (planned plan s)) (λ s h. c.assigned_by.ensures s (c.requires s h))))

@@ -12,7 +12,8 @@ use Rattle.constraint_forms.proofs.kept.keep_at_most.Goals.{else-count-limit-2-v
 step_in : (a : List (Option ℕ)) (s n : ℕ) → s < n → length a ≡ n → s < length a
 step_in a s n h e = omega (arith, h, e)
 
-counted : (group : List Bool) (a o : List (Option ℕ)) (s n : ℕ) → o ≡ slice_set a s None → n ≡ different (users_from 0 group (user_at o)) → different (users_from 0 group (user_at (slice_set a s None))) ≡ n
+counted : (group : List Bool) (a o : List (Option ℕ)) (s n : ℕ) → o ≡ slice_set a s None → n ≡ different (users_from 0 group (user_at o)) →
+    different (users_from 0 group (user_at (slice_set a s None))) ≡ n
 counted group a o s n e is = sym (is ∙ ap (λ x. different (users_from 0 group (user_at x))) e)
 
 pub returns-then-count-limit : goal.returns-then-count-limit
@@ -21,7 +22,8 @@ returns-then-count-limit c = λ u.
     let s = c.args.asked.now.s in
     let group = c.args.group.now in
     let count = counted group a c.without-others.result s c.count_users-count.result c.without-others.ensures.freed c.count_users-count.ensures.users in
-    c.empty.ensures.none u ∙ nobody_left (has_user c.args.set.now u) _ (most_out group a s u (step_in a s _ c.requires.step c.without-others.ensures.len) c.args.limit (omega (arith, count, c.if-count-limit.true)))
+    c.empty.ensures.none u ∙ nobody_left (has_user c.args.set.now u) _
+    (most_out group a s u (step_in a s _ c.requires.step c.without-others.ensures.len) c.args.limit (omega (arith, count, c.if-count-limit.true)))
 
 pub returns-then-has : goal.returns-then-has
 returns-then-has c = λ u.
@@ -44,7 +46,9 @@ returns-else-count-limit-2 c = λ u.
     let within = step_in a s _ c.requires.step c.without-others.ensures.len in
     elim c.else-count-limit-2.branch [
       | else-count-limit-2-via-then-count-limit-2+else-has w ↦
-          all_left (has_user c.args.set.now u) _ (most_full group a s u within c.args.limit (omega (arith, count, w.if-count-limit-2.true)) (sym w.has.ensures.flag ∙ w.if-has.false))
+          all_left (has_user c.args.set.now u) _
+          (most_full group a s u within c.args.limit (omega (arith, count, w.if-count-limit-2.true)) (sym w.has.ensures.flag ∙ w.if-has.false))
       | else-count-limit-2-via-else-count-limit-2 w ↦
-          all_left (has_user c.args.set.now u) _ (most_keeps group a s u within c.args.limit (omega (arith, count, c.if-count-limit.false, w.if-count-limit-2.false)))
+          all_left (has_user c.args.set.now u) _
+          (most_keeps group a s u within c.args.limit (omega (arith, count, c.if-count-limit.false, w.if-count-limit-2.false)))
     ]

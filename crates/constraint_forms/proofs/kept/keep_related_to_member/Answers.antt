@@ -7,7 +7,8 @@ use Rattle.constraint_forms.proofs.kept.keep_related_to_member.Goals as goal
 
 pub members-preserved : goal.members-preserved
 members-preserved g c =
-    let p = λ (u y : ℕ). are_unrelated_with (turned c.args.back (g.R.Holds.related c.args.rows.now)) c.args.rho c.args.asked.now.given y c.args.step c.args.asked.now.s u in
+    let p = λ (u y : ℕ). are_unrelated_with (turned c.args.back (g.R.Holds.related c.args.rows.now)) c.args.rho c.args.asked.now.given y c.args.step
+    c.args.asked.now.s u in
     record {
       within = omega (arith, c.in-Some.ensures.next.within, c.member.view_is);
       kept = λ u.
@@ -18,5 +19,6 @@ members-preserved g c =
 
 pub returns : goal.returns
 returns g c = λ u.
-    let p = λ (y : ℕ). are_unrelated_with (turned c.args.back (g.R.Holds.related c.args.rows.now)) c.args.rho c.args.asked.now.given y c.args.step c.args.asked.now.s u in
+    let p = λ (y : ℕ). are_unrelated_with (turned c.args.back (g.R.Holds.related c.args.rows.now)) c.args.rho c.args.asked.now.given y c.args.step
+    c.args.asked.now.s u in
     all_left_end p c.args.group.now c.members.from _ _ _ c.next.ensures.len c.members.invariant.within c.in_default.ensures.next (c.members.invariant.kept u)

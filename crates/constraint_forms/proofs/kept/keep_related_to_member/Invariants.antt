@@ -10,7 +10,8 @@ invariant-members g l =
     let p = λ (u x : ℕ). are_unrelated_with (turned l.back (g.R.Holds.related l.rows)) l.rho l.asked.given x l.step l.asked.s u in
     record {
       within : l.from ≤ STEP_LIMIT;
-      kept : (u : ℕ) → (has_user l.kept u || (has_user l.set u && not (all_from l.from (drop l.from l.group) (p u)))) ≡ (has_user l.set u && not (all_from 0 l.group (p u)));
+      kept : (u : ℕ) → (has_user l.kept u || (has_user l.set u && not (all_from l.from (drop l.from l.group) (p u)))) ≡ (has_user l.set u &&
+          not (all_from 0 l.group (p u)));
     }
 
 abbrev pub decreases-members : goal.decreases-members

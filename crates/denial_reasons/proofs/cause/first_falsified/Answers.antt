@@ -7,9 +7,11 @@ use Rattle.denial_reasons.proofs.cause.first_falsified.Goals as goal
 pub returns-then-falsified : goal.returns-then-falsified
 returns-then-falsified c =
     let p = problem_of c.args.p.now c.args.f in
-    found_rule p.related (user_at c.args.a.now) c.rules.k c.rules-rules.result.now c.get.result.now _ c.get.ensures (sym c.falsified.ensures ∙ c.if-falsified.true) c.rules.invariant
+    found_rule p.related (user_at c.args.a.now) c.rules.k c.rules-rules.result.now c.get.result.now _ c.get.ensures
+    (sym c.falsified.ensures ∙ c.if-falsified.true) c.rules.invariant
 
 pub rules-preserved : goal.rules-preserved
 rules-preserved c =
     let p = problem_of c.args.p.now c.args.f in
-    passed_rule p.related (user_at c.args.a.now) c.rules.k c.rules-rules.result.now c.get.result.now _ c.get.ensures (sym c.falsified.ensures ∙ c.if-falsified.false) c.rules.invariant
+    passed_rule p.related (user_at c.args.a.now) c.rules.k c.rules-rules.result.now c.get.result.now _ c.get.ensures
+    (sym c.falsified.ensures ∙ c.if-falsified.false) c.rules.invariant

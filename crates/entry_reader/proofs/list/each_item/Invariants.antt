@@ -7,4 +7,5 @@ use Rattle.entry_reader.proofs.list.each_item.Given as goal
 
 abbrev pub invariant-items : goal.invariant-items
 invariant-items g l =
-    each_in (item_in l.p (g.F.FlowOf.flows l.cases)) (items_view l.items) ≡ option_map (λ xs. l.work ++ xs) (each_in (item_in l.p (g.F.FlowOf.flows l.cases)) (items_view (drop l.item-index l.items)))
+    each_in (item_in l.p (g.F.FlowOf.flows l.cases)) (items_view l.items) ≡ option_map (λ xs. l.work ++ xs)
+    (each_in (item_in l.p (g.F.FlowOf.flows l.cases)) (items_view (drop l.item-index l.items)))

@@ -6,4 +6,5 @@ use Rattle.entry_reader.proofs.list.each_role.Given as goal
 
 abbrev pub invariant-items : goal.invariant-items
 invariant-items l =
-    each_in (numbered l.p.roster.roles) (items_view l.items) ≡ option_map (λ xs. l.roles ++ xs) (each_in (numbered l.p.roster.roles) (items_view (drop l.item-index l.items)))
+    each_in (numbered l.p.roster.roles) (items_view l.items) ≡ option_map (λ xs. l.roles ++ xs)
+    (each_in (numbered l.p.roster.roles) (items_view (drop l.item-index l.items)))

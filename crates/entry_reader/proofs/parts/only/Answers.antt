@@ -12,5 +12,6 @@ returns-then-len-ne1 c =
 pub returns : goal.returns
 returns c =
     ap (λ key. Some (key, view c.in_ok-key.member.now)) c.as_str.ensures.value
-    ∙ sym (lone_some c.in_ok-members.members.now.entries c.in_ok-key.key.now c.in_ok-key.member.now (sym c.len.ensures.len ∙ c.if-len-ne1.false) c.in_ok-key.ensures.first)
+    ∙ sym (lone_some c.in_ok-members.members.now.entries c.in_ok-key.key.now c.in_ok-key.member.now (sym c.len.ensures.len ∙ c.if-len-ne1.false)
+    c.in_ok-key.ensures.first)
     ∙ ap (option_and_then lone) c.in_ok-members.ensures

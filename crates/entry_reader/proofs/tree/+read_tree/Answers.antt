@@ -25,7 +25,8 @@ read_branches-items-preserved t c =
     let v = c.item-item.result in
     let rest = items_view (drop (i + 1) vs) in
     let here = c.items.invariant ∙ ap (λ ds. option_map (joined c.items.branches) (kids_in p f ds)) (items_next vs i v c.items-test.true c.item-item.is) in
-    kids_more p f (kids_in p f (items_view vs)) c.items.branches c.push.new.self c.in_ok-read_branch.field-0 (view v) rest here (c.in_ok-read_branch.ensures (kids_in p f rest)) c.in_ok-push.ensures.ok
+    kids_more p f (kids_in p f (items_view vs)) c.items.branches c.push.new.self c.in_ok-read_branch.field-0 (view v) rest here
+    (c.in_ok-read_branch.ensures (kids_in p f rest)) c.in_ok-push.ensures.ok
 
 pub read_branches-returns : goal.read_branches-returns
 read_branches-returns t c =
@@ -37,5 +38,6 @@ read_branches-returns t c =
 
 pub read_branch-returns-in_ok-tree-in-None : goal.read_branch-returns-in_ok-tree-in-None
 read_branch-returns-in_ok-tree-in-None t c rest =
-    branch_tree c.args.p.now c.args.f (view c.args.value.now) (view c.in-Some.user.now) (view c.in-Some.kid.now) c.in-Some-user_of.user (shape_of c.in_ok-tree-in-None.tree) rest
+    branch_tree c.args.p.now c.args.f (view c.args.value.now) (view c.in-Some.user.now) (view c.in-Some.kid.now) c.in-Some-user_of.user
+    (shape_of c.in_ok-tree-in-None.tree) rest
     c.in-Some.ensures c.in-Some-user_of.ensures c.in-None.ensures c.in_ok-tree-in-None.ensures

@@ -7,4 +7,5 @@ pub next_open-requires : goal.next_open-requires
 next_open-requires c = rw c.behind.ensures (ascend_passed 0 c.args.first c.args.rows.now c.requires.order)
 
 pub returns : goal.returns
-returns c = c.next_open.ensures ∙ ap (next_open c.args.from) c.behind.ensures ∙ next_open_passed c.args.from c.args.first c.args.rows.now c.requires.passed.ended
+returns c = c.next_open.ensures ∙ ap (next_open c.args.from) c.behind.ensures ∙
+    next_open_passed c.args.from c.args.first c.args.rows.now c.requires.passed.ended

@@ -9,4 +9,5 @@ returns-in_default c = c.new-some.ensures.items ∙ ap rows_of (sym c.in_default
 pub returns : goal.returns
 returns c =
     let there = c.in-Some.ensures.found ∙ get_there c.args.rows.now c.in-Some.i c.index-rows-i.result c.in-Some.ensures.within c.index-rows-i.is in
-    c.in_ok-push.ensures.items ∙ ap (λ xs. xs ++ c.index-rows-i.result ∷ []) c.new-some.ensures.items ∙ ap rows_of (sym there) ∙ sym (only_is 0 c.args.n c.args.rows.now c.requires)
+    c.in_ok-push.ensures.items ∙ ap (λ xs. xs ++ c.index-rows-i.result ∷ []) c.new-some.ensures.items ∙ ap rows_of (sym there) ∙
+    sym (only_is 0 c.args.n c.args.rows.now c.requires)

@@ -6,4 +6,5 @@ use Rattle.pair_set.proofs.PairSet.has.Goals as goal
 pub returns : goal.returns
 returns c =
     c.is_ok.ensures.value
-    ∙ tells c.deref.result.now c.args.self.now (ap set.from_list c.deref.ensures.value ∙ c.self.view_is) (c.args.a, c.args.b) c.place_of.result c.place_of.ensures.found c.place_of.ensures.gap
+    ∙ tells c.deref.result.now c.args.self.now (ap set.from_list c.deref.ensures.value ∙ c.self.view_is) (c.args.a, c.args.b) c.place_of.result
+    c.place_of.ensures.found c.place_of.ensures.gap

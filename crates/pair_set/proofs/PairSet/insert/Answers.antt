@@ -5,7 +5,8 @@ use Rattle.pair_set.proofs.Facts.{held, free, ascending_insert, set_after_insert
 use Rattle.pair_set.proofs.PairSet.insert.Goals as goal
 
 pub returns-in-Ok-clause-fresh : goal.returns-in-Ok-clause-fresh
-returns-in-Ok-clause-fresh c = ap not (sym (held c.deref.result.now c.args.self.now (ap set.from_list c.deref.ensures.value ∙ c.self.view_is) _ _ c.in-Ok.ensures.found))
+returns-in-Ok-clause-fresh c =
+    ap not (sym (held c.deref.result.now c.args.self.now (ap set.from_list c.deref.ensures.value ∙ c.self.view_is) _ _ c.in-Ok.ensures.found))
 
 pub returns-in-Ok-clause-added : goal.returns-in-Ok-clause-added
 returns-in-Ok-clause-added c = set_held c.deref.result.now c.args.self.now (ap set.from_list c.deref.ensures.value ∙ c.self.view_is) _ _ c.in-Ok.ensures.found
@@ -22,4 +23,5 @@ pub returns-in_ok-insert-in-Err-clause-added : goal.returns-in_ok-insert-in-Err-
 returns-in_ok-insert-in-Err-clause-added c = ap set.from_list c.in_ok-insert-in-Err.ensures.items ∙ set_after_insert _ c.args.self.now c.self.view_is _ _
 
 pub returns-in_ok-insert-in-Err-clause-fresh : goal.returns-in_ok-insert-in-Err-clause-fresh
-returns-in_ok-insert-in-Err-clause-fresh c = ap not (sym (free c.deref.result.now c.args.self.now (ap set.from_list c.deref.ensures.value ∙ c.self.view_is) _ _ c.in-Err.ensures.gap))
+returns-in_ok-insert-in-Err-clause-fresh c =
+    ap not (sym (free c.deref.result.now c.args.self.now (ap set.from_list c.deref.ensures.value ∙ c.self.view_is) _ _ c.in-Err.ensures.gap))

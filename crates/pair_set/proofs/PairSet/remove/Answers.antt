@@ -7,7 +7,8 @@ pub invariant_of-self : goal.invariant_of-self
 invariant_of-self c = rw c.remove.ensures.items (ascending_remove _ (c.args.a, c.args.b) _ c.self.invariant (rw c.deref.ensures.value at c.in-Ok.ensures.found))
 
 pub returns-in-Ok-clause-removed : goal.returns-in-Ok-clause-removed
-returns-in-Ok-clause-removed c = ap set.from_list c.remove.ensures.items ∙ set_after_remove _ c.args.self.now c.self.view_is _ _ c.self.invariant (rw c.deref.ensures.value at c.in-Ok.ensures.found)
+returns-in-Ok-clause-removed c = ap set.from_list c.remove.ensures.items ∙
+    set_after_remove _ c.args.self.now c.self.view_is _ _ c.self.invariant (rw c.deref.ensures.value at c.in-Ok.ensures.found)
 
 pub returns-in-Ok-clause-found : goal.returns-in-Ok-clause-found
 returns-in-Ok-clause-found c = sym (held c.deref.result.now c.args.self.now (ap set.from_list c.deref.ensures.value ∙ c.self.view_is) _ _ c.in-Ok.ensures.found)

@@ -15,10 +15,12 @@ returns-in-Ok-clause-document c =
     ) refl
 
 pub returns-in-Ok-clause-reads_back : goal.returns-in-Ok-clause-reads_back
-returns-in-Ok-clause-reads_back c is = file_back c.order_is_chained.ensures.decided c.args.p.now c.in_ok-table.ensures.named is (string_bytes c.in-Ok.text) (returns-in-Ok-clause-document c)
+returns-in-Ok-clause-reads_back c is =
+    file_back c.order_is_chained.ensures.decided c.args.p.now c.in_ok-table.ensures.named is (string_bytes c.in-Ok.text) (returns-in-Ok-clause-document c)
 
 pub unreachable-requires : goal.unreachable-requires
 unreachable-requires c =
     let plain = document_plain c.args.p.now in
-    let dated : members_have_valid_dates (document_of c.args.p.now) ≡ false = rw (← c.in_ok-table.ensures.document) (c.table_to_string.ensures.dates.0 (c.in-Err-DateInvalid.is ∙ ap Err c.in-Err-DateInvalid.field-0-is)) in
+    let dated : members_have_valid_dates (document_of c.args.p.now) ≡ false =
+    rw (← c.in_ok-table.ensures.document) (c.table_to_string.ensures.dates.0 (c.in-Err-DateInvalid.is ∙ ap Err c.in-Err-DateInvalid.field-0-is)) in
     let no : true ≡ false = sym plain.dates ∙ dated in cc

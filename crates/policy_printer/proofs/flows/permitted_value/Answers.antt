@@ -6,4 +6,5 @@ use Rattle.policy_printer.proofs.flows.permitted_value.Goals as goal
 pub returns : goal.returns
 returns c =
     let names = c.args.roles.now.names in
-    written_to (λ m. map (λ n. string (name_at names n)) (chosen m (λ r. set.contains c.args.flow.now.permits (r, c.args.s)))) c.roles.values c.roles.r (length names) c.roles.invariant (omega (arith, c.roles-test.false, c.len-r-end.ensures.count))
+    written_to (λ m. map (λ n. string (name_at names n)) (chosen m (λ r. set.contains c.args.flow.now.permits (r, c.args.s)))) c.roles.values c.roles.r
+    (length names) c.roles.invariant (omega (arith, c.roles-test.false, c.len-r-end.ensures.count))

@@ -6,9 +6,16 @@ use Rattle.policy_printer.proofs.rosters.listed_value.Goals as goal
 pub pairs_value-requires : goal.pairs_value-requires
 pairs_value-requires c =
     let n = length c.args.users.now.names in
-    record { within = rw c.deref.ensures.value (all_below n c.in_ok-pairs.pairs.items (rw c.in_ok-pairs.ensures.pairs (pairs_of_users n c.args.relations.now c.args.rho c.requires))) }
+    record {
+      within = rw c.deref.ensures.value
+          (all_below n c.in_ok-pairs.pairs.items (rw c.in_ok-pairs.ensures.pairs (pairs_of_users n c.args.relations.now c.args.rho c.requires)));
+    }
 
 pub returns : goal.returns
 returns c =
     let n = length c.args.users.now.names in
-    rw (← listed_rows n _ c.in_ok-pairs.pairs.items c.in_ok-pairs.ensures.ascending c.in_ok-pairs.ensures.pairs (pairs_of_users n c.args.relations.now c.args.rho c.requires), ← c.deref.ensures.value) c.pairs_value.ensures
+    rw (
+      ← listed_rows n _ c.in_ok-pairs.pairs.items c.in_ok-pairs.ensures.ascending c.in_ok-pairs.ensures.pairs
+          (pairs_of_users n c.args.relations.now c.args.rho c.requires),
+      ← c.deref.ensures.value,
+    ) c.pairs_value.ensures

@@ -11,4 +11,5 @@ relations-preserved c =
     )
 
 pub returns-clause-named : goal.returns-clause-named
-returns-clause-named c = known_named c.args.relations.now c.count-n-end.ensures.sound (λ n lt. c.relations.invariant.1 n (omega (arith, lt, c.relations-test.false, c.count-n-end.ensures.count)))
+returns-clause-named c = known_named c.args.relations.now c.count-n-end.ensures.sound
+    (λ n lt. c.relations.invariant.1 n (omega (arith, lt, c.relations-test.false, c.count-n-end.ensures.count)))

@@ -4,6 +4,7 @@ use Rattle.policy_reader.proofs.pairs.read_user_pairs.Given as goal
 
 abbrev pub invariant-items : goal.invariant-items
 invariant-items l =
-    (each (next_pair l.part l.index l.users.names) l.pairs (items (items_view (drop l.value-index l.items))) ≡ each (next_pair l.part l.index l.users.names) set.empty (items (items_view l.items)))
+    (each (next_pair l.part l.index l.users.names) l.pairs (items (items_view (drop l.value-index l.items))) ≡ each (next_pair l.part l.index l.users.names)
+    set.empty (items (items_view l.items)))
     × AreBelow (length l.users.names) l.pairs
     × (set.len l.pairs ≤ l.value-index)

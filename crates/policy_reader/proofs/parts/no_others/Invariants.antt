@@ -3,4 +3,5 @@ use Rattle.policy_reader.proofs.parts.no_others.Given as goal
 
 abbrev pub invariant-entries : goal.invariant-entries
 invariant-entries l =
-    each (known_key l.part l.index (map (λ k. k.now) l.known)) tt (entries (members_view l.key-iterator)) ≡ each (known_key l.part l.index (map (λ k. k.now) l.known)) tt (entries (table_view l.fn.table))
+    each (known_key l.part l.index (map (λ k. k.now) l.known)) tt (entries (members_view l.key-iterator)) ≡ each
+    (known_key l.part l.index (map (λ k. k.now) l.known)) tt (entries (table_view l.fn.table))

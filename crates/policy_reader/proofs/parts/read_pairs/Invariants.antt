@@ -4,5 +4,6 @@ use Rattle.policy_reader.proofs.parts.read_pairs.Given as goal
 
 abbrev pub invariant-items : goal.invariant-items
 invariant-items l =
-    (each (next_pair l.part l.index l.names.names) l.pairs (items (items_view (drop l.value-index l.items))) ≡ each (next_pair l.part l.index l.names.names) set.empty (items (items_view l.items)))
+    (each (next_pair l.part l.index l.names.names) l.pairs (items (items_view (drop l.value-index l.items))) ≡ each (next_pair l.part l.index l.names.names)
+    set.empty (items (items_view l.items)))
     × AreBelow (length l.names.names) l.pairs

@@ -10,4 +10,5 @@ returns-in-Ok-clause-kept c =
     let kept = subst (λ b. IsReadKind users all b (kind_view c.in-Ok.kind)) (sym c.requires.here) c.in-Ok.ensures.kept in
     on_ok c.push_relation.result _ _ c.push_relation.ensures.added
     (λ e. rw (e, c.in_ok-name.ensures.value)
-    (kept_push users all (shapes c.args.relations.now.items) (record { name = c.args.key.now; kind = kind_view c.in-Ok.kind }) c.requires.kept c.in_ok-name.ensures.free c.requires.new kept))
+    (kept_push users all (shapes c.args.relations.now.items) (record { name = c.args.key.now; kind = kind_view c.in-Ok.kind }) c.requires.kept
+    c.in_ok-name.ensures.free c.requires.new kept))

@@ -9,11 +9,14 @@ entries-init c =
 
 pub next_user-requires-clause-fresh : goal.next_user-requires-clause-fresh
 next_user-requires-clause-fresh c =
-    rw c.as_str.ensures.value (left_new next_user (λ r. r.users) c.args.users.now.entries _ c.entries.roster c.entries.key-iterator (c.in-Some.key.now, c.in-Some.value.now) c.next.new.self c.in-Some.ensures.steps c.entries.invariant.0)
+    rw c.as_str.ensures.value (left_new next_user (λ r. r.users) c.args.users.now.entries _ c.entries.roster c.entries.key-iterator
+    (c.in-Some.key.now, c.in-Some.value.now) c.next.new.self c.in-Some.ensures.steps c.entries.invariant.0)
 
 pub entries-preserved : goal.entries-preserved
 entries-preserved c = (
-  left_next next_user (λ r. r.users) c.args.users.now.entries _ c.entries.roster c.next_user.new.roster c.entries.key-iterator (c.in-Some.key.now, c.in-Some.value.now) c.next.new.self
-      c.in-Some.ensures.steps c.entries.invariant.0 (rw (← c.as_str.ensures.value) c.in_default.ensures.read) (rw (← c.as_str.ensures.value) c.in_default.ensures.users),
+  left_next next_user (λ r. r.users) c.args.users.now.entries _ c.entries.roster c.next_user.new.roster c.entries.key-iterator
+      (c.in-Some.key.now, c.in-Some.value.now) c.next.new.self
+      c.in-Some.ensures.steps c.entries.invariant.0 (rw (← c.as_str.ensures.value) c.in_default.ensures.read)
+      (rw (← c.as_str.ensures.value) c.in_default.ensures.users),
   c.in_default.ensures.roles ∙ c.entries.invariant.1,
 )

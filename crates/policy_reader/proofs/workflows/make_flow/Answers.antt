@@ -11,7 +11,8 @@ step_pairs-requires c =
 
 pub order_flow-requires-clause-within : goal.order_flow-requires-clause-within
 order_flow-requires-clause-within c =
-    rw (c.deref.ensures.value, c.in_ok-pairs.ensures, c.in_ok-names.ensures) (all_below (length c.args.steps.now.names) c.as_slice.result.now (rw c.as_slice.ensures.pairs c.requires.within))
+    rw (c.deref.ensures.value, c.in_ok-pairs.ensures, c.in_ok-names.ensures)
+    (all_below (length c.args.steps.now.names) c.as_slice.result.now (rw c.as_slice.ensures.pairs c.requires.within))
 
 pub order_flow-requires-clause-once : goal.order_flow-requires-clause-once
 order_flow-requires-clause-once c = rw (c.deref.ensures.value, c.in_ok-pairs.ensures) (once_each c.as_slice.result.now c.as_slice.ensures.ascending)
@@ -30,11 +31,14 @@ returns-in-Ok-clause-cycle c =
 pub flow_fault-requires-clause-within : goal.flow_fault-requires-clause-within
 flow_fault-requires-clause-within c s e =
     let same = ap (λ ps. set.from_list {R = pair_cmp} ps) (c.deref.ensures.value ∙ c.in_ok-pairs.ensures) ∙ c.as_slice.ensures.pairs in
-    cycle_within (length c.args.steps.now.names) c.args.order.now s c.requires.within (subst (λ o. IsLeastCycle o s) same ((c.in-Err.ensures.cycle s).0 (ap Err e)))
+    cycle_within (length c.args.steps.now.names) c.args.order.now s c.requires.within
+    (subst (λ o. IsLeastCycle o s) same ((c.in-Err.ensures.cycle s).0 (ap Err e)))
 
 pub returns-clause-cycle : goal.returns-clause-cycle
 returns-clause-cycle c =
     let n = length c.args.steps.now.names in
     let same = ap (λ ps. set.from_list {R = pair_cmp} ps) (c.deref.ensures.value ∙ c.in_ok-pairs.ensures) ∙ c.as_slice.ensures.pairs in
-    refused c.in-Err.fault c.flow_fault.result c.args.flow c.args.steps.now.names c.args.order.now c.in-Err.ensures.known c.flow_fault.ensures.cycle c.flow_fault.ensures.memory
-    (λ s e. cycle_found c.order_is_chained.ensures.decided n c.args.order.now s (few_steps n c.requires.counted) c.requires.within (subst (λ o. IsLeastCycle o s) same ((c.in-Err.ensures.cycle s).0 (ap Err e))))
+    refused c.in-Err.fault c.flow_fault.result c.args.flow c.args.steps.now.names c.args.order.now c.in-Err.ensures.known c.flow_fault.ensures.cycle
+    c.flow_fault.ensures.memory
+    (λ s e. cycle_found c.order_is_chained.ensures.decided n c.args.order.now s (few_steps n c.requires.counted) c.requires.within
+    (subst (λ o. IsLeastCycle o s) same ((c.in-Err.ensures.cycle s).0 (ap Err e))))

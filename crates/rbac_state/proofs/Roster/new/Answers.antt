@@ -12,5 +12,6 @@ invariant_of-result c =
     let none : c.in_ok-members.members ≡ set.empty = c.in_ok-members.ensures ∙ c.none.ensures in (
       ap (λ (t : Table). t.limit) fresh,
       subst (λ (t : Table). IsSoundRoster (record { users = t.names; roles = c.args.roles.names; members = c.in_ok-members.members })) (sym fresh)
-          (subst (λ (m : Pairs). IsSoundRoster (record { users = []; roles = c.args.roles.names; members = m })) (sym none) (sound_new c.args.roles.names c.requires)),
+          (subst (λ (m : Pairs). IsSoundRoster (record { users = []; roles = c.args.roles.names; members = m })) (sym none)
+          (sound_new c.args.roles.names c.requires)),
     )

@@ -12,7 +12,8 @@ Branches::copy-branches-preserved t c =
     let rest = kids_of_items (drop (c.branches.branch-index + 1) items) in
     let next = kids_of_items-drop items c.branches.branch-index c.branch-item.result c.branches-test.true c.branch-item.is in
     let added = kid_onto-joined b.kid b.user no_kids rest ∙ ap (λ x. branch_onto x rest) c.in_ok-copy.ensures ∙ sym next in
-    ap (λ k. joined k rest) c.in_ok-push.ensures.ok ∙ joined-assoc c.branches.copies (branch_onto b no_kids) rest ∙ ap (joined c.branches.copies) added ∙ c.branches.invariant
+    ap (λ k. joined k rest) c.in_ok-push.ensures.ok ∙ joined-assoc c.branches.copies (branch_onto b no_kids) rest ∙ ap (joined c.branches.copies) added ∙
+    c.branches.invariant
 
 pub Branches::copy-returns : goal.Branches::copy-returns
 Branches::copy-returns t c =

@@ -4,4 +4,5 @@ use Rattle.refutation_tree.specs.Views.{kids_of_items}
 use Rattle.refutation_tree.proofs.tree.+nodes.Given as goal
 
 abbrev pub invariant-Branches::nodes-branches : goal.invariant-Branches::nodes-branches
-invariant-Branches::nodes-branches l = (l.count ≤ 2 ^ 64 - 1) × (capped (l.count + nodes_of_kids (kids_of_items (drop l.branch-index l.branch-items))) ≡ capped (nodes_of_kids (kids_of_items l.branch-items)))
+invariant-Branches::nodes-branches l = (l.count ≤ 2 ^ 64 - 1) ×
+    (capped (l.count + nodes_of_kids (kids_of_items (drop l.branch-index l.branch-items))) ≡ capped (nodes_of_kids (kids_of_items l.branch-items)))

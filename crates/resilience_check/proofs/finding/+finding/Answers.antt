@@ -28,7 +28,13 @@ first_breaking-returns-in-Some t c =
     (c.args.left - 1) c.with_user.new.family c.with_user.new.absent o) c.in-Some.is c.in_ok-tree.ensures in
     let found = subst (λ (absent : List ℕ). HasFoundWith p c.args.f absent c.users.u
     (c.args.left - 1) c.with_user.new.family c.with_user.new.absent c.in-Some.tree) c.users.invariant.same tried.1 in
-    let known : c.users.u < length p.roster.users = omega (arith, c.users-test.true, c.len-u-end.ensures.count, ap length c.users-2.ensures.names, ap (λ r. length r.users) c.roster.ensures.roster) in (
+    let known : c.users.u < length p.roster.users = omega (
+      arith,
+      c.users-test.true,
+      c.len-u-end.ensures.count,
+      ap length c.users-2.ensures.names,
+      ap (λ r. length r.users) c.roster.ensures.roster,
+    ) in (
       grown_on p c.args.f c.args.family.now c.users.family c.with_user.new.family c.users.invariant.grown tried.0,
       found_from p c.args.f c.args.absent.now c.with_user.new.absent c.args.from c.args.left
           (c.args.left - 1) c.users.u c.users.family c.with_user.new.family c.in-Some.tree
@@ -39,7 +45,8 @@ pub first_breaking-returns : goal.first_breaking-returns
 first_breaking-returns t c =
     let p = c.args.p.now in (
       c.users.invariant.grown,
-      none_from (length p.roster.users) c.args.absent.now c.users.absent c.args.from c.args.left c.users.u c.users.family c.users.invariant.same c.if-left-eq0.false
+      none_from (length p.roster.users) c.args.absent.now c.users.absent c.args.from c.args.left c.users.u c.users.family c.users.invariant.same
+          c.if-left-eq0.false
           (omega (
             arith,
             c.users-test.false,
@@ -75,12 +82,15 @@ with_user-returns t c =
     c.first_breaking.new.family now c.in_ok-found.found) c.in_ok-push.ensures.pushed next in
     elim c.if-is_none.branch [
       | with_user-then-is_none w ↦
-          found_behind p c.args.f absent c.first_breaking.new.absent c.if-is_none.absent c.args.u c.args.left c.args.family.now c.first_breaking.new.family c.in_ok-found.found tried
+          found_behind p c.args.f absent c.first_breaking.new.absent c.if-is_none.absent c.args.u c.args.left c.args.family.now c.first_breaking.new.family
+          c.in_ok-found.found tried
           (λ none. w.absent-is ∙ w.truncate.ensures ∙ cut_back absent c.args.u
-          (c.args.u + 1) c.args.left p c.args.f c.args.family.now c.first_breaking.new.family c.first_breaking.new.absent c.in_ok-found.found c.len-count.result c.len-count.ensures tried none)
+          (c.args.u + 1) c.args.left p c.args.f c.args.family.now c.first_breaking.new.family c.first_breaking.new.absent c.in_ok-found.found
+          c.len-count.result c.len-count.ensures tried none)
           (λ some. absurd (differ (is_none c.in_ok-found.found) (ap not (c.is_none.ensures ∙ ap not w.if-is_none.true)) some))
       | with_user-else-is_none w ↦
-          found_behind p c.args.f absent c.first_breaking.new.absent c.if-is_none.absent c.args.u c.args.left c.args.family.now c.first_breaking.new.family c.in_ok-found.found tried
+          found_behind p c.args.f absent c.first_breaking.new.absent c.if-is_none.absent c.args.u c.args.left c.args.family.now c.first_breaking.new.family
+          c.in_ok-found.found tried
           (λ none. absurd (differ (is_none c.in_ok-found.found) none (ap not (c.is_none.ensures ∙ ap not w.if-is_none.false))))
           (λ some. w.absent-is)
     ]

@@ -12,8 +12,10 @@ tried-in : goal.returns-in-Some-clause-answer
 tried-in c =
     let p = c.args.p.now in
     let now = c.first_breaking.new.absent in
-    let tried = subst (λ (o : Option Tree). HasTried p c.args.f c.sizes.family c.sizes.absent 0 c.sizes.size c.first_breaking.new.family now o) c.in-Some.is c.in_ok-tree.ensures in
-    let found = subst (λ (absent : List ℕ). HasFound p c.args.f absent 0 c.sizes.size c.first_breaking.new.family now c.in-Some.tree) c.sizes.invariant.same tried.1 in (
+    let tried = subst (λ (o : Option Tree). HasTried p c.args.f c.sizes.family c.sizes.absent 0 c.sizes.size c.first_breaking.new.family now o) c.in-Some.is
+    c.in_ok-tree.ensures in
+    let found = subst (λ (absent : List ℕ). HasFound p c.args.f absent 0 c.sizes.size c.first_breaking.new.family now c.in-Some.tree) c.sizes.invariant.same
+    tried.1 in (
       least_by p c.args.f c.args.t c.sizes.size c.sizes.family c.first_breaking.new.family now c.in-Some.tree
           (omega (arith, c.sizes-test.true)) c.rules.ensures.well_formed c.sizes.invariant.each tried.0 found,
       found.refuted,

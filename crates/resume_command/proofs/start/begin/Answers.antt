@@ -17,6 +17,8 @@ returns-clause-begins g c =
     let p = c.in_ok-policy.policy in
     let requests = g.F.Shelf.file c.args.shelf.now c.args.requests.now in
     let transcript = g.F.Shelf.file c.args.shelf.now c.args.transcript.now in
-    let over = λ (p : PolicyShape) (a b : Filed). OverBoth c.args.lanes (StopsBy result) (λ cut x. BeginsBy (session_of p c.args.lanes c.args.rounds cut) cut x result) a b in
-    policy_there (StopsBy result) (λ p. over p requests transcript) (g.F.Shelf.file c.args.shelf.now c.args.policy.now) p c.in_ok-policy.ensures.policy c.in_ok-policy.ensures.sound
+    let over = λ (p : PolicyShape) (a b : Filed). OverBoth c.args.lanes (StopsBy result)
+    (λ cut x. BeginsBy (session_of p c.args.lanes c.args.rounds cut) cut x result) a b in
+    policy_there (StopsBy result) (λ p. over p requests transcript) (g.F.Shelf.file c.args.shelf.now c.args.policy.now) p c.in_ok-policy.ensures.policy
+    c.in_ok-policy.ensures.sound
     (moved (over p) _ _ _ _ (c.in_ok-policy.ensures.kept c.args.requests.now) (c.in_ok-policy.ensures.kept c.args.transcript.now) c.begin_under.ensures.begins)

@@ -14,12 +14,14 @@ pub returns-in-Some-clause-begins : goal.returns-in-Some-clause-begins
 returns-in-Some-clause-begins g c requests cut =
     let file = jobs_of_input requests true c.args.lanes in
     let result : Result Beginning Refusal = Err (Ends (LineTooLong c.in-Some.line)) in
-    line_long (StopsBy result) (λ xs. BeginsBy (session_of c.args.policy c.args.lanes c.args.rounds file) file xs result) c.args.transcript c.first_long.result c.in-Some.line
+    line_long (StopsBy result) (λ xs. BeginsBy (session_of c.args.policy c.args.lanes c.args.rounds file) file xs result) c.args.transcript
+    c.first_long.result c.in-Some.line
     (c.first_long.ensures ∙ ap (λ xs. first_long 0 (lines_of (whole_lines xs))) c.as_bytes.ensures) c.in-Some.is refl
 
 pub returns-in-None-clause-begins : goal.returns-in-None-clause-begins
 returns-in-None-clause-begins g c requests cut =
     let file = jobs_of_input requests true c.args.lanes in
     let result = c.take_up.result in
-    lines_short (StopsBy result) (λ xs. BeginsBy (session_of c.args.policy c.args.lanes c.args.rounds file) file xs result) c.args.transcript c.first_long.result
+    lines_short (StopsBy result) (λ xs. BeginsBy (session_of c.args.policy c.args.lanes c.args.rounds file) file xs result) c.args.transcript
+    c.first_long.result
     (c.first_long.ensures ∙ ap (λ xs. first_long 0 (lines_of (whole_lines xs))) c.as_bytes.ensures) c.in-None.is (c.take_up.ensures.begins requests cut)

@@ -7,8 +7,16 @@ use Rattle.resume_command.proofs.start.take_up.Goals as goal
 
 pub with_told-requires : goal.with_told-requires
 with_told-requires g c =
-    let s : Session = record { policy = c.args.policy; lanes = c.args.lanes; rounds = c.args.rounds; jobs = c.args.text.batch.jobs; batch_ends = c.args.text.batch.ends } in
-    let within = next_within s c.as_bytes.result.now c.in_ok-resumed.resumed.next c.in_ok-resumed.resumed.desk c.requires.order c.in_ok-resumed.ensures.resumed in
+    let s : Session = record {
+      policy = c.args.policy;
+      lanes = c.args.lanes;
+      rounds = c.args.rounds;
+      jobs = c.args.text.batch.jobs;
+      batch_ends =
+          c.args.text.batch.ends;
+    } in
+    let within = next_within
+    s c.as_bytes.result.now c.in_ok-resumed.resumed.next c.in_ok-resumed.resumed.desk c.requires.order c.in_ok-resumed.ensures.resumed in
     subst (λ js. c.in_ok-resumed.resumed.next ≤ length js) (sym c.in_ok-resumed.ensures.jobs) within
 
 pub returns-in_err-reader-clause-begins : goal.returns-in_err-reader-clause-begins
@@ -16,8 +24,16 @@ returns-in_err-reader-clause-begins g c requests cut = lacked _ _ _ _ c.from_res
 
 pub returns-in_err-resumed-clause-begins : goal.returns-in_err-resumed-clause-begins
 returns-in_err-resumed-clause-begins g c requests cut =
-    refused_so c.args.policy c.args.lanes c.args.rounds requests c.args.transcript c.args.text c.in_err-resumed.field-0.0 c.from_residual-in_err-resumed.result cut
-    (subst (λ xs. RefusesBy (record { policy = c.args.policy; lanes = c.args.lanes; rounds = c.args.rounds; jobs = c.args.text.batch.jobs; batch_ends = c.args.text.batch.ends }) xs c.in_err-resumed.field-0.0) c.as_bytes.ensures c.in_err-resumed.ensures.refused)
+    refused_so c.args.policy c.args.lanes c.args.rounds requests c.args.transcript c.args.text c.in_err-resumed.field-0.0
+    c.from_residual-in_err-resumed.result cut
+    (subst (λ xs. RefusesBy (record {
+      policy = c.args.policy;
+      lanes = c.args.lanes;
+      rounds = c.args.rounds;
+      jobs = c.args.text.batch.jobs;
+      batch_ends =
+          c.args.text.batch.ends;
+    }) xs c.in_err-resumed.field-0.0) c.as_bytes.ensures c.in_err-resumed.ensures.refused)
     c.from_residual-in_err-resumed.ensures.1
 
 pub returns-in_err-with_told-clause-begins : goal.returns-in_err-with_told-clause-begins
@@ -28,9 +44,17 @@ returns-clause-begins g c requests cut =
     let b = c.in_ok-with_told.field-0 in
     let w = c.in_ok-with_told.ensures in
     let r = c.in_ok-resumed.ensures in
-    let s : Session = record { policy = c.args.policy; lanes = c.args.lanes; rounds = c.args.rounds; jobs = c.args.text.batch.jobs; batch_ends = c.args.text.batch.ends } in
+    let s : Session = record {
+      policy = c.args.policy;
+      lanes = c.args.lanes;
+      rounds = c.args.rounds;
+      jobs = c.args.text.batch.jobs;
+      batch_ends =
+          c.args.text.batch.ends;
+    } in
     let next = c.in_ok-resumed.resumed.next in
-    has_begun c.args.policy c.args.lanes c.args.rounds requests c.args.transcript c.args.text next c.in_ok-reader.reader b c.admin.ensures.sound c.requires.order c.inputs_go_on.ensures cut c.requires.going
+    has_begun c.args.policy c.args.lanes c.args.rounds requests c.args.transcript c.args.text next c.in_ok-reader.reader b c.admin.ensures.sound
+    c.requires.order c.inputs_go_on.ensures cut c.requires.going
     (subst (λ (d : DeskShape). HasResumed s c.args.transcript next d) (sym w.desk)
     (subst (λ xs. HasResumed s xs next c.in_ok-resumed.resumed.desk) c.as_bytes.ensures r.resumed))
     (record {

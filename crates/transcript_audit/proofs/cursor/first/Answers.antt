@@ -15,6 +15,7 @@ returns c =
       begins = refl;
       stops = c.end_of-end.ensures;
       placed = λ lane known.
-          subst (λ js. IsNextPlace js lane 0 (slice_index_or c.first_places.result lane 0)) (slice_part start end jobs begins ∙ ap (λ n. part start n jobs) c.end_of-end.ensures)
+          subst (λ js. IsNextPlace js lane 0 (slice_index_or c.first_places.result lane 0))
+          (slice_part start end jobs begins ∙ ap (λ n. part start n jobs) c.end_of-end.ensures)
           (c.first_places.ensures lane known);
     }

@@ -13,5 +13,6 @@ returns c =
       place = moved.0;
       sized = c.go_on.ensures.sized;
       kept = ap (λ ps. record before { places = ps }) moved.1.0;
-      moved = subst (λ js. IsNextPlace js lane (slice_index_or before.places lane 0 + 1) moved.0) (slice_part before.start before.end c.args.jobs.now c.requires.order) moved.1.1;
+      moved = subst (λ js. IsNextPlace js lane (slice_index_or before.places lane 0 + 1) moved.0)
+          (slice_part before.start before.end c.args.jobs.now c.requires.order) moved.1.1;
     }

@@ -8,4 +8,5 @@ pub flows-preserved : goal.flows-preserved
 flows-preserved c = below_more (λ g. length (flow_at c.args.p.now g).flow.steps ≤ STEP_LIMIT) c.flows.f c.flows.invariant c.know_few.ensures
 
 pub returns : goal.returns
-returns c f below = c.flows.invariant f (omega (arith, below, c.flows-test.false, c.len-f-end.ensures.count, ap length c.flows-2.ensures.names, c.flows-2.ensures.count))
+returns c f below =
+    c.flows.invariant f (omega (arith, below, c.flows-test.false, c.len-f-end.ensures.count, ap length c.flows-2.ensures.names, c.flows-2.ensures.count))

@@ -13,5 +13,6 @@ returns-in-Ok-clause-right g c =
 
 pub returns-in-Ok-clause-given : goal.returns-in-Ok-clause-given
 returns-in-Ok-clause-given g c =
-    subst (λ s. needs_verdict (decision_aside (book_on s) c.args.ask.now) ≡ true → c.decide.result ≢ verdicts.Nothing) c.in-Ok.ensures c.decide.ensures.something
+    subst (λ s. needs_verdict (decision_aside (book_on s) c.args.ask.now) ≡ true → c.decide.result ≢ verdicts.Nothing) c.in-Ok.ensures
+    c.decide.ensures.something
     (snap_needs c.args.board.now c.args.ask.now c.in-Ok.snap.cases.spare c.requires.needed)

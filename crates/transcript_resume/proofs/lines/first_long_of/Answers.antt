@@ -18,5 +18,6 @@ looking-preserved c =
     record {
       within = left_within c.args.text.now c.looking.at c.first_len-at.result c.looking.invariant.within c.first_len-at.ensures.within;
       count = omega (arith, some, count);
-      goes = long_on c.looking.number c.looking.at c.first_len-at.result c.args.text.now c.looking-test.true (omega (arith, len, short)) c.first_len-at.ensures.behind ∙ c.looking.invariant.goes;
+      goes = long_on c.looking.number c.looking.at c.first_len-at.result c.args.text.now c.looking-test.true (omega (arith, len, short))
+          c.first_len-at.ensures.behind ∙ c.looking.invariant.goes;
     }

@@ -7,4 +7,5 @@ pub resume_batch-requires-clause-lanes : goal.resume_batch-requires-clause-lanes
 resume_batch-requires-clause-lanes c =
     let u = c.in_ok-unserved.unserved in
     subst (λ n. AreOfLanes n c.as_slice.result.now) (sym (ap (λ (d : DeskShape). d.lanes) c.in_ok-desk.ensures))
-    (subst (AreOfLanes c.args.lanes) (sym (c.as_slice.ensures ∙ c.in_ok-unserved.ensures.jobs)) (lanes_between c.args.lanes u.from u.next c.args.batch.jobs c.requires.order.of_lanes))
+    (subst (AreOfLanes c.args.lanes) (sym (c.as_slice.ensures ∙ c.in_ok-unserved.ensures.jobs))
+    (lanes_between c.args.lanes u.from u.next c.args.batch.jobs c.requires.order.of_lanes))

@@ -11,5 +11,7 @@ pub invariant_of-self : goal.invariant_of-self
 invariant_of-self c =
     let same = c.self.view_is in
     let below : length (shapes c.self.inside.declared.items) < RELATION_LIMIT = omega (arith, ap length same, c.count-count.ensures.count) in
-    let fresh = ap (λ (rs : List RelationShape). is_some (place_of (known_names rs) c.args.name)) same ∙ sym (ap is_some c.find.ensures.place) ∙ sym c.is_some.ensures ∙ c.if-is_some.false in
-    sound_push_pairs c.self.inside.declared.items c.push_listed.new.declared.items c.args.name c.args.pairs c.push_listed.result c.push_listed.ensures.pushed c.push_listed.ensures.unchanged c.self.invariant below fresh c.requires.few c.requires.users
+    let fresh = ap (λ (rs : List RelationShape). is_some (place_of (known_names rs) c.args.name)) same ∙ sym (ap is_some c.find.ensures.place) ∙
+    sym c.is_some.ensures ∙ c.if-is_some.false in
+    sound_push_pairs c.self.inside.declared.items c.push_listed.new.declared.items c.args.name c.args.pairs c.push_listed.result
+    c.push_listed.ensures.pushed c.push_listed.ensures.unchanged c.self.invariant below fresh c.requires.few c.requires.users

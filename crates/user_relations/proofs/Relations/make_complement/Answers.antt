@@ -10,7 +10,8 @@ pub invariant_of-self : goal.invariant_of-self
 invariant_of-self c =
     let before = subst (λ (ds : List Relation). AreSound (shapes ds)) (sym c.deref_mut.ensures.value) c.self.invariant in
     let kept = sym c.deref_mut.ensures.len ∙ ap length c.deref_mut.ensures.value in
-    let back = written_back c.set_kind.new.declared c.self.inside.declared.items c.self.inside.declared.len kept (c.set_kind.auto.declared ∙ ap length c.deref_mut.ensures.value) in
+    let back = written_back c.set_kind.new.declared c.self.inside.declared.items c.self.inside.declared.len kept
+    (c.set_kind.auto.declared ∙ ap length c.deref_mut.ensures.value) in
     let same = ap shapes c.deref_mut.ensures.value ∙ c.self.view_is in
     subst (λ (ds : List Relation). AreSound (shapes ds)) (sym back)
     (sound_complement (shapes c.deref_mut.result.now) _ c.args.rho c.args.of before

@@ -6,7 +6,8 @@ use Rattle.user_relations.specs.Relations.{RelationKind, listed_pairs}
 use Rattle.user_relations.proofs.kinds.is_in_list.Goals as goal
 
 pub returns-in-None : goal.returns-in-None
-returns-in-None c = sym (ap (λ (k : Option RelationKind). set.contains (listed_pairs k) (c.args.u, c.args.v)) c.in-None.ensures ∙ set.contains-empty pair_cmp (c.args.u, c.args.v))
+returns-in-None c = sym (ap (λ (k : Option RelationKind). set.contains (listed_pairs k) (c.args.u, c.args.v)) c.in-None.ensures ∙
+    set.contains-empty pair_cmp (c.args.u, c.args.v))
 
 pub returns-in-Some-Complement : goal.returns-in-Some-Complement
 returns-in-Some-Complement c =

@@ -12,4 +12,5 @@ pub returns-in-Released : goal.returns-in-Released
 returns-in-Released c =
     let d = Ok (deeds.Release c.args.n c.args.case.now c.args.s) in
     subst (λ r. HasTakenStep c.args.p.now c.args.cases.now c.give_back.new.cases d r) (sym c.in-Released.is)
-    (changed_taken c.args.p.now c.args.cases.now c.give_back.new.cases c.args.n (freed_row c.args.s) (λ k. with_state k c.args.s Free) d replies.Released c.give_back.ensures (λ edits. tt) (λ s. refl) refl)
+    (changed_taken c.args.p.now c.args.cases.now c.give_back.new.cases c.args.n (freed_row c.args.s) (λ k. with_state k c.args.s Free) d replies.Released
+    c.give_back.ensures (λ edits. tt) (λ s. refl) refl)

@@ -12,4 +12,5 @@ pub returns-in-Returned : goal.returns-in-Returned
 returns-in-Returned c =
     let d = Ok (deeds.GiveBack c.args.n c.args.case.now c.args.s c.args.u) in
     subst (λ r. HasTakenStep c.args.p.now c.args.cases.now c.give_back.new.cases d r) (sym c.in-Returned.is)
-    (changed_taken c.args.p.now c.args.cases.now c.give_back.new.cases c.args.n (freed_row c.args.s) (λ k. with_state k c.args.s Free) d replies.Returned c.give_back.ensures (λ edits. tt) (λ s. refl) refl)
+    (changed_taken c.args.p.now c.args.cases.now c.give_back.new.cases c.args.n (freed_row c.args.s) (λ k. with_state k c.args.s Free) d replies.Returned
+    c.give_back.ensures (λ edits. tt) (λ s. refl) refl)

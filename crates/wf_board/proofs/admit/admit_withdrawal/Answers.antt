@@ -12,4 +12,5 @@ pub returns-in-Withdrawn : goal.returns-in-Withdrawn
 returns-in-Withdrawn c =
     let d = Ok (deeds.Withdraw c.args.n) in
     subst (λ r. HasTakenStep c.args.p.now c.args.cases.now c.withdraw.new.cases d r) (sym c.in-Withdrawn.is)
-    (changed_taken c.args.p.now c.args.cases.now c.withdraw.new.cases c.args.n withdrawn_row (λ k. with_phase k Withdrawn) d replies.Withdrawn c.withdraw.ensures (λ edits. tt) (λ s. refl) refl)
+    (changed_taken c.args.p.now c.args.cases.now c.withdraw.new.cases c.args.n withdrawn_row (λ k. with_phase k Withdrawn) d replies.Withdrawn
+    c.withdraw.ensures (λ edits. tt) (λ s. refl) refl)

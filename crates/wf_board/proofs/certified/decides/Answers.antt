@@ -12,7 +12,8 @@ returns-in-Open c =
     let v = c.args.verdict.now in
     subst (λ d. c.is_certificate.result ≡ true ↔ IsCertificate b (Ok d) v) (sym c.in-Open.is)
     (open_certificate b f v c.is_certificate.result
-    (certificate_same c.args.p.now f f no_users c.empty.result no_steps c.empty-in-Open.result v c.is_certificate.result refl c.empty.ensures.value c.empty-in-Open.ensures.value c.is_certificate.ensures))
+    (certificate_same c.args.p.now f f no_users c.empty.result no_steps c.empty-in-Open.result v c.is_certificate.result refl c.empty.ensures.value
+    c.empty-in-Open.ensures.value c.is_certificate.ensures))
 
 pub returns-in-Claim : goal.returns-in-Claim
 returns-in-Claim c =

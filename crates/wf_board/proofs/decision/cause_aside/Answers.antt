@@ -12,4 +12,5 @@ claim_cause-requires-clause-complete c =
 
 pub returns-in-Claim-clause-cause : goal.returns-in-Claim-clause-cause
 returns-in-Claim-clause-cause c =
-    subst (λ d. IfOk c.claim_cause.result (λ cause. cause ≡ cause_aside (book_of c.args.p.now c.args.cases.now) d)) (sym c.in-Claim.is) c.claim_cause.ensures.cause
+    subst (λ d. IfOk c.claim_cause.result (λ cause. cause ≡ cause_aside (book_of c.args.p.now c.args.cases.now) d)) (sym c.in-Claim.is)
+    c.claim_cause.ensures.cause

@@ -13,4 +13,5 @@ returns c clear =
     grind (arith, common_steps, c.flow-f.ensures, c.flow.ensures.flow, c.ready.ensures.answer, c.if-not-ready.false) in
     let may : is_authorised p k.flow c.args.s c.args.u ≡ true =
     grind (arith, common_steps, c.flow-f.ensures, c.authorised.ensures, c.if-not-authorised.false) in
-    clear_none p k c.args.s c.args.u c.admin-sound.ensures.sound c.requires.known.flow c.requires.complete ready may (sym c.breaks_rule.ensures ∙ told_false c.breaks_rule.result clear)
+    clear_none p k c.args.s c.args.u c.admin-sound.ensures.sound c.requires.known.flow c.requires.complete ready may
+    (sym c.breaks_rule.ensures ∙ told_false c.breaks_rule.result clear)

@@ -15,4 +15,5 @@ check_tree-requires-clause-within c =
 pub returns : goal.returns
 returns c =
     c.check_tree.ensures
-    ∙ (λ i. refutes (problem_of c.args.p.now (c.flow.ensures i)) (c.assigned-assigned.ensures.value i) (c.finished-finished.ensures.value i) (shape_of c.args.tree.now))
+    ∙ (λ i. refutes (problem_of c.args.p.now (c.flow.ensures i)) (c.assigned-assigned.ensures.value i) (c.finished-finished.ensures.value i)
+    (shape_of c.args.tree.now))

@@ -17,4 +17,5 @@ is_refuted-requires c =
 pub returns : goal.returns
 returns c =
     let k = c.args.case.now in
-    c.is_refuted.ensures ∙ ap (λ (q : PolicyShape). refutes (problem_of q k.flow) (assigned_of k) (finished_of k) (shape_of c.args.tree.now)) c.in_ok-after.ensures
+    c.is_refuted.ensures ∙
+    ap (λ (q : PolicyShape). refutes (problem_of q k.flow) (assigned_of k) (finished_of k) (shape_of c.args.tree.now)) c.in_ok-after.ensures

@@ -15,6 +15,7 @@ returns c =
     let k = c.args.case.now in
     let decision = Ok (deeds.Claim c.args.n k c.args.s c.args.u) in
     subst (λ t. HasTakenStep p c.args.cases.now t decision (replies.Granted c.args.plan)) (sym c.hold.ensures)
-    (changed_taken p c.args.cases.now _ c.args.n (held_row c.args.s c.args.u c.args.plan) (λ d. with_state d c.args.s (Held c.args.u)) decision (replies.Granted c.args.plan)
+    (changed_taken p c.args.cases.now _ c.args.n (held_row c.args.s c.args.u c.args.plan) (λ d. with_state d c.args.s (Held c.args.u)) decision
+    (replies.Granted c.args.plan)
     (held_keeps p c.args.cases.now c.args.n k c.args.s c.args.u c.args.plan c.requires.kept c.requires.found c.requires.free c.requires.valid)
     (λ edits. c.requires.valid) (λ s. refl) refl)

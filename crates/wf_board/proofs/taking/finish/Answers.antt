@@ -11,7 +11,8 @@ use Rattle.wf_board.proofs.taking.finish.Goals as goal
 
 pub finish-requires : goal.finish-requires
 finish-requires c =
-    on_case (λ k. HasHeldStep k c.args.s) c.args.cases.now.rows c.args.n c.args.case.now c.requires.found.found record { open_case = c.requires.found.live; held = c.requires.held }
+    on_case (λ k. HasHeldStep k c.args.s) c.args.cases.now.rows c.args.n c.args.case.now c.requires.found.found
+    record { open_case = c.requires.found.live; held = c.requires.held }
 
 pub returns : goal.returns
 returns c =

@@ -8,7 +8,8 @@ use Rattle.wf_board.proofs.taking.give_back.Goals as goal
 
 pub give_back-requires : goal.give_back-requires
 give_back-requires c =
-    on_case (λ k. HasHeldStep k c.args.s) c.args.cases.now.rows c.args.n c.args.case.now c.requires.found.found record { open_case = c.requires.found.live; held = c.requires.held }
+    on_case (λ k. HasHeldStep k c.args.s) c.args.cases.now.rows c.args.n c.args.case.now c.requires.found.found
+    record { open_case = c.requires.found.live; held = c.requires.held }
 
 pub returns : goal.returns
 returns c =

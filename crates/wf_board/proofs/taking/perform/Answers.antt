@@ -13,19 +13,22 @@ pub returns-in-GiveBack-clause-taken : goal.returns-in-GiveBack-clause-taken
 returns-in-GiveBack-clause-taken c =
     let given = c.in-GiveBack in
     subst (λ d. HasTakenStep c.args.p.now c.args.cases.now c.give_back.new.cases (Ok d) replies.Returned) (sym given.is)
-    (changed_taken c.args.p.now c.args.cases.now c.give_back.new.cases given.number (freed_row given.step) (λ d. with_state d given.step Free) (Ok (deeds.GiveBack given.number given.case given.step given.user)) replies.Returned
+    (changed_taken c.args.p.now c.args.cases.now c.give_back.new.cases given.number (freed_row given.step) (λ d. with_state d given.step Free)
+    (Ok (deeds.GiveBack given.number given.case given.step given.user)) replies.Returned
     c.give_back.ensures (λ edits. tt) (λ s. refl) refl)
 
 pub returns-in-Release-clause-taken : goal.returns-in-Release-clause-taken
 returns-in-Release-clause-taken c =
     let given = c.in-Release in
     subst (λ d. HasTakenStep c.args.p.now c.args.cases.now c.give_back-in-Release.new.cases (Ok d) replies.Released) (sym given.is)
-    (changed_taken c.args.p.now c.args.cases.now c.give_back-in-Release.new.cases given.number (freed_row given.step) (λ d. with_state d given.step Free) (Ok (deeds.Release given.number given.case given.step)) replies.Released
+    (changed_taken c.args.p.now c.args.cases.now c.give_back-in-Release.new.cases given.number (freed_row given.step) (λ d. with_state d given.step Free)
+    (Ok (deeds.Release given.number given.case given.step)) replies.Released
     c.give_back-in-Release.ensures (λ edits. tt) (λ s. refl) refl)
 
 pub returns-in-Withdraw-clause-taken : goal.returns-in-Withdraw-clause-taken
 returns-in-Withdraw-clause-taken c =
     let given = c.in-Withdraw in
     subst (λ d. HasTakenStep c.args.p.now c.args.cases.now c.withdraw.new.cases (Ok d) replies.Withdrawn) (sym given.is)
-    (changed_taken c.args.p.now c.args.cases.now c.withdraw.new.cases given.number withdrawn_row (λ d. with_phase d Withdrawn) (Ok (deeds.Withdraw given.number)) replies.Withdrawn
+    (changed_taken c.args.p.now c.args.cases.now c.withdraw.new.cases given.number withdrawn_row (λ d. with_phase d Withdrawn)
+    (Ok (deeds.Withdraw given.number)) replies.Withdrawn
     c.withdraw.ensures (λ edits. tt) (λ s. refl) refl)

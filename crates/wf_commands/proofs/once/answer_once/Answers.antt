@@ -6,19 +6,38 @@ use Rattle.wf_commands.proofs.once.answer_once.Goals as goal
 pub returns-in-Ok-put_and_flush-clause-answers : goal.returns-in-Ok-put_and_flush-clause-answers
 returns-in-Ok-put_and_flush-clause-answers g c =
     with_answer (g.A.Answers.limit c.args.command.now) c.args.policy.now (g.A.Answers.answers c.args.command.now) c.in-Ok.answer _
-    (record { given = c.in-Ok.ensures.answer; named = c.in-Ok.ensures.named; loads = c.in-Ok.ensures.loads; reads = c.in-Ok.ensures.reads; input = c.in-Ok.ensures.input; untold = c.bare_report.ensures.told })
-    (c.bare_report.ensures.fault ∙ c.ending.ensures) (let all = c.in-Ok-put_and_flush.ensures.all in let value = c.as_slice.ensures.value in cc) c.in-Ok-put_and_flush.ensures.stays
+    (record {
+      given = c.in-Ok.ensures.answer;
+      named = c.in-Ok.ensures.named;
+      loads = c.in-Ok.ensures.loads;
+      reads = c.in-Ok.ensures.reads;
+      input =
+          c.in-Ok.ensures.input;
+      untold = c.bare_report.ensures.told;
+    })
+    (c.bare_report.ensures.fault ∙ c.ending.ensures) (let all = c.in-Ok-put_and_flush.ensures.all in let value = c.as_slice.ensures.value in cc)
+    c.in-Ok-put_and_flush.ensures.stays
 
 pub returns-in-Ok-clause-answers : goal.returns-in-Ok-clause-answers
 returns-in-Ok-clause-answers g c =
     with_part (g.A.Answers.limit c.args.command.now) c.args.policy.now (g.A.Answers.answers c.args.command.now) c.in-Ok.answer _
-    (record { given = c.in-Ok.ensures.answer; named = c.in-Ok.ensures.named; loads = c.in-Ok.ensures.loads; reads = c.in-Ok.ensures.reads; input = c.in-Ok.ensures.input; untold = c.bare_report-in-Err-put_and_flush.ensures.told })
+    (record {
+      given = c.in-Ok.ensures.answer;
+      named = c.in-Ok.ensures.named;
+      loads = c.in-Ok.ensures.loads;
+      reads = c.in-Ok.ensures.reads;
+      input =
+          c.in-Ok.ensures.input;
+      untold = c.bare_report-in-Err-put_and_flush.ensures.told;
+    })
     c.bare_report-in-Err-put_and_flush.ensures.fault
-    (subst (λ (text : List ℕ). HasPart (g.K.Sink.held c.args.sink.now) (g.K.Sink.held c.put_and_flush.new.sink) text) c.as_slice.ensures.value c.in-Err-put_and_flush.ensures.part)
+    (subst (λ (text : List ℕ). HasPart (g.K.Sink.held c.args.sink.now) (g.K.Sink.held c.put_and_flush.new.sink) text) c.as_slice.ensures.value
+    c.in-Err-put_and_flush.ensures.part)
     c.in-Err-put_and_flush.ensures.rose
 
 pub returns-clause-answers : goal.returns-clause-answers
 returns-clause-answers g c =
     rw (c.bare_report-in-Err.ensures.fault, c.bare_report-in-Err.ensures.told)
-    (without_answer (g.A.Answers.limit c.args.command.now) c.args.policy.now (g.A.Answers.answers c.args.command.now) _ c.in-Err.ensures.answer c.in-Err.ensures.ending c.in-Err.ensures.named c.in-Err.ensures.loads c.in-Err.ensures.reads c.in-Err.ensures.input
+    (without_answer (g.A.Answers.limit c.args.command.now) c.args.policy.now (g.A.Answers.answers c.args.command.now) _ c.in-Err.ensures.answer
+    c.in-Err.ensures.ending c.in-Err.ensures.named c.in-Err.ensures.loads c.in-Err.ensures.reads c.in-Err.ensures.input
     (record { output = refl; writes = refl; untold = refl }))

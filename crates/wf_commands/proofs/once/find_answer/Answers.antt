@@ -4,7 +4,8 @@ use Rattle.wf_commands.proofs.once.find_answer.Goals as goal
 
 pub returns-in_err-p-clause-input : goal.returns-in_err-p-clause-input
 returns-in_err-p-clause-input g c =
-    unread_after (g.A.Answers.limit c.args.command.now) c.from_residual.result c.in_err-p.field-0.0 (g.S.Source.left c.args.source.now) c.from_residual.ensures.1 c.in_err-p.ensures.ending
+    unread_after (g.A.Answers.limit c.args.command.now) c.from_residual.result c.in_err-p.field-0.0 (g.S.Source.left c.args.source.now)
+    c.from_residual.ensures.1 c.in_err-p.ensures.ending
 
 pub returns-clause-answer : goal.returns-clause-answer
 returns-clause-answer g c =

@@ -18,6 +18,7 @@ returns-in_ok-fault_text-in-Err c =
     let e = sym c.in-Err.ensures.fault in (
       c.in-Err.fault,
       subst (λ (a : List (Option ℕ)). plan_verdict (problem_of c.args.p.now c.args.f) a no_steps c.args.plan.now ≡ Err c.in-Err.fault) c.empty.ensures.value
-          (subst (λ (d : List Bool). plan_verdict (problem_of c.args.p.now c.args.f) c.empty.result d c.args.plan.now ≡ Err c.in-Err.fault) c.empty-2.ensures.value e),
+          (subst (λ (d : List Bool). plan_verdict (problem_of c.args.p.now c.args.f) c.empty.result d c.args.plan.now ≡ Err c.in-Err.fault)
+          c.empty-2.ensures.value e),
       (let text = c.in_ok-fault_text-in-Err.ensures in let bytes = c.into_bytes-in-Err.ensures in cc),
     )

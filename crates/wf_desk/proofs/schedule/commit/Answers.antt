@@ -15,7 +15,8 @@ commit-requires-clause-right g c =
 
 pub returns-in-Some-clause-done : goal.returns-in-Some-clause-done
 returns-in-Some-clause-done g c =
-    committed_done (standing c.args.desk.now c.args.held.now) c.args.lane c.in-Some.field-0 c.commit.result c.mark_of.result (standing c.commit.new.self c.take_held.new.held)
+    committed_done (standing c.args.desk.now c.args.held.now) c.args.lane c.in-Some.field-0 c.commit.result c.mark_of.result
+    (standing c.commit.new.self c.take_held.new.held)
     c.mark_of.ensures (sym c.take_held.ensures.held ∙ c.in-Some.is) c.commit.ensures c.take_held.ensures.none
 
 pub returns-in-Some-clause-held : goal.returns-in-Some-clause-held
@@ -24,7 +25,8 @@ returns-in-Some-clause-held g c =
     let old = c.args.desk.now in
     let new = c.commit.new.self in
     subst (AreHeld new) (sym c.take_held.ensures.none)
-    (all_held_on old new _ (grown_committed old new x.task x.verdict c.commit.result c.commit.ensures) (held_none old c.args.held.now c.args.lane c.requires.held))
+    (all_held_on old new _ (grown_committed old new x.task x.verdict c.commit.result c.commit.ensures)
+    (held_none old c.args.held.now c.args.lane c.requires.held))
 
 pub returns-in-Some-clause-grown : goal.returns-in-Some-clause-grown
 returns-in-Some-clause-grown g c =

@@ -10,7 +10,8 @@ pub take_turn-mark-requires-clause-lane : goal.take_turn-mark-requires-clause-la
 take_turn-mark-requires-clause-lane g c =
     let events = c.args.events.now in
     let i = c.events.event-index in
-    subst (λ n. lane_of (get_or events i (Begin 0)) < n) (sym c.events.invariant.grown.lanes) (lane_in c.args.desk.now.lanes events i (Begin 0) c.requires.lanes c.events-test.true)
+    subst (λ n. lane_of (get_or events i (Begin 0)) < n) (sym c.events.invariant.grown.lanes)
+    (lane_in c.args.desk.now.lanes events i (Begin 0) c.requires.lanes c.events-test.true)
 
 pub events-preserved : goal.events-preserved
 events-preserved g c =

@@ -15,10 +15,12 @@ pub returns-then-not-needs_thread-clause-joined : goal.returns-then-not-needs_th
 returns-then-not-needs_thread-clause-joined g t c =
     let some : 0 < c.args.count = grind (arith, common_steps, c.if-count-eq0.false) in
     one_joined c.args.table.now c.args.first c.make_lane-lane.new.first c.run_lanes-all.result c.join.new.into c.serve_lane-lane.result c.args.next c.args.count
-    some c.make_lane-lane.ensures.made c.run_lanes-all.ensures.joined c.serve_lane-lane.ensures.idle c.join.ensures.into c.join.ensures.begins.0 c.join.ensures.counted c.join.ensures.kept
+    some c.make_lane-lane.ensures.made c.run_lanes-all.ensures.joined c.serve_lane-lane.ensures.idle c.join.ensures.into c.join.ensures.begins.0
+    c.join.ensures.counted c.join.ensures.kept
 
 pub returns-clause-joined : goal.returns-clause-joined
 returns-clause-joined g t c =
     let some : 0 < c.args.count = grind (arith, common_steps, c.if-count-eq0.false) in
     one_joined c.args.table.now c.args.first c.make_lane-lane.new.first c.join-lane.result.1 c.join-2.new.into c.join-lane.result.0 c.args.next c.args.count
-    some c.make_lane-lane.ensures.made c.join-lane.ensures.second.1 c.join-lane.ensures.first c.join-2.ensures.into c.join-2.ensures.begins.0 c.join-2.ensures.counted c.join-2.ensures.kept
+    some c.make_lane-lane.ensures.made c.join-lane.ensures.second.1 c.join-lane.ensures.first c.join-2.ensures.into c.join-2.ensures.begins.0
+    c.join-2.ensures.counted c.join-2.ensures.kept

@@ -11,7 +11,8 @@ close_whole-requires-clause-whole g c =
 
 pub returns-in-Ok : goal.returns-in-Ok
 returns-in-Ok g c = record {
-  on = closed_grown _ _ c.run_lanes-first.result c.args.desk c.close_whole.result _ c.in-Ok.ensures.first c.run_lanes-first.ensures.joined c.close_whole.ensures.fixed c.close_whole.ensures.list;
+  on = closed_grown _ _ c.run_lanes-first.result c.args.desk c.close_whole.result _ c.in-Ok.ensures.first c.run_lanes-first.ensures.joined
+      c.close_whole.ensures.fixed c.close_whole.ensures.list;
 }
 
 pub returns-in-Err : goal.returns-in-Err

@@ -35,8 +35,10 @@ returns-clause-turn g c =
 pub returns-clause-done : goal.returns-clause-done
 returns-clause-done g c none =
     let all : c.args.desk.now.lanes ≤ c.turn.lane = grind (arith, common_steps, c.turn-test.false, c.turn.auto.lane-end, c.lanes-lane-end.ensures.count) in
-    turned_done c.args.desk.now c.turn.desk c.turn.lane (subst (λ had. HasTurned c.args.desk.now c.turn.desk c.turn.lane had) none c.turn.invariant.turned) all c.requires.lanes
+    turned_done c.args.desk.now c.turn.desk c.turn.lane (subst (λ had. HasTurned c.args.desk.now c.turn.desk c.turn.lane had) none c.turn.invariant.turned)
+    all c.requires.lanes
 
 pub returns-clause-less : goal.returns-clause-less
 returns-clause-less g c some =
-    turned_less c.args.desk.now c.turn.desk c.turn.lane (subst (λ had. HasTurned c.args.desk.now c.turn.desk c.turn.lane had) some c.turn.invariant.turned) c.journal-kept.ensures.sound
+    turned_less c.args.desk.now c.turn.desk c.turn.lane (subst (λ had. HasTurned c.args.desk.now c.turn.desk c.turn.lane had) some c.turn.invariant.turned)
+    c.journal-kept.ensures.sound

@@ -23,7 +23,8 @@ returns-then-branch-eq0-clause-part g c = at_most_more _ _ _ _ (c.in_ok-take_pie
 
 pub returns-then-branch-eq0-clause-told : goal.returns-then-branch-eq0-clause-told
 returns-then-branch-eq0-clause-told g c =
-    rw c.from_bytes.ensures (reads_whole _ _ _ c.args.limit (c.in_ok-take_piece.ensures.more _ c.taking.invariant.taken) (c.in_ok-take_piece.ensures.ended c.if-branch-eq0.true (grind (arith, common_steps))) (grind (arith, common_steps)))
+    rw c.from_bytes.ensures (reads_whole _ _ _ c.args.limit (c.in_ok-take_piece.ensures.more _ c.taking.invariant.taken)
+    (c.in_ok-take_piece.ensures.ended c.if-branch-eq0.true (grind (arith, common_steps))) (grind (arith, common_steps)))
 
 pub returns-clause-told : goal.returns-clause-told
 returns-clause-told g c = reads_more _ _ _ c.args.limit c.taking.invariant.taken (omega (arith, c.taking-test.false, c.len.ensures))

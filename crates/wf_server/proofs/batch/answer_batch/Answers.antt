@@ -6,7 +6,8 @@ use Rattle.wf_server.proofs.batch.answer_batch.Goals as goal
 
 pub returns-in-Ok-clause-answers : goal.returns-in-Ok-clause-answers
 returns-in-Ok-clause-answers g c held answered =
-    batch_answers held (g.K.Sink.held c.args.sink.now) (g.K.Sink.held c.answer_loaded.new.sink) c.args.desk c.take_batch.new.desk c.answer_loaded.result.0 c.args.told.now c.take_batch.new.told
+    batch_answers held (g.K.Sink.held c.args.sink.now) (g.K.Sink.held c.answer_loaded.new.sink) c.args.desk c.take_batch.new.desk c.answer_loaded.result.0
+    c.args.told.now c.take_batch.new.told
     c.args.batch.now c.answer_loaded.result.1
     (record {
       setting = c.take_batch.ensures.setting;
@@ -22,6 +23,7 @@ pub returns-in-Err-clause-answers : goal.returns-in-Err-clause-answers
 returns-in-Err-clause-answers g c held answered =
     let old = c.args.desk in
     let d = c.take_batch.new.desk in
-    answers_none held (g.K.Sink.held c.args.sink.now) old d (told_of old c.args.told.now) c.args.batch.now (told_of d c.take_batch.new.told) (Err c.from.result) answered c.take_batch.ensures.setting
+    answers_none held (g.K.Sink.held c.args.sink.now) old d (told_of old c.args.told.now) c.args.batch.now (told_of d c.take_batch.new.told)
+    (Err c.from.result) answered c.take_batch.ensures.setting
     (same_told old d c.args.told.now c.take_batch.new.told c.take_batch.ensures.entries c.in-Err.ensures.jobs_stay c.in-Err.ensures.ends_stay)
     (grind (arith, common_steps))

@@ -8,7 +8,8 @@ returns-clause-begins g c = begins_grown c.args.desk c.serve_jobs-served.result 
 
 pub returns-clause-answers : goal.returns-clause-answers
 returns-clause-answers g c held before after loaded added same =
-    loaded_answers held (g.K.Sink.held c.args.sink.now) (g.K.Sink.held c.write_entries-written.new.sink) c.args.desk c.serve_jobs-served.result c.policy.result.now before after
+    loaded_answers held (g.K.Sink.held c.args.sink.now) (g.K.Sink.held c.write_entries-written.new.sink) c.args.desk c.serve_jobs-served.result
+    c.policy.result.now before after
     c.len-done.result c.entries_after.result.now c.write_entries-written.result
     (record {
       loaded = loaded;

@@ -14,7 +14,8 @@ returns-in_err-line-clause-part g c = part_none _ _
 
 pub returns-in_err-write_one-clause-part : goal.returns-in_err-write_one-clause-part
 returns-in_err-write_one-clause-part g c =
-    written_part c.args.p.now (g.K.Sink.held c.args.sink.now) (g.K.Sink.held c.writing.sink) _ c.args.entries.now c.writing.entry-index c.entry-item.result c.writing-test.true c.entry-item.is
+    written_part c.args.p.now (g.K.Sink.held c.args.sink.now) (g.K.Sink.held c.writing.sink) _ c.args.entries.now c.writing.entry-index c.entry-item.result
+    c.writing-test.true c.entry-item.is
     c.writing.invariant.written c.write_one.ensures.part
 
 pub returns-clause-part : goal.returns-clause-part
@@ -28,7 +29,8 @@ returns-clause-part g c =
 
 pub writing-preserved : goal.writing-preserved
 writing-preserved g c = record {
-  written = written_more c.args.p.now (g.K.Sink.held c.args.sink.now) (g.K.Sink.held c.writing.sink) _ c.args.entries.now c.writing.entry-index c.entry-item.result c.writing-test.true c.entry-item.is
+  written = written_more c.args.p.now (g.K.Sink.held c.args.sink.now) (g.K.Sink.held c.writing.sink) _ c.args.entries.now c.writing.entry-index
+      c.entry-item.result c.writing-test.true c.entry-item.is
       c.writing.invariant.written c.in_ok-write_one.ensures.all;
   faults = c.in_ok-write_one.ensures.counts ∙ c.writing.invariant.faults;
 }

@@ -62,7 +62,8 @@ answer_batch-next-requires-clause-batch g c =
     let order = subst (λ n. AreInOrder n jobs ends) (sym (lanes_of c.args.desk d c.answering.invariant.setting)) c.requires.order in
     let known : c.answering.count < length ends = let test = c.answering-test.true in let size = c.len.ensures in omega (arith, test, size) in
     let next = is_next d.lanes jobs ends c.answering.count (told_of d c.answering.told) order known is in
-    let batch : c.jobs_between-batch.result.now ≡ jobs_between (length c.answering.told.jobs) (slice_index_or ends c.answering.count 0) jobs = grind (arith, common_steps) in
+    let batch : c.jobs_between-batch.result.now ≡ jobs_between (length c.answering.told.jobs) (slice_index_or ends c.answering.count 0) jobs =
+    grind (arith, common_steps) in
     subst (λ js. IsBatch d.lanes (length c.answering.told.jobs) js) (sym batch) (file_batch d.lanes jobs ends c.answering.count _ _ order known next)
 
 pub answering-preserved : goal.answering-preserved
@@ -74,12 +75,15 @@ answering-preserved g c =
     let order = subst (λ n. AreInOrder n jobs ends) (sym (lanes_of c.args.desk d c.answering.invariant.setting)) c.requires.order in
     let known : c.answering.count < length ends = let test = c.answering-test.true in let size = c.len.ensures in omega (arith, test, size) in
     let next = is_next d.lanes jobs ends c.answering.count (told_of d c.answering.told) order known is in
-    let batch : c.jobs_between-batch.result.now ≡ jobs_between (length c.answering.told.jobs) (slice_index_or ends c.answering.count 0) jobs = grind (arith, common_steps) in
+    let batch : c.jobs_between-batch.result.now ≡ jobs_between (length c.answering.told.jobs) (slice_index_or ends c.answering.count 0) jobs =
+    grind (arith, common_steps) in
     let e = c.answer_batch-next.result.0 in
     let restored : d.restored ≡ c.args.desk.restored = ap (λ (s : Setting). s.restored) c.answering.invariant.setting in
-    let added = (rw c.in-Ok.is at c.answer_batch-next.ensures.answers c.requires.answered.0 (c.answering.invariant.answered c.requires.answered.0 c.requires.answered.1)).0 in
+    let added = (rw c.in-Ok.is at c.answer_batch-next.ensures.answers c.requires.answered.0
+    (c.answering.invariant.answered c.requires.answered.0 c.requires.answered.1)).0 in
     record {
-      told = told_more d.lanes jobs ends c.answering.count (told_of d c.answering.told) (told_of e c.answer_batch-next.new.told) c.jobs_between-batch.result.now _ _ order known is next refl batch added;
+      told = told_more d.lanes jobs ends c.answering.count (told_of d c.answering.told) (told_of e c.answer_batch-next.new.told)
+          c.jobs_between-batch.result.now _ _ order known is next refl batch added;
       setting = c.answer_batch-next.ensures.setting ∙ c.answering.invariant.setting;
       begins = subst (λ n. take n e.entries ≡ take n d.entries) restored c.answer_batch-next.ensures.begins ∙ c.answering.invariant.begins;
       once = λ serves before.
@@ -95,13 +99,15 @@ returns-in-Err-clause-setting g c = c.answer_batch-next.ensures.setting ∙ c.an
 pub returns-in-Err-clause-begins : goal.returns-in-Err-clause-begins
 returns-in-Err-clause-begins g c =
     let restored : c.answering.desk.restored ≡ c.args.desk.restored = ap (λ (s : Setting). s.restored) c.answering.invariant.setting in
-    subst (λ n. take n c.answer_batch-next.result.0.entries ≡ take n c.answering.desk.entries) restored c.answer_batch-next.ensures.begins ∙ c.answering.invariant.begins
+    subst (λ n. take n c.answer_batch-next.result.0.entries ≡ take n c.answering.desk.entries) restored c.answer_batch-next.ensures.begins ∙
+    c.answering.invariant.begins
 
 pub returns-in-Err-clause-once : goal.returns-in-Err-clause-once
 returns-in-Err-clause-once g c serves before =
     let restored : c.answering.desk.restored ≡ c.args.desk.restored = ap (λ (s : Setting). s.restored) c.answering.invariant.setting in
     subst (λ n. AreAnsweredOnce (drop n c.answer_batch-next.result.0.entries)) restored
-    (c.answer_batch-next.ensures.once serves (subst (λ n. AreAnsweredOnce (drop n c.answering.desk.entries)) (sym restored) (c.answering.invariant.once serves before)))
+    (c.answer_batch-next.ensures.once serves
+    (subst (λ n. AreAnsweredOnce (drop n c.answering.desk.entries)) (sym restored) (c.answering.invariant.once serves before)))
 
 pub returns-in-Err-clause-answers : goal.returns-in-Err-clause-answers
 returns-in-Err-clause-answers g c held answered =
@@ -112,14 +118,19 @@ returns-in-Err-clause-answers g c held answered =
     let order = subst (λ n. AreInOrder n jobs ends) (sym (lanes_of c.args.desk d c.answering.invariant.setting)) c.requires.order in
     let known : c.answering.count < length ends = let test = c.answering-test.true in let size = c.len.ensures in omega (arith, test, size) in
     let next = is_next d.lanes jobs ends c.answering.count (told_of d c.answering.told) order known is in
-    let batch : c.jobs_between-batch.result.now ≡ jobs_between (length c.answering.told.jobs) (slice_index_or ends c.answering.count 0) jobs = grind (arith, common_steps) in
-    file_fails d.lanes jobs ends c.answering.count held (g.K.Sink.held c.answer_batch-next.new.sink) (told_of d c.answering.told) (told_of c.answer_batch-next.result.0 c.answer_batch-next.new.told)
+    let batch : c.jobs_between-batch.result.now ≡ jobs_between (length c.answering.told.jobs) (slice_index_or ends c.answering.count 0) jobs =
+    grind (arith, common_steps) in
+    file_fails d.lanes jobs ends c.answering.count held (g.K.Sink.held c.answer_batch-next.new.sink) (told_of d c.answering.told)
+    (told_of c.answer_batch-next.result.0 c.answer_batch-next.new.told)
     c.answer_batch-next.result.0 c.jobs_between-batch.result.now _ _ c.in-Err.fault order known is next refl batch
-    (rw c.in-Err.is at c.answer_batch-next.ensures.answers held (c.answering.invariant.answered held answered)) (rw c.in-Err.is at c.answer_batch-next.ensures.ending)
+    (rw c.in-Err.is at c.answer_batch-next.ensures.answers held (c.answering.invariant.answered held answered))
+    (rw c.in-Err.is at c.answer_batch-next.ensures.ending)
 
 pub returns-clause-answers : goal.returns-clause-answers
 returns-clause-answers g c held answered =
     let ends = c.args.file.now.ends in
     let known = c.answering.invariant.told.known in
-    let last : c.answering.count ≡ length ends = grind (arith, common_steps) in
-    (subst (λ n. IsToldTo c.args.file.now.jobs ends n (told_of c.answering.desk c.answering.told)) last c.answering.invariant.told, c.answering.invariant.answered held answered)
+    let last : c.answering.count ≡ length ends = grind (arith, common_steps) in (
+      subst (λ n. IsToldTo c.args.file.now.jobs ends n (told_of c.answering.desk c.answering.told)) last c.answering.invariant.told,
+      c.answering.invariant.answered held answered,
+    )

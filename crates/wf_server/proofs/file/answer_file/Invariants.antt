@@ -11,8 +11,10 @@ invariant-answering g l =
       told : IsToldTo l.file.jobs l.file.ends l.count (told_of l.desk l.told);
       setting : setting_of l.desk ≡ setting_of l.fn.desk;
       begins : take l.fn.desk.restored l.desk.entries ≡ take l.fn.desk.restored l.fn.desk.entries;
-      once : ServesOnce (λ d e. goal.W-post g l.way d e) → AreAnsweredOnce (drop l.fn.desk.restored l.fn.desk.entries) → AreAnsweredOnce (drop l.fn.desk.restored l.desk.entries);
-      answered : (held : Option (List ℕ)) → HasAnswered held (g.K.Sink.held l.fn.sink) l.fn.desk (told_of l.fn.desk l.fn.told) → HasAnswered held (g.K.Sink.held l.sink) l.desk (told_of l.desk l.told);
+      once : ServesOnce (λ d e. goal.W-post g l.way d e) → AreAnsweredOnce (drop l.fn.desk.restored l.fn.desk.entries) →
+          AreAnsweredOnce (drop l.fn.desk.restored l.desk.entries);
+      answered : (held : Option (List ℕ)) → HasAnswered held (g.K.Sink.held l.fn.sink) l.fn.desk (told_of l.fn.desk l.fn.told) →
+          HasAnswered held (g.K.Sink.held l.sink) l.desk (told_of l.desk l.told);
       faults : g.K.Sink.faults l.sink ≡ g.K.Sink.faults l.fn.sink;
     }
 

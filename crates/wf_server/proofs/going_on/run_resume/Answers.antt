@@ -30,7 +30,8 @@ returns-in-Ok-clause-usage g c is =
 pub returns-in-Err-clause-resumes : goal.returns-in-Err-clause-resumes
 returns-in-Err-clause-resumes g c repeats once =
     let names : Names = record { policy = c.args.policy.now; requests = c.args.requests.now; transcript = c.args.transcript.now } in
-    all_refused names (options_in c.args.options) repeats c.in-Err.refusal _ c.requires.options refl c.refuse.ensures.told refl c.in-Err.ensures.ending c.in-Err.ensures.loads
+    all_refused names (options_in c.args.options) repeats c.in-Err.refusal _ c.requires.options refl c.refuse.ensures.told refl c.in-Err.ensures.ending
+    c.in-Err.ensures.loads
     c.refuse.ensures.refuses c.refuse.ensures.counts c.in-Err.ensures.begins
 
 pub returns-in-Err-clause-usage : goal.returns-in-Err-clause-usage

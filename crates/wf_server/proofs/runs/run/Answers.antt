@@ -13,6 +13,7 @@ pub returns-in-Ok-Resume-clause-does : goal.returns-in-Ok-Resume-clause-does
 returns-in-Ok-Resume-clause-does g c =
     let a = c.in-Ok-Resume in
     let names : Names = record { policy = a.policy.now; requests = a.requests.now; transcript = a.transcript.now } in
-    let command : command_of (map string_bytes c.args.words.now) ≡ Some (resume a.policy.now a.requests.now a.transcript.now (options_in a.options)) = search rules in
+    let command : command_of (map string_bytes c.args.words.now) ≡ Some (resume a.policy.now a.requests.now a.transcript.now (options_in a.options)) =
+    search rules in
     let lanes : nat_lt 1 a.options.lanes ≡ true = search rules in
     threaded _ names (options_in a.options) _ command lanes c.run_resume.ensures.resumes

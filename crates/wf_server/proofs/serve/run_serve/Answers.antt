@@ -10,7 +10,8 @@ use Rattle.wf_server.proofs.serve.run_serve.Goals as goal
 pub returns-in-Ok-clause-serves : goal.returns-in-Ok-clause-serves
 returns-in-Ok-clause-serves g c = record {
   within = c.requires.options;
-  serves = is_served (g.F.Shelf.file c.args.shelf.now c.args.policy.now) c.in-Ok.p (options_in c.args.options) _ c.in-Ok.ensures.policy c.in-Ok.ensures.sound c.serve_policy.ensures.served c.serve_policy.ensures.wants c.serve_policy.ensures.fits;
+  serves = is_served (g.F.Shelf.file c.args.shelf.now c.args.policy.now) c.in-Ok.p (options_in c.args.options) _ c.in-Ok.ensures.policy
+      c.in-Ok.ensures.sound c.serve_policy.ensures.served c.serve_policy.ensures.wants c.serve_policy.ensures.fits;
   orderly = record {
     early = λ e. let late = c.serve_policy.ensures.late in cc;
     loads = loads_late _ _ _ c.serve_policy.ensures.late c.in-Ok.ensures.loads;

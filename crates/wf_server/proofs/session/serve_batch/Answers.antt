@@ -12,13 +12,28 @@ answer_batch-served-requires-clause-batch g c =
     let serving = c.requires.serving.1.1 in
     let told = told_of d c.args.told.now in
     rw c.as_slice.ensures
-    (next_batch d.lanes first _ _ told c.next_batch-jobs.result.jobs serving.order serving.read.closed (c.next_batch-jobs.ensures.up c.requires.serving.1.0.input (handed_in first told) serving.read))
+    (next_batch d.lanes first _ _ told c.next_batch-jobs.result.jobs serving.order serving.read.closed
+    (c.next_batch-jobs.ensures.up c.requires.serving.1.0.input (handed_in first told) serving.read))
 
 pub returns-in-NoMemory-clause-batch : goal.returns-in-NoMemory-clause-batch
 returns-in-NoMemory-clause-batch g c first before serving =
-    memory_serves first c.next_batch-jobs.new.self.room before (record { input = g.S.Source.left c.args.source.now; output = g.K.Sink.held c.args.sink.now; read_faults = g.S.Source.faults c.args.source.now; write_faults = g.K.Sink.faults c.args.sink.now }) (record { input = g.S.Source.left c.next_batch-jobs.new.source; output = g.K.Sink.held c.args.sink.now; read_faults = g.S.Source.faults c.next_batch-jobs.new.source; write_faults = g.K.Sink.faults c.args.sink.now })
+    memory_serves first c.next_batch-jobs.new.self.room before (record {
+      input = g.S.Source.left c.args.source.now;
+      output =
+          g.K.Sink.held c.args.sink.now;
+      read_faults = g.S.Source.faults c.args.source.now;
+      write_faults = g.K.Sink.faults c.args.sink.now;
+    })
+    (record {
+      input = g.S.Source.left c.next_batch-jobs.new.source;
+      output = g.K.Sink.held c.args.sink.now;
+      read_faults =
+          g.S.Source.faults c.next_batch-jobs.new.source;
+      write_faults = g.K.Sink.faults c.args.sink.now;
+    })
     c.args.reader.now c.args.desk (told_of c.args.desk c.args.told.now) c.next_batch-jobs.result.paused serving
-    (c.next_batch-jobs.ensures.up_before before.input (handed_in first (told_of c.args.desk c.args.told.now)) serving.read) refl c.next_batch-jobs.ensures.counts refl
+    (c.next_batch-jobs.ensures.up_before before.input (handed_in first (told_of c.args.desk c.args.told.now)) serving.read) refl
+    c.next_batch-jobs.ensures.counts refl
 
 pub returns-in-Ok-clause-batch : goal.returns-in-Ok-clause-batch
 returns-in-Ok-clause-batch g c first before serving =
@@ -26,7 +41,12 @@ returns-in-Ok-clause-batch g c first before serving =
     let e = c.answer_batch-served.result.0 in
     let told = told_of d c.args.told.now in
     let h = handed_in first told in
-    let after : Streams = (record { input = g.S.Source.left c.next_batch-jobs.new.source; output = g.K.Sink.held c.answer_batch-served.new.sink; read_faults = g.S.Source.faults c.next_batch-jobs.new.source; write_faults = g.K.Sink.faults c.answer_batch-served.new.sink }) in
+    let after : Streams = (record {
+      input = g.S.Source.left c.next_batch-jobs.new.source;
+      output = g.K.Sink.held c.answer_batch-served.new.sink;
+      read_faults = g.S.Source.faults c.next_batch-jobs.new.source;
+      write_faults = g.K.Sink.faults c.answer_batch-served.new.sink;
+    }) in
     let t = c.next_batch-jobs.new.self in
     let jobs = c.as_slice.result.now in
     let same = c.as_slice.ensures in
@@ -34,9 +54,16 @@ returns-in-Ok-clause-batch g c first before serving =
     let answers = rw c.in-Ok.is at c.answer_batch-served.ensures.answers before.output serving.answered in
     let writes = rw c.in-Ok.is at c.answer_batch-served.ensures.counts in
     subst (BatchEnds first before after t e (told_of e c.answer_batch-served.new.told)) (sym c.ending_after.ensures)
-    (done_ends first before (record { input = g.S.Source.left c.args.source.now; output = g.K.Sink.held c.args.sink.now; read_faults = g.S.Source.faults c.args.source.now; write_faults = g.K.Sink.faults c.args.sink.now }) after
+    (done_ends first before (record {
+      input = g.S.Source.left c.args.source.now;
+      output = g.K.Sink.held c.args.sink.now;
+      read_faults =
+          g.S.Source.faults c.args.source.now;
+      write_faults = g.K.Sink.faults c.args.sink.now;
+    }) after
     c.args.reader.now t d e told (told_of e c.answer_batch-served.new.told) jobs how serving c.answer_batch-served.ensures.setting
-    (rw same (c.next_batch-jobs.ensures.reads before.input h serving.read)) (λ batch. rw same (c.next_batch-jobs.ensures.goes_on batch before.input h serving.read))
+    (rw same (c.next_batch-jobs.ensures.reads before.input h serving.read))
+    (λ batch. rw same (c.next_batch-jobs.ensures.goes_on batch before.input h serving.read))
     answers.0 answers.1 c.next_batch-jobs.ensures.counts writes)
 
 pub returns-clause-batch : goal.returns-clause-batch
@@ -51,7 +78,20 @@ returns-clause-batch g c first before serving =
     let answers = rw c.in-Err.is at c.answer_batch-served.ensures.answers before.output serving.answered in
     let ending = rw c.in-Err.is at c.answer_batch-served.ensures.ending in
     let writes = rw c.in-Err.is at c.answer_batch-served.ensures.counts in
-    fault_ends first c.next_batch-jobs.new.self.room before (record { input = g.S.Source.left c.args.source.now; output = g.K.Sink.held c.args.sink.now; read_faults = g.S.Source.faults c.args.source.now; write_faults = g.K.Sink.faults c.args.sink.now }) (record { input = g.S.Source.left c.next_batch-jobs.new.source; output = g.K.Sink.held c.answer_batch-served.new.sink; read_faults = g.S.Source.faults c.next_batch-jobs.new.source; write_faults = g.K.Sink.faults c.answer_batch-served.new.sink })
+    fault_ends first c.next_batch-jobs.new.self.room before (record {
+      input = g.S.Source.left c.args.source.now;
+      output =
+          g.K.Sink.held c.args.sink.now;
+      read_faults = g.S.Source.faults c.args.source.now;
+      write_faults = g.K.Sink.faults c.args.sink.now;
+    })
+    (record {
+      input = g.S.Source.left c.next_batch-jobs.new.source;
+      output = g.K.Sink.held c.answer_batch-served.new.sink;
+      read_faults =
+          g.S.Source.faults c.next_batch-jobs.new.source;
+      write_faults = g.K.Sink.faults c.answer_batch-served.new.sink;
+    })
     c.args.reader.now d e told (told_of e c.answer_batch-served.new.told) jobs how c.in-Err.fault serving c.answer_batch-served.ensures.setting
     (rw same (c.next_batch-jobs.ensures.reads before.input h serving.read)) c.in_default.not-NoMemory
     (rw same (c.next_batch-jobs.ensures.up before.input h serving.read)) (c.next_batch-jobs.ensures.up_before before.input h serving.read)

@@ -38,20 +38,29 @@ serving-preserved g c =
       setting = c.serve_batch-next.ensures.setting ∙ c.serving.invariant.setting;
       once = λ serves before.
           subst (λ n. AreAnsweredOnce (drop n c.serve_batch-next.result.0.entries)) restored
-          (c.serve_batch-next.ensures.once serves (subst (λ n. AreAnsweredOnce (drop n c.serving.desk.entries)) (sym restored) (c.serving.invariant.once serves before)));
-      begins = subst (λ n. take n c.serve_batch-next.result.0.entries ≡ take n c.serving.desk.entries) restored c.serve_batch-next.ensures.begins ∙ c.serving.invariant.begins;
+          (c.serve_batch-next.ensures.once serves
+          (subst (λ n. AreAnsweredOnce (drop n c.serving.desk.entries)) (sym restored) (c.serving.invariant.once serves before)));
+      begins = subst (λ n. take n c.serve_batch-next.result.0.entries ≡ take n c.serving.desk.entries) restored c.serve_batch-next.ensures.begins ∙
+          c.serving.invariant.begins;
       serving = λ first before begun. rw c.in-None.is at c.serve_batch-next.ensures.batch first before (c.serving.invariant.serving first before begun);
     }
 
 pub returns-in-Some-clause-serves : goal.returns-in-Some-clause-serves
 returns-in-Some-clause-serves g c first before begun =
-    let after : Streams = record { input = g.S.Source.left c.serve_batch-next.new.source; output = g.K.Sink.held c.serve_batch-next.new.sink; read_faults = g.S.Source.faults c.serve_batch-next.new.source; write_faults = g.K.Sink.faults c.serve_batch-next.new.sink } in
+    let after : Streams = record {
+      input = g.S.Source.left c.serve_batch-next.new.source;
+      output = g.K.Sink.held c.serve_batch-next.new.sink;
+      read_faults =
+          g.S.Source.faults c.serve_batch-next.new.source;
+      write_faults = g.K.Sink.faults c.serve_batch-next.new.sink;
+    } in
     let told = told_of c.serve_batch-next.result.0 c.serve_batch-next.new.told in
     let same = c.serve_batch-next.ensures.setting ∙ c.serving.invariant.setting in
     let served = rw c.in-Some.is at c.serve_batch-next.ensures.batch first before (c.serving.invariant.serving first before begun) in
     rw (c.report_of.ensures.told, c.report_of.ensures.fault)
     (subst (λ (set : Setting). Serves set first c.args.reader.now.room before after told c.in-Some.fault) same
-    (subst (λ (n : ℕ). Serves (setting_of c.serve_batch-next.result.0) first n before after told c.in-Some.fault) (c.serve_batch-next.ensures.room ∙ c.serving.invariant.room) served))
+    (subst (λ (n : ℕ). Serves (setting_of c.serve_batch-next.result.0) first n before after told c.in-Some.fault)
+    (c.serve_batch-next.ensures.room ∙ c.serving.invariant.room) served))
 
 pub returns-in-Some-clause-legal : goal.returns-in-Some-clause-legal
 returns-in-Some-clause-legal g c =
@@ -69,11 +78,13 @@ pub returns-in-Some-clause-begins : goal.returns-in-Some-clause-begins
 returns-in-Some-clause-begins g c =
     let restored : c.serving.desk.restored ≡ c.args.desk.restored = ap (λ (s : Setting). s.restored) c.serving.invariant.setting in
     subst (λ (t : Told). take c.args.desk.restored t.entries ≡ take c.args.desk.restored c.args.desk.entries) (sym c.report_of.ensures.told)
-    (subst (λ n. take n c.serve_batch-next.result.0.entries ≡ take n c.serving.desk.entries) restored c.serve_batch-next.ensures.begins ∙ c.serving.invariant.begins)
+    (subst (λ n. take n c.serve_batch-next.result.0.entries ≡ take n c.serving.desk.entries) restored c.serve_batch-next.ensures.begins ∙
+    c.serving.invariant.begins)
 
 pub returns-in-Some-clause-once : goal.returns-in-Some-clause-once
 returns-in-Some-clause-once g c serves before =
     let restored : c.serving.desk.restored ≡ c.args.desk.restored = ap (λ (s : Setting). s.restored) c.serving.invariant.setting in
     subst (λ (t : Told). AreAnsweredOnce (drop c.args.desk.restored t.entries)) (sym c.report_of.ensures.told)
     (subst (λ n. AreAnsweredOnce (drop n c.serve_batch-next.result.0.entries)) restored
-    (c.serve_batch-next.ensures.once serves (subst (λ n. AreAnsweredOnce (drop n c.serving.desk.entries)) (sym restored) (c.serving.invariant.once serves before))))
+    (c.serve_batch-next.ensures.once serves
+    (subst (λ n. AreAnsweredOnce (drop n c.serving.desk.entries)) (sym restored) (c.serving.invariant.once serves before))))

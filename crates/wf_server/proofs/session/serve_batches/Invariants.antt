@@ -9,15 +9,28 @@ use Rattle.wf_server.proofs.session.serve_batches.Given as goal
 
 abbrev pub invariant-serving : goal.invariant-serving
 invariant-serving g l =
-    let begun : Streams = record { input = g.S.Source.left l.fn.source; output = g.K.Sink.held l.fn.sink; read_faults = g.S.Source.faults l.fn.source; write_faults = g.K.Sink.faults l.fn.sink } in
+    let begun : Streams = record {
+      input = g.S.Source.left l.fn.source;
+      output = g.K.Sink.held l.fn.sink;
+      read_faults =
+          g.S.Source.faults l.fn.source;
+      write_faults = g.K.Sink.faults l.fn.sink;
+    } in
     record {
       ready : IsReady l.reader;
       room : l.reader.room ≡ l.fn.reader.room;
       setting : setting_of l.desk ≡ setting_of l.fn.desk;
-      once : ServesOnce (λ d e. goal.W-post g l.way d e) → AreAnsweredOnce (drop l.fn.desk.restored l.fn.desk.entries) → AreAnsweredOnce (drop l.fn.desk.restored l.desk.entries);
+      once : ServesOnce (λ d e. goal.W-post g l.way d e) → AreAnsweredOnce (drop l.fn.desk.restored l.fn.desk.entries) →
+          AreAnsweredOnce (drop l.fn.desk.restored l.desk.entries);
       begins : take l.fn.desk.restored l.desk.entries ≡ take l.fn.desk.restored l.fn.desk.entries;
       serving : (first : Cut) (before : Streams) → IsServing first before begun l.fn.reader l.fn.desk (told_of l.fn.desk l.fn.told) → IsServing first before
-          (record { input = g.S.Source.left l.source; output = g.K.Sink.held l.sink; read_faults = g.S.Source.faults l.source; write_faults = g.K.Sink.faults l.sink })
+          (record {
+            input = g.S.Source.left l.source;
+            output = g.K.Sink.held l.sink;
+            read_faults = g.S.Source.faults l.source;
+            write_faults =
+                g.K.Sink.faults l.sink;
+          })
           l.reader l.desk (told_of l.desk l.told);
     }
 

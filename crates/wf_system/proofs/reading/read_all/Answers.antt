@@ -14,7 +14,8 @@ reading-init g c =
 
 pub returns-then-branch-eq0-clause-told : goal.returns-then-branch-eq0-clause-told
 returns-then-branch-eq0-clause-told g c =
-    rw c.from_bytes.ensures (reads_whole _ _ _ c.args.limit (c.in_ok-read_piece.ensures.more _ c.reading.invariant.read) (c.in_ok-read_piece.ensures.ended c.if-branch-eq0.true (grind (arith, common_steps))) (grind (arith, common_steps)))
+    rw c.from_bytes.ensures (reads_whole _ _ _ c.args.limit (c.in_ok-read_piece.ensures.more _ c.reading.invariant.read)
+    (c.in_ok-read_piece.ensures.ended c.if-branch-eq0.true (grind (arith, common_steps))) (grind (arith, common_steps)))
 
 pub returns-clause-told : goal.returns-clause-told
 returns-clause-told g c = reads_more _ _ _ c.args.limit c.reading.invariant.read (omega (arith, c.reading-test.false, c.len.ensures))

@@ -8,4 +8,5 @@ use Rattle.wire_json.proofs.absences.push_plans.Given as goal
 
 abbrev pub invariant-plans : goal.invariant-plans
 invariant-plans l =
-    l.out.items ++ items_text l.later (items_of (map (plan_data l.p.roster.users) (drop l.plan-index l.plans))) ≡ l.fn.out.items ++ compact_text (plans_data l.p l.plans)
+    l.out.items ++ items_text l.later (items_of (map (plan_data l.p.roster.users) (drop l.plan-index l.plans))) ≡ l.fn.out.items ++ compact_text
+    (plans_data l.p l.plans)

@@ -6,4 +6,5 @@ pub users-init : goal.users-init
 users-init c = items_begun _ _ _ c.in_ok-push.ensures
 
 pub returns : goal.returns
-returns c = items_ended (named c.args.p.now.roster.users) c.args.users.now c.users.user-index _ _ _ c.users.later c.users-test.false c.in_ok-push-2.ensures c.users.invariant
+returns c = items_ended (named c.args.p.now.roster.users) c.args.users.now c.users.user-index _ _ _ c.users.later c.users-test.false c.in_ok-push-2.ensures
+    c.users.invariant

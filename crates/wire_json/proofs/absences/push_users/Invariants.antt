@@ -7,4 +7,5 @@ use Rattle.wire_json.proofs.absences.push_users.Given as goal
 
 abbrev pub invariant-users : goal.invariant-users
 invariant-users l =
-    l.out.items ++ items_text l.later (items_of (map (named l.p.roster.users) (drop l.user-index l.users))) ≡ l.fn.out.items ++ compact_text (names_data l.p.roster.users l.users)
+    l.out.items ++ items_text l.later (items_of (map (named l.p.roster.users) (drop l.user-index l.users))) ≡ l.fn.out.items ++ compact_text
+    (names_data l.p.roster.users l.users)

@@ -11,12 +11,14 @@ pub returns-in_err-edit : goal.returns-in_err-edit
 returns-in_err-edit c =
     let r = row_of_edit c.args.word in
     handed_on c.from_residual-in_err-edit.result _ c.in_err-edit.field-0.0 c.from_residual-in_err-edit.ensures.1
-    (edit_refused (codes "do" ∷ codes "lane" ∷ []) r (λ d. Change (the_name by d) (r.is d)) (data_of c.args.object.now) (members_in (data_of c.args.object.now)) c.in_ok-by.by
+    (edit_refused (codes "do" ∷ codes "lane" ∷ []) r (λ d. Change (the_name by d) (r.is d)) (data_of c.args.object.now)
+    (members_in (data_of c.args.object.now)) c.in_ok-by.by
     c.in_err-edit.field-0.0 c.in_ok-by.ensures c.in_err-edit.ensures)
 
 pub returns-in_err-no_others : goal.returns-in_err-no_others
 returns-in_err-no_others c =
     let r = row_of_edit c.args.word in
     handed_on c.from_residual-in_err-no_others.result _ c.in_err-no_others.field-0.0 c.from_residual-in_err-no_others.ensures.1
-    (key_refused (codes "do" ∷ codes "lane" ∷ []) r (λ d. Change (the_name by d) (r.is d)) (data_of c.args.object.now) (members_in (data_of c.args.object.now)) _ c.in_ok-by.by c.in_ok-edit.edit
+    (key_refused (codes "do" ∷ codes "lane" ∷ []) r (λ d. Change (the_name by d) (r.is d)) (data_of c.args.object.now)
+    (members_in (data_of c.args.object.now)) _ c.in_ok-by.by c.in_ok-edit.edit
     c.in_err-no_others.field-0.0 c.keys.ensures c.in_ok-by.ensures c.in_ok-edit.ensures c.in_err-no_others.ensures)

@@ -22,7 +22,8 @@ parts-preserved c =
     let less = read_key-shorter l.reader (Some k) s named in
     let read = c.in_ok-worth.ensures in
     let lesser = read.shorter in
-    let grown = sym (fold-append put_part no_members l.parts.items (record { key = c.in-Some.key; worth = w } ∷ [])) ∙ ap members_of (sym c.in_ok-add_part.ensures) in (
+    let grown = sym (fold-append put_part no_members l.parts.items (record { key = c.in-Some.key; worth = w } ∷ [])) ∙
+    ap members_of (sym c.in_ok-add_part.ensures) in (
       n - 1,
       omega (arith, l.invariant.1),
       l.invariant.2 ∙ member_read p old n k l.reader s r (worth_json w) (worth_data w) (omega (arith, l.invariant.1)) named read.value read.data

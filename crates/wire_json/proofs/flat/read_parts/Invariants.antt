@@ -8,7 +8,8 @@ use Rattle.wire_json.proofs.flat.read_parts.Given as goal
 abbrev pub invariant-parts : goal.invariant-parts
 invariant-parts l =
     (n : ℕ) × (length l.reader ≤ n)
-    × (converted (λ ms. of_members ms no_members) (members (value 126) (length l.fn.reader) l.fn.reader) ≡ converted (λ ms. of_members ms (members_of l.parts.items)) (members (value 126) n l.reader))
+    × (converted (λ ms. of_members ms no_members) (members (value 126) (length l.fn.reader) l.fn.reader) ≡ converted
+    (λ ms. of_members ms (members_of l.parts.items)) (members (value 126) n l.reader))
 
 abbrev pub decreases-parts : goal.decreases-parts
 decreases-parts l = length l.reader

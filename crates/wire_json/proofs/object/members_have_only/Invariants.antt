@@ -5,4 +5,5 @@ use Rattle.wire_json.proofs.object.members_have_only.Given as goal
 
 abbrev pub invariant-members : goal.invariant-members
 invariant-members l =
-    has_only (map (λ k. k.now) l.others ++ map (λ k. k.now) l.keys) (members_view l.key-iterator) ≡ has_only (map (λ k. k.now) l.others ++ map (λ k. k.now) l.keys) (members_view l.fn.members.entries)
+    has_only (map (λ k. k.now) l.others ++ map (λ k. k.now) l.keys) (members_view l.key-iterator) ≡ has_only
+    (map (λ k. k.now) l.others ++ map (λ k. k.now) l.keys) (members_view l.fn.members.entries)

@@ -6,7 +6,8 @@ use Rattle.wire_json.proofs.object.parts_have_only.Goals as goal
 pub returns-then-not-is_either : goal.returns-then-not-is_either
 returns-then-not-is_either c =
     let keys = map (λ k. k.now) c.args.others.now ++ map (λ k. k.now) c.args.keys.now in
-    sym (out_at keys c.args.parts.now c.parts.part-index _ c.parts-test.true (sym c.if-not-is_either.ensures)) ∙ c.parts.invariant ∙ only_among keys c.args.parts.now
+    sym (out_at keys c.args.parts.now c.parts.part-index _ c.parts-test.true (sym c.if-not-is_either.ensures)) ∙ c.parts.invariant ∙
+    only_among keys c.args.parts.now
 
 pub returns : goal.returns
 returns c =

@@ -6,7 +6,9 @@ pub states-init : goal.states-init
 states-init c = items_begun _ _ _ c.in_ok-push.ensures
 
 pub states-preserved : goal.states-preserved
-states-preserved c = item_added (seen_data c.args.p.now) c.args.states.now c.states.state-index c.state-item.result _ _ _ c.states.later c.states-test.true c.state-item.is c.in_ok-push_seen_next.ensures c.states.invariant
+states-preserved c = item_added (seen_data c.args.p.now) c.args.states.now c.states.state-index c.state-item.result _ _ _ c.states.later c.states-test.true
+    c.state-item.is c.in_ok-push_seen_next.ensures c.states.invariant
 
 pub returns : goal.returns
-returns c = items_ended (seen_data c.args.p.now) c.args.states.now c.states.state-index _ _ _ c.states.later c.states-test.false c.in_ok-push-2.ensures c.states.invariant
+returns c = items_ended (seen_data c.args.p.now) c.args.states.now c.states.state-index _ _ _ c.states.later c.states-test.false c.in_ok-push-2.ensures
+    c.states.invariant

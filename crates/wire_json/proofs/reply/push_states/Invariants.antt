@@ -8,4 +8,5 @@ use Rattle.wire_json.proofs.reply.push_states.Given as goal
 
 abbrev pub invariant-states : goal.invariant-states
 invariant-states l =
-    l.out.items ++ items_text l.later (items_of (map (seen_data l.p) (drop l.state-index l.states))) ≡ l.fn.out.items ++ compact_text (array (items_of (map (seen_data l.p) l.states)))
+    l.out.items ++ items_text l.later (items_of (map (seen_data l.p) (drop l.state-index l.states))) ≡ l.fn.out.items ++ compact_text
+    (array (items_of (map (seen_data l.p) l.states)))

@@ -11,6 +11,7 @@ pub returns-in-Some : goal.returns-in-Some
 unfolding asked_of
 returns-in-Some c =
     let text = c.in-Ok.ensures.cases in
-    let value = value_of_utf8 c.args.line.now c.in-Ok.text.now (object (members_of c.in-Some.parts.items)) text.0 text.1 (rw c.in-Some.is at c.in_ok-parts.ensures) in
+    let value = value_of_utf8 c.args.line.now c.in-Ok.text.now (object (members_of c.in-Some.parts.items)) text.0 text.1
+    (rw c.in-Some.is at c.in_ok-parts.ensures) in
     c.asked_in.ensures ∙ ap (λ ps. asked (request_in c.args.lanes (object (members_of ps)))) c.as_slice.ensures.value
     ∙ ap (λ o. asked (or_fault o Syntax >>= request_in c.args.lanes)) (sym value)

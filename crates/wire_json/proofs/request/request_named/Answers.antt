@@ -8,7 +8,8 @@ use Rattle.wire_json.specs.declared.word.Word.TheVariants as word
 use Rattle.wire_json.specs.Words.{reading_of_word}
 use Rattle.wire_json.proofs.request.request_named.Goals as goal
 
-read_as : (w v : Word) (r : Result Request Bad) (d : Data) (ms : Members) → w ≡ v → Gives Some (λ x. x) r (reading_of_word v d ms) → Gives Some (λ x. x) r (reading_of_word w d ms)
+read_as : (w v : Word) (r : Result Request Bad) (d : Data) (ms : Members) → w ≡ v → Gives Some (λ x. x) r (reading_of_word v d ms) →
+    Gives Some (λ x. x) r (reading_of_word w d ms)
 read_as w v r d ms is gives = subst (λ (x : Word). Gives Some (λ (y : Request). y) r (reading_of_word x d ms)) (sym is) gives
 
 pub returns-in-Claim : goal.returns-in-Claim

@@ -8,4 +8,5 @@ use Rattle.wire_json.proofs.text.push_plan.Given as goal
 
 abbrev pub invariant-users : goal.invariant-users
 invariant-users l =
-    l.out.items ++ names_left (nat_lt 0 l.s) (items_of (map (named l.users.names) (drop l.s l.plan))) ≡ l.fn.out.items ++ compact_text (plan_data l.users.names l.plan)
+    l.out.items ++ names_left (nat_lt 0 l.s) (items_of (map (named l.users.names) (drop l.s l.plan))) ≡ l.fn.out.items ++ compact_text
+    (plan_data l.users.names l.plan)

@@ -20,7 +20,11 @@ tree_value-returns-in_ok-users-in-Step t c =
 
 pub tree_value-branches_value-requires : goal.tree_value-branches_value-requires
 tree_value-branches_value-requires t c =
-    omega (arith, c.decreases, branches_below c.args.t.now c.in-Step.s c.in-Step.branches c.as_slice-branches.result.now c.in-Step.is c.as_slice-branches.ensures)
+    omega (
+      arith,
+      c.decreases,
+      branches_below c.args.t.now c.in-Step.s c.in-Step.branches c.as_slice-branches.result.now c.in-Step.is c.as_slice-branches.ensures,
+    )
 
 pub branch_value-returns : goal.branch_value-returns
 branch_value-returns t c =

@@ -7,4 +7,5 @@ use Rattle.wire_json.proofs.views.push_cases.Given as goal
 
 abbrev pub invariant-cases : goal.invariant-cases
 invariant-cases l =
-    l.out.items ++ items_text l.later (items_of (map (λ c. number (unsigned c)) (drop l.case-index l.cases))) ≡ l.fn.out.items ++ compact_text (array (items_of (map (λ c. number (unsigned c)) l.cases)))
+    l.out.items ++ items_text l.later (items_of (map (λ c. number (unsigned c)) (drop l.case-index l.cases))) ≡ l.fn.out.items ++ compact_text
+    (array (items_of (map (λ c. number (unsigned c)) l.cases)))

@@ -8,4 +8,5 @@ use Rattle.wire_json.proofs.views.push_items.Given as goal
 
 abbrev pub invariant-items : goal.invariant-items
 invariant-items l =
-    l.out.items ++ items_text l.later (items_of (map (work_data l.p) (drop l.item-index l.items))) ≡ l.fn.out.items ++ compact_text (array (items_of (map (work_data l.p) l.items)))
+    l.out.items ++ items_text l.later (items_of (map (work_data l.p) (drop l.item-index l.items))) ≡ l.fn.out.items ++ compact_text
+    (array (items_of (map (work_data l.p) l.items)))

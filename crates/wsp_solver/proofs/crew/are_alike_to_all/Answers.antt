@@ -14,7 +14,8 @@ not_yes_back false h = refl
 
 pub users-preserved : goal.users-preserved
 users-preserved c =
-    one_more_passes c.users.w (λ w. (w == c.args.u || w == c.args.v) || is_alike_to ((problem_of c.args.p.now c.args.f).related c.args.rho) c.args.u c.args.v w) c.users.invariant
+    one_more_passes c.users.w
+    (λ w. (w == c.args.u || w == c.args.v) || is_alike_to ((problem_of c.args.p.now c.args.f).related c.args.rho) c.args.u c.args.v w) c.users.invariant
     (not_no_back _ (sym c.if-is_treated_apart.ensures))
   where
     not_no_back : (b : Bool) → not b ≡ false → b ≡ true
@@ -24,4 +25,6 @@ users-preserved c =
 pub returns-then-is_treated_apart : goal.returns-then-is_treated_apart
 returns-then-is_treated_apart c =
     let known = users_known _ _ _ c.len-w-end.ensures.count (c.users-2.ensures.names ∙ ap (λ r. r.users) c.roster.ensures.roster) in
-    sym (one_fails (problem_of c.args.p.now c.args.f).users c.users.w (λ w. (w == c.args.u || w == c.args.v) || is_alike_to ((problem_of c.args.p.now c.args.f).related c.args.rho) c.args.u c.args.v w) (omega (arith, known, c.users-test.true)) (not_yes_back _ (sym c.if-is_treated_apart.ensures)))
+    sym (one_fails (problem_of c.args.p.now c.args.f).users
+    c.users.w (λ w. (w == c.args.u || w == c.args.v) || is_alike_to ((problem_of c.args.p.now c.args.f).related c.args.rho) c.args.u c.args.v w)
+    (omega (arith, known, c.users-test.true)) (not_yes_back _ (sym c.if-is_treated_apart.ensures)))

@@ -14,4 +14,5 @@ rules-preserved-then-read_before-k c =
 pub returns-then-not-is_rule_alike : goal.returns-then-not-is_rule_alike
 returns-then-not-is_rule_alike c =
     let known = c.len-k-end.ensures ∙ ap length c.rules-2.ensures.rules in
-    sym (one_fails (length (problem_of c.args.p.now c.args.f).rules) c.rules.k (λ k. is_rule_alike (problem_of c.args.p.now c.args.f) c.args.u c.args.v (slice_get (problem_of c.args.p.now c.args.f).rules k)) (omega (arith, known, c.rules-test.true)) (sym c.if-not-is_rule_alike.ensures))
+    sym (one_fails (length (problem_of c.args.p.now c.args.f).rules) c.rules.k (λ k. is_rule_alike (problem_of c.args.p.now c.args.f) c.args.u c.args.v
+    (slice_get (problem_of c.args.p.now c.args.f).rules k)) (omega (arith, known, c.rules-test.true)) (sym c.if-not-is_rule_alike.ensures))

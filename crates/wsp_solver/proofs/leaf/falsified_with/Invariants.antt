@@ -5,4 +5,5 @@ use Rattle.wsp_solver.proofs.leaf.falsified_with.Given as goal
 
 abbrev pub invariant-rules : goal.invariant-rules
 invariant-rules l =
-    (j : ℕ) → j < l.k → (is_rule_naming l.s (slice_get (problem_of l.p l.f).rules j) && is_broken (problem_of l.p l.f) l.a (slice_get (problem_of l.p l.f).rules j)) ≡ false
+    (j : ℕ) → j < l.k →
+    (is_rule_naming l.s (slice_get (problem_of l.p l.f).rules j) && is_broken (problem_of l.p l.f) l.a (slice_get (problem_of l.p l.f).rules j)) ≡ false

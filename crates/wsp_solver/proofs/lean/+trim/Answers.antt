@@ -1,4 +1,5 @@
-use Rattle.std.proofs.Common.{◌≡◌, ◌<◌, ◌≤◌, ◌+◌, ℕ, Bool, true, false, not, ◌&&◌, nat_lt, List, [], Option, Some, is_some, length, drop, slice_set, sym, ap, subst, ◌∙◌, arith}
+use Rattle.std.proofs.Common.{◌≡◌, ◌<◌, ◌≤◌, ◌+◌, ℕ, Bool, true, false, not, ◌&&◌, nat_lt, List, [], Option, Some, is_some, length, drop, slice_set, sym, ap}
+use Rattle.std.proofs.Common.{subst, ◌∙◌, arith}
 use Rattle.std.proofs.lemmas.Bool.{ltb-true}
 use Rattle.basics.proofs.Booleans.{and_both, or_right}
 use Rattle.constraint_forms.specs.Assigned.{user_at, is_member}
@@ -54,8 +55,29 @@ trim_tree-trim_node-requires t c =
     let items = c.as_slice-branches.ensures in
     let here = subst (λ (tree : Tree). refutes p c.args.a.now c.args.done.now (shape_of tree) ≡ true) c.in-Step.is c.requires.refutes in
     let parts = node_parts p c.args.a.now c.args.done.now c.in-Step.s kids here in
-    let nodes = ap (λ (tree : Tree). nodes_of (shape_of tree)) c.in-Step.is in
-    (omega (arith, c.decreases, nodes, ap nodes_of_kids items), (c.requires.flow, (c.requires.crew, (c.requires.within, (omega (arith, parts.step, c.step_count.ensures.count, c.step_count.ensures.few), (parts.free, (ap (have_users (authorised_users p c.in-Step.s)) (sym items) ∙ parts.users, ap (all_refute p c.args.a.now c.args.done.now c.in-Step.s []) (sym items) ∙ parts.each)))))))
+    let nodes = ap (λ (tree : Tree). nodes_of (shape_of tree)) c.in-Step.is in (
+      omega (arith, c.decreases, nodes, ap nodes_of_kids items),
+      (
+        c.requires.flow,
+        (
+          c.requires.crew,
+          (
+            c.requires.within,
+            (
+              omega (arith, parts.step, c.step_count.ensures.count, c.step_count.ensures.few),
+              (
+                parts.free,
+                (
+                  ap (have_users (authorised_users p c.in-Step.s))
+                      (sym items) ∙ parts.users,
+                  ap (all_refute p c.args.a.now c.args.done.now c.in-Step.s []) (sym items) ∙ parts.each,
+                ),
+              ),
+            ),
+          ),
+        ),
+      ),
+    )
 
 pub trim_tree-returns-in-Holder : goal.trim_tree-returns-in-Holder
 trim_tree-returns-in-Holder t c =
@@ -81,7 +103,8 @@ trim_node-twin_among-requires-clause-users t c =
 
 pub trim_node-twin_among-requires-clause-user : goal.trim_node-twin_among-requires-clause-user
 trim_node-twin_among-requires-clause-user t c =
-    branch_user (problem_of c.args.p.now c.args.f) c.args.s c.args.branches.now c.requires.users c.branches.branch-index c.branches-test.true c.branch-item.result c.branch-item.is
+    branch_user (problem_of c.args.p.now c.args.f) c.args.s c.args.branches.now c.requires.users c.branches.branch-index c.branches-test.true
+    c.branch-item.result c.branch-item.is
 
 pub trim_node-branches-preserved-in-Some : goal.trim_node-branches-preserved-in-Some
 trim_node-branches-preserved-in-Some t c =
@@ -91,7 +114,8 @@ trim_node-branches-preserved-in-Some t c =
     let b = c.branch-item.result in
     let known = branch_user p c.args.s bs c.requires.users i c.branches-test.true b c.branch-item.is in (
       subst (λ k. IsTrimmedFront p c.args.a.now c.args.done.now c.args.s bs (i + 1) k c.branches.steps) (sym c.in_ok-push.ensures.ok)
-          (front_twin p c.args.a.now c.args.done.now c.args.s bs i b c.branches.kept c.branches.steps c.in-Some.twin c.branches-test.true c.branch-item.is known c.in-Some.ensures.0 c.in-Some.ensures.1 c.branches.invariant.0),
+          (front_twin p c.args.a.now c.args.done.now c.args.s bs i b c.branches.kept c.branches.steps c.in-Some.twin
+          c.branches-test.true c.branch-item.is known c.in-Some.ensures.0 c.in-Some.ensures.1 c.branches.invariant.0),
       c.branches.invariant.1,
     )
 
@@ -112,7 +136,8 @@ trim_node-trim_tree-requires t c =
           (
             subst (IsWithin p) (sym c.with.ensures.given) (within_given p a c.args.s b.user c.requires.within c.requires.free known),
             ap (λ x. refutes p x c.args.done.now (shape_of c.in-Tree.tree)) c.with.ensures.given
-                ∙ tree_refutes p a c.args.done.now c.args.s bs i b c.branches.kept c.branches.steps c.in-Tree.tree c.branches-test.true c.branch-item.is c.in-Tree.is c.branches.invariant.0,
+                ∙ tree_refutes p a c.args.done.now c.args.s bs i b c.branches.kept c.branches.steps c.in-Tree.tree c.branches-test.true c.branch-item.is
+                c.in-Tree.is c.branches.invariant.0,
           ),
         ),
       ),
@@ -125,10 +150,12 @@ trim_node-unreachable-requires t c =
     let i = c.branches.branch-index in
     let b = c.branch-item.result in
     let known = branch_user p c.args.s bs c.requires.users i c.branches-test.true b c.branch-item.is in
-    twin_is_found p c.args.a.now c.args.done.now c.args.s bs i b c.branches.kept c.branches.steps c.in-Twin.field-0 c.branches-test.true c.branch-item.is c.in-Twin.is known c.requires.users c.branches.invariant.0 c.in_default.ensures
+    twin_is_found p c.args.a.now c.args.done.now c.args.s bs i b c.branches.kept c.branches.steps c.in-Twin.field-0 c.branches-test.true c.branch-item.is
+    c.in-Twin.is known c.requires.users c.branches.invariant.0 c.in_default.ensures
 
 -- a trimmed tree that does not mention the step refutes without it
-unmentioned : (p : Problem) (a given : List (Option ℕ)) (done : List Bool) (s u : ℕ) (old : Shape) (r : Refutation) → s < length a → given ≡ slice_set a s (Some u) → is_unassigned p a s ≡ true → IsTrimming p given done old r → is_member r.steps s ≡ false → refutes p a done (shape_of r.tree) ≡ true
+unmentioned : (p : Problem) (a given : List (Option ℕ)) (done : List Bool) (s u : ℕ) (old : Shape) (r : Refutation) → s < length a → given ≡ slice_set a s
+    (Some u) → is_unassigned p a s ≡ true → IsTrimming p given done old r → is_member r.steps s ≡ false → refutes p a done (shape_of r.tree) ≡ true
 unmentioned p a given done s u old r room is free kid none =
     drops p a done s u (shape_of r.tree) room (not_some (user_at a s) (and_both (nat_lt s p.steps) (not (is_some (user_at a s))) free).1) (kid.steps s ∙ none)
     (ap (λ x. refutes p x done (shape_of r.tree)) (sym is) ∙ kid.tree.refutes)
@@ -149,14 +176,16 @@ trim_node-trim_tree-requires-then-not-has t c =
           c.requires.crew,
           (
             c.requires.within,
-            unmentioned p a c.with.result c.args.done.now c.args.s b.user (shape_of c.in-Tree.tree) kid.kid (omega (arith, c.requires.room, c.with.ensures.len)) c.with.ensures.given c.requires.free kid.ensures (sym c.if-not-has.ensures.flag),
+            unmentioned p a c.with.result c.args.done.now c.args.s b.user (shape_of c.in-Tree.tree) kid.kid
+                (omega (arith, c.requires.room, c.with.ensures.len)) c.with.ensures.given c.requires.free kid.ensures (sym c.if-not-has.ensures.flag),
           ),
         ),
       ),
     )
 
 -- a tree trimmed once more is no larger than the node
-smaller : (p : Problem) (a : List (Option ℕ)) (done : List Bool) (middle old : Shape) (r : Refutation) → nodes_of middle ≤ nodes_of old → IsTrimming p a done middle r → IsTrimming p a done old r
+smaller : (p : Problem) (a : List (Option ℕ)) (done : List Bool) (middle old : Shape) (r : Refutation) → nodes_of middle ≤ nodes_of old →
+    IsTrimming p a done middle r → IsTrimming p a done old r
 smaller p a done middle old r few trimming = record {
   tree = record { refutes = trimming.tree.refutes; lean = trimming.tree.lean; few = omega (arith, trimming.tree.few, few) };
   steps = trimming.steps;
@@ -171,8 +200,10 @@ trim_node-returns-then-not-has t c =
     let b = c.branch-item.result in
     let kid = c.in_ok-kid-in-Tree in
     let nodes = ap (λ (k : Kid). nodes_of_kids (kid_onto k b.user no_kids)) c.in-Tree.is in
-    let few : nodes_of (shape_of kid.kid.tree) ≤ nodes_of (node c.args.s (kids_of_items bs)) = omega (arith, nodes, kid.ensures.tree.few, nodes_within bs i b c.branches-test.true c.branch-item.is) in
-    IfOk-weaker c.trim_tree-then-not-has.result _ _ (λ r h. smaller p a c.args.done.now (shape_of kid.kid.tree) (node c.args.s (kids_of_items bs)) r few h) c.trim_tree-then-not-has.ensures
+    let few : nodes_of (shape_of kid.kid.tree) ≤ nodes_of (node c.args.s (kids_of_items bs)) =
+    omega (arith, nodes, kid.ensures.tree.few, nodes_within bs i b c.branches-test.true c.branch-item.is) in
+    IfOk-weaker c.trim_tree-then-not-has.result _ _ (λ r h. smaller p a c.args.done.now (shape_of kid.kid.tree) (node c.args.s (kids_of_items bs)) r few h)
+    c.trim_tree-then-not-has.ensures
 
 pub trim_node-branches-preserved : goal.trim_node-branches-preserved
 trim_node-branches-preserved t c =
@@ -185,17 +216,20 @@ trim_node-branches-preserved t c =
     let new = shape_of kid.kid.tree in
     let known = branch_user p c.args.s bs c.requires.users i c.branches-test.true b c.branch-item.is in (
       subst (λ k. IsTrimmedFront p a c.args.done.now c.args.s bs (i + 1) k c.joined-steps.result) (sym c.in_ok-push-in-Tree.ensures.ok)
-          (front_tree p a c.args.done.now c.args.s bs i b c.branches.kept c.branches.steps kid.kid.steps c.joined-steps.result c.in-Tree.tree new c.branches-test.true c.branch-item.is known c.in-Tree.is
+          (front_tree p a c.args.done.now c.args.s bs i b c.branches.kept c.branches.steps kid.kid.steps c.joined-steps.result c.in-Tree.tree new
+          c.branches-test.true c.branch-item.is known c.in-Tree.is
           (ap (λ x. refutes p x c.args.done.now new) (sym c.with.ensures.given) ∙ kid.ensures.tree.refutes)
           (ap (λ x. is_lean p x new) (sym c.with.ensures.given) ∙ kid.ensures.tree.lean)
-          (kid.ensures.steps c.args.s ∙ sym c.if-not-has.ensures.flag) c.in_default.ensures kid.ensures.tree.few kid.ensures.steps c.joined-steps.ensures c.branches.invariant.0),
+          (kid.ensures.steps c.args.s ∙ sym c.if-not-has.ensures.flag) c.in_default.ensures kid.ensures.tree.few kid.ensures.steps c.joined-steps.ensures
+          c.branches.invariant.0),
       λ x h. c.joined-steps.ensures x ∙ or_right (is_member c.branches.steps x) (is_member kid.kid.steps x) h,
     )
 
 pub trim_node-returns : goal.trim_node-returns
 trim_node-returns t c =
     let p = problem_of c.args.p.now c.args.f in
-    let ended = front_end p c.args.a.now c.args.done.now c.args.s c.args.branches.now c.branches.branch-index c.branches.kept c.branches.steps c.branches-test.false c.requires.free c.branches.invariant.0 in record {
+    let ended = front_end p c.args.a.now c.args.done.now c.args.s c.args.branches.now c.branches.branch-index c.branches.kept c.branches.steps
+    c.branches-test.false c.requires.free c.branches.invariant.0 in record {
       tree = record { refutes = ended.refutes; lean = ended.lean; few = ended.few };
       steps = ended.said;
     }

@@ -13,4 +13,5 @@ abbrev pub decreases-trim_node : goal.decreases-trim_node
 decreases-trim_node l = 2 * nodes_of_kids (kids_of_items l.branches.now) + 1
 
 abbrev pub invariant-trim_node-branches : goal.invariant-trim_node-branches
-invariant-trim_node-branches l = IsTrimmedFront (problem_of l.p l.f) l.a l.done l.s l.branches l.branch-index l.kept l.steps × ((t : ℕ) → is_member l.last t ≡ true → is_member l.steps t ≡ true)
+invariant-trim_node-branches l = IsTrimmedFront (problem_of l.p l.f) l.a l.done l.s l.branches l.branch-index l.kept l.steps ×
+    ((t : ℕ) → is_member l.last t ≡ true → is_member l.steps t ≡ true)

@@ -21,7 +21,8 @@ use Rattle.wsp_solver.proofs.search.+search.Goals as goal
 
 pub decide-returns-in-None-clause-searched : goal.decide-returns-in-None-clause-searched
 decide-returns-in-None-clause-searched t c =
-    valid_full (problem_of c.args.p.now c.args.f) c.args.a.now c.args.done.now c.plan_of.result c.rules.ensures.well_formed c.requires.within c.requires.quiet c.plan_of.ensures
+    valid_full (problem_of c.args.p.now c.args.f) c.args.a.now c.args.done.now c.plan_of.result c.rules.ensures.well_formed c.requires.within
+    c.requires.quiet c.plan_of.ensures
 
 -- a free step is a step, and has no user
 step_known : (p : Problem) (a : List (Option ℕ)) (s : ℕ) → is_unassigned p a s ≡ true → s < p.steps
@@ -50,7 +51,8 @@ try_users-try_user-requires t c =
     let next = c.in-Some.ensures in
     let within : u < p.users = c.authorised_users-row.ensures.known u next.member in
     let may : p.authorised s u ≡ true = sym (c.authorised_users-row.ensures.authorised u) ∙ next.member in
-    let less = count_less a s u p.steps (omega (arith, c.requires.room, c.with-given.ensures.len)) (step_open p a s c.requires.free) (step_known p a s c.requires.free) in
+    let less = count_less a s u p.steps (omega (arith, c.requires.room, c.with-given.ensures.len)) (step_open p a s c.requires.free)
+    (step_known p a s c.requires.free) in
     let same = ap (λ x. free_count x p.steps) c.with-given.ensures.given in (
       omega (arith, c.decreases, less, same),
       (
@@ -58,10 +60,12 @@ try_users-try_user-requires t c =
         (
           subst (IsWithin p) (sym c.with-given.ensures.given) (within_given p a s u c.requires.within c.requires.free within),
           (
-            subst (AreAssigned c.args.done.now) (sym c.with-given.ensures.given) (assigned_given a c.args.done.now s u c.requires.assigned (step_open p a s c.requires.free)),
+            subst (AreAssigned c.args.done.now) (sym c.with-given.ensures.given)
+                (assigned_given a c.args.done.now s u c.requires.assigned (step_open p a s c.requires.free)),
             (
               c.know_class.ensures,
-              subst (λ x. NoLeafRefutesWithout p x c.args.done.now s) (sym c.with-given.ensures.given) (quiet_given p a c.args.done.now s u (omega (arith, c.requires.room, c.with-given.ensures.len)) may c.requires.quiet),
+              subst (λ x. NoLeafRefutesWithout p x c.args.done.now s) (sym c.with-given.ensures.given)
+                  (quiet_given p a c.args.done.now s u (omega (arith, c.requires.room, c.with-given.ensures.len)) may c.requires.quiet),
             ),
           ),
         ),
@@ -77,7 +81,8 @@ try_users-returns-in-Plan-clause-searched t c =
     (subst (λ x. IsValidPlan p x done c.in-Plan.plan) c.with-given.ensures.given found)
 
 pub try_users-returns-in-Stopped-clause-searched : goal.try_users-returns-in-Stopped-clause-searched
-try_users-returns-in-Stopped-clause-searched t c = subst (HasSearched (problem_of c.args.p.now c.args.f) c.with-given.result c.args.done.now c.args.bounded) c.in-Stopped.is c.in_ok-plan.ensures.searched
+try_users-returns-in-Stopped-clause-searched t c =
+    subst (HasSearched (problem_of c.args.p.now c.args.f) c.with-given.result c.args.done.now c.args.bounded) c.in-Stopped.is c.in_ok-plan.ensures.searched
 
 pub try_users-returns-then-not-has-clause-searched : goal.try_users-returns-then-not-has-clause-searched
 try_users-returns-then-not-has-clause-searched t c =
@@ -89,7 +94,8 @@ try_users-returns-then-not-has-clause-searched t c =
     let found = subst (HasSearched p c.with-given.result done c.args.bounded) c.in-Refuted.is c.in_ok-plan.ensures.searched in
     let here = subst (λ x. refutes p x done (shape_of kid.tree) ≡ true) c.with-given.ensures.given found.refutes in
     let quiet = found.steps s ∙ sym c.if-not-has.ensures.flag in record {
-      refutes = drops p a done s c.in-Some.user (shape_of kid.tree) (omega (arith, c.requires.room, c.with-given.ensures.len)) (step_open p a s c.requires.free) quiet here;
+      refutes = drops p a done s c.in-Some.user (shape_of kid.tree) (omega (arith, c.requires.room, c.with-given.ensures.len))
+          (step_open p a s c.requires.free) quiet here;
       steps = found.steps;
     }
 
@@ -107,13 +113,16 @@ try_users-users-preserved-in-Some-twin_among t c =
     let n = c.user.inside.0 in
     let same : n ≡ u = c.user.view_is in
     let pushed = c.in_ok-push.ensures.ok in
-    let so_far = users_skip_to (p.authorised s) c.users.from u p.users front next.from_on (omega (arith, within)) (λ v on lt. sym (c.authorised_users-row.ensures.authorised v) ∙ next.least v on lt) c.users.invariant.0 in (
+    let so_far = users_skip_to (p.authorised s) c.users.from u p.users front next.from_on (omega (arith, within))
+    (λ v on lt. sym (c.authorised_users-row.ensures.authorised v) ∙ next.least v on lt) c.users.invariant.0 in (
       subst (AreOfUsersBelow (p.authorised s) (n + 1) p.users) (sym pushed)
           (subst (λ k. AreOfUsersBelow (p.authorised s) (k + 1) p.users (joined front (twin_kid u twin no_kids))) (sym same)
           (users_push_twin (p.authorised s) u twin p.users front within may so_far)),
-      subst (λ k. all_refute p a c.args.done.now s [] k ≡ true) (sym pushed) (refute_push_twin p a c.args.done.now s u twin front [] c.users.invariant.1 c.in-Some-twin_among.ensures.0 c.in-Some-twin_among.ensures.1),
+      subst (λ k. all_refute p a c.args.done.now s [] k ≡ true) (sym pushed)
+          (refute_push_twin p a c.args.done.now s u twin front [] c.users.invariant.1 c.in-Some-twin_among.ensures.0 c.in-Some-twin_among.ensures.1),
       subst (λ k. AreMentionedIn p.rules k c.users.steps) (sym pushed) (mentioned_push_twin p.rules front u twin c.users.steps c.users.invariant.2),
-      subst (AreUsersBelow (n + 1)) (sym pushed) (below_push_twin (n + 1) u twin front (omega (arith, same)) (below_to c.users.from (n + 1) front (omega (arith, next.from_on, same)) c.users.invariant.3)),
+      subst (AreUsersBelow (n + 1)) (sym pushed) (below_push_twin (n + 1) u twin
+          front (omega (arith, same)) (below_to c.users.from (n + 1) front (omega (arith, next.from_on, same)) c.users.invariant.3)),
       c.know_class.ensures,
       c.users.invariant.5,
       omega (arith, within, same),
@@ -138,13 +147,15 @@ try_users-users-preserved t c =
     let here = subst (λ x. refutes p x done tree ≡ true) c.with-given.ensures.given found.refutes in
     let said = mentioned_push p.rules front u tree c.users.steps kid.steps c.joined-steps.result c.users.invariant.2 found.steps c.joined-steps.ensures in
     let pushed = c.in_ok-push-in-Refuted.ensures.ok in
-    let so_far = users_skip_to (p.authorised s) c.users.from u p.users front next.from_on (omega (arith, within)) (λ v on lt. sym (c.authorised_users-row.ensures.authorised v) ∙ next.least v on lt) c.users.invariant.0 in (
+    let so_far = users_skip_to (p.authorised s) c.users.from u p.users front next.from_on (omega (arith, within))
+    (λ v on lt. sym (c.authorised_users-row.ensures.authorised v) ∙ next.least v on lt) c.users.invariant.0 in (
       subst (AreOfUsersBelow (p.authorised s) (n + 1) p.users) (sym pushed)
           (subst (λ k. AreOfUsersBelow (p.authorised s) (k + 1) p.users (joined front (tree_kid u tree no_kids))) (sym same)
           (users_push (p.authorised s) u p.users front tree within may so_far)),
       subst (λ k. all_refute p a done s [] k ≡ true) (sym pushed) (refute_push p a done s u tree front [] c.users.invariant.1 here),
       subst (λ k. AreMentionedIn p.rules k c.joined-steps.result) (sym pushed) said,
-      subst (AreUsersBelow (n + 1)) (sym pushed) (below_push (n + 1) u tree front (omega (arith, same)) (below_to c.users.from (n + 1) front (omega (arith, next.from_on, same)) c.users.invariant.3)),
+      subst (AreUsersBelow (n + 1)) (sym pushed) (below_push (n + 1) u tree front (omega (arith, same))
+          (below_to c.users.from (n + 1) front (omega (arith, next.from_on, same)) c.users.invariant.3)),
       c.try_user.ensures.crew,
       λ x h. c.joined-steps.ensures x ∙ or_right (is_member c.users.steps x) (is_member kid.steps x) h,
       omega (arith, within, same),
@@ -154,9 +165,11 @@ pub try_users-returns-clause-searched : goal.try_users-returns-clause-searched
 try_users-returns-clause-searched t c =
     let p = problem_of c.args.p.now c.args.f in
     let front = c.users.branches in
-    let users = users_all (p.authorised c.args.s) c.users.from p.users front c.users.invariant.6 (λ v on below. sym (c.authorised_users-row.ensures.authorised v) ∙ c.in_default.ensures v on) c.users.invariant.0 in record {
+    let users = users_all (p.authorised c.args.s) c.users.from p.users front c.users.invariant.6
+    (λ v on below. sym (c.authorised_users-row.ensures.authorised v) ∙ c.in_default.ensures v on) c.users.invariant.0 in record {
       refutes =
-          and_from (is_unassigned p c.args.a.now c.args.s) (have_users (authorised_users p c.args.s) front && all_refute p c.args.a.now c.args.done.now c.args.s [] front) c.requires.free
+          and_from (is_unassigned p c.args.a.now c.args.s)
+          (have_users (authorised_users p c.args.s) front && all_refute p c.args.a.now c.args.done.now c.args.s [] front) c.requires.free
           (and_from (have_users (authorised_users p c.args.s) front) (all_refute p c.args.a.now c.args.done.now c.args.s [] front) users c.users.invariant.1);
       steps = c.users.invariant.2;
     }

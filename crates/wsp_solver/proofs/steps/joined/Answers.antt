@@ -12,5 +12,6 @@ absorbed false false h = refl
 
 pub returns-then-eq : goal.returns-then-eq
 returns-then-eq c = λ t.
-    let same = word_one c.args.b.now c.args.known.now (c.limit.ensures.len ∙ sym c.limit-2.ensures.len) (eq_back (word_of c.args.b.now) (word_of c.args.known.now) (sym c.if-eq.ensures)) in
+    let same = word_one c.args.b.now c.args.known.now (c.limit.ensures.len ∙ sym c.limit-2.ensures.len)
+    (eq_back (word_of c.args.b.now) (word_of c.args.known.now) (sym c.if-eq.ensures)) in
     absorbed (is_member c.args.a.now t) (is_member c.args.b.now t) (λ h. c.requires.known t (ap (λ d. is_member d t) (sym same) ∙ h))

@@ -10,4 +10,5 @@ returns-then-wanted-clause-members c = λ t.
     ∙ ap (λ b. is_member c.args.set.now t || (b && t == c.args.s)) (sym c.if-wanted.true)
 
 pub returns-else-wanted-clause-members : goal.returns-else-wanted-clause-members
-returns-else-wanted-clause-members c = λ t. sym (ap (λ b. is_member c.args.set.now t || (b && t == c.args.s)) c.if-wanted.false ∙ or-false (is_member c.args.set.now t))
+returns-else-wanted-clause-members c =
+    λ t. sym (ap (λ b. is_member c.args.set.now t || (b && t == c.args.s)) c.if-wanted.false ∙ or-false (is_member c.args.set.now t))

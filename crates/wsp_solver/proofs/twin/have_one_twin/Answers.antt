@@ -6,4 +6,5 @@ use Rattle.wsp_solver.proofs.twin.have_one_twin.Goals as goal
 pub returns : goal.returns
 returns c =
     c.eq.ensures
-    ∙ one_first_twin (problem_of c.args.p.now c.args.f) c.args.u c.args.v c.first_twin.result c.first_twin-2.result c.requires.user c.requires.first c.first_twin.ensures c.first_twin-2.ensures
+    ∙ one_first_twin (problem_of c.args.p.now c.args.f) c.args.u c.args.v c.first_twin.result c.first_twin-2.result c.requires.user c.requires.first
+    c.first_twin.ensures c.first_twin-2.ensures

@@ -7,7 +7,8 @@ abbrev pub invariant-reading : goal.invariant-reading
 invariant-reading g l =
     record {
       ready : IsReady l.self;
-      reads : (before : Option (List ℕ)) (h : Handed) → HasRead before (g.S.Source.left l.fn.source) h l.fn.self → HasRead before (g.S.Source.left l.source) h l.self;
+      reads : (before : Option (List ℕ)) (h : Handed) → HasRead before (g.S.Source.left l.fn.source) h l.fn.self →
+          HasRead before (g.S.Source.left l.source) h l.self;
       far : left_to_read l.self ≤ left_to_read l.fn.self;
       room : l.self.room ≡ l.fn.self.room;
       faults : g.S.Source.faults l.source ≡ g.S.Source.faults l.fn.source;

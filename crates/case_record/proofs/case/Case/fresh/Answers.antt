@@ -12,7 +12,8 @@ pub invariant_of-result : goal.invariant_of-result
 invariant_of-result c = rw c.all_free.ensures (all_blank STEP_LIMIT Free c.args.steps c.requires)
 
 pub returns-clause-case : goal.returns-clause-case
-returns-clause-case c = rw c.all_free.ensures (λ i. record { flow = c.args.flow; states = take-replicate c.args.steps STEP_LIMIT Free c.requires i; phase = Live })
+returns-clause-case c =
+    rw c.all_free.ensures (λ i. record { flow = c.args.flow; states = take-replicate c.args.steps STEP_LIMIT Free c.requires i; phase = Live })
 
 pub returns-clause-assigned : goal.returns-clause-assigned
 returns-clause-assigned c = ap assigned_of (returns-clause-case c) ∙ assigned_of-fresh c.args.flow c.args.steps c.requires

@@ -9,7 +9,12 @@ pub returns-clause-held : goal.returns-clause-held
 returns-clause-held c =
     let below : c.args.s < length (take c.self.inside.steps c.self.inside.cells) = rw (← c.self.view_is) at c.requires.step in
     rw (← c.self.view_is, c.s.view_is)
-    (λ i. record { flow = c.self.inside.flow; states = kept_changed c.self.inside.cells c.self.inside.steps c.args.s (Held c.args.u) below c.self.invariant i; phase = c.self.inside.phase })
+    (λ i. record {
+      flow = c.self.inside.flow;
+      states =
+          kept_changed c.self.inside.cells c.self.inside.steps c.args.s (Held c.args.u) below c.self.invariant i;
+      phase = c.self.inside.phase;
+    })
 
 pub returns-clause-assigned : goal.returns-clause-assigned
 returns-clause-assigned c = ap assigned_of (returns-clause-held c) ∙ assigned_of-hold c.args.self.now c.args.s c.args.u c.requires.step

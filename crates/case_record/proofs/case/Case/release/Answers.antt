@@ -9,7 +9,12 @@ pub returns-clause-released : goal.returns-clause-released
 returns-clause-released c =
     let below : c.args.s < length (take c.self.inside.steps c.self.inside.cells) = rw (← c.self.view_is) at (held_within _ c.args.s c.requires) in
     rw (← c.self.view_is, c.s.view_is)
-    (λ i. record { flow = c.self.inside.flow; states = kept_changed c.self.inside.cells c.self.inside.steps c.args.s Free below c.self.invariant i; phase = c.self.inside.phase })
+    (λ i. record {
+      flow = c.self.inside.flow;
+      states = kept_changed c.self.inside.cells c.self.inside.steps c.args.s Free below c.self.invariant i;
+      phase =
+          c.self.inside.phase;
+    })
 
 pub returns-clause-assigned : goal.returns-clause-assigned
 returns-clause-assigned c = ap assigned_of (returns-clause-released c) ∙ assigned_of-release c.args.self.now c.args.s c.requires

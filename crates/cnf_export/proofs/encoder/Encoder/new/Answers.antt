@@ -17,7 +17,8 @@ count-requires c =
     let problem = problem_of c.args.p.now c.args.f in
     let steps : c.len-steps.result ≡ problem.steps = c.len-steps.ensures.count ∙ ap length (c.steps.ensures.names ∙ ap (λ w. w.steps) c.flow.ensures.flow) in
     let made : c.in_ok-groups.groups.items ≡ groups problem.steps problem.rules = c.in_ok-groups.ensures ∙ (λ i. groups (steps i) (c.rules.ensures.rules i)) in
-    let whole = c.before-at.ensures (encoding_in c.in_ok-terms.terms) c.deref.result.now ∙ (λ i. flat_map (group_clauses (c.in_ok-terms.ensures i)) ((c.deref.ensures.value ∙ made) i)) in
+    let whole = c.before-at.ensures (encoding_in c.in_ok-terms.terms) c.deref.result.now ∙
+    (λ i. flat_map (group_clauses (c.in_ok-terms.ensures i)) ((c.deref.ensures.value ∙ made) i)) in
     let few = filled (encoding_of problem c.args.a.now c.args.done.now) problem.steps problem.rules in
     subst (λ (cs : List (List ℤ)). empties cs ≤ STEP_LIMIT) (sym whole) (omega (arith, few, steps, c.if-prove.false))
 
@@ -26,8 +27,10 @@ returns-in_err-clauses-clause-large c fault =
     let problem = problem_of c.args.p.now c.args.f in
     let steps : c.len-steps.result ≡ problem.steps = c.len-steps.ensures.count ∙ ap length (c.steps.ensures.names ∙ ap (λ w. w.steps) c.flow.ensures.flow) in
     let made : c.in_ok-groups.groups.items ≡ groups problem.steps problem.rules = c.in_ok-groups.ensures ∙ (λ i. groups (steps i) (c.rules.ensures.rules i)) in
-    let whole = c.before-at.ensures (encoding_in c.in_ok-terms.terms) c.deref.result.now ∙ (λ i. flat_map (group_clauses (c.in_ok-terms.ensures i)) ((c.deref.ensures.value ∙ made) i)) in
-    subst (λ (cs : List (List ℤ)). LITERAL_LIMIT < literals cs) whole (c.in_err-clauses.ensures.large (ap Err (handed_on c.from_residual-in_err-clauses.result c.in_err-clauses.field-0.0 TooLarge c.from_residual-in_err-clauses.ensures.1 fault)))
+    let whole = c.before-at.ensures (encoding_in c.in_ok-terms.terms) c.deref.result.now ∙
+    (λ i. flat_map (group_clauses (c.in_ok-terms.ensures i)) ((c.deref.ensures.value ∙ made) i)) in
+    subst (λ (cs : List (List ℤ)). LITERAL_LIMIT < literals cs) whole (c.in_err-clauses.ensures.large
+    (ap Err (handed_on c.from_residual-in_err-clauses.result c.in_err-clauses.field-0.0 TooLarge c.from_residual-in_err-clauses.ensures.1 fault)))
 
 pub returns-clause-all : goal.returns-clause-all
 returns-clause-all c =
@@ -41,5 +44,6 @@ returns-clause-few c =
     let problem = problem_of c.args.p.now c.args.f in
     let steps : c.len-steps.result ≡ problem.steps = c.len-steps.ensures.count ∙ ap length (c.steps.ensures.names ∙ ap (λ w. w.steps) c.flow.ensures.flow) in
     let made : c.in_ok-groups.groups.items ≡ groups problem.steps problem.rules = c.in_ok-groups.ensures ∙ (λ i. groups (steps i) (c.rules.ensures.rules i)) in
-    let whole = c.before-at.ensures (encoding_in c.in_ok-terms.terms) c.deref.result.now ∙ (λ i. flat_map (group_clauses (c.in_ok-terms.ensures i)) ((c.deref.ensures.value ∙ made) i)) in
+    let whole = c.before-at.ensures (encoding_in c.in_ok-terms.terms) c.deref.result.now ∙
+    (λ i. flat_map (group_clauses (c.in_ok-terms.ensures i)) ((c.deref.ensures.value ∙ made) i)) in
     subst (λ (cs : List (List ℤ)). literals cs ≤ LITERAL_LIMIT) whole c.in_ok-clauses.ensures.few

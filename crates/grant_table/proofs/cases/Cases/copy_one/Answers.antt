@@ -17,4 +17,5 @@ invariant_of-result c =
     ∙ ap open_count (sym (only_is 0 n rows c.self.invariant.sound.ascend)) in
     kept_anew _ _ _
     (subst (IsSoundTable c.in_ok-only.field-0.items ever) (sym live)
-    (subst (λ xs. IsSoundTable xs ever (open_count (only n rows))) (sym items) (kept_filter (λ (r : Row). nat_eq r.number n) ever c.self.inside.live rows c.self.invariant.sound)))
+    (subst (λ xs. IsSoundTable xs ever (open_count (only n rows))) (sym items)
+    (kept_filter (λ (r : Row). nat_eq r.number n) ever c.self.inside.live rows c.self.invariant.sound)))

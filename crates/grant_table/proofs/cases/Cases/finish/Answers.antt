@@ -15,10 +15,12 @@ put_row-requires-clause-there c =
     (finish_counts c.args.s c.row.result open_case ∙ (λ i. ones (sym c.finished-row.ensures i) + cond (done i) 1 0))
 
 pub returns-clause-finished : goal.returns-clause-finished
-returns-clause-finished c = c.put_row.ensures ∙ table_put c.args.self.now c.args.c c.row.result c.finished-row.result (finished_row c.args.s) c.row.ensures.row c.finished-row.ensures refl
+returns-clause-finished c = c.put_row.ensures ∙
+    table_put c.args.self.now c.args.c c.row.result c.finished-row.result (finished_row c.args.s) c.row.ensures.row c.finished-row.ensures refl
 
 pub returns-clause-done : goal.returns-clause-done
 returns-clause-done c =
     let P : CaseShape → Type 0 = λ k. c.is_done-done.result ≡ is_done k.phase in
     subst (λ t. IsSomeAnd (case_at t c.args.c) P) (sym c.put_row.ensures)
-    (case_changed P c.args.self.now c.args.c c.row.result c.finished-row.result c.row.ensures.row (ap (λ r. r.number) c.finished-row.ensures) (c.is_done-done.ensures ∙ ap is_done c.phase.ensures))
+    (case_changed P c.args.self.now c.args.c c.row.result c.finished-row.result c.row.ensures.row (ap (λ r. r.number) c.finished-row.ensures)
+    (c.is_done-done.ensures ∙ ap is_done c.phase.ensures))

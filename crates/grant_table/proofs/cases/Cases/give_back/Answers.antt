@@ -9,4 +9,5 @@ put_row-requires-clause-there c =
     (ap (λ r. r.number) c.freed.ensures) (omega (arith, ap ones c.freed.ensures))
 
 pub returns : goal.returns
-returns c = c.put_row.ensures ∙ table_put c.args.self.now c.args.c c.row-row.result c.freed.result (freed_row c.args.s) c.row-row.ensures.row c.freed.ensures refl
+returns c = c.put_row.ensures ∙
+    table_put c.args.self.now c.args.c c.row-row.result c.freed.result (freed_row c.args.s) c.row-row.ensures.row c.freed.ensures refl

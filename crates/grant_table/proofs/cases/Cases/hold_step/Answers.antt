@@ -9,4 +9,5 @@ put_row-requires-clause-there c =
     (ap (λ r. r.number) c.held.ensures) (omega (arith, ap ones c.held.ensures))
 
 pub returns : goal.returns
-returns c = c.put_row.ensures ∙ table_put c.args.self.now c.args.c c.row-row.result c.held.result (held_row c.args.s c.args.u c.args.plan) c.row-row.ensures.row c.held.ensures refl
+returns c = c.put_row.ensures ∙
+    table_put c.args.self.now c.args.c c.row-row.result c.held.result (held_row c.args.s c.args.u c.args.plan) c.row-row.ensures.row c.held.ensures refl

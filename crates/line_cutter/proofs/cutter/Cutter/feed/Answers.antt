@@ -5,12 +5,14 @@ use Rattle.line_cutter.proofs.WholeLines.{front_short, line_cut, line_ended, lin
 use Rattle.line_cutter.proofs.cutter.Cutter.feed.Goals as goal
 
 pub returns-then-run-eq0-clause-cuts : goal.returns-then-run-eq0-clause-cuts
-returns-then-run-eq0-clause-cuts c = one_cut c.args.self.now c.feed_byte.new.self c.args.piece.now c.requires.some c.requires.going (grind (arith, common_steps))
+returns-then-run-eq0-clause-cuts c =
+    one_cut c.args.self.now c.feed_byte.new.self c.args.piece.now c.requires.some c.requires.going (grind (arith, common_steps))
 
 pub returns-clause-cuts : goal.returns-clause-cuts
 returns-clause-cuts c =
     plain_cut c.args.self.now c.push_plain.new.self c.args.piece.now c.plain_len-run.result (grind (arith, common_steps)) c.plain_len-run.ensures.within
-    c.requires.going (c.plain_len-run.ensures.lines (grind (arith, common_steps))) c.plain_len-run.ensures.short c.plain_len-run.ensures.plain c.in_ok-push_plain.ensures.pushed
+    c.requires.going (c.plain_len-run.ensures.lines (grind (arith, common_steps))) c.plain_len-run.ensures.short c.plain_len-run.ensures.plain
+    c.in_ok-push_plain.ensures.pushed
 
 pub returns-then-run-eq0-clause-ended : goal.returns-then-run-eq0-clause-ended
 returns-then-run-eq0-clause-ended c = ended_byte c.args.self.now c.feed_byte.new.self _ c.requires.sound c.requires.handed c.in_ok-feed_byte.ensures.fed

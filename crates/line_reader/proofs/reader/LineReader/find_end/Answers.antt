@@ -10,5 +10,6 @@ returns c =
     let r = c.self.inside in
     finds_end c.args.self.now.ahead c.memchr.result
     (subst (λ (xs : List ℕ). IsFirstByte (is_byte 10) xs c.memchr.result)
-    (ap (λ xs. take (r.filled - r.at) (drop r.at xs)) c.deref.ensures.value ∙ between r.piece.items r.at r.filled c.self.invariant.0 ∙ ap (λ (s : ReaderShape). s.ahead) c.self.view_is)
+    (ap (λ xs. take (r.filled - r.at) (drop r.at xs)) c.deref.ensures.value ∙ between r.piece.items r.at r.filled c.self.invariant.0 ∙
+    ap (λ (s : ReaderShape). s.ahead) c.self.view_is)
     c.memchr.ensures)

@@ -13,7 +13,8 @@ reading-init g c = record {
 
 pub reading-preserved : goal.reading-preserved
 reading-preserved g c =
-    let on = goes_further (g.S.Source.left c.args.source.now) (g.S.Source.left c.reading.source) (g.S.Source.left c.advance.new.source) c.args.self.now c.reading.self c.advance.new.self c.advance.result
+    let on = goes_further (g.S.Source.left c.args.source.now) (g.S.Source.left c.reading.source) (g.S.Source.left c.advance.new.source) c.args.self.now
+    c.reading.self c.advance.new.self c.advance.result
     c.reading.invariant.seen c.advance.ensures.steps c.in-None.is in
     record {
       seen = on.0;
@@ -25,5 +26,6 @@ reading-preserved g c =
 
 pub returns-in-Some-clause-reads : goal.returns-in-Some-clause-reads
 returns-in-Some-clause-reads g c =
-    steps_on (g.S.Source.left c.args.source.now) (g.S.Source.left c.reading.source) (g.S.Source.left c.advance.new.source) c.args.self.now c.reading.self c.advance.new.self c.advance.result c.in-Some.read
+    steps_on (g.S.Source.left c.args.source.now) (g.S.Source.left c.reading.source) (g.S.Source.left c.advance.new.source) c.args.self.now c.reading.self
+    c.advance.new.self c.advance.result c.in-Some.read
     c.reading.invariant.seen c.reading.invariant.limit c.reading.invariant.room c.advance.ensures.steps c.in-Some.is

@@ -6,5 +6,6 @@ pub returns-clause-read : goal.returns-clause-read
 returns-clause-read c =
     let r = c.self.inside in
     let more = ap (λ xs. r.line ++ take ((r.at + c.args.count) - r.at) (drop r.at xs)) c.deref.ensures.value in
-    read_front c.args.self.now r.line c.push_all.new.self r.handed r.at r.filled r.limit c.args.count r.piece.items c.self.view_is c.self.invariant.0 c.requires.within
+    read_front c.args.self.now r.line c.push_all.new.self r.handed r.at r.filled r.limit c.args.count r.piece.items c.self.view_is c.self.invariant.0
+    c.requires.within
     (c.in_ok-push_all.ensures.pushed ∙ more)

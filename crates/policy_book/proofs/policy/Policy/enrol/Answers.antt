@@ -20,7 +20,9 @@ invariant_of-self-2 c =
     let settled : AreSettled (record roster { members = members }) flows c.args.u c.args.r duties new =
     subst (λ (x : RosterShape). AreSettled x flows c.args.u c.args.r duties new) c.in_ok-enrol.ensures.enrolled
     (subst (λ (ws : List WorkflowShape). AreSettled c.enrol.new.self ws c.args.u c.args.r duties new) c.deref.ensures.value
-    (subst (λ (ds : List DutyShape). AreSettled c.enrol.new.self c.deref.result.now c.args.u c.args.r ds new) c.deref_mut.ensures.value c.settle_all.ensures)) in
-    subst (λ (ds : List DutyShape). IsBook c.enrol.new.self rs names flows admin ds) (sym (whole c.self.inside.duties.len new _ (c.settle_all.ensures.count ∙ c.deref_mut.ensures.len)))
+    (subst (λ (ds : List DutyShape). AreSettled c.enrol.new.self c.deref.result.now c.args.u c.args.r ds new) c.deref_mut.ensures.value
+    c.settle_all.ensures)) in
+    subst (λ (ds : List DutyShape). IsBook c.enrol.new.self rs names flows admin ds)
+    (sym (whole c.self.inside.duties.len new _ (c.settle_all.ensures.count ∙ c.deref_mut.ensures.len)))
     (subst (λ (x : RosterShape). IsBook x rs names flows admin new) (sym c.in_ok-enrol.ensures.enrolled)
     (book_settled roster members rs names flows admin c.args.u c.args.r duties new c.self.invariant (enrolled_differs c.args.u c.args.r roster) settled))

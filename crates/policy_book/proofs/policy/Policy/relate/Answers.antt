@@ -25,6 +25,11 @@ invariant_of-self c =
     let before = pairs_of_users (length c.self.inside.roster.users) rs c.args.rho c.self.invariant.stored.sound.related in
     let after = all_inserted (length c.self.inside.roster.users) (pairs_of rs c.args.rho) c.args.u c.args.v before first second in
     elim c.match-relate.branch [
-      | in-Ok w ↦ rw w.in-Ok.ensures.related (record { stored = stored_with_pairs c.self.inside.roster rs c.self.inside.names c.self.inside.flows.items c.self.inside.admin c.self.invariant.stored c.args.rho (set.insert (pairs_of rs c.args.rho) (c.args.u, c.args.v)) after; kept = c.self.invariant.kept })
+      | in-Ok w ↦ rw w.in-Ok.ensures.related
+          (record {
+            stored = stored_with_pairs c.self.inside.roster rs c.self.inside.names c.self.inside.flows.items c.self.inside.admin
+                c.self.invariant.stored c.args.rho (set.insert (pairs_of rs c.args.rho) (c.args.u, c.args.v)) after;
+            kept = c.self.invariant.kept;
+          })
       | in-Err w ↦ rw w.in-Err.ensures.unchanged c.self.invariant
     ]

@@ -17,10 +17,12 @@ invariant_of-self c =
     let as_many = ap (λ (p : PolicyShape). length p.flows) c.self.view_is in
     let place : f < length flows = omega (arith, c.f.view_is, as_many, c.requires) in
     let w = c.index_mut-retiring.result.now in
-    let before = sound_at c.self.inside.roster c.self.inside.relations c.self.inside.names flows c.self.inside.admin stored f w place c.index_mut-retiring.ensures.value in
+    let before = sound_at c.self.inside.roster c.self.inside.relations c.self.inside.names flows c.self.inside.admin
+    stored f w place c.index_mut-retiring.ensures.value in
     let opened = subst (λ (x : WorkflowShape). IsSoundWorkflow roles relations x) (sym c.retiring.view_is) before in
     let there = c.retiring.view_is ∙ c.index_mut-retiring.ensures.value ∙ get_or_default flows f w no_workflow place in
     record {
-      stored = stored_with_flow c.self.inside.roster c.self.inside.relations c.self.inside.names flows c.self.inside.admin stored f _ place (record { permitted = opened.permitted; few = opened.few; ruled = opened.ruled });
+      stored = stored_with_flow c.self.inside.roster c.self.inside.relations c.self.inside.names flows c.self.inside.admin
+          stored f _ place (record { permitted = opened.permitted; few = opened.few; ruled = opened.ruled });
       kept = kept_with_same c.self.inside.roster flows c.self.inside.duties.items f _ place c.self.invariant.kept (ap (λ (x : WorkflowShape). x.flow) there);
     }

@@ -13,6 +13,11 @@ invariant_of-self c =
     let before = pairs_of_users (length c.self.inside.roster.users) rs c.args.rho c.self.invariant.stored.sound.related in
     let after = all_removed (length c.self.inside.roster.users) (pairs_of rs c.args.rho) c.args.u c.args.v before in
     elim c.match-unrelate.branch [
-      | in-Ok w ↦ rw w.in-Ok.ensures.unrelated (record { stored = stored_with_pairs c.self.inside.roster rs c.self.inside.names c.self.inside.flows.items c.self.inside.admin c.self.invariant.stored c.args.rho (set.remove (pairs_of rs c.args.rho) (c.args.u, c.args.v)) after; kept = c.self.invariant.kept })
+      | in-Ok w ↦ rw w.in-Ok.ensures.unrelated
+          (record {
+            stored = stored_with_pairs c.self.inside.roster rs c.self.inside.names c.self.inside.flows.items c.self.inside.admin
+                c.self.invariant.stored c.args.rho (set.remove (pairs_of rs c.args.rho) (c.args.u, c.args.v)) after;
+            kept = c.self.invariant.kept;
+          })
       | in-Err w ↦ rw w.in-Err.ensures.unchanged c.self.invariant
     ]

@@ -6,5 +6,6 @@ use Rattle.transcript_audit.proofs.auditor.Auditor.reply.Goals as goal
 
 pub returns-clause-reply : goal.returns-clause-reply
 returns-clause-reply c =
-    known_now (λ p flows. IfOk c.read_reply.result (HasReply p flows c.args.ask.now c.args.line.now)) c.self.inside.board c.args.self.now c.policy.result.now c.cases.result.now c.policy.ensures.policy c.cases.ensures.cases
+    known_now (λ p flows. IfOk c.read_reply.result (HasReply p flows c.args.ask.now c.args.line.now)) c.self.inside.board c.args.self.now
+    c.policy.result.now c.cases.result.now c.policy.ensures.policy c.cases.ensures.cases
     (c.self.invariant ∙ ap state_now c.self.view_is) c.read_reply.ensures.reply

@@ -22,9 +22,11 @@ advance-requires-clause-begins c =
 
 pub advance-requires-clause-next : goal.advance-requires-clause-next
 advance-requires-clause-next c =
-    rw (c.as_slice.ensures, c.as_slice-2.ensures) (next_ends _ c.self.inside.cursor c.args.job.now.lane _ c.self.invariant (rw (← c.self.view_is) at c.requires.next).answers)
+    rw (c.as_slice.ensures, c.as_slice-2.ensures)
+    (next_ends _ c.self.inside.cursor c.args.job.now.lane _ c.self.invariant (rw (← c.self.view_is) at c.requires.next).answers)
 
 pub invariant_of-self : goal.invariant_of-self
 invariant_of-self c =
-    added_record _ c.self.inside.cursor c.advance.new.cursor _ c.add_entry.new.journal.entries c.len.result c.self.invariant (rw (← c.self.view_is) at c.requires.next)
+    added_record _ c.self.inside.cursor c.advance.new.cursor _ c.add_entry.new.journal.entries c.len.result c.self.invariant
+    (rw (← c.self.view_is) at c.requires.next)
     c.add_entry.ensures.added c.len.ensures (rw (c.as_slice.ensures, c.as_slice-2.ensures) at c.advance.ensures)

@@ -17,7 +17,8 @@ last_counting-requires-clause-some c =
     let what = c.args.ask.now in
     let from = c.own_start-from.result in
     let found =
-    c.count-found.ensures ∙ ap (counted what) (rest_from c.as_slice-entries.result.now from) ∙ ap (λ es. counted what (drop from es)) c.as_slice-entries.ensures in
+    c.count-found.ensures ∙ ap (counted what) (rest_from c.as_slice-entries.result.now from) ∙
+    ap (λ es. counted what (drop from es)) c.as_slice-entries.ensures in
     some_count what c.self.inside.journal.entries from c.count-found.result c.args.rounds found c.if-rounds-found.true c.requires
 
 pub returns-then-rounds-found : goal.returns-then-rounds-found
@@ -27,7 +28,8 @@ returns-then-rounds-found c =
     let from = c.own_start-from.result in
     let entries = c.self.inside.journal.entries in
     let start = cursor_start _ c.self.inside.cursor c.self.invariant in
-    let own = c.own_start-from.ensures.own ∙ ap (λ es. max (lane_end lane es) c.self.inside.cursor.start) c.as_slice-entries.ensures ∙ ap (λ n. max (lane_end lane entries) n) start in
+    let own = c.own_start-from.ensures.own ∙ ap (λ es. max (lane_end lane es) c.self.inside.cursor.start) c.as_slice-entries.ensures ∙
+    ap (λ n. max (lane_end lane entries) n) start in
     let found =
     c.count-found.ensures ∙ ap (counted what) (rest_from c.as_slice-entries.result.now from) ∙ ap (λ es. counted what (drop from es)) c.as_slice-entries.ensures
     ∙ ap (λ n. counted what (drop n entries)) own in
@@ -41,7 +43,8 @@ returns-else-rounds-found c =
     let from = c.own_start-from.result in
     let entries = c.self.inside.journal.entries in
     let start = cursor_start _ c.self.inside.cursor c.self.invariant in
-    let own = c.own_start-from.ensures.own ∙ ap (λ es. max (lane_end lane es) c.self.inside.cursor.start) c.as_slice-entries.ensures ∙ ap (λ n. max (lane_end lane entries) n) start in
+    let own = c.own_start-from.ensures.own ∙ ap (λ es. max (lane_end lane es) c.self.inside.cursor.start) c.as_slice-entries.ensures ∙
+    ap (λ n. max (lane_end lane entries) n) start in
     let found =
     c.count-found.ensures ∙ ap (counted what) (rest_from c.as_slice-entries.result.now from) ∙ ap (λ es. counted what (drop from es)) c.as_slice-entries.ensures
     ∙ ap (λ n. counted what (drop n entries)) own in

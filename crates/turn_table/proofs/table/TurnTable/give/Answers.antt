@@ -13,10 +13,12 @@ compare_exchange_with-requires g c =
     let v = c.lane.inside.seat.me.0 in
     let out : c.lane.inside.out ≡ true = ap (λ l. l.out) c.lane.view_is ∙ c.requires.out in
     let n = some_of v.number (c.lane.invariant.numbered out) in
-    let grows = subst (λ (l : LaneShape g.row.D-Ground.Denot g.row.D-Item.Denot). IfSome l.number (λ k. GrowsByOne k (g.D.Tabled.list c.args.value) l.seen)) (sym c.lane.view_is) c.requires.list in (
+    let grows = subst (λ (l : LaneShape g.row.D-Ground.Denot g.row.D-Item.Denot). IfSome l.number (λ k. GrowsByOne k (g.D.Tabled.list c.args.value) l.seen))
+    (sym c.lane.view_is) c.requires.list in (
       search rules,
       search rules,
-      notes g.D.Tabled.fixed_part g.D.Tabled.list _ _ _ _ _ c.lane.inside.seat.me c.args.value n.0 c.lane.invariant.live (c.lane.invariant.hold ∙ ap hold_of out) n.1
+      notes g.D.Tabled.fixed_part g.D.Tabled.list _ _ _ _ _ c.lane.inside.seat.me c.args.value n.0 c.lane.invariant.live
+          (c.lane.invariant.hold ∙ ap hold_of out) n.1
           (at_some (λ k. GrowsByOne k (g.D.Tabled.list c.args.value) v.seen) v.number n.0 n.1 grows),
     )
 
@@ -28,8 +30,10 @@ swap-requires g c =
     let w = noting c.lane.inside.seat.me.0 (list value) in
     let out : c.lane.inside.out ≡ true = ap (λ l. l.out) c.lane.view_is ∙ c.requires.out in
     let slots = c.lane.invariant.slots ∙ ap carried_by out in
-    let is = slot_filled c.lane.inside.seat.me c.compare_exchange_with.new.seat.me c.exchange-emptied.new.seat.me w None (Some value) slots (c.compare_exchange_with.ensures.2 value (refl {a = some (Some value)})) c.exchange-emptied.ensures.3 in (
+    let is = slot_filled c.lane.inside.seat.me c.compare_exchange_with.new.seat.me c.exchange-emptied.new.seat.me w None (Some value) slots
+    (c.compare_exchange_with.ensures.2 value (refl {a = some (Some value)})) c.exchange-emptied.ensures.3 in (
       search rules,
       search rules,
-      unlocks fixed_part list _ _ _ _ _ c.exchange-emptied.new.seat.me w value is c.self.invariant.1 c.lane.invariant.live refl (c.requires.fixed ∙ sym (ap (λ l. l.fixed) c.lane.view_is)) refl,
+      unlocks fixed_part list _ _ _ _ _ c.exchange-emptied.new.seat.me w value is c.self.invariant.1 c.lane.invariant.live refl
+          (c.requires.fixed ∙ sym (ap (λ l. l.fixed) c.lane.view_is)) refl,
     )

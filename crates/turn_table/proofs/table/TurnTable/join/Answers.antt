@@ -18,7 +18,8 @@ join_seat-requires g c =
       search rules,
       from.lane.slots ∙ ap carried_by c.requires.inside.1,
       search rules,
-      joins g.D.Tabled.fixed_part g.D.Tabled.list _ _ _ _ c.into.inside.seat.me.0 _ c.into_seat.result.me.0 n.0 c.into.invariant.live (c.into.invariant.hold ∙ ap hold_of out)
+      joins g.D.Tabled.fixed_part g.D.Tabled.list _ _ _ _ c.into.inside.seat.me.0 _ c.into_seat.result.me.0 n.0 c.into.invariant.live
+          (c.into.invariant.hold ∙ ap hold_of out)
           from.lane.live (from.lane.hold ∙ ap hold_of c.requires.inside.1) (sym (ap (λ l. l.number) from.shape) ∙ n.1),
     )
 
@@ -30,17 +31,21 @@ load-requires g c = (
 )
 
 -- the numbers that were joined, once both steps are done
-numbers : (g : _) (c : After-load g) → c.load.new.seat.me.0.joined ≡ brought c.into_seat.result.me.0.number c.into_seat.result.me.0.joined ++ c.into.inside.seat.me.0.joined
+numbers : (g : _) (c : After-load g) →
+    c.load.new.seat.me.0.joined ≡ brought c.into_seat.result.me.0.number c.into_seat.result.me.0.joined ++ c.into.inside.seat.me.0.joined
 numbers g c = ap (λ m. m.0.joined) c.load.ensures.2.0 ∙ ap (λ m. m.0.joined) c.join_seat.ensures.2
 
 pub returns-clause-counted : goal.returns-clause-counted
 returns-clause-counted g c = λ n h.
     let w = c.into_seat.result.me.0 in
-    let has = subst (λ xs. Contains xs n) (ap (λ l. brought l.number l.joined) c.into_seat.ensures.shape) (brought_has c.args.from.number c.args.from.joined n h) in
-    subst (λ xs. Contains xs n) (sym (numbers g (goal.at.returns-clause-counted g c).After-load)) (Contains-append_left (brought w.number w.joined) c.into.inside.seat.me.0.joined n has)
+    let has = subst (λ xs. Contains xs n) (ap (λ l. brought l.number l.joined) c.into_seat.ensures.shape)
+    (brought_has c.args.from.number c.args.from.joined n h) in
+    subst (λ xs. Contains xs n) (sym (numbers g (goal.at.returns-clause-counted g c).After-load))
+    (Contains-append_left (brought w.number w.joined) c.into.inside.seat.me.0.joined n has)
 
 pub returns-clause-kept : goal.returns-clause-kept
 returns-clause-kept g c = λ n h.
     let w = c.into_seat.result.me.0 in
     let has = subst (λ xs. Contains xs n) (sym (ap (λ l. l.joined) c.into.view_is)) h in
-    subst (λ xs. Contains xs n) (sym (numbers g (goal.at.returns-clause-kept g c).After-load)) (Contains-append_right (brought w.number w.joined) c.into.inside.seat.me.0.joined n has)
+    subst (λ xs. Contains xs n) (sym (numbers g (goal.at.returns-clause-kept g c).After-load))
+    (Contains-append_right (brought w.number w.joined) c.into.inside.seat.me.0.joined n has)

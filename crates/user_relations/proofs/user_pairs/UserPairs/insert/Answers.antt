@@ -12,7 +12,8 @@ use Rattle.user_relations.proofs.RowSets.{rows_put, few_pairs}
 use Rattle.user_relations.proofs.user_pairs.UserPairs.insert.Goals as goal
 
 pub returns-then-has-clause-added : goal.returns-then-has-clause-added
-returns-then-has-clause-added c = sym (insert_held pair_cmp_total pair_cmp-IsAntisymmetric c.args.self.now (c.args.u, c.args.v) (sym c.has.ensures ∙ c.if-has.true))
+returns-then-has-clause-added c =
+    sym (insert_held pair_cmp_total pair_cmp-IsAntisymmetric c.args.self.now (c.args.u, c.args.v) (sym c.has.ensures ∙ c.if-has.true))
 
 pub overflow_add-self : goal.overflow_add-self
 overflow_add-self c = let few = few_pairs _ _ _ c.self.invariant in omega (arith, few)
@@ -29,8 +30,10 @@ invariant_of-self-2 c =
     let rows = rows_put ahead.items behind.items c.write.new.ahead c.write.new.behind c.self.inside.count u v c.self.invariant
     (c.write.auto.ahead ∙ ap length c.deref_mut.ensures.value) (c.write.auto.behind ∙ ap length c.deref_mut-2.ensures.value)
     c.requires.first c.requires.second free
-    (λ x y. c.in_ok-write.ensures.ahead x y ∙ ap (λ bs. written true (x == u && y == v) (row_bit bs x y)) c.deref_mut.ensures.value ∙ put_is (x == u && y == v) (row_bit c.self.inside.ahead.items x y))
-    (λ y x. c.in_ok-write.ensures.behind y x ∙ ap (λ bs. written true (y == v && x == u) (row_bit bs y x)) c.deref_mut-2.ensures.value ∙ put_is (y == v && x == u) (row_bit c.self.inside.behind.items y x))
+    (λ x y. c.in_ok-write.ensures.ahead x y ∙ ap (λ bs. written true (x == u && y == v) (row_bit bs x y)) c.deref_mut.ensures.value ∙
+    put_is (x == u && y == v) (row_bit c.self.inside.ahead.items x y))
+    (λ y x. c.in_ok-write.ensures.behind y x ∙ ap (λ bs. written true (y == v && x == u) (row_bit bs y x)) c.deref_mut-2.ensures.value ∙
+    put_is (y == v && x == u) (row_bit c.self.inside.behind.items y x))
     in
     subst (λ (bs : List Block). AreRows bs (with_items behind c.write.new.behind).items (c.self.inside.count + 1)) (sym new_ahead)
     (subst (λ (bs : List Block). AreRows c.write.new.ahead bs (c.self.inside.count + 1)) (sym new_behind) rows)
@@ -41,5 +44,6 @@ returns-clause-added c =
     let v = c.args.v in
     ap pairs_in (with_items_is c.self.inside.ahead c.write.new.ahead (c.write.auto.ahead ∙ c.deref_mut.ensures.len))
     ∙ set_of_insert (row_bit c.self.inside.ahead.items) (row_bit c.write.new.ahead) USER_LIMIT USER_LIMIT u v c.requires.first c.requires.second
-    (λ x y. c.in_ok-write.ensures.ahead x y ∙ ap (λ bs. written true (x == u && y == v) (row_bit bs x y)) c.deref_mut.ensures.value ∙ put_is (x == u && y == v) (row_bit c.self.inside.ahead.items x y))
+    (λ x y. c.in_ok-write.ensures.ahead x y ∙ ap (λ bs. written true (x == u && y == v) (row_bit bs x y)) c.deref_mut.ensures.value ∙
+    put_is (x == u && y == v) (row_bit c.self.inside.ahead.items x y))
     ∙ ap (λ s. set.insert s (u, v)) c.self.view_is

@@ -12,11 +12,13 @@ use Rattle.user_relations.proofs.RowSets.{rows_taken, some_pair, held_within}
 use Rattle.user_relations.proofs.user_pairs.UserPairs.remove.Goals as goal
 
 pub returns-then-not-has-clause-removed : goal.returns-then-not-has-clause-removed
-returns-then-not-has-clause-removed c = sym (remove_absent pair_cmp_total pair_cmp-IsAntisymmetric c.args.self.now (c.args.u, c.args.v) (sym c.has.ensures ∙ c.if-not-has.true))
+returns-then-not-has-clause-removed c =
+    sym (remove_absent pair_cmp_total pair_cmp-IsAntisymmetric c.args.self.now (c.args.u, c.args.v) (sym c.has.ensures ∙ c.if-not-has.true))
 
 pub write-requires-clause-users : goal.write-requires-clause-users
 write-requires-clause-users c =
-    held_within c.self.inside.ahead.items c.args.u c.args.v (ap (λ s. set.contains s (c.args.u, c.args.v)) c.self.view_is ∙ sym c.has.ensures ∙ c.if-not-has.false)
+    held_within
+    c.self.inside.ahead.items c.args.u c.args.v (ap (λ s. set.contains s (c.args.u, c.args.v)) c.self.view_is ∙ sym c.has.ensures ∙ c.if-not-has.false)
 
 pub overflow_sub-self : goal.overflow_sub-self
 overflow_sub-self c =
@@ -36,8 +38,10 @@ invariant_of-self-2 c =
     let rows = rows_taken ahead.items behind.items c.write.new.ahead c.write.new.behind c.self.inside.count u v c.self.invariant
     (c.write.auto.ahead ∙ ap length c.deref_mut.ensures.value) (c.write.auto.behind ∙ ap length c.deref_mut-2.ensures.value)
     here
-    (λ x y. c.in_ok-write.ensures.ahead x y ∙ ap (λ bs. written false (x == u && y == v) (row_bit bs x y)) c.deref_mut.ensures.value ∙ taken_is (x == u && y == v) (row_bit c.self.inside.ahead.items x y))
-    (λ y x. c.in_ok-write.ensures.behind y x ∙ ap (λ bs. written false (y == v && x == u) (row_bit bs y x)) c.deref_mut-2.ensures.value ∙ taken_is (y == v && x == u) (row_bit c.self.inside.behind.items y x))
+    (λ x y. c.in_ok-write.ensures.ahead x y ∙ ap (λ bs. written false (x == u && y == v) (row_bit bs x y)) c.deref_mut.ensures.value ∙
+    taken_is (x == u && y == v) (row_bit c.self.inside.ahead.items x y))
+    (λ y x. c.in_ok-write.ensures.behind y x ∙ ap (λ bs. written false (y == v && x == u) (row_bit bs y x)) c.deref_mut-2.ensures.value ∙
+    taken_is (y == v && x == u) (row_bit c.self.inside.behind.items y x))
     in
     subst (λ (bs : List Block). AreRows bs (with_items behind c.write.new.behind).items (c.self.inside.count - 1)) (sym new_ahead)
     (subst (λ (bs : List Block). AreRows c.write.new.ahead bs (c.self.inside.count - 1)) (sym new_behind) rows)
@@ -48,5 +52,6 @@ returns-clause-removed c =
     let v = c.args.v in
     ap pairs_in (with_items_is c.self.inside.ahead c.write.new.ahead (c.write.auto.ahead ∙ c.deref_mut.ensures.len))
     ∙ set_of_remove (row_bit c.self.inside.ahead.items) (row_bit c.write.new.ahead) USER_LIMIT USER_LIMIT u v
-    (λ x y. c.in_ok-write.ensures.ahead x y ∙ ap (λ bs. written false (x == u && y == v) (row_bit bs x y)) c.deref_mut.ensures.value ∙ taken_is (x == u && y == v) (row_bit c.self.inside.ahead.items x y))
+    (λ x y. c.in_ok-write.ensures.ahead x y ∙ ap (λ bs. written false (x == u && y == v) (row_bit bs x y)) c.deref_mut.ensures.value ∙
+    taken_is (x == u && y == v) (row_bit c.self.inside.ahead.items x y))
     ∙ ap (λ s. set.remove s (u, v)) c.self.view_is

@@ -23,13 +23,18 @@ returns-in_default c =
     let given = c.answer.result in
     let by = subst (λ q. HasAnsweredBy q c.self.inside.cases c.answer.new.cases what c.args.verdict given) c.deref-policy.ensures c.answer.ensures.answered in
     record {
-      answered = subst (λ b. HasAnswered b (board_of (arc_value c.self.inside.policy) c.answer.new.cases edits) what c.args.verdict given) c.self.view_is (by.answered edits);
-      needs = subst (λ b. needs_verdict (decision_of (state_on b).book what) ≡ true → c.args.verdict ≡ verdicts.Nothing → given ≡ Needs) c.self.view_is by.needs;
+      answered = subst (λ b. HasAnswered b (board_of (arc_value c.self.inside.policy) c.answer.new.cases edits) what c.args.verdict given) c.self.view_is
+          (by.answered edits);
+      needs = subst (λ b. needs_verdict (decision_of (state_on b).book what) ≡ true → c.args.verdict ≡ verdicts.Nothing → given ≡ Needs) c.self.view_is
+          by.needs;
       made = subst (λ b. needs_verdict (decision_of (state_on b).book what) ≡ true → HasUsed c.args.verdict given) c.self.view_is by.made;
       memory = subst (λ b. given ≡ Done replies.NoMemory → MayLackMemory b what c.args.verdict) c.self.view_is (by.memory edits);
-      small = answered_small (board_of (arc_value c.self.inside.policy) c.self.inside.cases edits) (board_of (arc_value c.self.inside.policy) c.answer.new.cases edits) what c.args.verdict given (by.answered edits) by.made;
-      plans = subst (λ b. KeepsPlansBy b (board_of (arc_value c.self.inside.policy) c.answer.new.cases edits) what c.args.verdict given) c.self.view_is (keeps_by _ _ _ edits what c.args.verdict given c.in_default.not-Edited by.rows);
+      small = answered_small (board_of (arc_value c.self.inside.policy) c.self.inside.cases edits)
+          (board_of (arc_value c.self.inside.policy) c.answer.new.cases edits) what c.args.verdict given (by.answered edits) by.made;
+      plans = subst (λ b. KeepsPlansBy b (board_of (arc_value c.self.inside.policy) c.answer.new.cases edits) what c.args.verdict given) c.self.view_is
+          (keeps_by _ _ _ edits what c.args.verdict given c.in_default.not-Edited by.rows);
       lacking = λ short. ap (λ (t : _). board_of (arc_value c.self.inside.policy) t edits) (by.lacking short) ∙ c.self.view_is;
-      room = subst (λ b. b.cases.spare ≤ c.answer.new.cases.spare + 1) c.self.view_is (one_at_most c.self.inside.cases.spare c.answer.new.cases.spare given by.room);
+      room = subst (λ b. b.cases.spare ≤ c.answer.new.cases.spare + 1) c.self.view_is
+          (one_at_most c.self.inside.cases.spare c.answer.new.cases.spare given by.room);
       spare = subst (λ b. b.cases.spare ≤ c.answer.new.cases.spare + room_used given) c.self.view_is by.room;
     }

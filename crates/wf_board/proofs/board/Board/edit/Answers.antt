@@ -17,7 +17,8 @@ pub invariant_of-self : goal.invariant_of-self
 invariant_of-self c =
     let p = arc_value c.self.inside.policy in
     let t = c.self.inside.cases in
-    let taken = edition_taken p (arc_value c.into_parts-policy.result.0) t c.replace_plans.new.self c.self.inside.edits c.live-planned.result c.args.ask.now c.args.edition
+    let taken = edition_taken p (arc_value c.into_parts-policy.result.0) t c.replace_plans.new.self c.self.inside.edits c.live-planned.result c.args.ask.now
+    c.args.edition
     record { planned = c.self.invariant.0; numbered = c.self.invariant.1 }
     (subst IsSoundPolicy c.deref-before.ensures c.admin-sound.ensures.sound)
     c.live-planned.ensures.kept
@@ -38,7 +39,8 @@ returns-clause-answered c =
     (subst (λ b. IsEditionFor (state_on b).book (decision_aside (state_on b).book c.args.ask.now) c.args.edition) (sym c.self.view_is) c.requires.right)
     c.into_parts-policy.ensures.policy
     (c.replace_plans.ensures ∙ ap (with_plans t) (c.as_slice.ensures ∙ c.into_parts-policy.ensures.plans)) in
-    subst (λ b. HasAnswered b (board_of q c.replace_plans.new.self (c.self.inside.edits + 1)) c.args.ask.now (verdicts.Edited c.args.edition) (Done (replies.Edited (c.self.inside.edits + 1))))
+    subst (λ b. HasAnswered b (board_of q c.replace_plans.new.self (c.self.inside.edits + 1)) c.args.ask.now (verdicts.Edited c.args.edition)
+    (Done (replies.Edited (c.self.inside.edits + 1))))
     c.self.view_is taken.1
 
 pub returns-clause-plans : goal.returns-clause-plans

@@ -14,6 +14,7 @@ returns-clause-stepped c =
     let before = c.self.inside.cases in
     let after = c.step.new.cases in
     let what = c.args.ask.now in
-    let alone = subst (λ q. HasAnsweredAlone q before after (decision_of (book_of q before) what) (answered_of c.step.result)) c.deref-policy.ensures c.step.ensures.alone in
+    let alone = subst (λ q. HasAnsweredAlone q before after (decision_of (book_of q before) what) (answered_of c.step.result)) c.deref-policy.ensures
+    c.step.ensures.alone in
     let left = subst (λ q. IsLeftTo q before what c.step.result) c.deref-policy.ensures c.step.ensures.left in
     subst (λ b. HasStepped b (board_of p after edits) what c.step.result) c.self.view_is (stepped_small p before after edits what c.step.result alone left)

@@ -17,6 +17,7 @@ returns-else-accepts g c =
     let next = subst (λ j. next_job d j.lane ≡ Some j) c.job_of-job.ensures (c.is_next.ensures.0 c.if-not-is_next.false) in
     checked_none d c.commit_none.new.self c.args.task.now c.args.verdict c.commit_none.result next
     (λ certified. let asked = subst (λ j. IsCertified (state_on d.board).book j.ask c.args.verdict) (sym c.job_of-job.ensures) certified in
-    let is : c.accepts.result ≡ true = c.accepts.ensures.1 (subst (λ e. IsCertified (state_on e.board).book c.job_of-job.result.ask c.args.verdict) (sym c.self.view_is) asked) in
+    let is : c.accepts.result ≡ true =
+    c.accepts.ensures.1 (subst (λ e. IsCertified (state_on e.board).book c.job_of-job.result.ask c.args.verdict) (sym c.self.view_is) asked) in
     let no : c.accepts.result ≡ false = c.if-accepts.false in absurd (cc))
     c.commit_none.ensures

@@ -9,6 +9,8 @@ returns-then-before-task c =
     let lane = c.args.task.now.lane in
     let n = c.args.task.now.number in
     let d = c.args.self.now in
-    let before : max d.start (loss_of d.losses lane).end ≤ n = subst (λ e. max e.start (loss_of e.losses lane).end ≤ n) c.self.view_is (rw c.max-before.ensures at c.if-before-task.true) in
-    ap not (c.any_of_lane.ensures ∙ ap (λ es. nat_lt 0 (count_of (λ e. nat_eq e.lane lane) es)) (c.entries_from.ensures ∙ ap (λ e. drop n e.entries) c.self.view_is))
+    let before : max d.start (loss_of d.losses lane).end ≤ n =
+    subst (λ e. max e.start (loss_of e.losses lane).end ≤ n) c.self.view_is (rw c.max-before.ensures at c.if-before-task.true) in
+    ap not (c.any_of_lane.ensures ∙
+    ap (λ es. nat_lt 0 (count_of (λ e. nat_eq e.lane lane) es)) (c.entries_from.ensures ∙ ap (λ e. drop n e.entries) c.self.view_is))
     ∙ floor_test d lane n before

@@ -18,4 +18,5 @@ returns-then-lane-self c =
 
 pub returns-else-lane-self : goal.returns-else-lane-self
 returns-else-lane-self c =
-    sym (left_past c.args.self.now c.args.lane (subst (λ d. AreOfLanes d.lanes d.jobs) c.self.view_is c.self.invariant.of_lanes) (subst (λ d. d.lanes ≤ c.args.lane) c.self.view_is c.if-lane-self.false))
+    sym (left_past c.args.self.now c.args.lane (subst (λ d. AreOfLanes d.lanes d.jobs) c.self.view_is c.self.invariant.of_lanes)
+    (subst (λ d. d.lanes ≤ c.args.lane) c.self.view_is c.if-lane-self.false))

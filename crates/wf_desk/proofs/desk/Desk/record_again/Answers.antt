@@ -6,7 +6,8 @@ use Rattle.wf_desk.proofs.desk.Desk.record_again.Goals as goal
 
 pub last_counting-requires-clause-some : goal.last_counting-requires-clause-some
 last_counting-requires-clause-some c =
-    subst (λ d. 1 ≤ counted c.args.job.now.ask d.entries) (sym c.self.view_is) (stale_counts c.args.self.now c.args.task.now c.args.job.now c.requires.job c.requires.stale)
+    subst (λ d. 1 ≤ counted c.args.job.now.ask d.entries) (sym c.self.view_is)
+    (stale_counts c.args.self.now c.args.task.now c.args.job.now c.requires.job c.requires.stale)
 
 pub last_counting-requires-clause-small : goal.last_counting-requires-clause-small
 last_counting-requires-clause-small c = desk_small _ _ c.self.invariant

@@ -11,11 +11,14 @@ add_entry-requires-clause-small c = desk_small _ _ c.self.invariant
 
 pub go_on-requires-clause-here : goal.go_on-requires-clause-here
 go_on-requires-clause-here c =
-    rw c.as_slice.ensures (stands_here _ _ c.args.job.now.lane c.args.job.now c.self.invariant (rw (← c.self.view_is) at c.requires.lane) (rw (← c.self.view_is) at c.requires.next))
+    rw c.as_slice.ensures (stands_here _ _ c.args.job.now.lane c.args.job.now c.self.invariant (rw (← c.self.view_is) at c.requires.lane)
+    (rw (← c.self.view_is) at c.requires.next))
 
 pub invariant_of-self : goal.invariant_of-self
 invariant_of-self c =
-    serve_keeps _ c.self.inside.places c.go_on.new.places c.args.job.now (verdicts.Plan c.args.plan) c.take_plan-reply.result c.add_entry.new.journal.entries c.take_plan-reply.new.self
+    serve_keeps _ c.self.inside.places c.go_on.new.places c.args.job.now (verdicts.Plan c.args.plan) c.take_plan-reply.result
+    c.add_entry.new.journal.entries c.take_plan-reply.new.self
     c.add_entry.new.journal.spare c.no_loss.result c.self.invariant
-    (rw (← c.self.view_is) at c.requires.lane) c.go_on.ensures.sized (rw (← c.self.view_is) at c.requires.next) c.take_plan-reply.ensures.decided c.take_plan-reply.ensures.next
+    (rw (← c.self.view_is) at c.requires.lane) c.go_on.ensures.sized (rw (← c.self.view_is) at c.requires.next) c.take_plan-reply.ensures.decided
+    c.take_plan-reply.ensures.next
     c.take_plan-reply.ensures.room c.add_entry.ensures.room c.add_entry.ensures.added c.no_loss.ensures (rw c.as_slice.ensures at c.go_on.ensures.moved)

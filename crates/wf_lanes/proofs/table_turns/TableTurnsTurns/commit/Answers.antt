@@ -3,13 +3,15 @@ use Rattle.wf_lanes.proofs.table_turns.TableTurnsTurns.commit.Goals as goal
 
 pub commit_at-outcome-requires-clause-right : goal.commit_at-outcome-requires-clause-right
 commit_at-outcome-requires-clause-right g c =
-    begun_right c.args.self.now.lane c.args.self.now.number c.args.task.now c.args.verdict c.take-later.result c.requires.begun c.requires.right c.take-later.ensures.fixed
+    begun_right c.args.self.now.lane c.args.self.now.number c.args.task.now c.args.verdict c.take-later.result c.requires.begun c.requires.right
+    c.take-later.ensures.fixed
     (quiet_starts _ _ _ c.take-later.ensures.list)
 
 pub returns-clause-fits : goal.returns-clause-fits
 returns-clause-fits g c = (
   c.requires.fits.0,
-  idle_after c.args.self.now.table.now c.args.self.now.lane c.take-later.new.lane c.give.new.lane c.take-later.result c.commit_at-outcome.new.desk _ c.args.self.now.number
+  idle_after c.args.self.now.table.now c.args.self.now.lane c.take-later.new.lane c.give.new.lane c.take-later.result c.commit_at-outcome.new.desk _
+      c.args.self.now.number
       c.requires.fits.1 c.take-later.ensures.lane c.give.ensures.lane,
 )
 
@@ -19,8 +21,10 @@ returns-clause-committed g c = (
   (
     c.commit_at-outcome.new.desk,
     (
-      has_turned c.args.self.now.lane c.take-later.new.lane c.give.new.lane c.take-later.result c.commit_at-outcome.new.desk _ _ c.take-later.ensures.fixed c.take-later.ensures.list
-          c.take-later.ensures.lane (fixed_committed c.take-later.result c.commit_at-outcome.new.desk c.args.task.now c.args.verdict c.commit_at-outcome.result c.commit_at-outcome.ensures)
+      has_turned c.args.self.now.lane c.take-later.new.lane c.give.new.lane c.take-later.result c.commit_at-outcome.new.desk _ _ c.take-later.ensures.fixed
+          c.take-later.ensures.list
+          c.take-later.ensures.lane (fixed_committed c.take-later.result c.commit_at-outcome.new.desk c.args.task.now c.args.verdict
+          c.commit_at-outcome.result c.commit_at-outcome.ensures)
           c.give.ensures.lane,
       c.commit_at-outcome.ensures,
     ),

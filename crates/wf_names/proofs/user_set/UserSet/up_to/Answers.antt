@@ -7,7 +7,8 @@ use Rattle.wf_names.proofs.user_set.UserSet.up_to.Goals as goal
 use Rattle.wf_names.proofs.user_set.UserSet.up_to.Goals.{then-whole-lt-USER_WORDS, else-whole-lt-USER_WORDS}
 
 pub words-init : goal.words-init
-words-init c = (subst (AreFull 0) (sym c.no_words-words.ensures) (none_full USER_WORDS), ap length c.no_words-words.ensures ∙ length-replicate {A = ℕ} USER_WORDS 0)
+words-init c =
+    (subst (AreFull 0) (sym c.no_words-words.ensures) (none_full USER_WORDS), ap length c.no_words-words.ensures ∙ length-replicate {A = ℕ} USER_WORDS 0)
 
 pub words-preserved : goal.words-preserved
 words-preserved c = (

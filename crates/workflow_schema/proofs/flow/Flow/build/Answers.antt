@@ -13,7 +13,9 @@ use Rattle.workflow_schema.proofs.flow.Flow.build.Goals as goal
 pub returns-in-Some-clause-cycle : goal.returns-in-Some-clause-cycle
 returns-in-Some-clause-cycle c s =
     let count = (counted (length c.args.steps.names) c.len-count.result c.len-count.ensures.count c.if-count-eq0.false c.if-count-gt-STEP_LIMIT.false) in
-    let least = least_cycle (length c.args.steps.names) c.args.order.now c.close.new.rows (few_steps _ count) c.requires.order_in (closed_order (set.from_list {R = pair_cmp} c.args.order.now) c.in-Some-Some.later c.close.new.rows c.in-Some-Some.ensures.1 c.in-Some-Some.ensures.2 c.close.ensures) c.in-Some.s c.in-Some.ensures.0 c.in-Some.ensures.1 in
+    let least = least_cycle (length c.args.steps.names) c.args.order.now c.close.new.rows (few_steps _ count) c.requires.order_in
+    (closed_order (set.from_list {R = pair_cmp} c.args.order.now) c.in-Some-Some.later c.close.new.rows c.in-Some-Some.ensures.1
+    c.in-Some-Some.ensures.2 c.close.ensures) c.in-Some.s c.in-Some.ensures.0 c.in-Some.ensures.1 in
     let single : (has_twice c.args.order.now || has_twice c.args.permits.now) ≡ false = (λ i. c.in-Some-Some.ensures.0 i || c.in-Some-Some.ensures'.0 i) in (
       λ is. let same : c.in-Some.s ≡ s = cc in (count, single, subst (IsLeastCycle (set.from_list c.args.order.now)) same least),
       λ known. ap (λ t. Rattle.std.proofs.Common.Err (Cycle t)) (one_least (set.from_list c.args.order.now) c.in-Some.s s least known.2),
@@ -23,7 +25,9 @@ pub invariant_of-result : goal.invariant_of-result
 invariant_of-result c =
     subst (λ (f : Frame). IsStored f.steps.names f.order f.later c.in-Some-Some.roles) (sym c.in-Ok.ensures)
     (built_flow c.args.steps.names c.args.order.now c.args.permits.now c.close.new.rows c.in-Some-Some.roles
-    (counted (length c.args.steps.names) c.len-count.result c.len-count.ensures.count c.if-count-eq0.false c.if-count-gt-STEP_LIMIT.false) c.requires.order_in c.requires.permits_in (closed_order (set.from_list {R = pair_cmp} c.args.order.now) c.in-Some-Some.later c.close.new.rows c.in-Some-Some.ensures.1 c.in-Some-Some.ensures.2 c.close.ensures)
+    (counted (length c.args.steps.names) c.len-count.result c.len-count.ensures.count c.if-count-eq0.false c.if-count-gt-STEP_LIMIT.false)
+    c.requires.order_in c.requires.permits_in (closed_order (set.from_list {R = pair_cmp} c.args.order.now) c.in-Some-Some.later c.close.new.rows
+    c.in-Some-Some.ensures.1 c.in-Some-Some.ensures.2 c.close.ensures)
     c.in_default-first_own_flag.ensures c.in-Some-Some.ensures'.2 c.in-Some-Some.ensures'.1)
 
 pub returns-in-Ok-clause-built : goal.returns-in-Ok-clause-built
@@ -37,11 +41,17 @@ returns-in-Ok-clause-built c =
 pub returns-in-Ok-clause-cycle : goal.returns-in-Ok-clause-cycle
 returns-in-Ok-clause-cycle c s = (
   λ is. absurd (cc),
-  λ known. absurd (no_cycle (length c.args.steps.names) c.args.order.now c.close.new.rows (few_steps (length c.args.steps.names) (counted (length c.args.steps.names) c.len-count.result c.len-count.ensures.count c.if-count-eq0.false c.if-count-gt-STEP_LIMIT.false)) c.requires.order_in (closed_order (set.from_list {R = pair_cmp} c.args.order.now) c.in-Some-Some.later c.close.new.rows c.in-Some-Some.ensures.1 c.in-Some-Some.ensures.2 c.close.ensures) s (c.in_default-first_own_flag.ensures s) known.2.cycle),
+  λ known. absurd (no_cycle (length c.args.steps.names) c.args.order.now c.close.new.rows (few_steps (length c.args.steps.names)
+      (counted (length c.args.steps.names) c.len-count.result c.len-count.ensures.count c.if-count-eq0.false c.if-count-gt-STEP_LIMIT.false))
+      c.requires.order_in (closed_order (set.from_list {R = pair_cmp} c.args.order.now) c.in-Some-Some.later c.close.new.rows c.in-Some-Some.ensures.1
+      c.in-Some-Some.ensures.2 c.close.ensures) s (c.in_default-first_own_flag.ensures s) known.2.cycle),
 )
 
 pub returns-in-Err-clause-cycle : goal.returns-in-Err-clause-cycle
 returns-in-Err-clause-cycle c s = (
   λ is. absurd (cc),
-  λ known. absurd (no_cycle (length c.args.steps.names) c.args.order.now c.close.new.rows (few_steps (length c.args.steps.names) (counted (length c.args.steps.names) c.len-count.result c.len-count.ensures.count c.if-count-eq0.false c.if-count-gt-STEP_LIMIT.false)) c.requires.order_in (closed_order (set.from_list {R = pair_cmp} c.args.order.now) c.in-Some-Some.later c.close.new.rows c.in-Some-Some.ensures.1 c.in-Some-Some.ensures.2 c.close.ensures) s (c.in_default-first_own_flag.ensures s) known.2.cycle),
+  λ known. absurd (no_cycle (length c.args.steps.names) c.args.order.now c.close.new.rows (few_steps (length c.args.steps.names)
+      (counted (length c.args.steps.names) c.len-count.result c.len-count.ensures.count c.if-count-eq0.false c.if-count-gt-STEP_LIMIT.false))
+      c.requires.order_in (closed_order (set.from_list {R = pair_cmp} c.args.order.now) c.in-Some-Some.later c.close.new.rows c.in-Some-Some.ensures.1
+      c.in-Some-Some.ensures.2 c.close.ensures) s (c.in_default-first_own_flag.ensures s) known.2.cycle),
 )

@@ -8,7 +8,8 @@ use Rattle.workflow_schema.proofs.flow.Flow.forbid.Goals as goal
 
 pub invariant_of-self : goal.invariant_of-self
 invariant_of-self c =
-    keeps_forbidden c.self.inside.frame.steps.names c.self.inside.frame.order c.self.inside.frame.later c.self.inside.roles c.clear_flag.new.rows c.r.inside.0 c.s.inside.0
+    keeps_forbidden c.self.inside.frame.steps.names c.self.inside.frame.order c.self.inside.frame.later c.self.inside.roles c.clear_flag.new.rows
+    c.r.inside.0 c.s.inside.0
     c.self.invariant c.clear_flag.ensures
     (omega (arith, c.clear_flag.auto.rows))
 

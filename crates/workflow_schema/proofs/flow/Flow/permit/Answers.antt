@@ -10,7 +10,8 @@ use Rattle.workflow_schema.proofs.flow.Flow.permit.Goals as goal
 
 pub invariant_of-self : goal.invariant_of-self
 invariant_of-self c =
-    keeps_permitted c.self.inside.frame.steps.names c.self.inside.frame.order c.self.inside.frame.later c.self.inside.roles c.set_flag.new.rows c.r.inside.0 c.s.inside.0
+    keeps_permitted c.self.inside.frame.steps.names c.self.inside.frame.order c.self.inside.frame.later c.self.inside.roles c.set_flag.new.rows c.r.inside.0
+    c.s.inside.0
     c.self.invariant c.set_flag.ensures
     (omega (arith, c.requires.role_in, c.r.view_is))
     (omega (arith, c.requires.step_in, c.s.view_is, ap (λ (f : FlowShape). length f.steps) c.self.view_is))
