@@ -15,11 +15,6 @@ left_some text at within =
     let same = ap length (left_at text at) in
     omega (arith, within, same, length-drop at text)
 
-pub left_within : (text : List ℕ) (at n : ℕ) → at ≤ length text → n ≤ length (take (length text - at) (drop at text)) → at + n ≤ length text
-left_within text at n begun within =
-    let same = ap length (left_at text at) in
-    omega (arith, begun, within, same, length-drop at text)
-
 -- the first so many bytes are the first line
 pub record IsFirstLine (bytes : List ℕ) (n : ℕ) : Type 0 where
   pub some : 0 < n

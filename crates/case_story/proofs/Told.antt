@@ -1,28 +1,25 @@
 -- What is known of a transcript that was followed from its first line on.
-use Rattle.std.proofs.Common.{◌≡◌, ℕ, ◌+◌, ◌<◌, ◌≤◌, nat_lt, min, Bool, true, false, ◌||◌, List, [], ◌∷◌, ◌++◌, length, Option, None, Some, Result, Ok, Err}
-use Rattle.std.proofs.Common.{MatchBool, MatchOption, refl, ap, sym, subst, ◌∙◌, codes, inl, inr, arith}
+use Rattle.std.proofs.Common.{◌≡◌, ℕ, ◌+◌, ◌<◌, ◌≤◌, nat_lt, min, Bool, true, ◌||◌, List, [], ◌∷◌, ◌++◌, length, Result}
+use Rattle.std.proofs.Common.{ap, subst, ◌∙◌, codes, inl, inr, arith}
 use Rattle.std.proofs.lemmas.Grind.{common_steps}
 use Rattle.basics.proofs.Booleans.{bool_cases}
-use Rattle.wf_talk.specs.declared.entry.Entry.{Entry}
-use Rattle.line_reader.specs.Lines.{lines_of}
 use Rattle.policy_book.specs.Shapes.{PolicyShape}
 use Rattle.transcript_audit.specs.Audits.{AuditShape, state_now}
 use Rattle.transcript_audit.specs.Laws.{AreOfSession, PartIsExact}
 use Rattle.case_story.specs.declared.place.Place.{Place}
 use Rattle.case_story.specs.declared.session.Session.{Session}
 use Rattle.case_story.specs.declared.verdict.Verdict.{Verdict}
-use Rattle.case_story.specs.declared.verdict.Verdict.TheVariants.{Legal, Fault, TooLong}
+use Rattle.case_story.specs.declared.verdict.Verdict.TheVariants.{Fault}
 use Rattle.case_story.specs.Followed.{HasFollowed, HasStopped, StopsTo}
-use Rattle.case_story.specs.Sessions.{AreFirst, audit_in, cut_in, state_of}
-use Rattle.case_story.specs.Verdicts.{is_wrong, right_lines}
+use Rattle.case_story.specs.Sessions.{audit_in, cut_in, state_of}
+use Rattle.case_story.specs.Verdicts.{right_lines}
 use Rattle.transcript_audit.specs.declared.fault.AuditKind.{AuditKind}
 use Rattle.run_record.specs.declared.fault.RunFault.{RunFault}
-use Rattle.run_record.specs.declared.fault.RunFault.TheVariants.{BadInput}
 use Rattle.run_record.specs.declared.fault.InputFault.TheVariants as input
 use Rattle.wf_commands.specs.declared.answer.Answer.{Answer}
 use Rattle.wf_commands.specs.Answer.{ending_with, AnswersAs}
-use Rattle.case_story.specs.Telling.{Finds, TellsBy, TellsEntry, TellsLog, TellsNow, TellsPage, WritesNow, WritesPolicy, first_line, has_retired, is_told}
-use Rattle.case_story.specs.Telling.{lines_to, retired_lines}
+use Rattle.case_story.specs.Telling.{Finds, TellsBy, TellsEntry, TellsLog, TellsPage, WritesPolicy, first_line, has_retired}
+use Rattle.case_story.specs.Telling.{retired_lines}
 use Rattle.case_story.proofs.Answering.{answers_wider}
 use Rattle.case_story.specs.Writing.{PrintsAfter}
 use Rattle.case_story.proofs.Founds.{Laws, as_stopped, finds, first_entries, started, state_there, stops_in}
@@ -90,16 +87,6 @@ pub wrong_told : (mark end body : List ℕ) (n : ℕ) (kind : AuditKind) (there 
     → TellsBy mark (Fault n kind) end there (ending_with answer.found) answer.text.items
 wrong_told mark end body n kind there answer found text = (ap ending_with found, (body, text))
 
-pub legal_told : (mark end body : List ℕ) (n : ℕ) (there : Bool) (answer : Answer) → there ≡ true → answer.found ≡ false →
-    answer.text.items ≡ first_line mark (Legal n) end ++ body
-    → TellsBy mark (Legal n) end there (ending_with answer.found) answer.text.items
-legal_told mark end body n true answer is found text = (ap ending_with found, (body, text))
-legal_told mark end body n false answer is found text = cc
-
-pub not_there : (mark end : List ℕ) (n : ℕ) (there : Bool) → there ≡ false → TellsBy mark (Legal n) end there (BadInput input.Length) []
-not_there mark end n true is = cc
-not_there mark end n false is = (refl, refl)
-
 -- what every command tells, as what one tells
 pub tells_log : (s : Session) (v : Verdict) (mark end : List ℕ) (there : Bool) (result : Result Answer RunFault) → Finds s v → mark ≡ [] →
     end ≡ codes "\n" → there ≡ true
@@ -141,53 +128,3 @@ tells_page s number v b mark end there result exact session finds stopped m e t 
           subst (λ x. TellsBy (codes "<!-- ") v (codes " -->\n") x f text) (t ∙ ap (λ st. nat_lt number st.book.ever) (state_there s b (right_lines v) stopped))
           (subst (λ x. TellsBy (codes "<!-- ") v x there f text) e (subst (λ x. TellsBy x v end there f text) m told));
     }) h
-
-among : (at : ℕ) (v : Verdict) → is_told (Some at) v ≡ true → at < right_lines v
-among at (Legal n) is = grind (arith, common_steps)
-among at (Fault n kind) is = grind (arith, common_steps)
-among at (TooLong n) is = cc
-
--- after how many entries the policy is printed
-number_told : (at : Option ℕ) (v : Verdict) (most number : ℕ) → is_told at v ≡ true → MatchOption at (most ≡ 4294967295) (λ n. most ≡ min (n + 1) 4294967295)
-    → right_lines v ≤ 4294967295 → number ≡ min most (right_lines v) → number ≡ lines_to at v
-number_told None v most number is wanted few number_is = grind (arith, common_steps)
-number_told (Some at) v most number is wanted few number_is =
-    let below = among at v is in
-    grind (arith, common_steps)
-
-pub now_told : (s : Session) (at : Option ℕ) (v : Verdict) (most number : ℕ) (remarks : List ℕ) (less : Bool) (document : List ℕ) (answer : Answer) →
-    Finds s v → is_told at v ≡ true
-    → MatchOption at (most ≡ 4294967295) (λ n. most ≡ min (n + 1) 4294967295) → right_lines v ≤ 4294967295 → number ≡ min most (right_lines v) →
-    PrintsAfter s number remarks less document
-    → answer.found ≡ (is_wrong v || less) → answer.text.items ≡ first_line (codes "# ") v (codes "\n") ++ remarks ++ document →
-    TellsNow at s (ending_with answer.found) answer.text.items
-now_told s at v most number remarks less document answer finds is wanted few number_is p found text =
-    let there : WritesNow (lines_to at v) s v (ending_with answer.found) answer.text.items = record {
-      entries = p.entries;
-      first = subst (λ n. AreFirst s n p.entries) (number_told at v most number is wanted few number_is) p.first;
-      document = document;
-      written = p.written;
-      parts = text ∙ ap (λ r. first_line (codes "# ") v (codes "\n") ++ r ++ document) p.remarked;
-      ending = ap ending_with (found ∙ ap (λ b. is_wrong v || b) p.lessened);
-    } in (
-      v,
-      (
-        finds,
-        subst (λ b. MatchBool b (WritesNow (lines_to at v) s v (ending_with answer.found) answer.text.items)
-            (TellsBy (codes "# ") v (codes "\n") false (ending_with answer.found) answer.text.items))
-            (sym is) there,
-      ),
-    )
-
-pub now_not_told : (s : Session) (at : Option ℕ) (v : Verdict) (mark end : List ℕ) (result : Result Answer RunFault) → Finds s v → is_told at v ≡ false →
-    mark ≡ codes "# " → end ≡ codes "\n"
-    → AnswersAs (TellsBy mark v end false) result → AnswersAs (TellsNow at s) result
-now_not_told s at v mark end result finds is m e h =
-    answers_wider (TellsBy mark v end false) (TellsNow at s) result (λ f text told. (
-      v,
-      (
-        finds,
-        subst (λ b. MatchBool b (WritesNow (lines_to at v) s v f text) (TellsBy (codes "# ") v (codes "\n") false f text)) (sym is)
-            (subst (λ x. TellsBy (codes "# ") v x false f text) e (subst (λ x. TellsBy x v end false f text) m told)),
-      ),
-    )) h

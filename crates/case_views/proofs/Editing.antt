@@ -1,6 +1,6 @@
 -- What a change of the policy leaves the open cases.
-use Rattle.std.proofs.Common.{◌≡◌, ℕ, zero, suc, ◌+◌, ◌<◌, inl, inr, Bool, true, false, List, [], ◌∷◌, ◌++◌, length, take, drop, get_or, Option, None, Some}
-use Rattle.std.proofs.Common.{refl, sym, ap, subst, ◌∙◌, arith}
+use Rattle.std.proofs.Common.{◌≡◌, ℕ, ◌+◌, ◌<◌, inl, inr, Bool, true, false, List, [], ◌∷◌, ◌++◌, length, take, drop, get_or, Option, None, Some}
+use Rattle.std.proofs.Common.{refl, sym, ap, subst, ◌∙◌}
 use Rattle.std.proofs.lemmas.List.{append_assoc, append-nil, take-append-drop}
 use Rattle.basics.proofs.Booleans.{bool_cases}
 use Rattle.basics.proofs.Lists.{take_next}
@@ -13,7 +13,7 @@ use Rattle.grant_table.specs.declared.rows.Row.{Row}
 use Rattle.grant_table.proofs.Places.{taken_off}
 use Rattle.wf_board.specs.Boards.{numbered}
 use Rattle.wf_board.specs.Edited.{ArePlansOf, IsFirstStranded, IsPlanOf, IsTreeOf}
-use Rattle.wf_board.specs.Kept.{EachRow, IsPlanned}
+use Rattle.wf_board.specs.Kept.{IsPlanned}
 use Rattle.wf_board.specs.States.{Numbered}
 use Rattle.wsp_solver.specs.declared.search.Outcome.{Outcome}
 use Rattle.wsp_solver.specs.declared.search.Outcome.TheVariants as outcome
@@ -87,12 +87,6 @@ one_plan p r plan live valid = rw live (valid, tt)
 
 pub no_plan : (p : PolicyShape) (r : Row) → is_open r.case ≡ false → ArePlansOf p (open_in (r ∷ [])) []
 no_plan p r closed = rw closed tt
-
--- what is said of each row is said of the one at a place
-pub row_at_place : (P : Row → Type 0) (rows : List Row) (i : ℕ) (r : Row) → i < length rows → r ≡ get_or rows i r → EachRow P rows → P r
-row_at_place P [] i r below is each = absurd (omega arith)
-row_at_place P (x ∷ xs) zero r below is each = subst P (sym is) each.0
-row_at_place P (x ∷ xs) (suc i) r below is each = row_at_place P xs i r (omega arith) is each.1
 
 -- the plan that is kept for an open case is one
 pub kept_plan_of : (p : PolicyShape) (c d : CaseShape) (o : Option (List ℕ)) (plan : List ℕ) → Some plan ≡ o → d ≡ c → IsPlanned p c o → IsPlanOf p d plan

@@ -1,5 +1,5 @@
 -- The first of some numbers that fails a test.
-use Rattle.std.proofs.Common.{◌≡◌, ap, ℕ, zero, suc, ◌+◌, ◌-◌, ◌<◌, ◌≤◌, Bool, None, Some, if◌then◌else◌, arith}
+use Rattle.std.proofs.Common.{◌≡◌, ap, ℕ, suc, ◌+◌, ◌-◌, ◌<◌, ◌≤◌, Bool, Some, if◌then◌else◌, arith}
 use Rattle.certificate_check.specs.Faults.{first_failing}
 
 -- the number looked at next fails, or the first that fails is behind it
@@ -8,8 +8,3 @@ pub first_failing_at : (test : ℕ → Bool) (k n : ℕ) → k < n →
 first_failing_at test k n below =
     let more : n - k ≡ suc (n - (k + 1)) = omega arith in
     ap (first_failing test k) more
-
-pub first_failing_end : (test : ℕ → Bool) (k n : ℕ) → n ≤ k → first_failing test k (n - k) ≡ None
-first_failing_end test k n past =
-    let none : n - k ≡ zero = omega arith in
-    ap (first_failing test k) none

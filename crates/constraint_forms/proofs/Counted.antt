@@ -1,38 +1,12 @@
 -- A count of the members' users, member by member.
 use Rattle.std.proofs.Common.{◌≡◌, ◌≢◌, ℕ, zero, suc, ◌+◌, ◌<◌, ◌≤◌, Bool, true, false, cond, not, ◌&&◌, ◌||◌, ◌==◌, nat_eq, nat_lt, List, [], ◌∷◌, length}
-use Rattle.std.proofs.Common.{drop, slice_set, get_or-set_same, get_or-set_other, Option, Some, None, is_none, is_some, ◌⊎◌, inl, inr, refl, sym, ap, subst}
+use Rattle.std.proofs.Common.{slice_set, get_or-set_same, get_or-set_other, Option, Some, None, is_none, ◌⊎◌, inl, inr, refl, sym, ap, subst}
 use Rattle.std.proofs.Common.{◌∙◌, arith, add-zero, zero-add}
-use Rattle.std.specs.Bool.{IsTrue}
-use Rattle.basics.proofs.Booleans.{bool_cases, eq_back, eq_same, lt_yes, lt_no, not_true, same_by}
+use Rattle.basics.proofs.Booleans.{bool_cases, eq_back, eq_same, lt_yes, lt_no, not_true}
 use Rattle.constraint_forms.specs.Assigned.{is_member, user_at}
 use Rattle.constraint_forms.specs.Rules.{different, free_from, is_among, user_onto, users_from}
-use Rattle.constraint_forms.specs.Kept.{counts_before, too_few_with, too_many_with}
-use Rattle.constraint_forms.proofs.Leaving.{next_flag}
+use Rattle.constraint_forms.specs.Kept.{too_few_with, too_many_with}
 use Rattle.constraint_forms.proofs.Counting.{AgreeFrom, from_zero, users_from-same, free_from-same}
-
-pub users_here : (f : ℕ → Option ℕ) (group : List Bool) (x : ℕ) → x < length group → is_member group x ≡ true →
-    users_from x (drop x group) f ≡ user_onto (f x) (users_from (x + 1) (drop (x + 1) group) f)
-users_here f group x h is = rw (next_flag group x true h is) refl
-
-pub users_there : (f : ℕ → Option ℕ) (group : List Bool) (x : ℕ) → x < length group → is_member group x ≡ false →
-    users_from x (drop x group) f ≡ users_from (x + 1) (drop (x + 1) group) f
-users_there f group x h is = rw (next_flag group x false h is) refl
-
-pub free_here : (f : ℕ → Option ℕ) (group : List Bool) (x : ℕ) → x < length group → is_member group x ≡ true →
-    free_from x (drop x group) f ≡ cond (is_none (f x)) 1 0 + free_from (x + 1) (drop (x + 1) group) f
-free_here f group x h is = rw (next_flag group x true h is) refl
-
-pub free_there : (f : ℕ → Option ℕ) (group : List Bool) (x : ℕ) → x < length group → is_member group x ≡ false →
-    free_from x (drop x group) f ≡ free_from (x + 1) (drop (x + 1) group) f
-free_there f group x h is = rw (next_flag group x false h is) refl
-
-pub different-onto : (o : Option ℕ) (us : List ℕ) → different (user_onto o us) ≡ cond (counts_before o us) 1 0 + different us
-different-onto None us = sym (zero-add (different us))
-different-onto (Some u) us = at (is_among us u)
-  where
-    at : (b : Bool) → cond b 0 1 + different us ≡ cond (not b) 1 0 + different us
-    at true = refl
-    at false = refl
 
 -- ---- one member more with a user
 

@@ -1,17 +1,13 @@
 -- Trees read by their parts, which nest less deep than the whole.
-use Rattle.std.proofs.Common.{◌≡◌, ℕ, ◌+◌, ◌≤◌, List, Bool, true, false, refl, sym, ap, ◌∙◌, arith}
+use Rattle.std.proofs.Common.{◌≡◌, ℕ, ◌+◌, ◌≤◌, List, Bool, true, false, refl, sym, ap, ◌∙◌}
 use Rattle.std.specs.Prelude.{Option, Some, None, option_map, option_and_then}
-use Rattle.serde_json.specs.declared.value.Value.{Value}
-use Rattle.serde_json.specs.Data.{Data, null, boolean, number, string, array, object, Items, no_items, item, no_members, member, depth, items_depth}
-use Rattle.serde_json.specs.Find.{as_array}
-use Rattle.serde_json.specs.View.{items_view}
+use Rattle.serde_json.specs.Data.{Data, null, boolean, number, string, array, object, Items, no_items, item, no_members, member}
 use Rattle.refutation_tree.specs.Shapes.{Shape, Kids, no_kids, tree_kid, twin_kid, joined}
 use Rattle.refutation_tree.specs.Views.{branch_onto}
 use Rattle.refutation_tree.specs.declared.tree.Branch.{Branch}
 use Rattle.refutation_tree.proofs.ShapeLaws.{kid_onto-joined, joined-assoc, joined-none}
 use Rattle.policy_book.specs.Shapes.{PolicyShape}
 use Rattle.entry_reader.specs.Values.{are_node_keys, tree_in, kids_in, kid_in, with_kid, node_parts, node_in, lone_leaf, pair_parts, user_in, twin_in}
-use Rattle.entry_reader.proofs.Readings.{none_some, some_same}
 
 -- a tree of a node's parts, or a leaf
 abbrev pub of_parts : PolicyShape → ℕ → Data → Option (Data × Data) → Option Shape
@@ -78,43 +74,6 @@ branch_bad p f d s x u rest e user twin tree =
     kid_by_parts p f d rest ∙ ap (kid_of_parts p f rest) (sym e) ∙ ap (option_and_then (λ n. with_kid n (twin_in p x) (tree_in p f x) rest)) (sym user)
     ∙ ap (λ o. with_kid u o (tree_in p f x) rest) (sym twin) ∙ ap (λ o. with_kid u None o rest) tree
 
--- ---- depths
-
-deeper_pair : (k l : List ℕ) (d e s u : Data) (b : Bool) → are_node_keys k l ≡ b → Some (s, u) ≡ node_parts (object (member k d (member l e no_members))) →
-    u ≡ e
-deeper_pair k l d e s u true h g = let same : (s, u) ≡ (d, e) = some_same _ _ (rw h at g) in ap (λ p. p.1) same
-deeper_pair k l d e s u false h g = absurd (none_some _ (sym (rw h at g)))
-
-pub node_deeper : (d s u : Data) → Some (s, u) ≡ node_parts d → depth u + 1 ≤ depth d
-node_deeper null s u e = absurd (none_some _ (sym e))
-node_deeper (boolean b) s u e = absurd (none_some _ (sym e))
-node_deeper (number n) s u e = absurd (none_some _ (sym e))
-node_deeper (string t) s u e = absurd (none_some _ (sym e))
-node_deeper (array ds) s u e = absurd (none_some _ (sym e))
-node_deeper (object no_members) s u e = absurd (none_some _ (sym e))
-node_deeper (object (member k d no_members)) s u e = absurd (none_some _ (sym e))
-node_deeper (object (member k d (member l g no_members))) s u e = omega (arith, ap depth (deeper_pair k l d g s u (are_node_keys k l) refl e))
-node_deeper (object (member k d (member l g (member m h ms)))) s u e = absurd (none_some _ (sym e))
-
-pub branch_deeper : (d s u : Data) → Some (s, u) ≡ pair_parts d → depth u + 1 ≤ depth d
-branch_deeper null s u e = absurd (none_some _ (sym e))
-branch_deeper (boolean b) s u e = absurd (none_some _ (sym e))
-branch_deeper (number n) s u e = absurd (none_some _ (sym e))
-branch_deeper (string t) s u e = absurd (none_some _ (sym e))
-branch_deeper (array no_items) s u e = absurd (none_some _ (sym e))
-branch_deeper (array (item d no_items)) s u e = absurd (none_some _ (sym e))
-branch_deeper (array (item d (item g no_items))) s u e = omega (arith, ap (λ x. depth x.1) (some_same _ _ e))
-branch_deeper (array (item d (item g (item h ds)))) s u e = absurd (none_some _ (sym e))
-branch_deeper (object ms) s u e = absurd (none_some _ (sym e))
-
-pub array_deeper : (d : Data) (vs : List Value) → Some (items_view vs) ≡ as_array d → items_depth (items_view vs) + 1 ≤ depth d
-array_deeper null vs e = absurd (none_some _ (sym e))
-array_deeper (boolean b) vs e = absurd (none_some _ (sym e))
-array_deeper (number n) vs e = absurd (none_some _ (sym e))
-array_deeper (string t) vs e = absurd (none_some _ (sym e))
-array_deeper (array ds) vs e = omega (arith, ap items_depth (some_same _ _ e))
-array_deeper (object ms) vs e = absurd (none_some _ (sym e))
-
 -- ---- branches one after the other
 
 with_next : (so_far : Kids) (b : Branch) (o : Option Kids) →
@@ -128,10 +87,6 @@ pub kids_more : (p : PolicyShape) (f : ℕ) (whole : Option Kids) (so_far new : 
     → new ≡ joined so_far (branch_onto b no_kids) → whole ≡ option_map (joined new) (kids_in p f ds)
 kids_more p f whole so_far new b d ds e here is =
     e ∙ ap (option_map (joined so_far)) here ∙ with_next so_far b (kids_in p f ds) ∙ ap (λ n. option_map (joined n) (kids_in p f ds)) (sym is)
-
-pub kids_stop : (p : PolicyShape) (f : ℕ) (whole : Option Kids) (so_far : Kids) (d : Data) (ds : Items)
-    → whole ≡ option_map (joined so_far) (kids_in p f (item d ds)) → kid_in p f d (kids_in p f ds) ≡ None → whole ≡ None
-kids_stop p f whole so_far d ds e here = e ∙ ap (option_map (joined so_far)) here
 
 pub kids_end : (whole : Option Kids) (so_far : Kids) → whole ≡ option_map (joined so_far) (Some no_kids) → whole ≡ Some so_far
 kids_end whole so_far e = e ∙ ap Some (joined-none so_far)

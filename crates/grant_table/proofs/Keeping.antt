@@ -11,7 +11,7 @@ use Rattle.wf_names.specs.declared.states.Phase.{Phase}
 use Rattle.wf_names.specs.declared.states.Phase.TheVariants.{Live, Done, Withdrawn}
 use Rattle.case_record.specs.Cases.{CaseShape, as_finished, is_open, state_at}
 use Rattle.grant_table.specs.declared.rows.Row.{Row}
-use Rattle.grant_table.specs.Tables.{CasesShape, case_at, case_in, change_row, finished_row, is_open_case, ones, open_count, plan_of, plan_while, row_at}
+use Rattle.grant_table.specs.Tables.{CasesShape, case_at, case_in, change_row, finished_row, is_open_case, ones, open_count, plan_of, row_at}
 use Rattle.grant_table.specs.Tables.{with_row}
 use Rattle.grant_table.specs.Kept.{AreNumberedBelow, ArePlannedWhileOpen, AscendFrom, IsSoundTable}
 
@@ -178,15 +178,6 @@ kept_added ever live rows new kept same open_case plan few limit =
       limit = omega (arith, limit);
     }
 
--- what is said of a case says that there is one
-pub some_there : (P : CaseShape → Type 0) (o : Option CaseShape) → IsSomeAnd o P → is_some o ≡ true
-some_there P None h = absurd h
-some_there P (Some k) h = refl
-
-some_row : (o : Option Row) → is_some (option_map (λ (y : Row). y.case) o) ≡ true → is_some o ≡ true
-some_row None h = h
-some_row (Some r) h = refl
-
 -- a table with one row changed
 pub table_put : (t : CasesShape) (n : ℕ) (r new : Row) (f : Row → Row) → row_at n t.rows ≡ Some r → new ≡ f r → (f r).number ≡ r.number →
     with_row t new.number (λ _. new) ≡ with_row t n f
@@ -202,10 +193,6 @@ phase_counts Withdrawn b h = cc
 
 pub finish_counts : (s : ℕ) (r : Row) → is_open r.case ≡ true → ones r ≡ ones (finished_row s r) + cond (is_done (finished_row s r).case.phase) 1 0
 finish_counts s r h = phase_counts r.case.phase (list_all is_finished (slice_set r.case.states s (as_finished (state_at r.case s)))) h
-
-pub plan_kept : (b : Bool) (plan : Option (List ℕ)) → is_some plan ≡ true → is_some (plan_while b plan) ≡ b
-plan_kept true plan h = h
-plan_kept false plan h = refl
 
 -- the case with a number after a change
 pub case_changed : (P : CaseShape → Type 0) (t : CasesShape) (n : ℕ) (r new : Row) → row_at n t.rows ≡ Some r → new.number ≡ r.number → P new.case →

@@ -81,11 +81,6 @@ found_get n [] i h = absurd h
 found_get n (r ∷ rs) zero h = rw h refl
 found_get n (r ∷ rs) (suc i) h = rw h.0 (found_get n rs i h.1)
 
-pub place_within : (n : ℕ) (rows : List Row) (i : ℕ) → IsRowPlace n rows i → i < length rows
-place_within n [] i h = absurd h
-place_within n (r ∷ rs) zero h = omega arith
-place_within n (r ∷ rs) (suc i) h = omega (arith, place_within n rs i h.1)
-
 pub place_put : (n : ℕ) (rows : List Row) (i : ℕ) (new : Row) → IsRowPlace n rows i → slice_set rows i new ≡ change_row n (λ _. new) rows
 place_put n [] i new h = absurd h
 place_put n (r ∷ rs) zero new h = rw h refl

@@ -1,21 +1,17 @@
 -- How reading a line goes on.
 use Rattle.std.proofs.Common.{refl, ap, sym, subst, ◌∙◌, arith}
 use Rattle.std.specs.Prelude.{◌≡◌, ℕ, suc, ◌+◌, ◌-◌, ◌<◌, ◌≤◌, Bool, true, false, List, [], ◌++◌, length, take, drop, Option, None, Some}
-use Rattle.std.proofs.lemmas.Grind.{common_steps}
 use Rattle.std.proofs.lemmas.List.{append-nil, append_assoc, length-append, length-drop, length-take, drop-take, drop-drop, take-take, drop_all}
 use Rattle.wf_outside.specs.Outside.{HasTaken, IsAtEnd}
 use Rattle.wf_outside.proofs.OutsideLaws.{nothing_taken, more_taken}
 use Rattle.line_reader.specs.declared.read.Read.{Read}
 use Rattle.line_reader.specs.declared.read.Read.TheVariants.{Line, End, Failed, TooLong, NoMemory}
-use Rattle.line_reader.specs.Lines.{ReaderShape, pending, HasSeen, HasReadLine, HasEnded, HasStopped, HasPassed, ReadsTo, CountsAs, has_end, line_length}
+use Rattle.line_reader.specs.Lines.{ReaderShape, pending, HasSeen, HasReadLine, HasStopped, HasPassed, ReadsTo, has_end, line_length}
 use Rattle.line_reader.specs.Steps.{HasGoneOn, HasEndAt, StepsTo, CountsStep, steps_left}
 use Rattle.line_reader.proofs.FirstLines.{open_line, goes_on}
 
 open_pending : (r : ReaderShape) → r.handed ≡ false → pending r ≡ r.line ++ r.ahead
 open_pending r kept = rw kept refl
-
-handed_pending : (r : ReaderShape) → r.handed ≡ true → pending r ≡ r.ahead
-handed_pending r handed = rw handed refl
 
 -- nothing was taken
 pub seen_here : (left : Option (List ℕ)) (r : ReaderShape) (bytes : List ℕ) → bytes ≡ pending r → HasSeen left left r bytes
@@ -113,18 +109,6 @@ long_open bytes count limit size within none is above = let e = (open_line bytes
 pub nothing_read : (left : Option (List ℕ)) (r s : ReaderShape) → s ≡ r → HasSeen left left r (pending s)
 nothing_read left r s is = rw is (seen_here left r (pending r) refl)
 
--- the input has ended: nothing of a line is there
-pub input_ends : (before after : Option (List ℕ)) (r : ReaderShape) → r.handed ≡ false → r.ahead ≡ [] → length r.line ≡ 0 → HasTaken before after [] →
-    IsAtEnd after → HasEnded before after r r
-input_ends before after r kept none empty taken ended =
-    let no_line : r.line ≡ [] = grind (arith, common_steps) in
-    let nothing : pending r ≡ [] = open_pending r kept ∙ ap (λ xs. xs ++ r.ahead) no_line ∙ none in
-    record {
-      seen = record { more = []; taken = taken; whole = sym (append-nil (pending r) ∙ nothing) };
-      none = nothing;
-      ended = ended;
-    }
-
 -- the last line has no LF
 pub line_is_last : (before after : Option (List ℕ)) (r s : ReaderShape) → r.handed ≡ false → has_end r.line ≡ false → length r.line ≤ r.limit → 0 < r.room
     → r.ahead ≡ [] → 0 < length r.line → s ≡ record r { handed = true } → HasTaken before after [] → IsAtEnd after → HasReadLine before after r s
@@ -142,29 +126,6 @@ line_is_last before after r s kept going short room none some is taken ended =
       ended = λ e. ended;
       less = rw none room;
     })
-
--- a piece was taken
-pub piece_taken : (before after : Option (List ℕ)) (r s : ReaderShape) → r.handed ≡ false → r.ahead ≡ [] → s ≡ record r { ahead = s.ahead } →
-    HasTaken before after s.ahead
-    → 0 < length s.ahead → HasGoneOn before after r s × (steps_left s < steps_left r)
-piece_taken before after r s kept none is taken some =
-    let open_s : s.handed ≡ false = ap (λ (x : ReaderShape). x.handed) is ∙ kept in
-    let line_s : s.line ≡ r.line = ap (λ (x : ReaderShape). x.line) is in
-    let limit_s : s.limit ≡ r.limit = ap (λ (x : ReaderShape). x.limit) is in
-    let room_s : s.room ≡ r.room = ap (λ (x : ReaderShape). x.room) is in (
-      record {
-        seen = record {
-          more = s.ahead;
-          taken = taken;
-          whole = open_pending s open_s ∙
-              ap (λ xs. xs ++ s.ahead) (line_s ∙ sym (append-nil r.line) ∙ ap (λ xs. r.line ++ xs) (sym none) ∙ sym (open_pending r kept));
-        };
-        kept = open_s;
-        limit = limit_s;
-        room = room_s;
-      },
-      omega (arith, some, limit_s, ap length line_s, ap length none),
-    )
 
 -- no piece was taken
 pub piece_failed : (before after : Option (List ℕ)) (r s : ReaderShape) → r.handed ≡ false → has_end r.line ≡ false → length r.line ≤ r.limit → r.ahead ≡ []
@@ -269,10 +230,3 @@ goes_further before middle after r s t (Some x) seen steps is = cc
 pub counts_still : (result : Option Read) (before after : ℕ) → CountsStep result before after → result ≡ None → after ≡ before
 counts_still None before after counts is = counts
 counts_still (Some x) before after counts is = cc
-
-pub counts_on : (result : Option Read) (read : Read) (first before after : ℕ) → CountsStep result before after → result ≡ Some read → before ≡ first →
-    CountsAs read first after
-counts_on None read first before after counts is same = cc
-counts_on (Some x) read first before after counts is same =
-    let e : x ≡ read = cc in
-    subst (λ (n : ℕ). CountsAs read n after) same (subst (λ (y : Read). CountsAs y before after) e counts)

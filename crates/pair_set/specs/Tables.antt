@@ -3,7 +3,7 @@ use Rattle.std.specs.Prelude.{◌≡◌, ℕ, ◌<◌, Bool, true, false, not, �
 use Rattle.std.specs.Prelude.{if◌then◌else◌}
 use Rattle.std.proofs.Common.{zero, suc, ◌+◌, ◌*◌, ◌≤◌, cond, refl, sym, ap, subst, ◌∙◌, inl, inr}
 use Rattle.std.proofs.Common.{arith, suc-mul}
-use Rattle.std.proofs.lemmas.Bool.{cases_lt, lt-ltb, le-ltb, ltb-true, eqb-true}
+use Rattle.std.proofs.lemmas.Bool.{cases_lt, lt-ltb, le-ltb, eqb-true}
 use Rattle.std.proofs.lemmas.Bool.Decides.{eqb_tells}
 use Rattle.std.specs.Cmp.{unsigned_tied}
 use Rattle.std.specs.Ordering.{nat_cmp, eq_by_cmp, is_eq, ordering_then}
@@ -105,18 +105,6 @@ pub is_set_of : (s : Pairs) (t : ℕ → ℕ → Bool) (m n : ℕ) →
     s ≡ set_of t m n
 is_set_of s t m n is = set.same_set pair_cmp_total pair_cmp-IsAntisymmetric s (set_of t m n)
     (λ q. is q.0 q.1 ∙ sym (contains_set_of t m n q.0 q.1))
-
-within_alike : (p r a b : Bool) → (p ≡ true → r ≡ true → a ≡ b) → (p && (r && a)) ≡ (p && (r && b))
-within_alike true true a b same = same refl refl
-within_alike true false a b same = refl
-within_alike false r a b same = refl
-
--- tests that agree within the bounds give one set
-pub set_of_same : (t u : ℕ → ℕ → Bool) (m n : ℕ) → ((x y : ℕ) → x < m → y < n → t x y ≡ u x y) →
-    set_of t m n ≡ set_of u m n
-set_of_same t u m n same =
-    is_set_of (set_of t m n) u m n (λ x y. contains_set_of t m n x y ∙ within_alike (nat_lt x m)
-    (nat_lt y n) (t x y) (u x y) (λ p r. same x y (ltb-true x m p) (ltb-true y n r)))
 
 -- where nothing passes there is no pair
 pub set_of_none : (t : ℕ → ℕ → Bool) (m n : ℕ) → ((x y : ℕ) → t x y ≡ false) →

@@ -215,9 +215,6 @@ others_may roster flow permits s t v same apart =
 
 -- ---- what is kept of each workflow
 
-pub kept_none : (roster : RosterShape) → AreKept roster [] []
-kept_none roster = record { count = refl; each = λ f below. absurd (omega (arith, below)) }
-
 duties_settled : (before after : RosterShape) (flow : FlowShape) (u r : ℕ) (d e : DutyShape) → after.users ≡ before.users → DiffersAt u r before after →
     AreDuties before flow d
     → e.users ≡ d.users → IsSettled after flow u r d.rows e.rows → AreDuties after flow e

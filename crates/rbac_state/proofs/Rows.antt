@@ -1,6 +1,6 @@
 -- The pairs of rows, and how they change with a row.
 use Rattle.std.proofs.Common.{◌≡◌, ℕ, ◌<◌, ◌≤◌, ◌%◌, inl, inr, Bool, true, false, not, ◌&&◌, ◌||◌, nat_eq, nat_lt, List, [], length, cond, slice_index_or}
-use Rattle.std.proofs.Common.{slice_set, replicate, refl, sym, ap, subst, ◌∙◌, arith, get_or-set_same, get_or-set_other}
+use Rattle.std.proofs.Common.{slice_set, replicate, refl, sym, ap, ◌∙◌, arith, get_or-set_same, get_or-set_other}
 use Rattle.std.specs.FinSet as sets
 use Rattle.std.proofs.lemmas.Bool.{cases_eq, cases_lt, eq-eqb, ne_eqb, eqb-true, lt-ltb}
 use Rattle.std.proofs.lemmas.List.{get_or-replicate, get_or_past, length-replicate}
@@ -72,16 +72,6 @@ memberships_of-remove rows u r w within less =
     set_of_remove (row_has rows) (row_has (slice_set rows r w)) USER_LIMIT ROLE_LIMIT u r
     (λ x y. with_row rows r w within x y ∙ ap (λ h. cond (nat_eq y r) h (row_has rows x y)) (less x) ∙
     one_less (nat_eq x u) (nat_eq y r) (row_has rows x r) (row_has rows x y) (at_itself rows r x y))
-
--- with a row of users within the limit for a role within it, the rows are within the limits still
-pub with_row_within : (rows : List (List ℕ)) (r : ℕ) (w : List ℕ) → r < length rows → r < ROLE_LIMIT
-    → ((v : ℕ) → has_user w v ≡ true → v < USER_LIMIT) → AreWithinLimits rows → AreWithinLimits (slice_set rows r w)
-with_row_within rows r w within role new old = record {
-  each = λ x y here. elim (nat_eq y r) as (λ b. nat_eq y r ≡ b → cond b (has_user w x) (row_has rows x y) ≡ true → (x < USER_LIMIT) × (y < ROLE_LIMIT)) [
-    | true ↦ λ e h. (new x h, subst (λ (i : ℕ). i < ROLE_LIMIT) (sym (eqb-true y r e)) role)
-    | false ↦ λ e h. old.each x y h
-  ] refl (sym (with_row rows r w within x y) ∙ here);
-}
 
 both_hold : (p q h : Bool) → (h ≡ true → (p ≡ true) × (q ≡ true)) → (p && (q && h)) ≡ h
 both_hold p q true hold = let both = hold refl in λ i. both.0 i && (both.1 i && true)

@@ -4,7 +4,6 @@ use Rattle.std.proofs.Common.{inr, eqb, ◌≢◌}
 use Rattle.std.proofs.lemmas.Bool.Decides.{eqb_tells}
 use Rattle.std.proofs.lemmas.Option.{slice_get_within}
 use Rattle.std.specs.Bool.{IsTrue}
-use Rattle.basics.proofs.Booleans.{differ}
 use Rattle.refutation_tree.specs.Shapes.{Shape}
 use Rattle.policy_book.specs.Plans.{AreAssigned, IsCompletable, IsWellFormed, Problem}
 use Rattle.policy_book.specs.Refuting.{refutes}
@@ -75,12 +74,6 @@ leaves_block_first p n assigned finished tree formed all count h =
       known = ascending_kept (λ i. uses_rule i tree) 0 0 (length p.rules) (numbers_from 0 (length p.rules)) (ascending_first (length p.rules));
       fails = refutes_soundly (problem_with p kept) assigned finished other.0 (formed_with p kept formed) all other.1;
     })
-
--- a number that is none of the rules is tried
-pub tried_none : (p : Problem) (numbers : List ℕ) (k : ℕ) (assigned : List (Option ℕ)) (finished : List Bool) → IsBlocked p assigned finished numbers →
-    is_one_of numbers k ≡ false → HasTried p assigned finished numbers k numbers
-tried_none p numbers k assigned finished blocked none =
-    record { blocked = blocked; among = λ m h. h; needed = λ one. absurd (differ (is_one_of numbers k) one none) }
 
 -- a rule without which there is a plan stays
 pub tried_needed : (p : Problem) (numbers : List ℕ) (k : ℕ) (assigned : List (Option ℕ)) (finished : List Bool) → IsBlocked p assigned finished numbers →

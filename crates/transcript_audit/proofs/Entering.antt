@@ -1,5 +1,5 @@
 -- A reply that was taken or refused, and what becomes of its line.
-use Rattle.std.proofs.Common.{◌≡◌, ◌↔◌, ℕ, ◌+◌, ◌<◌, ◌≤◌, ◌⊎◌, inl, inr, max, Bool, true, false, ◌&&◌, nat_eq, nat_le, List, length, map, drop, Option, None}
+use Rattle.std.proofs.Common.{◌≡◌, ◌↔◌, ℕ, ◌+◌, ◌<◌, ◌≤◌, ◌⊎◌, inl, inr, max, Bool, true, false, ◌&&◌, nat_eq, nat_le, List, length, map, drop, Option}
 use Rattle.std.proofs.Common.{Some, Result, Ok, Err, refl, sym, ap, subst, ◌∙◌, arith}
 use Rattle.std.proofs.lemmas.Grind.{common_steps}
 use Rattle.std.specs.Option.{option_map}
@@ -17,7 +17,7 @@ use Rattle.wf_board.specs.Boards.{BoardShape, numbered, state_on}
 use Rattle.wf_board.specs.Counting.{counted, counted_end, counts_for, lane_end}
 use Rattle.wf_board.specs.Decisions.{decision_of, is_view, needs_verdict}
 use Rattle.wf_board.specs.Histories.{IsRetry}
-use Rattle.wf_board.proofs.HistoryLaws.{after_again, after_more, again_rests, edits_within, step_once, step_rests}
+use Rattle.wf_board.proofs.HistoryLaws.{after_again, after_more, again_rests, edits_within, step_once}
 use Rattle.wf_board.specs.States.{State, numbered_case, opening_state}
 use Rattle.wf_board.specs.Steps.{IsStep, state_after_step}
 use Rattle.wf_board.proofs.Counted.{count_later}
@@ -29,29 +29,10 @@ use Rattle.transcript_audit.specs.declared.fault.AuditKind.TheVariants as kinds
 use Rattle.transcript_audit.specs.declared.flaw.Flaw.{Flaw}
 use Rattle.transcript_audit.specs.declared.flaw.Flaw.TheVariants as flaw
 use Rattle.transcript_audit.specs.Audits.{AuditShape, ComesNext, HasFault, IsNextLine, flows_now, next_job, present_jobs, present_start, state_now, with_entry}
-use Rattle.transcript_audit.specs.Keeping.{HasEntered, HasRead, HasTried, again_in, entry_next, rests_on}
+use Rattle.transcript_audit.specs.Keeping.{HasEntered, HasRead, HasTried, entry_next, rests_on}
 use Rattle.transcript_audit.proofs.Excludes.{one_place, told_named}
 
 -- ---- steps
-
--- a step of a lane's next job comes next
-pub step_next : (a : AuditShape) (j : Job) (r : Reply) → next_job a j.lane ≡ Some j → IsStep (state_now a) j.ask r → ComesNext a (entry_next a j r)
-step_next a j r next step = record {
-  answers = next;
-  right = (refl, inl step);
-  rests = step_rests (state_now a) (present_start a) a.entries (entry_next a j r) step;
-}
-
-again_none : (r : Reply) (n place : ℕ) → again_in r ≡ None → r ≡ reply.Again n place → ⊥
-again_none r n place none again = let no : None ≡ Some (n, place) = sym none ∙ ap again_in again in cc
-
--- and else nothing does that is not `again`
-pub no_step_next : (a : AuditShape) (j : Job) (r : Reply) → again_in r ≡ None → ¬ IsStep (state_now a) j.ask r → ¬ ComesNext a (entry_next a j r)
-no_step_next a j r none no_step next = by_right next.right.1
-  where
-    by_right : IsStep (state_now a) j.ask r ⊎ IsRetry (opening_state a.opening) a.rounds a.entries (entry_next a j r) → ⊥
-    by_right (inl step) = no_step step
-    by_right (inr retry) = again_none r retry.0 retry.1.0 none retry.1.1.0
 
 -- the board after a step
 pub state_next : (a : AuditShape) (b : BoardShape) (s : State) (j : Job) (r : Reply) → state_on b ≡ state_now a → s ≡ state_after_step (state_on b) j.ask r →

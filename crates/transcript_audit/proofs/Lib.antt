@@ -1,4 +1,3 @@
-pub mod Edits
 pub mod Batches
 pub mod Sound
 pub mod Cursors
@@ -6,5 +5,4 @@ pub mod Exact
 pub mod Excludes
 pub mod Entering
 pub mod Looking
-pub mod Taking
 pub mod Parts

@@ -67,13 +67,6 @@ next_short a k lane j sound next =
     let size = batch_size a k sound in
     omega (arith, short, size)
 
--- and of all jobs
-pub next_few : (a : AuditShape) (k lane : ℕ) (j : Job) → IsSoundAudit a k → next_job a lane ≡ Some j → length a.entries < length a.jobs
-next_few a k lane j sound next =
-    let short = next_short a k lane j sound next in
-    let within = ends_within a.batch_ends (length a.jobs) k sound.order.ends sound.here.known in
-    omega (arith, short, within)
-
 -- and there is a batch
 pub next_open : (a : AuditShape) (k lane : ℕ) (j : Job) → IsSoundAudit a k → next_job a lane ≡ Some j → k < length a.batch_ends
 next_open a k lane j sound next = elim (bool_cases (nat_lt k (length a.batch_ends))) [

@@ -19,9 +19,6 @@ pub other_is_name : IsTrue (is_name (codes "other"))
 unfolding is_name
 other_is_name = refl
 
-names_of : List Relation → List (List ℕ)
-names_of ds = map (λ r. r.name) (shapes ds)
-
 -- a search that starts at k answers k more
 found_later : (test : List ℕ → Bool) (ds : List Relation) (i k : ℕ) →
     position_from test (i + k) (map (λ r. r.name) (shapes ds)) ≡ option_map (λ j. j + k) (position_from (λ (d : Relation). test d.name) i ds)

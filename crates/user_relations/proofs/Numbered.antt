@@ -1,7 +1,7 @@
 -- Kinds of relations by their numbers, in the list and in the view of what is kept.
 use Rattle.std.proofs.Common.{◌≡◌, ℕ, zero, suc, ◌+◌, ◌<◌, ◌≤◌, List, [], ◌∷◌, length, get_or, refl, sym, ap, ◌∙◌, subst, arith}
-use Rattle.std.specs.Prelude.{Option, Some, None, option_map, slice_get, Result, OnOk, slice_set}
-use Rattle.std.proofs.lemmas.Option.{slice_get-map, slice_get-get_or, slice_get_past}
+use Rattle.std.specs.Prelude.{Option, Some, option_map, slice_get, Result, OnOk, slice_set}
+use Rattle.std.proofs.lemmas.Option.{slice_get-map, slice_get-get_or}
 use Rattle.std.proofs.lemmas.Result.{on_ok_weaker}
 use Rattle.pair_set.specs.Pairs.{Pairs}
 use Rattle.user_relations.specs.declared.kinds.Kind.{Kind}
@@ -27,17 +27,6 @@ pub kind_read : (ds : List Relation) (rho i : ℕ) (d : Relation) → IsPlace (l
 kind_read ds rho i d p =
     kind_declared (shapes ds) rho i p.is
     ∙ ap (option_map (λ (r : RelationShape). r.kind)) (slice_get-map relation_view ds i ∙ ap (option_map relation_view) (slice_get-get_or ds i d p.in_range))
-
--- no number has a kind but those of declared relations
-pub kind_early : (rs : List RelationShape) (rho : ℕ) → rho < 2 → kind_of rs rho ≡ None
-kind_early rs zero p = refl
-kind_early rs (suc zero) p = refl
-kind_early rs (suc (suc n)) p = absurd (omega arith)
-
-pub kind_past : (ds : List Relation) (rho : ℕ) → 2 ≤ rho → length ds + 2 ≤ rho → kind_of (shapes ds) rho ≡ None
-kind_past ds zero two past = absurd (omega arith)
-kind_past ds (suc zero) two past = absurd (omega arith)
-kind_past ds (suc (suc n)) two past = ap (option_map (λ (r : RelationShape). r.kind)) (slice_get_past (shapes ds) n (omega (arith, length-shapes ds)))
 
 shapes-set : (ds : List Relation) (i : ℕ) (d : Relation) (k : Kind) →
     shapes (slice_set ds i (record { name = (get_or ds i d).name; kind = k })) ≡ change_kind (shapes ds) i (kind_view k)

@@ -60,14 +60,6 @@ no_bit_of words none n k v = elim (cases_lt k n) [
   | inr past ↦ ap (λ row. has_user row v) (get_or_past (replicate n words) k [] (omega (arith, length-replicate n words))) ∙ no_row v
 ]
 
--- copies of a block without bits have none
-pub no_bit : (block : Block) → ((k v : ℕ) → block_bit block k v ≡ false) → (m u v : ℕ) → row_bit (replicate m block) u v ≡ false
-no_bit block none m u v = elim (cases_lt (u / BLOCK_ROWS) m) [
-  | inl within ↦ ap (λ b. block_bit b (u % BLOCK_ROWS) v) (get_or-replicate m (u / BLOCK_ROWS) block no_block within) ∙ none (u % BLOCK_ROWS) v
-  | inr past ↦ ap (λ b. block_bit b (u % BLOCK_ROWS) v)
-      (get_or_past (replicate m block) (u / BLOCK_ROWS) no_block (omega (arith, length-replicate m block))) ∙ no_row v
-]
-
 pub shared_bits : (block : Block) (r : Result Block AllocError) → IfOk r (λ s. s ≡ block) → ((k v : ℕ) → block_bit block k v ≡ false) →
     IfOk r (λ s. (k v : ℕ) → block_bit s k v ≡ false)
 shared_bits block (Ok s) is none = λ k v. ap (λ b. block_bit b k v) is ∙ none k v

@@ -1,5 +1,5 @@
 -- Whether a reply that somebody else gave is a step.
-use Rattle.std.proofs.Common.{◌≡◌, ◌≢◌, ℕ, ◌⊎◌, inl, inr, Bool, true, false, not, List, [], ◌∷◌, Option, None, Some, option_map, Result, Ok, Err, refl, sym, ap}
+use Rattle.std.proofs.Common.{◌≡◌, ◌≢◌, ℕ, ◌⊎◌, inr, Bool, true, false, not, List, [], ◌∷◌, Option, None, Some, option_map, Result, Ok, Err, refl, sym, ap}
 use Rattle.std.proofs.Common.{subst, ◌∙◌}
 use Rattle.std.specs.Prelude.{◌↔◌}
 use Rattle.first_fault.specs.Reading.{◌>>=◌, or_fault, check}
@@ -24,8 +24,6 @@ use Rattle.denial_reasons.specs.Causes.{assigned_with, first_cause, first_falsif
 use Rattle.wf_talk.specs.declared.request.Request.TheVariants as request
 use Rattle.wf_talk.specs.declared.request.Ask.{Ask}
 use Rattle.wf_talk.specs.declared.request.Ask.TheVariants as ask
-use Rattle.wf_talk.specs.declared.request.Bad.{Bad}
-use Rattle.wf_talk.specs.declared.reply.Face.{Face}
 use Rattle.wf_talk.specs.declared.reply.Reply.{Reply}
 use Rattle.wf_talk.specs.declared.reply.Reply.TheVariants as reply
 use Rattle.wf_talk.specs.declared.reply.Denial.{Denial}
@@ -33,11 +31,8 @@ use Rattle.wf_talk.specs.declared.reply.Denial.TheVariants as denial
 use Rattle.wf_board.specs.declared.admit.AdmitFault.{AdmitFault}
 use Rattle.wf_board.specs.declared.deed.Deed.{Deed}
 use Rattle.wf_board.specs.declared.deed.Deed.TheVariants as deed
-use Rattle.wf_board.specs.declared.verdict.Verdict.{Verdict}
 use Rattle.wf_board.specs.declared.verdict.Verdict.TheVariants as verdict
-use Rattle.wf_board.specs.declared.verdict.View.{View}
-use Rattle.wf_board.specs.Admission.{has_no_tree, when, HasAdmitted, IsNoAnswer, IsVerdictFor}
-use Rattle.wf_board.specs.Admitting.{HasVerdict, rests_on_all}
+use Rattle.wf_board.specs.Admission.{has_no_tree, when, HasAdmitted, IsNoAnswer}
 use Rattle.wf_board.specs.Boards.{EditionShape, book_of, state_on}
 use Rattle.wf_board.specs.Decisions.{cause_aside, cause_full, decision_aside, decision_of, is_held_by, unless_denied}
 use Rattle.wf_board.specs.Edited.{ArePlansOf, CanAllBeCompleted, IsFirstStranded, IsTreeOf}
@@ -48,12 +43,11 @@ use Rattle.wf_board.specs.Kept.{IsSoundState}
 use Rattle.wf_board.specs.Views.{AreStranded, IsWorkOf, steps_of}
 use Rattle.wf_talk.specs.declared.reply.WorkItem.{WorkItem}
 use Rattle.wf_board.specs.Steps.{Answers, IsReplyTo, IsStep, state_after_decision}
-use Rattle.wf_board.specs.Taking.{board_of, full_or, keeps_policy, HasTakenStep, IsKept}
-use Rattle.wf_board.specs.Verdicts.{IsEditionFor, IsMadeOf, IsPlanFor, IsRight, IsStrandingFor, IsTreeFor, IsViewFor, is_want}
+use Rattle.wf_board.specs.Taking.{board_of, full_or, HasTakenStep, IsKept}
+use Rattle.wf_board.specs.Verdicts.{IsEditionFor, IsMadeOf, IsStrandingFor}
 use Rattle.wf_board.proofs.Amended.{IsChange, IsFoundCase, change_decided, edition_change, plans_complete, same_case, stranded_case}
 use Rattle.wf_board.specs.KeptPlans.{rows_after}
 use Rattle.wf_board.proofs.Answering.{same_taken}
-use Rattle.wf_board.proofs.PlansKept.{want_rows}
 use Rattle.wf_board.proofs.Exact.{stranded_not}
 use Rattle.wf_board.proofs.Fixed.{one_stranded}
 use Rattle.wf_board.proofs.Listed.{one_list}
@@ -218,12 +212,6 @@ pub want_answers : (s : State) (r : Result Deed Denial) → Answers s r reply.No
 want_answers s (Ok d) = tt
 want_answers s (Err d) = inr refl
 
--- want of memory is taken whatever is asked
-pub want_taken : (p : PolicyShape) (t : CasesShape) (r : Result Deed Denial) (given : Reply) → IsKept p t → given ≡ reply.NoMemory → HasTakenStep p t t r given
-want_taken p t r given kept is =
-    subst (HasTakenStep p t t r) (sym is)
-    (same_taken p t r reply.NoMemory kept (λ edits. want_answers (state_on (board_of p t edits)) r) (λ s. want_stays s r) (want_rows p t r))
-
 -- a reply that changes nothing is taken where a test of it passes
 pub test_admitted : (p : PolicyShape) (t : CasesShape) (r : Result Deed Denial) (given : Reply) (b : Bool) (result : Result (Unit {0}) AdmitFault) →
     IsKept p t → result ≡ when b →
@@ -236,114 +224,7 @@ test_admitted p t r given b result kept is passes fails stays rows = subst (HasA
     at_test true passed = same_taken p t r given kept (passes passed) stays rows
     at_test false failed = (refl, fails failed)
 
--- the denial by a cause is taken, and no other reply
-pub cause_admitted : (p : PolicyShape) (t : CasesShape) (r : Result Deed Denial) (d : Denial) (given : Reply) (b : Bool)
-    (result : Result (Unit {0}) AdmitFault) → IsKept p t → given ≢ reply.NoMemory → r ≡ Err d →
-    b ≡ true ↔ given ≡ reply.Denied d → result ≡ when b → HasAdmitted p t t r given result
-cause_admitted p t r d given b result kept memory decided test is =
-    subst (λ x. HasAdmitted p t t x given result) (sym decided)
-    (test_admitted p t (Err d) given b result kept is (λ passed edits. inl (test.0 passed)) (λ failed edits. none failed) (λ s. refl) refl)
-  where
-    none : b ≡ false → ¬ ((given ≡ reply.Denied d) ⊎ (given ≡ reply.NoMemory))
-    none fails (inl denied) = let apart : true ≡ false = sym (test.1 denied) ∙ fails in cc
-    none fails (inr want) = absurd (memory want)
-
--- ---- verdicts
-
-no_want : {X : Type 0} → true ≡ false → X
-no_want apart = cc
-
--- a right verdict on a view that is left, by which the policy stays, is its list
-viewed : (b : Book) (what : Ask) (d : Deed) (v : Verdict) → decision_aside b what ≡ Ok d → ((plan : List ℕ) → ¬ IsPlanFor b (Ok d) plan) →
-    ((tree : Tree) → ¬ IsTreeFor b (Ok d) tree) →
-    ((n : ℕ) (tree : Tree) → ¬ IsStrandingFor b (Ok d) n tree) → ((x : View) → IsViewFor b (Ok d) x → IsVerdictFor b d (verdict.View x)) →
-    IsRight b what v → keeps_policy v ≡ true → (v ≢ verdict.Nothing) × (is_want v ≡ false) → IsVerdictFor b d v
-viewed b what d verdict.Nothing aside plan tree strands view is stays some = absurd (some.0 refl)
-viewed b what d verdict.NoMemory aside plan tree strands view is stays some = no_want some.1
-viewed b what d verdict.OverBudget aside plan tree strands view is stays some = no_want some.1
-viewed b what d (verdict.Plan x) aside plan tree strands view is stays some = absurd (plan x (subst (λ r. IsPlanFor b r x) aside is))
-viewed b what d (verdict.Refuted x) aside plan tree strands view is stays some = absurd (tree x (subst (λ r. IsTreeFor b r x) aside is))
-viewed b what d (verdict.Edited edition) aside plan tree strands view is stays some = cc
-viewed b what d (verdict.Strands n x) aside plan tree strands view is stays some = absurd (strands n x (subst (λ r. IsStrandingFor b r n x) aside is))
-viewed b what d (verdict.View x) aside plan tree strands view is stays some = view x (subst (λ r. IsViewFor b r x) aside is)
-
--- a right verdict on an edit that is left, by which the policy stays, is the case that the edit strands, and one on a view
--- that is left is its lists
-pub verdict_for : (b : Book) (s : State) (what : Ask) (given : Reply) (v : Verdict) (d : Deed) → s.book ≡ b → IsRight b what v → keeps_policy v ≡ true →
-    HasVerdict s what given v → given ≢ reply.NoMemory →
-    decision_of b what ≡ Ok d → decision_aside b what ≡ Ok d → IsVerdictFor b d v
-verdict_for b s what given v (deed.Open f) same right keeps has memory decided aside = tt
-verdict_for b s what given v (deed.Claim n c t u) same right keeps has memory decided aside = tt
-verdict_for b s what given v (deed.Finish n c t u) same right keeps has memory decided aside = tt
-verdict_for b s what given v (deed.GiveBack n c t u) same right keeps has memory decided aside = tt
-verdict_for b s what given v (deed.Release n c t) same right keeps has memory decided aside = tt
-verdict_for b s what given v (deed.Withdraw n) same right keeps has memory decided aside = tt
-verdict_for b s what given v (deed.Show c) same right keeps has memory decided aside = tt
-verdict_for b s what given v (deed.TurnAway bad) same right keeps has memory decided aside = tt
-verdict_for b s what given v (deed.Change a) same right keeps has memory decided aside =
-    of_change v right keeps (has (ap (λ (x : Book). rests_on_all (decision_of x what)) same ∙ ap rests_on_all decided) memory)
-  where
-    of_change : (x : Verdict) → IsRight b what x → keeps_policy x ≡ true → (x ≢ verdict.Nothing) × (is_want x ≡ false) → IsVerdictFor b (deed.Change a) x
-    of_change verdict.Nothing is stays some = absurd (some.0 refl)
-    of_change verdict.NoMemory is stays some = no_want some.1
-    of_change verdict.OverBudget is stays some = no_want some.1
-    of_change (verdict.Plan plan) is stays some = absurd (subst (λ r. IsPlanFor b r plan) aside is)
-    of_change (verdict.Refuted tree) is stays some = absurd (subst (λ r. IsTreeFor b r tree) aside is)
-    of_change (verdict.Edited edition) is stays some = cc
-    of_change (verdict.Strands n tree) is stays some = subst (λ r. IsStrandingFor b r n tree) aside is
-    of_change (verdict.View x) is stays some = absurd (subst (λ r. IsViewFor b r x) aside is)
-verdict_for b s what given v (deed.Work u) same right keeps has memory decided aside =
-    viewed b what (deed.Work u) v aside (λ plan no. no) (λ tree no. no) (λ n tree no. no) (λ x is. is) right keeps
-    (has (ap (λ (x : Book). rests_on_all (decision_of x what)) same ∙ ap rests_on_all decided) memory)
-verdict_for b s what given v (deed.WhatIf a) same right keeps has memory decided aside =
-    viewed b what (deed.WhatIf a) v aside (λ plan no. no) (λ tree no. no) (λ n tree no. no) (λ x is. is) right keeps
-    (has (ap (λ (x : Book). rests_on_all (decision_of x what)) same ∙ ap rests_on_all decided) memory)
-
 -- ---- which replies a deed has
-
-pub opening_only : (s : State) (f : ℕ) (given : Reply) → given ≢ reply.NoMemory → ((n : ℕ) (plan : List ℕ) → given ≢ reply.Opened n plan) →
-    ((d : Denial) → given ≢ reply.Denied d) → ¬ IsReplyTo s (deed.Open f) given
-opening_only s f reply.NoMemory memory opened denied is = memory refl
-opening_only s f (reply.Opened n plan) memory opened denied is = opened n plan refl
-opening_only s f (reply.Denied d) memory opened denied is = denied d refl
-opening_only s f given memory opened denied is = is
-
-pub claim_only : (s : State) (n : ℕ) (c : CaseShape) (t u : ℕ) (given : Reply) → given ≢ reply.NoMemory → ((plan : List ℕ) → given ≢ reply.Granted plan) →
-    ((d : Denial) → given ≢ reply.Denied d) →
-    ¬ IsReplyTo s (deed.Claim n c t u) given
-claim_only s n c t u reply.NoMemory memory granted denied is = memory refl
-claim_only s n c t u (reply.Granted plan) memory granted denied is = granted plan refl
-claim_only s n c t u (reply.Denied d) memory granted denied is = denied d refl
-claim_only s n c t u given memory granted denied is = is
-
-pub finish_only : (s : State) (n : ℕ) (c : CaseShape) (t u : ℕ) (given : Reply) → given ≢ reply.NoMemory → ((done : Bool) → given ≢ reply.Finished done) →
-    ¬ IsReplyTo s (deed.Finish n c t u) given
-finish_only s n c t u reply.NoMemory memory finished is = memory refl
-finish_only s n c t u (reply.Finished done) memory finished is = finished done refl
-finish_only s n c t u given memory finished is = is
-
-pub return_only : (s : State) (n : ℕ) (c : CaseShape) (t u : ℕ) (given : Reply) → given ≢ reply.NoMemory → given ≢ reply.Returned →
-    ¬ IsReplyTo s (deed.GiveBack n c t u) given
-return_only s n c t u reply.NoMemory memory returned is = memory refl
-return_only s n c t u reply.Returned memory returned is = returned refl
-return_only s n c t u given memory returned is = is
-
-pub release_only : (s : State) (n : ℕ) (c : CaseShape) (t : ℕ) (given : Reply) → given ≢ reply.NoMemory → given ≢ reply.Released →
-    ¬ IsReplyTo s (deed.Release n c t) given
-release_only s n c t reply.NoMemory memory released is = memory refl
-release_only s n c t reply.Released memory released is = released refl
-release_only s n c t given memory released is = is
-
-pub withdrawal_only : (s : State) (n : ℕ) (given : Reply) → given ≢ reply.NoMemory → given ≢ reply.Withdrawn → ¬ IsReplyTo s (deed.Withdraw n) given
-withdrawal_only s n reply.NoMemory memory withdrawn is = memory refl
-withdrawal_only s n reply.Withdrawn memory withdrawn is = withdrawn refl
-withdrawal_only s n given memory withdrawn is = is
-
-pub showing_only : (s : State) (c : CaseShape) (given : Reply) → given ≢ reply.NoMemory → ((face : Face) → given ≢ reply.Shown face) →
-    ¬ IsReplyTo s (deed.Show c) given
-showing_only s c reply.NoMemory memory shown is = memory refl
-showing_only s c (reply.Shown face) memory shown is = shown face refl
-showing_only s c given memory shown is = is
 
 work_only : (s : State) (u : ℕ) (items : List WorkItem) (given : Reply) → given ≢ reply.NoMemory → IsWorkOf s.book u items → given ≢ reply.Work items →
     ¬ IsReplyTo s (deed.Work u) given
@@ -387,11 +268,6 @@ what_if_admitted p t a numbers given b result kept memory stranded test is =
     not_told : b ≡ false → given ≢ reply.WhatIf numbers
     not_told failed told = let apart : true ≡ false = sym (test.1 told) ∙ failed in cc
 
-pub bad_only : (s : State) (bad : Bad) (given : Reply) → given ≢ reply.NoMemory → ((b : Bad) → given ≢ reply.Bad b) → ¬ IsReplyTo s (deed.TurnAway bad) given
-bad_only s bad reply.NoMemory memory why is = memory refl
-bad_only s bad (reply.Bad b) memory why is = why b refl
-bad_only s bad given memory why is = is
-
 pub change_only : (s : State) (a : Amendment) (given : Reply) → given ≢ reply.NoMemory →
     ((number : ℕ) → given ≡ reply.Edited number → ¬ IsReplyTo s (deed.Change a) (reply.Edited number)) → ((d : Denial) → given ≢ reply.Denied d) →
     ¬ IsReplyTo s (deed.Change a) given
@@ -401,19 +277,6 @@ change_only s a (reply.Denied d) memory edited denied is = denied d refl
 change_only s a given memory edited denied is = is
 
 -- denials
-
-pub unsatisfiable_only : (s : State) (f : ℕ) (d : Denial) → ((g : ℕ) (t : Tree) → d ≢ denial.Unsatisfiable g t) → ¬ IsReplyTo s (deed.Open f) (reply.Denied d)
-unsatisfiable_only s f (denial.Unsatisfiable g t) other is = other g t refl
-unsatisfiable_only s f d other is = is
-
-pub stranded_only : (s : State) (n : ℕ) (c : CaseShape) (t u : ℕ) (d : Denial) → ((g : ℕ) (x : Tree) → d ≢ denial.Stranded g x) →
-    ¬ IsReplyTo s (deed.Claim n c t u) (reply.Denied d)
-stranded_only s n c t u (denial.Stranded g x) other is = other g x refl
-stranded_only s n c t u d other is = is
-
-pub strands_only : (s : State) (a : Amendment) (d : Denial) → ((n f : ℕ) (t : Tree) → d ≢ denial.Strands n f t) → ¬ IsReplyTo s (deed.Change a) (reply.Denied d)
-strands_only s a (denial.Strands n f t) other is = other n f t refl
-strands_only s a d other is = is
 
 -- ---- what was done is what the reply says
 

@@ -1,5 +1,5 @@
 -- What a board has taken of a reply that somebody else gave.
-use Rattle.std.proofs.Common.{◌≡◌, ◌≢◌, ℕ, map, Some, Result, Ok, Err, sym, ap, subst, arith}
+use Rattle.std.proofs.Common.{◌≡◌, ◌≢◌, ℕ, Result, Ok, Err, sym, ap, subst, arith}
 use Rattle.policy_book.specs.Shapes.{PolicyShape}
 use Rattle.grant_table.specs.Tables.{CasesShape}
 use Rattle.wf_talk.specs.declared.request.Ask.{Ask}
@@ -9,15 +9,12 @@ use Rattle.wf_board.specs.declared.admit.AdmitFault.{AdmitFault}
 use Rattle.wf_board.specs.declared.admit.AdmitFault.TheVariants.{NotStep, NoMemory}
 use Rattle.wf_board.specs.declared.verdict.Verdict.{Verdict}
 use Rattle.wf_board.specs.declared.verdict.Verdict.TheVariants as verdict
-use Rattle.wf_board.specs.declared.verdict.Answered.TheVariants.{Done}
 use Rattle.wf_board.specs.Admission.{HasAdmitted, HasAdmittedStep, HasTakenReply}
 use Rattle.wf_board.specs.Boards.{BoardShape, EditionShape, book_of, state_on}
 use Rattle.wf_board.specs.Decisions.{decision_of}
-use Rattle.wf_board.specs.KeptPlans.{kept_plans}
 use Rattle.wf_board.specs.Taking.{HasTakenStep, board_of}
-use Rattle.wf_board.specs.Verdicts.{HasAnswered}
 use Rattle.wf_board.proofs.Admission.{want_answers, want_stays}
-use Rattle.wf_board.proofs.PlansKept.{keeps_edition, keeps_rows, keeps_want}
+use Rattle.wf_board.proofs.PlansKept.{keeps_rows, keeps_want}
 
 -- a step that was taken over the table, by which the policy stays
 pub reply_taken : (p : PolicyShape) (before after : CasesShape) (edits : ℕ) (what : Ask) (v : Verdict) (given : Reply) →
@@ -47,17 +44,4 @@ want_admitted b what v given is =
       next = sym (want_stays (state_on b) r);
       plans = keeps_want b what v;
       spare = omega arith;
-    }
-
--- an accepted edit
-pub edition_admitted : (before after : BoardShape) (what : Ask) (edition : EditionShape) (m n : ℕ) → m ≡ n →
-    HasAnswered before after what (verdict.Edited edition) (Done (reply.Edited m)) →
-    kept_plans after.cases.rows ≡ map Some edition.plans → after.cases.spare ≡ before.cases.spare →
-    HasTakenReply before after what (verdict.Edited edition) (reply.Edited n)
-edition_admitted before after what edition m n same answered kept spare =
-    subst (λ k. HasTakenReply before after what (verdict.Edited edition) (reply.Edited k)) same record {
-      step = answered.0;
-      next = answered.1;
-      plans = keeps_edition before after what edition m kept;
-      spare = omega (arith, spare);
     }

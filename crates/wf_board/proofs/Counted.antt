@@ -4,11 +4,6 @@ use Rattle.std.proofs.lemmas.List.{drop-append-le}
 use Rattle.wf_talk.specs.declared.entry.Entry.{Entry}
 use Rattle.wf_board.specs.Counting.{count_of, last_end_from}
 
--- how many pass of two lists
-pub count_both : (test : Entry → Bool) (entries more : List Entry) → count_of test (entries ++ more) ≡ count_of test entries + count_of test more
-count_both test [] more = omega arith
-count_both test (x ∷ xs) more = let rest = count_both test xs more in omega (arith, rest)
-
 -- and with one more
 pub count_more : (test : Entry → Bool) (entries : List Entry) (e : Entry) →
     count_of test (entries ++ e ∷ []) ≡ count_of test entries + (if test e then 1 else 0)

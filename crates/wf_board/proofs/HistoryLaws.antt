@@ -1,10 +1,9 @@
 -- Laws of histories, for whoever adds an entry at the end.
-use Rattle.std.proofs.Common.{◌≡◌, ℕ, zero, suc, ◌+◌, ◌≤◌, max, false, List, [], ◌∷◌, ◌++◌, length, take, drop, map, Result, Ok, Err, inl, inr, append_assoc}
+use Rattle.std.proofs.Common.{◌≡◌, ℕ, ◌+◌, ◌≤◌, max, false, List, [], ◌∷◌, ◌++◌, length, take, drop, Result, Ok, Err, inl, inr, append_assoc}
 use Rattle.std.proofs.Common.{append-nil, refl, sym, ap, subst, ◌∙◌, arith}
-use Rattle.std.proofs.lemmas.List.{drop-append-le, length-map, take-append-drop, take-append-le}
+use Rattle.std.proofs.lemmas.List.{drop-append-le, take-append-drop, take-append-le}
 use Rattle.policy_book.specs.Shapes.{PolicyShape}
 use Rattle.wf_talk.specs.declared.entry.Entry.{Entry}
-use Rattle.wf_talk.specs.declared.job.Job.{Job}
 use Rattle.wf_talk.specs.declared.request.Ask.{Ask}
 use Rattle.wf_talk.specs.declared.reply.Reply.{Reply}
 use Rattle.wf_talk.specs.declared.reply.Reply.TheVariants as reply
@@ -15,8 +14,8 @@ use Rattle.wf_board.specs.States.{State, opening_state}
 use Rattle.wf_board.specs.Decisions.{decision_of}
 use Rattle.wf_board.specs.Steps.{Answers, IsReplyTo, IsStep, state_after_decision, state_after_deed, state_after_step}
 use Rattle.wf_board.specs.Counting.{counted, is_edited, lane_end}
-use Rattle.wf_board.specs.Histories.{AreAnsweredOnce, AreRightful, BatchRests, EachAfter, FillsJobs, IsAnsweredOnce, IsLegal, IsRetry, IsRightAfter, IsRightful}
-use Rattle.wf_board.specs.Histories.{RestsFrom, batch_end, batch_jobs, batch_start, job_of_entry, lane_jobs, state_after}
+use Rattle.wf_board.specs.Histories.{AreAnsweredOnce, AreRightful, EachAfter, IsRightful}
+use Rattle.wf_board.specs.Histories.{RestsFrom, state_after}
 
 -- the state after one more entry
 pub after_more : (s : State) (entries : List Entry) (e : Entry) → state_after s (entries ++ e ∷ []) ≡ state_after_step (state_after s entries) e.ask e.reply
@@ -57,16 +56,6 @@ pub each_more : (P : List Entry → Entry → Type 0) (earlier entries : List En
 each_more P earlier [] e each last = (subst (λ es. P es e) (append-nil earlier) last, tt)
 each_more P earlier (x ∷ xs) e each last =
     (each.0, each_more P (earlier ++ x ∷ []) xs e each.1 (subst (λ es. P es e) (sym (append_assoc earlier (x ∷ []) xs)) last))
-
--- a legal history stays one with an entry at the next place whose reply is a step
-pub legal_more : (s : State) (rounds : ℕ) (entries : List Entry) (e : Entry) → IsLegal s rounds entries → e.at ≡ length entries →
-    IsStep (state_after s entries) e.ask e.reply → IsLegal s rounds (entries ++ e ∷ [])
-legal_more s rounds entries e legal at step = each_more (IsRightAfter s rounds) [] entries e legal (at, inl step)
-
--- or with an entry at the next place that is answered again as it may be
-pub legal_again : (s : State) (rounds : ℕ) (entries : List Entry) (e : Entry) → IsLegal s rounds entries → e.at ≡ length entries →
-    IsRetry s rounds entries e → IsLegal s rounds (entries ++ e ∷ [])
-legal_again s rounds entries e legal at retry = each_more (IsRightAfter s rounds) [] entries e legal (at, inr retry)
 
 -- what holds of each entry and those before it holds of the later ones
 pub each_later : (P : List Entry → Entry → Type 0) (earlier entries more : List Entry) → EachAfter P earlier (entries ++ more) →
@@ -121,11 +110,6 @@ again_rests start earlier e n place again enough m other is =
     let same : m ≡ n = cc in
     subst (λ k. k ≤ counted e.ask (drop (max (lane_end e.lane earlier) start) earlier)) (sym same) enough
 
--- with one more entry that is not answered again no entry is
-pub once_more : (entries : List Entry) (e : Entry) → AreAnsweredOnce entries → IsAnsweredOnce e → AreAnsweredOnce (entries ++ e ∷ [])
-once_more [] e once last = (last, tt)
-once_more (x ∷ xs) e once last = (once.0, once_more xs e once.1 last)
-
 -- with one more entry that is rightful all are
 pub wants_more : (entries : List Entry) (e : Entry) → AreRightful entries → IsRightful e → AreRightful (entries ++ e ∷ [])
 wants_more [] e wants last = (last, tt)
@@ -135,36 +119,6 @@ wants_more (x ∷ xs) e wants last = (wants.0, wants_more xs e wants.1 last)
 pub once_all : (entries more : List Entry) → AreAnsweredOnce entries → AreAnsweredOnce more → AreAnsweredOnce (entries ++ more)
 once_all [] more once later = later
 once_all (x ∷ xs) more once later = (once.0, once_all xs more once.1 later)
-
-once_first : (n : ℕ) (entries : List Entry) → AreAnsweredOnce entries → AreAnsweredOnce (take n entries)
-once_first zero entries once = tt
-once_first (suc n) [] once = tt
-once_first (suc n) (x ∷ xs) once = (once.0, once_first n xs once.1)
-
-once_last : (n : ℕ) (entries : List Entry) → AreAnsweredOnce entries → AreAnsweredOnce (drop n entries)
-once_last zero entries once = once
-once_last (suc n) [] once = tt
-once_last (suc n) (x ∷ xs) once = once_last n xs once.1
-
-once_rests : (start : ℕ) (earlier entries : List Entry) → AreAnsweredOnce entries → EachAfter (RestsFrom start) earlier entries
-once_rests start earlier [] once = tt
-once_rests start earlier (x ∷ xs) once = (λ n place again. absurd (once.0 n place again), once_rests start (earlier ++ x ∷ []) xs once.1)
-
--- where no entry is answered again, none has to rest on others of its batch
-pub batch_rests : (batch_ends : List ℕ) (k : ℕ) (entries : List Entry) → AreAnsweredOnce entries → BatchRests batch_ends k entries
-batch_rests batch_ends k entries once =
-    let start = batch_start batch_ends k in
-    let end = batch_end batch_ends k in
-    once_rests start (take start entries) (drop start (take end entries)) (once_last start (take end entries) (once_first end entries once))
-
--- entries that are the jobs in order, none of them answered again, fill them
-pub in_order_fills : (entries : List Entry) (jobs : List Job) (batch_ends : List ℕ) → map job_of_entry entries ≡ jobs → AreAnsweredOnce entries →
-    FillsJobs entries jobs batch_ends
-in_order_fills entries jobs batch_ends same once = record {
-  whole = sym (length-map entries job_of_entry) ∙ ap length same;
-  batches = λ k known lane. ap (λ js. lane_jobs lane (batch_jobs batch_ends k js)) same;
-  rests = λ k known. batch_rests batch_ends k entries once;
-}
 
 -- ---- the policy, and the count of edits
 
@@ -186,25 +140,6 @@ decision_policy s (Err d) answer other = refl
 -- a step that is no accepted edit leaves the policy
 pub policy_stays : (s : State) (what : Ask) (given : Reply) → is_edited given ≡ false → (state_after_step s what given).book.policy ≡ s.book.policy
 policy_stays s what given other = decision_policy s (decision_of s.book what) given other
-
-deed_edits : (s : State) (given : Deed) (answer : Reply) → is_edited answer ≡ false → (state_after_deed s given answer).edits ≡ s.edits
-deed_edits s (deed.Open f) (reply.Opened n plan) other = refl
-deed_edits s (deed.Claim n c t u) (reply.Granted plan) other = refl
-deed_edits s (deed.Finish n c t u) (reply.Finished done) other = refl
-deed_edits s (deed.GiveBack n c t u) reply.Returned other = refl
-deed_edits s (deed.Release n c t) reply.Released other = refl
-deed_edits s (deed.Withdraw n) reply.Withdrawn other = refl
-deed_edits s (deed.Change a) (reply.Edited number) other = cc
-deed_edits s given answer other = refl
-
-decision_edits : (s : State) (decision : Result Deed Denial) (answer : Reply) → is_edited answer ≡ false →
-    (state_after_decision s decision answer).edits ≡ s.edits
-decision_edits s (Ok given) answer other = deed_edits s given answer other
-decision_edits s (Err d) answer other = refl
-
--- and the count of edits
-pub edits_stay : (s : State) (what : Ask) (given : Reply) → is_edited given ≡ false → (state_after_step s what given).edits ≡ s.edits
-edits_stay s what given other = decision_edits s (decision_of s.book what) given other
 
 deed_counts : (s : State) (given : Deed) (answer : Reply) → (state_after_deed s given answer).edits ≤ s.edits + 1
 deed_counts s (deed.Open f) (reply.Opened n plan) = omega arith

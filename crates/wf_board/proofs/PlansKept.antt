@@ -1,5 +1,5 @@
 -- Which plans a board keeps after a reply.
-use Rattle.std.proofs.Common.{◌≡◌, ◌≢◌, ℕ, inl, inr, Bool, true, false, List, [], ◌∷◌, map, Option, None, Some, Result, Ok, Err, if◌then◌else◌, refl, sym, ap}
+use Rattle.std.proofs.Common.{◌≡◌, ◌≢◌, ℕ, inl, inr, Bool, List, [], ◌∷◌, map, Option, Some, Result, Ok, Err, if◌then◌else◌, refl, sym, ap}
 use Rattle.std.proofs.Common.{subst, ◌∙◌}
 use Rattle.basics.proofs.Booleans.{bool_cases}
 use Rattle.policy_book.specs.Shapes.{PolicyShape}
@@ -63,32 +63,7 @@ pub keeps_by : (p : PolicyShape) (before after : CasesShape) (edits : ℕ) (what
 keeps_by p before after edits what v Needs other rows = tt
 keeps_by p before after edits what v (Done given) other rows = keeps_rows p before after edits what v given other rows
 
--- so it is whatever the verdict was by which the policy stayed
-pub keeps_nothing : (before after : BoardShape) (what : Ask) (v : Verdict) (given : Reply) → KeepsPlans before after what v given →
-    KeepsPlans before after what verdict.Nothing given
-keeps_nothing before after what v given keeps = record {
-  rows = keeps.rows;
-  edited = λ edition is accepted. cc;
-}
-
 -- ---- an edit
-
-pub keeps_edition : (before after : BoardShape) (what : Ask) (edition : EditionShape) (number : ℕ) → kept_plans after.cases.rows ≡ map Some edition.plans →
-    KeepsPlans before after what (verdict.Edited edition) (reply.Edited number)
-keeps_edition before after what edition number kept = record {
-  rows = λ no. cc;
-  edited = λ other is accepted. subst (λ (e : EditionShape). kept_plans after.cases.rows ≡ map Some e.plans) (same edition other is) kept;
-}
-  where
-    same : (a b : EditionShape) → verdict.Edited a ≡ verdict.Edited b → a ≡ b
-    same a b h = cc
-
--- where the policy is changed and the plans stay, no verdict brings others
-pub keeps_changed : (before after : BoardShape) (what : Ask) (number : ℕ) → KeepsPlans before after what verdict.Nothing (reply.Edited number)
-keeps_changed before after what number = record {
-  rows = λ no. cc;
-  edited = λ edition is accepted. cc;
-}
 
 -- the rows that are open, if this one is
 abbrev kept_onto : Bool → Row → List Row → List (Option (List ℕ))

@@ -21,7 +21,7 @@ use Rattle.wf_board.specs.Boards.{BoardShape, state_on}
 use Rattle.wf_board.specs.Decisions.{cause_aside, cause_full, decision_aside, decision_of, is_held_by, needs_verdict, takes_memory, unless_denied}
 use Rattle.wf_board.specs.Histories.{may_lack_memory}
 use Rattle.wf_board.specs.Trees.{shows_large}
-use Rattle.wf_board.specs.Verdicts.{IsDecided, LacksMemory, MayLackMemory, is_opening}
+use Rattle.wf_board.specs.Verdicts.{IsDecided, LacksMemory, is_opening}
 use Rattle.wf_board.proofs.Snaps.{IsAlwaysAside, finish_plain, needs_aside, plain_needs, release_plain, return_plain, show_plain, withdraw_plain}
 
 -- ---- a verdict
@@ -183,8 +183,3 @@ lacks_rightly b what v (inr (inr short)) = needs_rightly (state_on b).book what 
 pub decided_rightly : (b : BoardShape) (what : Ask) (v : Verdict) (given : Reply) → IsDecided b what v given →
     (given ≡ reply.NoMemory → may_lack_memory what ≡ true) × (shows_large given ≡ false)
 decided_rightly b what v given decided = (λ short. lacks_rightly b what v (decided.memory short), decided.small)
-
--- where an answer may lack memory, so may what is decided
-pub answer_lacks : (b : BoardShape) (what : Ask) (v : Verdict) → MayLackMemory b what v → LacksMemory b what v
-answer_lacks b what v (inl short) = inl (inr short.0, short.1)
-answer_lacks b what v (inr other) = inr other

@@ -310,9 +310,6 @@ floor_test d lane n before =
     ∙ same_by (nat_le (lane_end lane d.entries) n) (nat_le (floor_of d lane) n) (λ within. grind (arith, common_steps, before))
     (λ within. grind (arith, common_steps, before))
 
-pub floor_over : (d : DeskShape) (lane n : ℕ) → n < max d.start (loss_of d.losses lane).end → false ≡ nat_le (floor_of d lane) n
-floor_over d lane n over = grind (arith, common_steps, over)
-
 by_count : (n : ℕ) → not (nat_lt 0 n) ≡ true → (n == 0) ≡ true
 by_count n none = elim (bool_cases (nat_lt 0 n)) [
   | inl some ↦ let no = rw some at none in absurd (cc)
@@ -355,15 +352,4 @@ checked_none d e t v (outcome.Recorded place) next none has = (
       (λ given. (IsCertified (state_on d.board).book t.ask v × IsDecided d.board t.ask v given)
       ⊎ (¬ IsCertified (state_on d.board).book t.ask v × IsReplyWhere (is_fresh_or_change d t) (is_lost d t) d t verdict.Nothing given))
       (λ given is. inr (none, is)) has,
-)
-
--- and where it does
-pub checked_by : (d e : DeskShape) (t : Task) (v : Verdict) (place : ℕ) → IsNext d t → IsCertified (state_on d.board).book t.ask v →
-    HasAdded d e (job_of_task t) place (IsDecided d.board t.ask v) → HasCommittedChecked d e t v (outcome.Recorded place)
-checked_by d e t v place next certified has = (
-  next,
-  added_as d e (job_of_task t) place (IsDecided d.board t.ask v)
-      (λ given. (IsCertified (state_on d.board).book t.ask v × IsDecided d.board t.ask v given)
-      ⊎ (¬ IsCertified (state_on d.board).book t.ask v × IsReplyWhere (is_fresh_or_change d t) (is_lost d t) d t verdict.Nothing given))
-      (λ given is. inl (certified, is)) has,
 )

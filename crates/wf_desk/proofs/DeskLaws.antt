@@ -1,6 +1,6 @@
 -- A desk keeps what it is with one more entry, with one more loss, and with another batch.
 use Rattle.std.proofs.Common.{◌≡◌, ◌≢◌, ℕ, zero, suc, ◌+◌, ◌<◌, ◌≤◌, inl, inr, max, Bool, true, false, nat_eq, List, [], ◌∷◌, ◌++◌, length, take, drop, get_or}
-use Rattle.std.proofs.Common.{set, replicate, slice_get, slice_set, slice_index_or, Some, refl, sym, ap, subst, ◌∙◌, arith, if◌then◌else◌}
+use Rattle.std.proofs.Common.{set, slice_get, slice_set, slice_index_or, Some, refl, sym, ap, subst, ◌∙◌, arith, if◌then◌else◌}
 use Rattle.std.proofs.lemmas.Grind.{common_steps}
 use Rattle.std.proofs.lemmas.List.{drop-append-le, length-append, get_or-set_same, get_or-set_other, take_more}
 use Rattle.std.proofs.lemmas.Option.{get_or_from_slice_get, slice_get_within}
@@ -42,11 +42,6 @@ loss_other losses lane other x away = get_or-set_other losses lane other x no_lo
 
 no_loss_own : (losses : List Loss) (lane : ℕ) → loss_of (slice_set losses lane no_loss) lane ≡ no_loss
 no_loss_own losses lane = set_own (λ l. l ≡ no_loss) losses lane no_loss no_loss refl refl
-
-pub same_all : {A : Type 0} (x : A) (n i : ℕ) → slice_index_or (replicate n x) i x ≡ x
-same_all x zero i = refl
-same_all x (suc n) zero = refl
-same_all x (suc n) (suc i) = same_all x n i
 
 -- ---- what counts
 
@@ -299,9 +294,6 @@ places_more jobs places lane place sized before here n below = elim (bool_cases 
 
 pub desk_small : (d : DeskShape) (places : List ℕ) → IsDesk d places → length d.entries < 4294967296
 desk_small d places is = let within = batch_within d is.sound in let small = is.small in omega (arith, within, small)
-
-pub jobs_small : (d : DeskShape) (places : List ℕ) → IsDesk d places → length d.jobs < 4294967296
-jobs_small d places is = let small = is.small in omega (arith, small)
 
 pub has_room : (d : DeskShape) (places : List ℕ) (lane : ℕ) (j : Job) → IsDesk d places → next_job d lane ≡ Some j → 0 < d.spare
 has_room d places lane j is next =

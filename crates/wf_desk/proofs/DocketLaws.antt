@@ -1,5 +1,5 @@
 -- The lanes of a docket, job after job.
-use Rattle.std.proofs.Common.{◌≡◌, ℕ, zero, suc, ◌+◌, ◌-◌, ◌<◌, ◌≤◌, inl, inr, false, nat_eq, List, [], ◌∷◌, ◌++◌, length, take, drop, map, get_or, slice_get}
+use Rattle.std.proofs.Common.{◌≡◌, ℕ, zero, suc, ◌+◌, ◌-◌, ◌<◌, ◌≤◌, inl, inr, false, nat_eq, List, [], ◌∷◌, ◌++◌, length, take, drop, map, slice_get}
 use Rattle.std.proofs.Common.{IfSome, None, Some, refl, sym, ap, subst, ◌∙◌, arith, append-nil}
 use Rattle.std.proofs.lemmas.Grind.{common_steps}
 use Rattle.std.proofs.lemmas.List.{map-append, length-map, length-append, length-drop, take-append-drop, drop-append-le, take_more, take_rest, take_all}
@@ -129,13 +129,6 @@ next_lane lane n (x ∷ xs) j next = elim (bool_cases (nat_eq x.lane lane)) [
         ((k : ℕ) → slice_get (lane_jobs lane xs) k ≡ Some j → j.lane ≡ lane) → j.lane ≡ lane
     first_lane zero is own later = let same : x ≡ j = cc in ap (λ (k : Job). k.lane) (sym same) ∙ own
     first_lane (suc m) is own later = later m is
-
--- one more job, of another lane
-pub pass_other : (lane from i : ℕ) (jobs : List Job) (j : Job) → i < length jobs → get_or jobs i j ≡ j → nat_eq j.lane lane ≡ false →
-    lane_jobs lane (take i jobs) ≡ lane_jobs lane (take from jobs) → lane_jobs lane (take (i + 1) jobs) ≡ lane_jobs lane (take from jobs)
-pass_other lane from i jobs j within is other so_far =
-    ap (lane_jobs lane) (take_more jobs i j within ∙ ap (λ x. take i jobs ++ x ∷ []) is) ∙ lane_both lane (take i jobs) (j ∷ [])
-    ∙ ap (λ js. lane_jobs lane (take i jobs) ++ js) (lane_other lane j other) ∙ append-nil (lane_jobs lane (take i jobs)) ∙ so_far
 
 -- ---- how many are answered
 

@@ -1,28 +1,20 @@
 -- A desk that goes on from entries that stand already.
 use Rattle.std.proofs.Common.{◌≡◌, ℕ, zero, suc, ◌+◌, ◌<◌, ◌≤◌, inl, inr, false, nat_eq, nat_lt, List, [], ◌∷◌, ◌++◌, length, take, drop, get_or, map}
-use Rattle.std.proofs.Common.{slice_get, slice_index_or, slice_set, Option, None, Some, refl, sym, ap, subst, ◌∙◌, arith}
+use Rattle.std.proofs.Common.{slice_get, slice_index_or, slice_set, None, Some, refl, sym, ap, subst, ◌∙◌, arith}
 use Rattle.std.proofs.lemmas.Grind.{common_steps}
-use Rattle.std.proofs.lemmas.List.{drop_all, drop_more, get_or-set_other, get_or-set_same, length-append, map-append, take-append-drop, take_more}
+use Rattle.std.proofs.lemmas.List.{drop_more, get_or-set_other, get_or-set_same, map-append, take-append-drop, take_more}
 use Rattle.std.proofs.lemmas.Option.{get_or_from_slice_get, slice_get_within}
 use Rattle.basics.proofs.Booleans.{bool_cases, eq_back}
 use Rattle.wf_names.specs.declared.limits.TheConstants.{LANE_LIMIT}
-use Rattle.policy_book.specs.Shapes.{PolicyShape}
 use Rattle.wf_talk.specs.declared.entry.Entry.{Entry}
 use Rattle.wf_talk.specs.declared.job.Job.{Job}
-use Rattle.wf_board.specs.Boards.{BoardShape, state_on}
-use Rattle.wf_board.specs.Histories.{IsLegal, job_of_entry, lane_jobs, state_after}
-use Rattle.wf_board.specs.States.{opening_state}
-use Rattle.wf_desk.specs.Desks.{AnswersPart, AreOfLanes, DeskShape, desk_with, no_loss, served_jobs, with_batch_from, with_room}
-use Rattle.wf_desk.specs.Keeping.{IsDesk}
+use Rattle.wf_board.specs.Histories.{job_of_entry, lane_jobs}
+use Rattle.wf_desk.specs.Desks.{AreOfLanes}
 use Rattle.wf_desk.specs.Places.{AnswersFirst, IsNextPlace, IsPlaceBehind, answered_of}
 use Rattle.wf_desk.proofs.DocketLaws.{lane_both, lane_own, next_there, none_of_lanes, served_other, served_own}
-use Rattle.wf_desk.proofs.DeskLaws.{differs, fresh_rests, same_all}
+use Rattle.wf_desk.proofs.DeskLaws.{differs}
 
 -- ---- places behind what is answered
-
--- nothing is answered yet
-pub first_behind : (jobs : List Job) (lane place : ℕ) → IsNextPlace jobs lane 0 place → IsPlaceBehind jobs [] lane place
-first_behind jobs lane place first = record { within = first.within; before = sym first.same; here = first.here }
 
 own_behind : (jobs : List Job) (entries : List Entry) (e : Entry) (from place : ℕ) → IsPlaceBehind jobs entries e.lane from →
     slice_get jobs from ≡ Some (job_of_entry e) →
@@ -148,61 +140,3 @@ place_within jobs entries i e places of_lanes first within is placed =
 pub more_lanes : (few many : ℕ) (jobs : List Job) → few ≤ many → AreOfLanes few jobs → AreOfLanes many jobs
 more_lanes few many [] within of_lanes = tt
 more_lanes few many (j ∷ js) within of_lanes = (let below = of_lanes.0 in omega (arith, below, within), more_lanes few many js within of_lanes.1)
-
-none_answered : (entries : List Entry) (lane : ℕ) → served_jobs (length entries) entries lane ≡ []
-none_answered entries lane = ap (λ es. lane_jobs lane (map job_of_entry es)) (drop_all (length entries) entries (omega arith))
-
--- before its first job
-pub desk_begins : (p : PolicyShape) (lanes rounds : ℕ) (board : BoardShape) (entries : List Entry) (spare : ℕ) (places : List ℕ) → lanes ≤ LANE_LIMIT →
-    length entries < 4294967296 →
-    IsLegal (opening_state p) rounds entries → state_on board ≡ state_after (opening_state p) entries →
-    ((lane : ℕ) → lane < LANE_LIMIT → IsNextPlace [] lane 0 (slice_index_or places lane 0)) → IsDesk (desk_with p lanes rounds board entries spare) places
-desk_begins p lanes rounds board entries spare places few small legal state placed =
-    let past = drop_all (length entries) entries (omega arith) in
-    record {
-      sound = record {
-        legal = legal;
-        state = state;
-        begun = omega arith;
-        front = λ lane. rw (none_answered entries lane) refl;
-        rests = rw past tt;
-        kept = omega arith;
-        wants = rw past tt;
-        room = omega arith;
-      };
-      few = few;
-      of_lanes = tt;
-      room = omega arith;
-      small = omega (arith, small);
-      ends = λ lane. rw (same_all no_loss LANE_LIMIT lane) (omega arith);
-      losses = λ lane j next. absurd (cc);
-      placed = λ lane known. let first = placed lane known in
-          record { within = first.within; before = none_answered entries lane ∙ sym first.same; here = first.here };
-    }
-
--- with a batch of which some jobs have their entries
-pub desk_resumed : (d : DeskShape) (places new : List ℕ) (jobs : List Job) (n spare cases : ℕ) → IsDesk d places → AreOfLanes d.lanes jobs →
-    n + length jobs < 4294967296 →
-    AnswersPart d.entries n jobs → length jobs ≤ spare → length jobs ≤ cases → ArePlacesBehind jobs (drop n d.entries) new →
-    IsDesk (with_room (with_batch_from d jobs n) spare cases) new
-desk_resumed d places new jobs n spare cases is of_lanes small part room more placed =
-    let begun = part.begun in
-    record {
-      sound = record {
-        legal = is.sound.legal;
-        state = is.sound.state;
-        begun = part.begun;
-        front = part.front;
-        rests = part.rests;
-        kept = is.sound.kept;
-        wants = is.sound.wants;
-        room = omega (arith, begun, more);
-      };
-      few = is.few;
-      of_lanes = of_lanes;
-      room = omega (arith, begun, room);
-      small = small;
-      ends = λ lane. rw (same_all no_loss LANE_LIMIT lane) (omega arith);
-      losses = λ lane j next. fresh_rests (with_room (with_batch_from d jobs n) spare cases) lane j.ask (same_all no_loss LANE_LIMIT lane);
-      placed = λ lane known. let there = placed lane known in record { within = there.within; before = there.before; here = there.here };
-    }

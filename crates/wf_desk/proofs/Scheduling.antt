@@ -1,11 +1,10 @@
 -- What lanes hold stays right while a schedule is gone through.
 use Rattle.std.proofs.Common.{◌≡◌, ℕ, zero, suc, ◌+◌, ◌-◌, ◌<◌, ◌≤◌, ◌⊎◌, inl, inr, Bool, true, false, List, [], ◌∷◌, ◌++◌, length, take, drop, map, get_or}
-use Rattle.std.proofs.Common.{slice_index_or, slice_set, replicate, Option, None, Some, append_assoc, append-nil, refl, sym, ap, subst, ◌∙◌, arith}
+use Rattle.std.proofs.Common.{slice_index_or, slice_set, Option, None, Some, append_assoc, append-nil, refl, sym, ap, subst, ◌∙◌, arith}
 use Rattle.std.specs.List.{filter}
 use Rattle.std.proofs.lemmas.List.{drop-append-le, drop-take, length-append, map-append, take-append-le}
 use Rattle.std.proofs.lemmas.List.Elements.{filter-append}
 use Rattle.std.proofs.Math.Seq.{drop-append_seam, take-length}
-use Rattle.wf_names.specs.declared.limits.TheConstants.{LANE_LIMIT}
 use Rattle.wf_talk.specs.declared.entry.Entry.{Entry}
 use Rattle.wf_talk.specs.declared.job.Job.{Job}
 use Rattle.wf_talk.specs.declared.reply.Reply.{Reply}
@@ -163,14 +162,6 @@ held_none d held lane are m y is = by_read (read_put held lane m None y is)
     by_read (inl put) = let no = put.1 in cc
     by_read (inr before) = are m y before
 
-none_held : (n lane : ℕ) (x : Solved) {X : Type 0} → held_by (replicate n None) lane ≡ Some x → X
-none_held zero lane x is = cc
-none_held (suc n) zero x is = cc
-none_held (suc n) (suc lane) x is = none_held n lane x is
-
-pub none_are_held : (d : DeskShape) → AreHeld d (replicate LANE_LIMIT None)
-none_are_held d lane x is = none_held LANE_LIMIT lane x is
-
 -- a task that was just taken is held
 pub begun_held : (d : DeskShape) (lane : ℕ) (x : Solved) → IsSoundDesk d → IsTask d lane x.task → Decides (book_on x.task.snap) x.task.ask x.verdict →
     IsHeld d lane x
@@ -222,12 +213,6 @@ last_placed d entries e sound same some =
     let at = placed_after (opening_state d.opening) d.rounds [] d.entries (length d.entries - 1) e sound.legal (omega (arith, some)) in
     let here = ap (λ es. (slice_index_or es (length es - 1) e).at) same in
     omega (arith, at, here, some)
-
--- a lane that holds nothing holds nothing once it is taken away
-pub none_stays : (held : List (Option Solved)) (lane : ℕ) → held_by held lane ≡ None → slice_set held lane None ≡ held
-none_stays [] lane none = refl
-none_stays (y ∷ ys) zero none = ap (λ o. o ∷ ys) (sym none)
-none_stays (y ∷ ys) (suc lane) none = ap (λ os. y ∷ os) (none_stays ys lane none)
 
 -- what a commit did, by its mark
 pub committed_done : (s : Standing) (lane : ℕ) (x : Solved) (result : Outcome) (m : Mark) (t : Standing) → m ≡ mark_of result → held_by s.held lane ≡ Some x →

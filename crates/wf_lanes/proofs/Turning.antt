@@ -1,6 +1,6 @@
 -- What turns at a table come to at the desk.
 use Rattle.std.proofs.Common.{◌≡◌, ℕ, ◌+◌, ◌-◌, ◌<◌, ◌⊎◌, inl, inr, true, false, List, [], ◌∷◌, ◌++◌, length, map, None, Some, IfSome, refl, sym, ap, subst}
-use Rattle.std.proofs.Common.{◌∙◌, arith, append-nil, append_assoc}
+use Rattle.std.proofs.Common.{◌∙◌, arith, append_assoc}
 use Rattle.std.specs.List.{Contains}
 use Rattle.std.proofs.lemmas.List.{map-append}
 use mathlib.Core.Logic.{dite}
@@ -18,7 +18,7 @@ use Rattle.wf_desk.specs.declared.outcome.Outcome.TheVariants as outcome
 use Rattle.wf_desk.specs.declared.tabled.Fixed.{Fixed}
 use Rattle.wf_desk.specs.declared.task.Task.{Task}
 use Rattle.wf_desk.specs.Desks.{DeskShape, HasAdded, next_job, served}
-use Rattle.wf_desk.specs.Commits.{HasCommitted, HasPlanned, HasServed, IsRightFor, IsTask, job_of_task}
+use Rattle.wf_desk.specs.Commits.{HasCommitted, HasPlanned, HasServed, IsRightFor, IsTask}
 use Rattle.wf_desk.proofs.DocketLaws as docket
 use Rattle.wf_desk.specs.Schedules.{HasGrown}
 use Rattle.wf_desk.specs.Tabling.{fixed_of, tagged, tagged_of}
@@ -26,8 +26,7 @@ use Rattle.wf_desk.proofs.Scheduling.{begun_held, grown_committed, grown_served,
 use Rattle.wf_lanes.specs.declared.worker.Begun.{Begun}
 use Rattle.wf_lanes.specs.declared.worker.Begun.TheVariants as begun
 use Rattle.wf_lanes.proofs.Ahead.{grown_planned}
-use Rattle.wf_lanes.specs.Workers.{HasBegun, HasBegunAt, HasEnded, HasJoined, HasMadeAll, HasLanes, HasRoom, HasSeen, HasTurned, IsBegun, IsFirst, IsIdle}
-use Rattle.wf_lanes.specs.Workers.{IsSameLane}
+use Rattle.wf_lanes.specs.Workers.{HasBegun, HasBegunAt, HasEnded, HasJoined, HasMadeAll, HasRoom, HasSeen, HasTurned, IsBegun, IsFirst, IsIdle}
 
 -- ---- entries without their lanes
 
@@ -73,17 +72,6 @@ begun_right s lane t v e (d, (seen, (task, sound))) decides fixed later =
 pub quiet_starts : {I : Type 0} (P : ℕ → Type 0) (xs ys : List (ℕ × I)) → Quiet P xs ys → StartsWith xs ys
 quiet_starts P xs ys quiet = (quiet.0, quiet.1)
 
--- the lane of the task
-pub begun_lane : (s : LaneShape Fixed Entry) (lane : ℕ) (t : Task) → IsBegun s lane t → t.lane ≡ lane
-begun_lane s lane t (d, (seen, (task, sound))) = task.lane
-
--- a lane of the table is one of the desk
-pub lane_within : (s : LaneShape Fixed Entry) (lane : ℕ) (e : DeskShape) → HasLanes s (lane + 1) → Some (fixed_of e) ≡ s.fixed → lane < e.lanes
-lane_within s lane e (f, (is, enough)) fixed =
-    let same : fixed_of e ≡ f = unsome _ _ (fixed ∙ is) in
-    let lanes : e.lanes ≡ f.lanes = ap (λ (g : Fixed). g.lanes) same in
-    omega (arith, lanes, enough)
-
 -- ---- what a turn appends
 
 grows_same : (n : ℕ) (d e : DeskShape) → e ≡ d → GrowsByOne n (tagged_of e) (tagged_of d)
@@ -98,12 +86,6 @@ grows_added n d e job place Is own added =
       ap tagged added.added ∙ map-append (λ (x : Entry). (x.lane, x)) d.entries (added.entry ∷ [])
           ∙ ap (λ k. tagged_of d ++ (k, added.entry) ∷ []) lane,
     )
-
-pub grows_committed : (n : ℕ) (d e : DeskShape) (t : Task) (v : Verdict) (result : Outcome) → t.lane ≡ n → HasCommitted d e t v result →
-    GrowsByOne n (tagged_of e) (tagged_of d)
-grows_committed n d e t v outcome.NotNext own done = grows_same n d e done.1
-grows_committed n d e t v outcome.Lost own done = inl (ap tagged (ap (λ (x : DeskShape). x.entries) done.1.1.1.1))
-grows_committed n d e t v (outcome.Recorded place) own done = grows_added n d e (job_of_task t) place _ own done.1
 
 grows_served : (d e : DeskShape) (lane : ℕ) → HasServed d e lane true → GrowsByOne lane (tagged_of e) (tagged_of d)
 grows_served d e lane (job, (next, added)) =
@@ -181,21 +163,7 @@ may_give s t d e n number take grows =
     subst (λ (x : LaneShape Fixed Entry). IfSome x.number (λ k. GrowsByOne k (tagged_of e) x.seen)) (sym take)
     (subst (λ o. IfSome o (λ k. GrowsByOne k (tagged_of e) (tagged_of d))) (sym number) grows)
 
-pub fixed_kept : (s t : LaneShape Fixed Entry) (d e : DeskShape) → Some (fixed_of d) ≡ s.fixed → t ≡ taken s d → fixed_of e ≡ fixed_of d →
-    Some (fixed_of e) ≡ t.fixed
-fixed_kept s t d e fixed take same = ap Some same ∙ fixed ∙ sym (ap (λ (x : LaneShape Fixed Entry). x.fixed) take)
-
 -- ---- turn after turn
-
-pub same_lane : (s : LaneShape Fixed Entry) → IsSameLane s s
-same_lane s = record { table = refl; number = refl; fixed = refl }
-
-pub same_then : (s t u : LaneShape Fixed Entry) → IsSameLane s t → IsSameLane t u → IsSameLane s u
-same_then s t u first later = record {
-  table = later.table ∙ first.table;
-  number = later.number ∙ first.number;
-  fixed = later.fixed ∙ first.fixed;
-}
 
 pub begun_task : (s u : LaneShape Fixed Entry) (m n : ℕ) (t : Task) → HasBegun s u n (begun.Task t) → m ≡ n → IsBegun u m t
 begun_task s u m n t (d, (e, (turned, (needed, (task, (sound, same)))))) is =
@@ -239,15 +207,6 @@ idle_made table s w next count first room some is = record {
   );
 }
 
-pub none_joined : (s : LaneShape Fixed Entry) (next count : ℕ) → HasRoom s next count → count ≡ 0 → HasJoined s s next count
-none_joined s next count room none = record {
-  fixed = refl;
-  made = let made = room.made in omega (arith, made, none);
-  those = λ n from to. absurd (omega (arith, from, to, none));
-  earlier = λ n has. has;
-  seen = ([], sym (append-nil s.seen));
-}
-
 starts_then : (xs ys zs : List (ℕ × Entry)) → StartsWith ys xs → StartsWith zs ys → StartsWith zs xs
 starts_then xs ys zs first second = (first.0 ++ second.0, second.1 ∙ ap (λ l. l ++ second.0) first.1 ∙ append_assoc xs first.0 second.0)
 
@@ -265,22 +224,7 @@ one_joined table s t u v from next count some made later idle is begins counted 
   seen = starts_then s.seen u.seen v.seen (subst (StartsWith u.seen) (ap (λ (x : LaneShape Fixed Entry). x.seen) made) later.seen) begins;
 }
 
-pub first_joined : (table : TableId) (u v from : LaneShape Fixed Entry) → IsFirst table u → v ≡ joined_lane u from → IsFirst table v
-first_joined table u v from first is = record {
-  table = ap (λ (x : LaneShape Fixed Entry). x.table) is ∙ first.table;
-  number = ap (λ (x : LaneShape Fixed Entry). x.number) is ∙ first.number;
-  out = ap (λ (x : LaneShape Fixed Entry). x.out) is ∙ first.out;
-}
-
 -- ---- the whole table
-
-pub first_is : (table : TableId) (s : LaneShape Fixed Entry) (d : DeskShape) (lanes : ℕ) → s ≡ first_lane table (fixed_of d) (tagged_of d) lanes →
-    IsFirst table s
-first_is table s d lanes is = record {
-  table = ap (λ (x : LaneShape Fixed Entry). x.table) is;
-  number = ap (λ (x : LaneShape Fixed Entry). x.number) is;
-  out = ap (λ (x : LaneShape Fixed Entry). x.out) is;
-}
 
 pub first_room : (table : TableId) (s : LaneShape Fixed Entry) (d : DeskShape) (lanes : ℕ) → s ≡ first_lane table (fixed_of d) (tagged_of d) lanes →
     lanes ≡ d.lanes → HasRoom s 0 lanes

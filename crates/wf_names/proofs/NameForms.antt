@@ -10,10 +10,7 @@ use Rattle.std.proofs.lemmas.Str.{IsUtf8-from_ascii}
 use Rattle.std.proofs.lemmas.Bool.Decides.{nat_tests}
 use Rattle.wf_names.specs.declared.limits.TheConstants.{NAME_LIMIT}
 use Rattle.wf_names.proofs.PaddedLists.{put_first}
-use Rattle.wf_names.specs.Names.{IsStored, is_name, is_name_byte, is_letter}
-
-letter_below : (b : ℕ) → is_letter b ≡ true → b < 128
-letter_below b h = grind (arith, nat_tests)
+use Rattle.wf_names.specs.Names.{IsStored, is_name, is_name_byte}
 
 byte_below : (b : ℕ) → is_name_byte b ≡ true → b < 128
 byte_below b h = grind (arith, nat_tests)

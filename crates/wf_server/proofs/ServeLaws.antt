@@ -116,19 +116,3 @@ loads_late (LineTooLong line) before after late same = same
 loads_late TooManyLines before after late same = same
 loads_late (BadInput e) before after late same = same
 loads_late TooLarge before after late same = same
-
--- loading a policy reads and writes nothing
-pub unread_counts : (fault : RunFault) (count : ℕ) → IsLoadEnding fault → CountsReads fault count count × CountsWrites fault count count
-unread_counts FileTooLong count ending = (refl, refl)
-unread_counts (Policy e) count ending = (refl, refl)
-unread_counts Load count ending = (refl, refl)
-unread_counts NoMemory count ending = (omega arith, refl)
-unread_counts Nothing count ending = absurd ending
-unread_counts Found count ending = absurd ending
-unread_counts Usage count ending = absurd ending
-unread_counts Read count ending = absurd ending
-unread_counts Write count ending = absurd ending
-unread_counts (LineTooLong line) count ending = absurd ending
-unread_counts TooManyLines count ending = absurd ending
-unread_counts (BadInput e) count ending = absurd ending
-unread_counts TooLarge count ending = absurd ending

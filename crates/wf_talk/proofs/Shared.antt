@@ -181,11 +181,5 @@ entry_crosses =
 entry_send : IsSend Entry.the_row
 entry_send = entry_crosses.0
 
-entry_sync : IsSync Entry.the_row
-entry_sync = entry_crosses.1
-
 pub journal_send : IsSend (Log.the_row Entry.the_row)
 journal_send = search (sendable, crosses, entry_send) depth 20
-
-pub journal_sync : IsSync (Log.the_row Entry.the_row)
-journal_sync = search (sendable, crosses, entry_sync) depth 20

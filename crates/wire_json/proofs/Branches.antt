@@ -19,10 +19,6 @@ pub one_more : (vs : List Value) (v : Value) (rest : List Data) → map view (vs
 one_more [] v rest = refl
 one_more (w ∷ vs) v rest = ap (λ ds. view w ∷ ds) (one_more vs v rest)
 
-pub none_more : (ds : List Data) → ds ++ [] ≡ ds
-none_more [] = refl
-none_more (d ∷ ds) = ap (λ es. d ∷ es) (none_more ds)
-
 -- a branch before the others
 pub first_branch : (p : PolicyShape) (f u : ℕ) (k : Kid) (d : Data) (rest : Kids) → d ≡ array (items_of (user_data p u ∷ kid_data p f k ∷ []))
     → branches_data p f (kid_onto k u rest) ≡ d ∷ branches_data p f rest

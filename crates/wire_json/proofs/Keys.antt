@@ -34,9 +34,6 @@ an_edit r d e h = ok_first (each (λ (_ : Unit {0}) key. check (has_form d key) 
 
 -- ---- a request that asks for an edit by its row
 
-abbrev keys_in : Data → List (List ℕ) → Result (Unit {0}) Bad
-keys_in d keys = each (λ (_ : Unit {0}) key. check (has_form d key) (Key key)) tt keys
-
 named_by : (d : Data) (o : Option (List ℕ)) (name : List ℕ) → or_fault o (Key by) ≡ Ok name → is_some o ≡ true
 named_by d (Some x) name h = refl
 named_by d None name h = cc

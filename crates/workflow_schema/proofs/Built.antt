@@ -29,10 +29,6 @@ all_of P (p ∷ ps) a b h found =
       | inr e ↦ all_of P ps a b (λ k d lt. h (suc k) d (omega arith)) e
     ]
 
--- the closed table of an order
-pub AreBefore : Pairs → List ℕ → Type 0
-AreBefore order rows = (s t : ℕ) → table_has rows s t ≡ is_before order s t
-
 pub closed_order :
     (order : Pairs) (later rows : List ℕ) → length later ≡ STEP_LIMIT →
     ((s t : ℕ) → table_has later s t ≡ set.contains order (s, t)) →

@@ -1,11 +1,11 @@
 -- What the flags of tables are after a step of the code.
 use Rattle.std.proofs.Common.{◌≡◌, ◌≢◌, ℕ, ◌+◌, ◌<◌, ◌≤◌, inl, inr, Bool, true, false, not, ◌&&◌, ◌||◌, nat_eq, nat_lt, List, length, get_or, set, refl, sym}
-use Rattle.std.proofs.Common.{ap, subst, ◌∙◌, arith, add-one, get_or-set_same, get_or-set_other}
+use Rattle.std.proofs.Common.{ap, subst, ◌∙◌, add-one, get_or-set_same, get_or-set_other}
 use Rattle.std.proofs.Math.Nat.{le_trans}
 use Rattle.std.proofs.lemmas.List.{get_or_past}
 use Rattle.std.proofs.lemmas.Bool.{cases_eq}
 use Rattle.workflow_schema.specs.Tables.{is_set, table_has, leads}
-use Rattle.basics.proofs.Booleans.{or-false, eq_same, eq_other, lt_yes, lt_no, lt_back, lt_back_no}
+use Rattle.basics.proofs.Booleans.{or-false, eq_same, eq_other, lt_no, lt_back, lt_back_no}
 use Rattle.workflow_schema.proofs.Words.{is_set-zero}
 
 pub table_past : (rows : List ℕ) (a b : ℕ) → length rows ≤ a → table_has rows a b ≡ false
@@ -39,9 +39,6 @@ flag_cleared rows row bit word h is a b =
           ∙ sym (ap (λ t. not (t && nat_eq b bit) && table_has rows a b) (eq_other a row ne))
     ]
 
-before_next : (a n : ℕ) → a ≢ n → nat_lt a n ≡ nat_lt a (n + 1)
-before_next a n h = grind arith
-
 -- a table in which the rows before a place are joined through row k
 abbrev pub joined_before : List ℕ → ℕ → ℕ → ℕ → ℕ → Bool
 joined_before old k place a b = table_has old a b || (nat_lt a place && (table_has old a k && table_has old k b))
@@ -51,26 +48,6 @@ AreJoined old rows k place = (a b : ℕ) → table_has rows a b ≡ joined_befor
 
 join_none : (old : List ℕ) (k a b : ℕ) (place : ℕ) → place ≤ a → joined_before old k place a b ≡ table_has old a b
 join_none old k a b place h = ap (λ t. table_has old a b || (t && (table_has old a k && table_has old k b))) (lt_no a place h) ∙ or-false _
-
-pub join_start : (old : List ℕ) (k : ℕ) → AreJoined old old k 0
-join_start old k a b = sym (join_none old k a b 0 (omega arith))
-
-pub join_step :
-    (old rows : List ℕ) (k place word : ℕ) → place < length rows → AreJoined old rows k place →
-    ((b : ℕ) → is_set word b ≡ (is_set (get_or rows place 0) b || (is_set (get_or rows place 0) k && table_has old k b))) →
-    AreJoined old (set rows place word) k (place + 1)
-join_step old rows k place word h joined is a b =
-    elim (cases_eq a place) [
-      | inl e ↦
-          subst (λ c. table_has (set rows place word) c b ≡ joined_before old k (place + 1) c b) (sym e)
-          (ap (λ w. is_set w b) (get_or-set_same rows place word 0 h) ∙ is b
-          ∙ (λ i. (joined place b ∙ join_none old k place b place (omega arith)) i ||
-          ((joined place k ∙ join_none old k place k place (omega arith)) i && table_has old k b))
-          ∙ sym (ap (λ t. table_has old place b || (t && (table_has old place k && table_has old k b))) (lt_yes place (place + 1) (omega arith))))
-      | inr ne ↦
-          ap (λ w. is_set w b) (get_or-set_other rows place a word 0 ne) ∙ joined a b
-          ∙ ap (λ t. table_has old a b || (t && (table_has old a k && table_has old k b))) (before_next a place ne)
-    ]
 
 pub join_end : (old rows : List ℕ) (k place : ℕ) → length rows ≤ place → AreJoined old rows k place → (a b : ℕ) →
     table_has rows a b ≡ (table_has old a b || (table_has old a k && table_has old k b))

@@ -1,11 +1,11 @@
 -- What a search knows of each user.
 use Rattle.std.proofs.Common.{◌≡◌, ◌≢◌, refl, sym, ap, ◌∙◌, ℕ, zero, suc, ◌+◌, ◌<◌, ◌≤◌, Bool, true, false, not, ◌&&◌, ◌||◌, ◌==◌, nat_lt, List, [], ◌∷◌}
-use Rattle.std.proofs.Common.{length, Option, None, Some, slice_get, slice_set, if◌then◌else◌, subst, replicate, leb, ◌⊎◌, inl, inr, arith}
+use Rattle.std.proofs.Common.{length, Option, None, Some, slice_get, slice_set, if◌then◌else◌, subst, leb, ◌⊎◌, inl, inr, arith}
 use Rattle.std.proofs.lemmas.Bool.{false≢true}
 use Rattle.std.proofs.lemmas.Bool.Decides.{leb_tells}
-use Rattle.std.proofs.lemmas.List.{get_or-replicate, get_or_past, length-replicate}
+use Rattle.std.proofs.lemmas.List.{length-replicate}
 use Rattle.std.proofs.lemmas.Option.{slice_get_within}
-use Rattle.basics.proofs.Booleans.{and-false, and_both, and_swap, eq_back, eq_is, lt_back, lt_no, lt_yes, not_true, or-false, same_by}
+use Rattle.basics.proofs.Booleans.{and-false, and_both, eq_back, eq_is, lt_back, lt_no, lt_yes, not_true, or-false, same_by}
 use Rattle.wf_names.specs.declared.limits.TheConstants.{STEP_LIMIT}
 use Rattle.constraint_forms.specs.declared.rule.Rule.{Rule}
 use Rattle.constraint_forms.specs.Flags.{word_of}
@@ -14,11 +14,11 @@ use Rattle.constraint_forms.specs.Rules.{any_read, reads}
 use Rattle.constraint_forms.proofs.Reading.{all_as_each, each_read, some_read}
 use Rattle.constraint_forms.proofs.Members.{none_member}
 use Rattle.policy_book.specs.Plans.{Problem}
-use Rattle.policy_book.specs.Twins.{agree, are_related_alike, are_twins, has_no_step, has_twin, is_alike_to, is_given_to, is_rule_alike, may_do_the_same}
+use Rattle.policy_book.specs.Twins.{agree, are_related_alike, are_twins, has_no_step, has_twin, is_alike_to, is_rule_alike, may_do_the_same}
 use Rattle.policy_book.specs.Twins.{treats_alike}
 use Rattle.certificate_check.proofs.Below.{all_pass, one_fails, same_agree}
 use Rattle.certificate_check.proofs.TwinLaws.{mean_twins, twins_chain, twins_mean, twins_turned}
-use Rattle.certificate_check.proofs.Assigned.{given, none_not_some}
+use Rattle.certificate_check.proofs.Assigned.{given}
 use Rattle.wsp_solver.specs.Crews.{AreDuties, AreFirstTwins, IsFirstTwin, duties_below, duties_of, is_told_apart, reads_as, tells_apart}
 use Rattle.wsp_solver.proofs.Members.{length_set, member_added, passing_more}
 
@@ -82,23 +82,6 @@ word_one (false ∷ xs) (true ∷ ys) long same = absurd (omega (arith, same))
 
 -- ---- twins where nothing is assigned
 
-pub idle_when_free : (a : List (Option ℕ)) (u : ℕ) → ((s : ℕ) → user_at a s ≡ None) → has_no_step a u ≡ true
-idle_when_free a u free = all_pass (length a) (λ s. not (is_given_to u (user_at a s))) (λ s below. ap (λ o. not (is_given_to u o)) (free s))
-
--- users without a step are twins exactly where they are where nothing is assigned
-pub idle_twins : (p : Problem) (a : List (Option ℕ)) (u v : ℕ) → has_no_step a u ≡ true → are_twins p a u v ≡ (are_twins p [] u v && has_no_step a v)
-idle_twins p a u v idle =
-    ap (λ b. (b && has_no_step a v) && (may_do_the_same p u v && are_related_alike p u v)) idle
-    ∙ and_swap (has_no_step a v) (may_do_the_same p u v && are_related_alike p u v)
-
-pub twins_when_free : (p : Problem) (a : List (Option ℕ)) (u v : ℕ) → ((s : ℕ) → user_at a s ≡ None) → are_twins p a u v ≡ are_twins p [] u v
-twins_when_free p a u v free = idle_twins p a u v (idle_when_free a u free) ∙ ap (λ b. are_twins p [] u v && b) (idle_when_free a v free) ∙
-    and_true (are_twins p [] u v)
-  where
-    and_true : (b : Bool) → (b && true) ≡ b
-    and_true true = refl
-    and_true false = refl
-
 pub busy_no_twin : (p : Problem) (a : List (Option ℕ)) (u v : ℕ) → has_no_step a u ≡ false → are_twins p a u v ≡ false
 busy_no_twin p a u v busy = ap (λ b. (b && has_no_step a v) && (may_do_the_same p u v && are_related_alike p u v)) busy
 
@@ -118,13 +101,6 @@ twins_own p u = mean_twins p [] u u (record {
   where
     none_some : (u : ℕ) → None ≡ Some u → ⊥
     none_some u e = cc
-
--- a user is a twin of one of two twins exactly where of the other
-pub twins_of_twins : (p : Problem) (u v w : ℕ) → u < p.users → v < p.users → w < p.users → are_twins p [] v u ≡ true → are_twins p [] w v ≡ are_twins p [] w u
-twins_of_twins p u v w u_in v_in w_in twins =
-    same_by (are_twins p [] w v) (are_twins p [] w u)
-    (λ h. twins_chain p [] w v u w_in v_in u_in h twins)
-    (λ h. twins_chain p [] w u v w_in u_in v_in h (turned p v u twins))
 
 -- users with the same steps are twins exactly where each relation treats them alike
 pub alike_by_duties : (p : Problem) (duties : List (List Bool)) (u v : ℕ) → u < p.users → v < p.users → p.steps ≤ STEP_LIMIT → AreDuties p duties →
@@ -206,16 +182,6 @@ one_first_twin p u v c d u_in v_in own other = same_by (c == d) (are_twins p [] 
         let low = no_later p u c d own (twins_chain p [] d v u d_in v_in u_in other.twin (turned p u v twins)) in
         let high = no_later p v d c other (twins_chain p [] c u v c_in u_in v_in own.twin twins) in
         eq_is c d (omega (arith, low, high))
-
-pub none_known : (p : Problem) (n : ℕ) → AreFirstTwins p (replicate n None)
-none_known p n u first known = at (leb_tells n u)
-  where
-    none : Option ℕ
-    none = None
-
-    at : ((leb n u ≡ true) × (n ≤ u)) ⊎ ((leb n u ≡ false) × (u < n)) → IsFirstTwin p u first
-    at (inl past) = none_not_some first (sym (get_or_past (replicate n None) u None (omega (arith, past.1, length-replicate n none))) ∙ known)
-    at (inr below) = none_not_some first (sym (get_or-replicate n u None None below.1) ∙ known)
 
 pub one_more_known : (p : Problem) (classes : List (Option ℕ)) (u first : ℕ) → AreFirstTwins p classes → IsFirstTwin p u first →
     AreFirstTwins p (slice_set classes u (Some first))

@@ -1,20 +1,14 @@
 -- Sets of steps with one more, and what trees mention.
-use Rattle.std.proofs.Common.{◌≡◌, ◌≢◌, refl, sym, ap, ◌∙◌, ℕ, zero, suc, ◌+◌, ◌<◌, ◌≤◌, Bool, true, false, ◌&&◌, ◌||◌, ◌==◌, nat_lt, Option, None, Some, List}
+use Rattle.std.proofs.Common.{◌≡◌, ◌≢◌, refl, sym, ap, ◌∙◌, ℕ, ◌+◌, ◌<◌, ◌≤◌, Bool, true, false, ◌&&◌, ◌||◌, ◌==◌, nat_lt, List}
 use Rattle.std.proofs.Common.{[], ◌∷◌, length, slice_set, ◌⊎◌, inl, inr, eqb, leb, arith}
 use Rattle.std.proofs.lemmas.Bool.Decides.{eqb_tells, leb_tells}
 use Rattle.std.proofs.lemmas.List.{get_or-set_same, get_or-set_other, length-set}
 use Rattle.constraint_forms.specs.declared.rule.Rule.{Rule}
 use Rattle.constraint_forms.specs.Assigned.{is_member}
-use Rattle.constraint_forms.specs.Rules.{names, IsRuleOf}
-use Rattle.basics.proofs.Booleans.{and-false, bool_cases, eq_back, eq_is, lt_no, lt_yes, or-false, same_by}
-use Rattle.refutation_tree.specs.Shapes.{Shape, Kids, holder, no_kids, tree_kid, twin_kid, joined}
-use Rattle.policy_book.specs.Refuting.{is_rule_naming, mentions, any_mentions}
+use Rattle.basics.proofs.Booleans.{and-false, lt_no, lt_yes, or-false}
+use Rattle.refutation_tree.specs.Shapes.{Shape, Kids, no_kids, tree_kid, twin_kid, joined}
+use Rattle.policy_book.specs.Refuting.{mentions, any_mentions}
 use Rattle.wsp_solver.specs.Searches.{AreMentioned, AreMentionedIn}
-
-pub member_past : (set : List Bool) (t : ℕ) → length set ≤ t → is_member set t ≡ false
-member_past [] t past = refl
-member_past (b ∷ bs) zero past = absurd (omega (arith, past))
-member_past (b ∷ bs) (suc t) past = member_past bs t (omega (arith, past))
 
 pub length_set : (set : List Bool) (s : ℕ) (b : Bool) → length (slice_set set s b) ≡ length set
 length_set set s b = length-set set s b
@@ -62,25 +56,6 @@ passing_more p rest n t = at (eqb_tells t n) (leb_tells n t)
         ap (λ b. (rest || (b && p t)) || (p n && t == n)) (lt_no t n past.1)
         ∙ ap (λ b. (rest || false) || (p n && b)) apart.0 ∙ gone false rest (p n)
         ∙ ap (λ b. rest || (b && p t)) (sym (lt_no t (n + 1) (omega (arith, past.1, apart.1))))
-
-pub eq_turned : (m n : ℕ) → (m == n) ≡ (n == m)
-eq_turned m n = same_by (m == n) (n == m) (λ e. eq_is n m (sym (eq_back m n e))) (λ e. eq_is m n (sym (eq_back n m e)))
-
--- the set of one step has what its leaf mentions
-pub holder_mentioned : (none set : List Bool) (s : ℕ) (rules : List Rule) → ((t : ℕ) → is_member none t ≡ false) →
-    ((t : ℕ) → is_member set t ≡ (is_member none t || (true && t == s))) → AreMentioned rules (holder s) set
-holder_mentioned none set s rules empty added t = sym (added t ∙ ap (λ b. b || t == s) (empty t))
-
--- a rule in range names the steps of the set of its steps
-pub rule_mentioned : (n most : ℕ) (s : ℕ) (o : Option Rule) (set : List Bool) → n ≤ most → ((r : Rule) → o ≡ Some r → IsRuleOf n r) →
-    (o ≡ None → is_member set s ≡ false) → ((r : Rule) → o ≡ Some r → is_member set s ≡ (nat_lt s most && names r s)) → is_rule_naming s o ≡ is_member set s
-rule_mentioned n most s None set few formed empty known = sym (empty refl)
-rule_mentioned n most s (Some r) set few formed empty known = at (bool_cases (names r s))
-  where
-    at : (names r s ≡ true) ⊎ (names r s ≡ false) → names r s ≡ is_member set s
-    at (inl named) =
-        named ∙ sym (known r refl ∙ ap (λ b. b && names r s) (lt_yes s most (omega (arith, few, formed r refl s named))) ∙ named)
-    at (inr not_named) = not_named ∙ sym (known r refl ∙ ap (λ b. nat_lt s most && b) not_named ∙ and-false (nat_lt s most))
 
 or_assoc : (a b c : Bool) → (a || (b || c)) ≡ ((a || b) || c)
 or_assoc true b c = refl

@@ -99,11 +99,6 @@ quiet_again p a done s others tried = record {
 
 -- ---- branches
 
-pub users_start : (test : ℕ → Bool) (n : ℕ) → AreOfUsersBelow test 0 n no_kids
-users_start test n rest have =
-    let all : n - 0 ≡ n = omega arith in
-    ap (λ k. have_users (passing test 0 k) rest) (sym all) ∙ have
-
 pub users_skip : (test : ℕ → Bool) (u n : ℕ) (front : Kids) → u < n → test u ≡ false → AreOfUsersBelow test u n front → AreOfUsersBelow test (u + 1) n front
 users_skip test u n front below fails so_far rest have =
     let skip = passing_at test u n below ∙ ap (λ b. if b then u ∷ passing test (u + 1) (n - (u + 1)) else passing test (u + 1) (n - (u + 1))) fails in

@@ -1,7 +1,7 @@
 -- The branches of a node that are trimmed so far.
 use Rattle.std.proofs.Common.{◌≡◌, refl, sym, ap, subst, ◌∙◌, ℕ, ◌+◌, ◌<◌, ◌≤◌, Bool, true, false, not, ◌&&◌, ◌||◌, ◌==◌, List, [], ◌∷◌, length, get_or, take}
 use Rattle.std.proofs.Common.{drop, Option, Some, slice_set, ◌⊎◌, inl, inr, arith}
-use Rattle.std.proofs.lemmas.Bool.{false≢true, and_from}
+use Rattle.std.proofs.lemmas.Bool.{and_from}
 use Rattle.std.proofs.lemmas.List.{drop_all}
 use Rattle.basics.proofs.Booleans.{and_both, differ, or_cases, or_left, or_right}
 use Rattle.constraint_forms.specs.Assigned.{is_member}
@@ -39,20 +39,6 @@ pub record IsTrimmedFront (p : Problem) (a : List (Option ℕ)) (done : List Boo
   pub left : all_refute p a done s (tree_users [] (take i bs)) (kids_of_items (drop i bs)) ≡ true
   pub few : nodes_of_kids kept + nodes_of_kids (kids_of_items (drop i bs)) ≤ nodes_of_kids (kids_of_items bs)
   pub said : AreMentionedIn p.rules kept steps
-
-pub front_start : (p : Problem) (a : List (Option ℕ)) (done : List Bool) (s : ℕ) (bs : List Branch) (none : List Bool) →
-    have_users (authorised_users p s) (kids_of_items bs) ≡ true → all_refute p a done s [] (kids_of_items bs) ≡ true →
-    ((t : ℕ) → is_member none t ≡ false) → IsTrimmedFront p a done s bs 0 no_kids none
-front_start p a done s bs none users each empty = record {
-  users = users;
-  refute = refl;
-  lean = refl;
-  known = tt;
-  covered = λ w h. absurd (false≢true h);
-  left = each;
-  few = omega arith;
-  said = λ t. sym (empty t);
-}
 
 -- which users branches have does not depend on what is said of them
 swap_first : (us : List ℕ) (kid : Kid) (u : ℕ) (rest : Kids) (t : Shape) → have_users us (kid_onto kid u rest) ≡ have_users us (tree_kid u t rest)

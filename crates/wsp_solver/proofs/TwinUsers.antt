@@ -88,12 +88,6 @@ first_alone p a u (v ∷ vs) first low =
         let both = and_both (has_no_step a u && has_no_step a v) (may_do_the_same p u v && are_related_alike p u v) twins in
         false≢true (sym (first.least v below) ∙ twins_turned_same p v u ∙ both.1)
 
--- branches of users below n are of users below n + 1
-pub below_more : (n : ℕ) (kids : Kids) → AreUsersBelow n kids → AreUsersBelow (n + 1) kids
-below_more n no_kids h = tt
-below_more n (tree_kid u t kids) h = (omega (arith, h.0), below_more n kids h.1)
-below_more n (twin_kid u v kids) h = (omega (arith, h.0), below_more n kids h.1)
-
 -- branches of ascending users stand before one of a greater user
 pub earlier_below : (test : ℕ → Bool) (k n u : ℕ) (t : Shape) (rest front : Kids) →
     have_users (passing test k n) (joined front (tree_kid u t rest)) ≡ true → AreUsersBelow u front × (k ≤ u)
