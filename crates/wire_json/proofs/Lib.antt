@@ -7,3 +7,4 @@ pub mod Lines
 pub mod Flats
 pub mod Lengths
 pub mod RequestLaws
+pub mod Heads

@@ -16,16 +16,9 @@ added_2 x0 x1 x2 a b e1 e2 = e2 ∙ ap (λ x. x ++ b) e1 ∙ append_assoc x0 a b
 pub added_3 : (x0 x1 x2 x3 a b c : List ℕ) → x1 ≡ x0 ++ a → x2 ≡ x1 ++ b → x3 ≡ x2 ++ c → x3 ≡ x0 ++ (a ++ (b ++ c))
 added_3 x0 x1 x2 x3 a b c e1 e2 e3 = added_2 x0 x1 x3 a (b ++ c) e1 (added_2 x1 x2 x3 b c e2 e3)
 
-pub added_4 : (x0 x1 x2 x3 x4 a b c d : List ℕ) → x1 ≡ x0 ++ a → x2 ≡ x1 ++ b → x3 ≡ x2 ++ c → x4 ≡ x3 ++ d → x4 ≡ x0 ++ (a ++ (b ++ (c ++ d)))
-added_4 x0 x1 x2 x3 x4 a b c d e1 e2 e3 e4 = added_2 x0 x1 x4 a (b ++ (c ++ d)) e1 (added_3 x1 x2 x3 x4 b c d e2 e3 e4)
-
 pub added_5 : (x0 x1 x2 x3 x4 x5 a b c d e : List ℕ) → x1 ≡ x0 ++ a → x2 ≡ x1 ++ b → x3 ≡ x2 ++ c → x4 ≡ x3 ++ d → x5 ≡ x4 ++ e →
     x5 ≡ x0 ++ (a ++ (b ++ (c ++ (d ++ e))))
 added_5 x0 x1 x2 x3 x4 x5 a b c d e e1 e2 e3 e4 e5 = added_3 x0 x1 x2 x5 a b (c ++ (d ++ e)) e1 e2 (added_3 x2 x3 x4 x5 c d e e3 e4 e5)
-
-pub added_6 : (x0 x1 x2 x3 x4 x5 x6 a b c d e f : List ℕ) → x1 ≡ x0 ++ a → x2 ≡ x1 ++ b → x3 ≡ x2 ++ c → x4 ≡ x3 ++ d → x5 ≡ x4 ++ e → x6 ≡ x5 ++ f →
-    x6 ≡ x0 ++ (a ++ (b ++ (c ++ (d ++ (e ++ f)))))
-added_6 x0 x1 x2 x3 x4 x5 x6 a b c d e f e1 e2 e3 e4 e5 e6 = added_3 x0 x1 x2 x6 a b (c ++ (d ++ (e ++ f))) e1 e2 (added_4 x2 x3 x4 x5 x6 c d e f e3 e4 e5 e6)
 
 pub added_7 : (x0 x1 x2 x3 x4 x5 x6 x7 a b c d e f g : List ℕ) → x1 ≡ x0 ++ a → x2 ≡ x1 ++ b → x3 ≡ x2 ++ c → x4 ≡ x3 ++ d → x5 ≡ x4 ++ e → x6 ≡ x5 ++ f →
     x7 ≡ x6 ++ g

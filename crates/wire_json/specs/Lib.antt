@@ -5,7 +5,7 @@ pub mod Words
 pub mod Objects
 pub mod Plain
 pub mod Entries
-pub mod Names
+pub mod Pieces
 pub mod Trees
 pub mod Replies
 pub mod Findings

@@ -5,6 +5,7 @@ mod absences;
 mod change;
 mod denial;
 mod entry;
+mod fill;
 mod finding;
 mod flat;
 pub mod laws;
@@ -21,7 +22,7 @@ mod word;
 
 pub use absences::{write_absence, write_family};
 pub use finding::{push_plan_line, push_tree_line};
-pub use reply::{push_line, write_entry};
+pub use reply::push_line;
 pub use request::{Asked, RequestReader, read_request};
 pub use tree::tree_value;
 pub use value::read_value;

@@ -1,55 +1,49 @@
 //! Writing entries.
-ghost use Rattle.std.specs.Prelude.{◌≡◌, ◌++◌, codes, map, IfOk, OnOk};
+ghost use Rattle.std.specs.Prelude.{◌≡◌, ◌++◌, codes, map, OnOk};
 ghost use Rattle.serde_json.specs.Data.{boolean, number, unsigned, array};
 ghost use Rattle.serde_json.specs.View.{items_of};
 ghost use Rattle.serde_json.specs.Written.{comma_if, compact_text};
 ghost use Rattle.wire_json.specs.Entries.{single, named, plan_data, seen_data, phase_data};
 ghost use Rattle.wire_json.specs.Entries.{bad_data};
 ghost use Rattle.wire_json.specs.Replies.{denial_data, face_data, again_data, reply_data};
-ghost use Rattle.wire_json.specs.Replies.{entry_data, entry_text};
+ghost use Rattle.wire_json.specs.Replies.{entry_text};
+ghost use Rattle.wire_json.specs.Pieces.{head_text};
 
 use crate::denial::push_denial;
+use crate::fill::{put_bytes, put_number};
 use crate::text::{
     push, push_case, push_comma, push_name, push_name_in, push_number, push_plan, push_quoted,
 };
 use crate::views::{push_what_if, push_work};
 use policy_book::{Plan, Policy};
-use std::alloc::{AllocError, Global};
+use std::alloc::AllocError;
 use wf_names::{CaseId, FlowId, Name, Phase, StepState};
-use wf_talk::{Bad, Denial, Entry, Face, Line, Reply, States};
+use wf_talk::{Bad, Denial, Entry, Face, Reply, States};
 
-// The room that most lines need.
-const LINE_ROOM: usize = 256;
-
-/// The line that is written for an entry, with its line end. A number that names no user or step
-/// of the policy is written as an empty text.
-pub fn write_entry(alloc: Global, p: &Policy, e: &Entry) -> Result<Line, AllocError>
-    ensures { IfOk result (λ line. line ≡ entry_text p.now e.now) }
-{
-    let mut out = Vec::with_capacity(alloc, LINE_ROOM)?;
-    push_line(&mut out, p, e)?;
-    Ok(Line::from_vec(out))
-}
+// The room that an entry's numbers and their keys need.
+const HEAD_ROOM: usize = 64;
 
 /// Adds the line that is written for an entry.
 #[tactic(auto, unfolding(crate::specs::Replies::entry_text))]
 pub fn push_line(out: &mut Vec<u8>, p: &Policy, e: &Entry) -> Result<(), AllocError>
     ensures { OnOk result (out.new.items ≡ out.old.items ++ entry_text p.now e.now) }
 {
-    push_entry(out, p, e)?;
-    push(out, b"\n")?;
+    push_head(out, e)?;
+    push_reply(out, p, &e.reply)?;
+    push(out, b"}\n")?;
     Ok(())
 }
 
-fn push_entry(out: &mut Vec<u8>, p: &Policy, e: &Entry) -> Result<(), AllocError>
-    ensures { OnOk result (out.new.items ≡ out.old.items ++ compact_text (entry_data p.now e.now)) }
+// Adds what stands before the reply.
+fn push_head(out: &mut Vec<u8>, e: &Entry) -> Result<(), AllocError>
+    ensures { OnOk result (out.new.items ≡ out.old.items ++ head_text e.now) }
 {
-    push_number(out, b"{\"at\":", e.at)?;
-    push_number(out, b",\"lane\":", e.lane as u32)?;
-    push_number(out, b",\"line\":", e.line)?;
-    push(out, b",\"reply\":")?;
-    push_reply(out, p, &e.reply)?;
-    push(out, b"}")?;
+    let mut cells = [0; HEAD_ROOM];
+    let reply = put_bytes(&mut cells, HEAD_ROOM, b",\"reply\":");
+    let line = put_number(&mut cells, reply, b",\"line\":", e.line);
+    let lane = put_number(&mut cells, line, b",\"lane\":", e.lane as u32);
+    let at = put_number(&mut cells, lane, b"{\"at\":", e.at);
+    push(out, &cells[at..])?;
     Ok(())
 }
 

@@ -1,15 +1,18 @@
 //! Writing the parts of a line.
-ghost use Rattle.std.specs.Prelude.{◌≡◌, ◌++◌, ◌∷◌, [], decimal, slice_index_or, IsTrue, OnOk};
+ghost use Rattle.std.specs.Prelude.{◌≡◌, ◌<◌, ◌++◌, length, decimal, IsTrue, OnOk};
 ghost use Rattle.serde_json.specs.Written.{comma_if, compact_text};
-ghost use Rattle.json.specs.Print.{escape, quoted};
+ghost use Rattle.json.specs.Print.{quoted};
 ghost use Rattle.wf_names.specs.Names.{is_name};
 ghost use Rattle.wire_json.specs.Entries.{named, names_data, plan_data};
-ghost use Rattle.wire_json.specs.Names.{name_opening, names_end};
 
+use crate::fill::{put_byte, put_name};
 use itoa::Buffer;
 use policy_book::Plan;
 use std::alloc::AllocError;
-use wf_names::{CaseId, Name, NameTable, RoleId, StepId};
+use wf_names::{CaseId, NAME_LIMIT, Name, NameTable, RoleId, STEP_LIMIT, StepId};
+
+// The room that the names of a plan's users need, each in quotes and with a comma.
+const PLAN_ROOM: usize = STEP_LIMIT * (NAME_LIMIT + 3) + 2;
 
 /// Adds bytes.
 #[inline(always)]
@@ -88,58 +91,29 @@ pub(crate) fn push_plan(out: &mut Vec<u8>, users: &NameTable, plan: &Plan) -> Re
     ensures { OnOk result (out.new.items ≡ out.old.items ++ compact_text
         (plan_data users.now.names plan.now)) }
 {
-    'users: for s in 0..plan.len() {
-        push_open_name(out, s > 0, users, plan.at(StepId(s)).0)?;
-    }
-    push_names_end(out, plan.len() > 0)
-}
-
-// Adds one more name of a list without the quote that closes it, which is added with what follows.
-fn push_open_name(
-    out: &mut Vec<u8>,
-    later: bool,
-    names: &NameTable,
-    n: u16,
-) -> Result<(), AllocError>
-    ensures { OnOk result (out.new.items ≡ out.old.items ++
-        (name_opening later ++ escape (slice_index_or names.now.names n []))) }
-{
-    push_name_opening(out, later)?;
-    push_unquoted(out, names, n)?;
-    Ok(())
-}
-
-// Adds what stands before a name of a list.
-fn push_name_opening(out: &mut Vec<u8>, later: bool) -> Result<(), AllocError>
-    ensures { OnOk result (out.new.items ≡ out.old.items ++ name_opening later) }
-{
-    if later {
-        push(out, b"\",\"")
-    } else {
-        push(out, b"[\"")
-    }
-}
-
-// Adds the name with a number without quotes; nothing where there is none.
-fn push_unquoted(out: &mut Vec<u8>, names: &NameTable, n: u16) -> Result<(), AllocError>
-    ensures { OnOk result (out.new.items
-        ≡ out.old.items ++ escape (slice_index_or names.now.names n [])) }
-{
-    if n < names.len() {
-        push_bare(out, &names.name(n))?;
-    }
-    Ok(())
-}
-
-// Adds the end of a list of names that has some or none.
-fn push_names_end(out: &mut Vec<u8>, some: bool) -> Result<(), AllocError>
-    ensures { OnOk result (out.new.items ≡ out.old.items ++ names_end some) }
-{
-    if some {
-        push(out, b"\"]")
-    } else {
+    if plan.len() == 0 {
         push(out, b"[]")
+    } else {
+        push_users(out, users, plan)
     }
+}
+
+// Adds the names of a plan's users, of whom there are some.
+fn push_users(out: &mut Vec<u8>, users: &NameTable, plan: &Plan) -> Result<(), AllocError>
+    requires { 0 < length plan.now }
+    ensures { OnOk result (out.new.items ≡ out.old.items ++ compact_text
+        (plan_data users.now.names plan.now)) }
+{
+    let mut cells = [0; PLAN_ROOM];
+    let count = plan.len();
+    let mut start = put_byte(&mut cells, PLAN_ROOM, b']');
+    'users: for s in 0..count {
+        start = put_name(&mut cells, start, users, plan.at(StepId(count - 1 - s)).0);
+    }
+    // The comma of the first name gives way to the bracket.
+    let whole = put_byte(&mut cells, start + 1, b'[');
+    push(out, &cells[whole..])?;
+    Ok(())
 }
 
 /// Adds the names of roles.

@@ -1,0 +1,93 @@
+//! Filling a buffer from its end to its start.
+ghost use Rattle.std.specs.Prelude.{◌≡◌, ◌+◌, ◌≤◌, ◌<◌, ◌∷◌, ◌++◌, [], length, drop, decimal};
+ghost use Rattle.std.specs.Prelude.{slice_index_or};
+ghost use Rattle.wf_names.specs.declared.limits.TheConstants.{NAME_LIMIT};
+ghost use Rattle.serde_json.specs.Written.{compact_text};
+ghost use Rattle.json.specs.Print.{escape};
+ghost use Rattle.wire_json.specs.Entries.{named};
+
+use itoa::write_digits;
+use wf_names::{Name, NameTable};
+
+/// Puts a byte before those from `end` on; where it stands.
+#[inline(always)]
+pub(crate) fn put_byte(cells: &mut [u8], end: usize, byte: u8) -> usize
+    requires room { 0 < end }
+    requires within { end ≤ length cells.old }
+    ensures start { result + 1 ≡ end }
+    ensures written { drop result cells.new ≡ byte ∷ drop end cells.old }
+{
+    cells[end - 1] = byte;
+    end - 1
+}
+
+/// Puts bytes before those from `end` on; where they start.
+#[inline(always)]
+pub(crate) fn put_bytes(cells: &mut [u8], end: usize, bytes: &[u8]) -> usize
+    requires room { length bytes.now ≤ end }
+    requires within { end ≤ length cells.old }
+    ensures start { result + length bytes.now ≡ end }
+    ensures written { drop result cells.new ≡ bytes.now ++ drop end cells.old }
+{
+    let start = end - bytes.len();
+    cells[start..end].copy_from_slice(bytes);
+    start
+}
+
+/// Puts bytes and the digits of a number before the bytes from `end` on; where they start.
+#[inline(always)]
+pub(crate) fn put_number(cells: &mut [u8], end: usize, before: &[u8], n: u32) -> usize
+    requires room { length before.now + 10 ≤ end }
+    requires within { end ≤ length cells.old }
+    ensures start { result + length before.now ≤ end }
+    ensures short { end ≤ result + (length before.now + 10) }
+    ensures written { drop result cells.new ≡ before.now ++ (decimal n ++ drop end cells.old) }
+{
+    let digits = write_digits(n as u64, cells, end);
+    put_bytes(cells, digits, before)
+}
+
+/// Puts a comma and the name with a number, as text, before the bytes from `end` on; where they
+/// start. The text is empty where there is no such name.
+pub(crate) fn put_name(cells: &mut [u8], end: usize, names: &NameTable, n: u16) -> usize
+    requires room { NAME_LIMIT + 3 ≤ end }
+    requires within { end ≤ length cells.old }
+    ensures start { result ≤ end }
+    ensures short { end ≤ result + (NAME_LIMIT + 3) }
+    ensures written { drop result cells.new
+        ≡ 44 ∷ (compact_text (named names.now.names n) ++ drop end cells.old) }
+{
+    let closing = put_byte(cells, end, b'"');
+    let bare = put_unquoted(cells, closing, names, n);
+    let opening = put_byte(cells, bare, b'"');
+    put_byte(cells, opening, b',')
+}
+
+// Puts the name with a number, or nothing where there is none.
+#[inline(always)]
+fn put_unquoted(cells: &mut [u8], end: usize, names: &NameTable, n: u16) -> usize
+    requires room { NAME_LIMIT ≤ end }
+    requires within { end ≤ length cells.old }
+    ensures start { result ≤ end }
+    ensures short { end ≤ result + NAME_LIMIT }
+    ensures written { drop result cells.new
+        ≡ escape (slice_index_or names.now.names n []) ++ drop end cells.old }
+{
+    if n < names.len() {
+        put_bare(cells, end, &names.name(n))
+    } else {
+        end
+    }
+}
+
+// Puts a name.
+#[inline(always)]
+fn put_bare(cells: &mut [u8], end: usize, name: &Name) -> usize
+    requires room { NAME_LIMIT ≤ end }
+    requires within { end ≤ length cells.old }
+    ensures start { result ≤ end }
+    ensures short { end ≤ result + NAME_LIMIT }
+    ensures written { drop result cells.new ≡ escape name.now ++ drop end cells.old }
+{
+    put_bytes(cells, end, name.as_str().as_bytes())
+}
