@@ -1,6 +1,8 @@
 -- Inside: how reading a line goes on, step by step.
-use Rattle.std.specs.Prelude.{◌≡◌, ℕ, suc, ◌+◌, ◌-◌, ◌*◌, ◌<◌, true, false, List, length, take}
-use Rattle.std.specs.Prelude.{drop, Option, None, Some}
+use Rattle.std.specs.Prelude.{◌≡◌, ℕ, suc, ◌+◌, ◌-◌, ◌*◌, ◌<◌, ◌≤◌, true, false, List, length}
+use Rattle.std.specs.Prelude.{take, drop, Option, None, Some, Result, Ok, Err}
+use Rattle.wf_outside.specs.Outside.{Rose}
+use Rattle.wf_outside.specs.declared.source.Failed.{Failed}
 use Rattle.line_reader.specs.declared.read.Read.{Read}
 use Rattle.line_reader.specs.Reader.{ReaderShape, HasSeen, pending, first_line, behind_line}
 use Rattle.line_reader.specs.Reader.{has_end}
@@ -29,7 +31,12 @@ abbrev pub CountsStep : Option Read → ℕ → ℕ → Type 0
 CountsStep None before after = after ≡ before
 CountsStep (Some read) before after = CountsAs read before after
 
--- the first LF of some bytes stands at this place
+-- the count of faults of the source rose where taking a piece failed, and is as it was else
+abbrev pub CountsTake : {A : Type 0} → Result A Failed → ℕ → ℕ → Type 0
+CountsTake (Ok a) before after = after ≡ before
+CountsTake (Err e) before after = (before ≤ after) × Rose before after
+
+-- the first LF of some bytes stands at the place n
 pub record HasEndAt (bytes : List ℕ) (n : ℕ) : Type 0 where
   pub within : n < length bytes
   pub line : first_line bytes ≡ take (suc n) bytes

@@ -1,9 +1,9 @@
 //! A reader of lines.
 ghost use Rattle.std.specs.Prelude.{◌≡◌, ◌≤◌, ◌<◌, ◌+◌, ◌++◌, ℕ, List, [], length, take, drop};
 ghost use Rattle.std.specs.Prelude.{Option, None, Some, true, false, Ok, IfOk, OnOk, OnErr};
-ghost use Rattle.wf_outside.specs.Outside.{Rose, HasTaken, IsAtEnd};
+ghost use Rattle.wf_outside.specs.Outside.{HasTaken, IsAtEnd};
 ghost use Rattle.line_reader.specs.Reader.{has_end, pending, ReadsTo, CountsAs};
-ghost use Rattle.line_reader.specs.Steps.{StepsTo, CountsStep, FindsEnd};
+ghost use Rattle.line_reader.specs.Steps.{StepsTo, CountsStep, CountsTake, FindsEnd};
 
 use crate::Read;
 use basics::List as Bytes;
@@ -209,9 +209,7 @@ impl LineReader {
         ensures ended { result ≡ Ok false → (self.new.ahead ≡ []) × IsAtEnd (S.left source.new) }
         ensures nothing { OnErr result ((self.new.ahead ≡ [])
             × (S.left source.new ≡ S.left source.old)) }
-        ensures faults { S.faults source.old ≤ S.faults source.new }
-        ensures rose { OnErr result (Rose (S.faults source.old) (S.faults source.new)) }
-        ensures stays { OnOk result (S.faults source.new ≡ S.faults source.old) }
+        ensures counts { CountsTake result (S.faults source.old) (S.faults source.new) }
     {
         self.at = 0;
         self.filled = 0;
@@ -229,9 +227,7 @@ fn take_into<S: Source>(piece: &mut [u8], source: &mut S) -> Result<usize, Faile
     ensures room { length piece.new ≡ length piece.old }
     ensures ended { IfOk result (λ n. n ≡ 0 → IsAtEnd (S.left source.new)) }
     ensures kept { OnErr result (S.left source.new ≡ S.left source.old) }
-    ensures faults { S.faults source.old ≤ S.faults source.new }
-    ensures rose { OnErr result (Rose (S.faults source.old) (S.faults source.new)) }
-    ensures stays { OnOk result (S.faults source.new ≡ S.faults source.old) }
+    ensures counts { CountsTake result (S.faults source.old) (S.faults source.new) }
 {
     source.take(piece)
 }

@@ -1,5 +1,6 @@
 -- Objects that are read part by part.
-use Rattle.std.proofs.Common.{◌≡◌, ℕ, ◌-◌, ◌<◌, ◌≤◌, List, [], ◌∷◌, length, Bool, true, false, Option, Some, None, option_map, option_and_then, Ordering, Less}
+use Rattle.std.proofs.Common.{◌≡◌, ◌≢◌, ℕ, ◌-◌, ◌<◌, ◌≤◌, List, [], ◌∷◌, length, Bool, true, false, Option, Some, None, option_map, option_and_then, Ordering}
+use Rattle.std.proofs.Common.{Less}
 use Rattle.std.proofs.Common.{Equal, Greater, is_eq, bytes_eq, nat_cmp, nat_eq, true≢false, refl, sym, ap, ◌∙◌, arith}
 use Rattle.std.specs.Prelude.{zero, suc, drop, slice_index_or, ◌&&◌, fold, if◌then◌else◌}
 use Rattle.std.specs.List.{list_any}
@@ -9,8 +10,8 @@ use Rattle.std.proofs.lemmas.Map.Text.{is_eq-slice_cmp}
 use Rattle.std.proofs.lemmas.Slice.Eq.{bytes_eq-Decides}
 use Rattle.json.specs.Token.{Token}
 use Rattle.json.specs.Json as json
-use Rattle.json.specs.Json.{Parse, parse_map, read_key, members, value, if_last}
-use Rattle.json.proofs.Grammar.{members_end, members_more, value-begin_object}
+use Rattle.json.specs.Json.{Parse, parse_map, read_key, members, value}
+use Rattle.json.proofs.Grammar.{members_end, members_no_key, members_more, value-begin_object}
 use Rattle.serde_json.specs.Data.{Data, Members, no_members, member, object, put}
 use Rattle.serde_json.specs.Find.{get_member}
 use Rattle.serde_json.specs.Read.{of_json, of_members, converted}
@@ -18,47 +19,112 @@ use Rattle.serde_json.proofs.Views.{get_member-put, get_member-put_other}
 use Rattle.wire_json.specs.declared.flat.Part.{Part}
 use Rattle.wire_json.specs.Requests.{has_only}
 use Rattle.wire_json.specs.Objects.{worth_data, put_part, members_of}
+use Rattle.wire_json.specs.Flats.{whole, rest_of}
 
--- ---- reading
+-- ---- what is read, as data
+
+abbrev pick : {A : Type 0} → A → Option A → A
+pick d None = d
+pick d (Some a) = a
+
+found : {B : Type 0} (r s : List Token) (x : Option B) (b : B) → option_map {U = B × List Token} (λ y. (y, r)) x ≡ Some (b, s) → (r ≡ s) × (x ≡ Some b)
+found r s None b e = absurd (cc)
+found r s (Some y) b e = let same = ap (pick (y, r)) e in (ap (λ p. p.1) same, ap (λ p. Some p.0) same)
+
+converted_some : {A B : Type 0} (f : A → Option B) (o : Option (A × List Token)) (b : B) (r : List Token) → converted f o ≡ Some (b, r) →
+    (a : A) × (o ≡ Some (a, r)) × (f a ≡ Some b)
+converted_some f None b r e = absurd (cc)
+converted_some f (Some p) b r e = let both = found p.1 r (f p.0) b e in (p.0, ap (λ s. Some (p.0, s)) both.0, both.1)
+
+refused : {B : Type 0} (r : List Token) (x : Option B) → option_map {U = B × List Token} (λ y. (y, r)) x ≡ None → x ≡ None
+refused r None e = refl
+refused r (Some y) e = absurd (cc)
+
+twice_mapped : {A B : Type 0} (g : A → B) (r : List Token) (x : Option A) → option_map (λ b. (b, r)) (option_map g x) ≡ parse_map g (option_map (λ a. (a, r)) x)
+twice_mapped g r None = refl
+twice_mapped g r (Some a) = refl
+
+converted-object : (o : Option (json.Members × List Token))
+    → converted of_json (parse_map json.object o) ≡ parse_map object (converted (λ ms. of_members ms no_members) o)
+converted-object None = refl
+converted-object (Some p) = twice_mapped object p.1 (of_members p.0 no_members)
+
+-- ---- the members of an object, one at a time
 
 with_member : (k : List ℕ) (j : json.Json) (d : Data) (old : Members) → of_json j ≡ Some d → (o : Option (json.Members × List Token))
     → converted (λ ms. of_members ms old) (parse_map (json.member k j) o) ≡ converted (λ ms. of_members ms (put k d old)) o
 with_member k j d old e None = refl
 with_member k j d old e (Some p) = rw e
 
-pub member_read : (p : Parse json.Json) (old : Members) (n : ℕ) (k : List ℕ) (ts s r : List Token) (j : json.Json) (d : Data)
-    → 0 < n → read_key ts ≡ Some (Some k, s) → p s ≡ Some (j, r) → of_json j ≡ Some d
-    → converted (λ ms. of_members ms old) (members p n ts) ≡ converted (λ ms. of_members ms (put k d old)) (members p (n - 1) r)
-member_read p old n k ts s r j d some key e is =
-    ap (converted (λ ms. of_members ms old)) (members_more p n k ts s r j some key e) ∙ with_member k j d old is _
+without_member : (k : List ℕ) (j : json.Json) (old : Members) → of_json j ≡ None → (o : Option (json.Members × List Token))
+    → converted (λ ms. of_members ms old) (parse_map (json.member k j) o) ≡ None
+without_member k j old e None = refl
+without_member k j old e (Some p) = rw e
 
-pub members_over : (p : Parse json.Json) (old : Members) (n : ℕ) (ts r : List Token) → length ts ≤ n → read_key ts ≡ Some (None, r)
-    → converted (λ ms. of_members ms old) (members p n ts) ≡ Some (old, r)
-members_over p old n ts r enough e = ap (converted (λ ms. of_members ms old)) (members_end p n ts r enough e)
+module _ (p : Parse json.Json) (old : Members) where
+  pub member_read : (n : ℕ) (k : List ℕ) (ts s r : List Token) (d : Data) → 0 < n → read_key ts ≡ Some (Some k, s) → converted of_json (p s) ≡ Some (d, r)
+      → converted (λ ms. of_members ms old) (members p n ts) ≡ converted (λ ms. of_members ms (put k d old)) (members p (n - 1) r)
+  member_read n k ts s r d some key e =
+      let j = converted_some of_json (p s) d r e in
+      ap (converted (λ ms. of_members ms old)) (members_more p n k ts s r j.0 some key j.1) ∙ with_member k j.0 d old j.2 _
 
-abbrev pick : {A : Type 0} → A → Option A → A
-pick d None = d
-pick d (Some a) = a
+  no_member : (k : List ℕ) (more : Parse json.Members) (o : Option (json.Json × List Token)) → converted of_json o ≡ None
+      → converted (λ ms. of_members ms old) (option_and_then (λ q. parse_map (json.member k q.0) (more q.1)) o) ≡ None
+  no_member k more None e = refl
+  no_member k more (Some q) e = without_member k q.0 old (refused q.1 (of_json q.0) e) (more q.1)
 
-found : {B : Type 0} (x : Option B) (r s : List Token) (b : B) → option_map {U = B × List Token} (λ y. (y, r)) x ≡ Some (b, s) → (r ≡ s) × (x ≡ Some b)
-found None r s b e = absurd (cc)
-found (Some y) r s b e = let same = ap (pick (y, r)) e in (ap (λ p. p.1) same, ap (λ p. Some p.0) same)
+  pub member_refused : (n : ℕ) (k : List ℕ) (ts s : List Token) → read_key ts ≡ Some (Some k, s) → converted of_json (p s) ≡ None →
+      converted (λ ms. of_members ms old) (members p n ts) ≡ None
+  unfolding members
+  member_refused zero k ts s key e = refl
+  member_refused (suc n) k ts s key e = rw key (no_member k (members p n) (p s) e)
 
-abbrev whole : Option (json.Json × List Token) → Option Data
-whole o = option_and_then of_json (option_and_then (λ p. if_last p.0 p.1) o)
+  pub key_refused : (n : ℕ) (ts : List Token) → read_key ts ≡ None → converted (λ ms. of_members ms old) (members p n ts) ≡ None
+  key_refused n ts e = ap (converted (λ ms. of_members ms old)) (members_no_key p n ts e)
 
-object_whole : (o : Option (json.Members × List Token)) (ms : Members) → converted (λ x. of_members x no_members) o ≡ Some (ms, []) →
-    whole (parse_map json.object o) ≡ Some (object ms)
-object_whole None ms e = absurd (cc)
-object_whole (Some (m, [])) ms e = ap (option_map object) (found (of_members m no_members) [] [] ms e).1
-object_whole (Some (m, t ∷ r)) ms e = let never = (found (of_members m no_members) (t ∷ r) [] ms e).0 in absurd (cc)
+  pub members_over : (n : ℕ) (ts r : List Token) → length ts ≤ n → read_key ts ≡ Some (None, r)
+      → converted (λ ms. of_members ms old) (members p n ts) ≡ Some (old, r)
+  members_over n ts r enough e = ap (converted (λ ms. of_members ms old)) (members_end p n ts r enough e)
+
+-- ---- the whole of a text
+
+pub whole_read : (o : Option (json.Json × List Token)) (d : Data) → converted of_json o ≡ Some (d, []) → whole o ≡ Some d
+whole_read o d e = let j = converted_some of_json o d [] e in ap whole j.1 ∙ j.2
+
+-- more follows a value
+pub more_follows : (o : Option (json.Json × List Token)) (d : Data) (r : List Token) → converted of_json o ≡ Some (d, r) → r ≢ [] → whole o ≡ None
+more_follows o d [] e some = absurd (some refl)
+more_follows o d (t ∷ r) e some = ap whole (converted_some of_json o d (t ∷ r) e).1
+
+whole_refused : (o : Option (json.Json × List Token)) → converted of_json o ≡ None → whole o ≡ None
+whole_refused None e = refl
+whole_refused (Some (j, [])) e = refused [] (of_json j) e
+whole_refused (Some (j, t ∷ r)) e = refl
+
+begun : (after : List Token) → converted of_json (value 127 (Token.begin_object ∷ after)) ≡ parse_map object (rest_of after)
+begun after = ap (converted of_json) (value-begin_object 127 after (omega arith)) ∙ converted-object (members (value 126) (length after) after)
 
 -- the value of a text is the object that its parts make
-pub object_read : (ts after : List Token) (ms : Members) → ts ≡ Token.begin_object ∷ after
-    → converted (λ x. of_members x no_members) (members (value 126) (length after) after) ≡ Some (ms, [])
-    → whole (value 127 ts) ≡ Some (object ms)
-object_read ts after ms is e =
-    ap (λ x. whole (value 127 x)) is ∙ ap whole (value-begin_object 127 after (omega arith)) ∙ object_whole (members (value 126) (length after) after) ms e
+pub object_read : (after : List Token) (ms : Members) → rest_of after ≡ Some (ms, []) → whole (value 127 (Token.begin_object ∷ after)) ≡ Some (object ms)
+object_read after ms e = whole_read (value 127 (Token.begin_object ∷ after)) (object ms) (begun after ∙ ap (parse_map object) e)
+
+pub object_refused : (after : List Token) → rest_of after ≡ None → whole (value 127 (Token.begin_object ∷ after)) ≡ None
+object_refused after e = whole_refused (value 127 (Token.begin_object ∷ after)) (begun after ∙ ap (parse_map object) e)
+
+pub object_and_more : (after r : List Token) (ms : Members) → rest_of after ≡ Some (ms, r) → r ≢ [] →
+    whole (value 127 (Token.begin_object ∷ after)) ≡ None
+object_and_more after r ms e some =
+    more_follows (value 127 (Token.begin_object ∷ after)) (object ms) r (begun after ∙ ap (parse_map object) e) some
+
+-- a text that was passed over, and one that was not
+pub not_skipped : (o : Option (json.Json × List Token)) → option_map (λ p. p.1) o ≡ None → whole o ≡ None
+not_skipped None e = refl
+not_skipped (Some p) e = absurd (cc)
+
+pub skipped_more : (o : Option (json.Json × List Token)) (r : List Token) → option_map (λ p. p.1) o ≡ Some r → r ≢ [] → whole o ≡ None
+skipped_more None r e some = absurd (cc)
+skipped_more (Some (j, [])) r e some = absurd (some (ap (pick []) (sym e)))
+skipped_more (Some (j, t ∷ ts)) r e some = refl
 
 -- ---- what stands at a key
 

@@ -5,6 +5,7 @@ pub mod PlainLines
 pub mod Keys
 pub mod Lines
 pub mod Flats
+pub mod Asking
 pub mod Lengths
 pub mod RequestLaws
 pub mod Heads

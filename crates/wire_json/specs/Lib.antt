@@ -3,6 +3,7 @@ pub mod Values
 pub mod Requests
 pub mod Words
 pub mod Objects
+pub mod Flats
 pub mod Plain
 pub mod Entries
 pub mod Pieces

@@ -1,8 +1,6 @@
 -- Inside: the object that a request is read from, as a value of JSON or as the parts that it was
 -- read in.
-use Rattle.std.specs.Prelude.{List, fold, unwrap_or, decimal}
-use Rattle.json.specs.Json.{Json}
-use Rattle.json.specs.Json as json
+use Rattle.std.specs.Prelude.{List, fold, unwrap_or}
 use Rattle.serde_json.specs.Data.{Data, Members, no_members, string, number, unsigned, object, put}
 use Rattle.serde_json.specs.Find.{as_object}
 use Rattle.serde_json.specs.View.{view}
@@ -12,11 +10,7 @@ use Rattle.wire_json.specs.declared.flat.Part.{Part}
 use Rattle.wire_json.specs.declared.object.Object.{Object}
 use Rattle.wire_json.specs.declared.object.Object.TheVariants.{Value, Parts}
 
--- what stands at a key, as it is read and as data
-abbrev pub worth_json : Worth → Json
-worth_json (Text t) = json.string t.now
-worth_json (Number n) = json.number (decimal n)
-
+-- what stands at a key
 abbrev pub worth_data : Worth → Data
 worth_data (Text t) = string t.now
 worth_data (Number n) = number (unsigned n)

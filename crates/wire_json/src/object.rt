@@ -63,7 +63,7 @@ impl Object<'_> {
         }
     }
 
-    /// Whether each key is one of some texts or of some others.
+    /// Whether each key is one of `others` or of `keys`.
     pub(crate) fn has_only(&self, others: &[&str], keys: &[&str]) -> bool
         ensures { result ≡ read.has_only (map (λ k. k.now) others.now ++ map (λ k. k.now) keys.now)
             (members_in (data_of self.now)) }
@@ -128,7 +128,7 @@ fn parts_have_only(parts: &[Part<'_>], others: &[&str], keys: &[&str]) -> bool
     true
 }
 
-// Whether a text is one of some texts or of some others.
+// Whether `text` is one of `texts` or of `others`.
 #[tactic(auto, using(crate::proofs::Keys::any_of_both))]
 fn is_either(texts: &[&str], others: &[&str], text: &str) -> bool
     ensures { result ≡ list_any (pointwise nat_eq text.now)
@@ -137,7 +137,7 @@ fn is_either(texts: &[&str], others: &[&str], text: &str) -> bool
     is_among(texts, text) || is_among(others, text)
 }
 
-// Whether a text is one of some texts.
+// Whether `text` is one of `texts`.
 fn is_among(texts: &[&str], text: &str) -> bool
     ensures { result ≡ list_any (pointwise nat_eq text.now) (map (λ t. t.now) texts.now) }
 {

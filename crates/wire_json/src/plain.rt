@@ -209,10 +209,19 @@ pub(crate) fn guess_number(text: &[u8]) -> u16 {
     n
 }
 
-// What follows some bytes at the front of a text.
+// What follows some bytes at the front of a text. They are few, and a text that does not begin with
+// them mostly differs early.
 #[inline(always)]
 fn take<'t>(text: &'t [u8], front: &[u8]) -> Option<&'t [u8]>
     ensures { IfSome result (λ rest. text.now ≡ front.now ++ rest.now) }
 {
-    text.strip_prefix(front)
+    if text.len() < front.len() {
+        return None;
+    }
+    'bytes: for i in 0..front.len() {
+        if text[i] != front[i] {
+            return None;
+        }
+    }
+    Some(&text[front.len()..])
 }

@@ -1,15 +1,16 @@
 //! Reading a line as a request.
-ghost use Rattle.std.specs.Prelude.{◌≡◌, ◌++◌, IsTrue, IfOk, IfSome, Some, Err, option_map};
-ghost use Rattle.std.specs.Prelude.{option_and_then, map, codes};
+ghost use Rattle.std.specs.Prelude.{◌≡◌, ◌++◌, IsTrue, IfOk, IfSome, Some, None, Err, false};
+ghost use Rattle.std.specs.Prelude.{option_map, option_and_then, map, codes};
 ghost use Rattle.basics.specs.Reading.{Gives, or_fault, check};
 ghost use Rattle.wf_names.specs.Names.{is_name};
 ghost use Rattle.wf_talk.specs.declared.request.Bad.TheVariants as bad;
 ghost use Rattle.wire_json.specs.Requests as read;
+ghost use Rattle.wire_json.specs.Values.{value_of};
 ghost use Rattle.wire_json.specs.Objects.{data_of, members_in};
 ghost use Rattle.wire_json.specs.Words.{act_by, reading_of_word};
 
 use crate::change::{change_in, what_if_in};
-use crate::flat::read_flat;
+use crate::flat::{Flat, may_be_json, read_flat};
 use crate::object::Object;
 use crate::plain::{Act, read_plain};
 use crate::value::read_value;
@@ -43,7 +44,7 @@ impl RequestReader {
         }
     }
 
-    /// What a line asks, and of which of so many lanes. A line that is not exactly of the form of a
+    /// What a line asks, and of which of `lanes` lanes. A line that is not exactly of the form of a
     /// request is bad, for the first cause in the order in which its parts are checked.
     pub fn read(&mut self, line: &[u8], lanes: u8) -> Result<Asked, AllocError>
         ensures { IfOk result (λ asked. asked ≡ read.asked_of lanes line.now) }
@@ -51,10 +52,10 @@ impl RequestReader {
         if let Some(asked) = read_plain(line, lanes) {
             return Ok(asked);
         }
-        match read_parts(line, lanes, &mut self.scratch)? {
-            Some(asked) => Ok(asked),
-            None => read_any(self.alloc, line, lanes),
+        if let Some(asked) = read_parts(line, lanes, &mut self.scratch)? {
+            return Ok(asked);
         }
+        read_any(self.alloc, line, lanes, &mut self.scratch)
     }
 }
 
@@ -65,28 +66,51 @@ pub fn read_request(alloc: Global, line: &[u8], lanes: u8) -> Result<Asked, Allo
     RequestReader::new(alloc).read(line, lanes)
 }
 
-// What a line asks that is an object of a few texts and small numbers. None says nothing.
+// What a line asks that is an object of a few texts and small numbers, or no JSON or no object, as
+// far as its first part tells. None says nothing.
 fn read_parts(line: &[u8], lanes: u8, scratch: &mut Scratch) -> Result<Option<Asked>, AllocError>
     ensures { IfOk result (λ o. IfSome o (λ asked. asked ≡ read.asked_of lanes line.now)) }
 {
     let Ok(text) = str::from_utf8(line) else {
         return Ok(None);
     };
-    match read_flat(text, scratch)? {
-        Some(parts) => Ok(Some(asked_in(&Object::Parts(parts.as_slice()), lanes))),
-        None => Ok(None),
+    let flat = read_flat(text, scratch)?;
+    match flat {
+        Flat::Parts(parts) => Ok(Some(asked_in(&Object::Parts(parts.as_slice()), lanes))),
+        Flat::NoObject => Ok(Some(bad_line(Bad::Object))),
+        Flat::NoJson => Ok(Some(bad_line(Bad::Syntax))),
+        Flat::Other => Ok(None),
     }
 }
 
-// What a line of any form asks.
+// What a line of any form asks. No value is made of one that is no JSON.
 #[tactic(auto, unfolding(crate::specs::Requests::asked_of))]
-fn read_any(alloc: Global, line: &[u8], lanes: u8) -> Result<Asked, AllocError>
+fn read_any(
+    alloc: Global,
+    line: &[u8],
+    lanes: u8,
+    scratch: &mut Scratch,
+) -> Result<Asked, AllocError>
     ensures { IfOk result (λ asked. asked ≡ read.asked_of lanes line.now) }
 {
+    if !may_be_value(line, scratch)? {
+        return Ok(bad_line(Bad::Syntax));
+    }
     let Some(value) = read_value(alloc, line)? else {
         return Ok(bad_line(Bad::Syntax));
     };
     Ok(asked_in(&Object::Value(&value), lanes))
+}
+
+// Whether a line may be a value of JSON: where it is false, it is none.
+#[tactic(auto, unfolding(crate::specs::Values::value_of))]
+fn may_be_value(line: &[u8], scratch: &mut Scratch) -> Result<bool, AllocError>
+    ensures { IfOk result (λ b. b ≡ false → value_of line.now ≡ None) }
+{
+    match str::from_utf8(line) {
+        Ok(text) => may_be_json(text, scratch),
+        Err(_) => Ok(false),
+    }
 }
 
 fn asked_in(object: &Object<'_>, lanes: u8) -> Asked
