@@ -33,7 +33,7 @@ pub enum Outcome {
     Refuted(Tree),
 }
 
-/// Why a search that keeps at most so many branches has no answer.
+/// Why a search that may keep only a number of branches has no answer.
 pub enum Unsolved {
     /// An allocation was refused.
     NoMemory,
@@ -69,8 +69,8 @@ pub fn solve(
     }
 }
 
-/// The same, with a budget: a search that would keep more branches than that, those of twins among
-/// them, is given up, and a tree has at most so many leaves and nodes.
+/// Decides that with a budget: a search that would keep more than `branches` branches, those of
+/// twins among them, is given up, and a tree has at most `branches` leaves and nodes.
 pub fn solve_within(
     alloc: Global,
     p: &Policy,
