@@ -146,7 +146,8 @@ trim_node-unreachable-requires t c =
     let i = c.branches.branch-index in
     let b = c.branch-item.result in
     let known = branch_user p c.args.s bs c.requires.users i c.branches-test.true b c.branch-item.is in
-    twin_is_found p c.args.a.now c.args.task.now.done.now c.args.s bs i b c.branches.kept c.branches.steps c.in-Twin.field-0 c.branches-test.true c.branch-item.is
+    twin_is_found p c.args.a.now c.args.task.now.done.now c.args.s bs i b c.branches.kept c.branches.steps c.in-Twin.field-0 c.branches-test.true
+    c.branch-item.is
     c.in-Twin.is known c.requires.users c.branches.invariant.0 c.in_default.ensures
 
 -- a trimmed tree that does not mention the step refutes without it
@@ -195,7 +196,8 @@ trim_node-returns-then-not-has t c =
     let nodes = ap (λ (k : Kid). nodes_of_kids (kid_onto k b.user no_kids)) c.in-Tree.is in
     let few : nodes_of (shape_of kid.kid.tree) ≤ nodes_of (node c.args.s (kids_of_items bs)) =
     omega (arith, nodes, kid.ensures.tree.few, nodes_within bs i b c.branches-test.true c.branch-item.is) in
-    IfOk-weaker c.trim_tree-then-not-has.result _ _ (λ r h. smaller p a c.args.task.now.done.now (shape_of kid.kid.tree) (node c.args.s (kids_of_items bs)) r few h)
+    IfOk-weaker c.trim_tree-then-not-has.result _ _
+    (λ r h. smaller p a c.args.task.now.done.now (shape_of kid.kid.tree) (node c.args.s (kids_of_items bs)) r few h)
     c.trim_tree-then-not-has.ensures
 
 pub trim_node-branches-preserved : goal.trim_node-branches-preserved

@@ -82,7 +82,8 @@ try_users-returns-in-Plan-clause-searched t c =
 
 pub try_users-returns-in-Stopped-clause-searched : goal.try_users-returns-in-Stopped-clause-searched
 try_users-returns-in-Stopped-clause-searched t c =
-    subst (HasSearched (asked c.args.task.now) c.with-given.result c.args.task.now.done.now c.args.task.now.bounded) c.in-Stopped.is c.in_ok-plan.ensures.searched
+    subst (HasSearched (asked c.args.task.now) c.with-given.result c.args.task.now.done.now c.args.task.now.bounded) c.in-Stopped.is
+    c.in_ok-plan.ensures.searched
 
 pub try_users-returns-then-not-has-clause-searched : goal.try_users-returns-then-not-has-clause-searched
 try_users-returns-then-not-has-clause-searched t c =
@@ -170,7 +171,8 @@ try_users-returns-clause-searched t c =
       refutes =
           and_from (is_unassigned p c.args.a.now c.args.s)
           (have_users (authorised_users p c.args.s) front && all_refute p c.args.a.now c.args.task.now.done.now c.args.s [] front) c.requires.free
-          (and_from (have_users (authorised_users p c.args.s) front) (all_refute p c.args.a.now c.args.task.now.done.now c.args.s [] front) users c.users.invariant.1);
+          (and_from (have_users (authorised_users p c.args.s) front) (all_refute p c.args.a.now c.args.task.now.done.now c.args.s [] front) users
+          c.users.invariant.1);
       steps = c.users.invariant.2;
     }
 
