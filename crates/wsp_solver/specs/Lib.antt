@@ -1,4 +1,4 @@
 pub mod Crews
 pub mod Searches
-pub mod Trims
+pub mod Lean
 pub mod Task
