@@ -36,26 +36,12 @@ pub(crate) fn find(p: &Policy, e: &Edit) -> Result<Amendment, EditCause>
             first,
             relation,
             second,
-        } => {
-            let (relation, first, second) = find_pair(p, relation, first, second)?;
-            Ok(Amendment::Relate {
-                relation,
-                first,
-                second,
-            })
-        }
+        } => relating(p, first, relation, second),
         Edit::Unrelate {
             first,
             relation,
             second,
-        } => {
-            let (relation, first, second) = find_pair(p, relation, first, second)?;
-            Ok(Amendment::Unrelate {
-                relation,
-                first,
-                second,
-            })
-        }
+        } => unrelating(p, first, relation, second),
         Edit::Permit { flow, role, step } => {
             let (flow, step, role) = find_permit(p, flow, step, role)?;
             Ok(Amendment::Permit { flow, role, step })
@@ -83,6 +69,42 @@ fn find_member(p: &Policy, user: &Name, role: &Name) -> Result<(UserId, RoleId),
     let user = find_user(p, user)?;
     let role = find_role(p, role)?;
     Ok((user, role))
+}
+
+/// The pair of users that a relation gains.
+fn relating(
+    p: &Policy,
+    first: &Name,
+    relation: &Name,
+    second: &Name,
+) -> Result<Amendment, EditCause>
+    ensures found { result ≡ found p.now (edit.Relate first.now relation.now second.now) }
+    ensures within { IfOk result (IsKnownChange p.now) }
+{
+    let (relation, first, second) = find_pair(p, relation, first, second)?;
+    Ok(Amendment::Relate {
+        relation,
+        first,
+        second,
+    })
+}
+
+/// The pair of users that a relation loses.
+fn unrelating(
+    p: &Policy,
+    first: &Name,
+    relation: &Name,
+    second: &Name,
+) -> Result<Amendment, EditCause>
+    ensures found { result ≡ found p.now (edit.Unrelate first.now relation.now second.now) }
+    ensures within { IfOk result (IsKnownChange p.now) }
+{
+    let (relation, first, second) = find_pair(p, relation, first, second)?;
+    Ok(Amendment::Unrelate {
+        relation,
+        first,
+        second,
+    })
 }
 
 /// A relation and two users.

@@ -14,7 +14,7 @@ use Rattle.cnf_export.specs.Models.{has_some}
 abbrev pub has_variable : List Bool → ℕ → Bool
 has_variable flags v = slice_index_or flags v false
 
--- of each of some rows, each of some places
+-- of each of the first `rows` rows, each of the first `places` places
 abbrev pub grid : (ℕ → ℕ → Bool) → ℕ → ℕ → List Bool
 grid f rows places = flat_map (λ i. map (f i) (numbers 0 places)) (numbers 0 rows)
 

@@ -83,7 +83,7 @@ next_line limit so_far line =
     then Ok so_far
     else each (next_part limit) so_far (slice_split is_blank (without_v line))
 
--- the model that a text says, of so many variables, or its first word that is none
+-- the model that a text says, of `variables` variables, or its first word that is none
 abbrev pub model_of_text : ℕ → List ℕ → Result (List Bool) ℕ
 model_of_text variables text =
     each (next_line variables) (replicate variables false, Some 0) (slice_split is_lf text)

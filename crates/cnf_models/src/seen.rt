@@ -43,7 +43,7 @@ pub(crate) fn satisfied(m: &Model, clause: &Literals) -> bool
     false
 }
 
-/// The last of the first so many variables behind others that is in a model, or 0.
+/// The last of the `n` variables from `first` on that is in a model, counted from `first`; or 0.
 pub(crate) fn last_seen(m: &Model, first: usize, n: u16) -> u16
     requires { first < 2 ^ 32 }
     ensures { result ≡ last_below n (λ u. has_variable m.now (first + u)) }

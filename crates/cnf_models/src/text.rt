@@ -31,7 +31,7 @@ impl From<AllocError> for ModelFault {
     }
 }
 
-/// The model of so many variables that a text says.
+/// The model of `variables` variables that a text says.
 pub fn read_model(alloc: Global, text: &[u8], variables: u32) -> Result<Model, ModelFault>
     ensures model { Gives fault_word (λ m. m) result (model_of_text variables text.now) }
     ensures word { IfErr result (IsWordOf text.now) }

@@ -1,6 +1,6 @@
 //! The forms of the usage are read.
 //!
-//! The function does nothing; its contract is the law.
+//! The functions do nothing; their contracts are the laws.
 ghost use Rattle.std.specs.Prelude.{◌≡◌, ◌<◌, ◌≤◌, ◌^◌, ℕ, [], ◌∷◌, Option, None, Some, codes};
 ghost use Rattle.std.specs.Fmt.{decimal};
 ghost use Rattle.clap.specs.Words.{Text};
@@ -9,7 +9,8 @@ ghost use Rattle.command_words.specs.Words.{AreOptions, audit, cnf, command_of, 
 ghost use Rattle.command_words.specs.Words.{resume, serve, show, solve, trial};
 ghost use Rattle.command_words.specs.Usage.{IsPlain, option_words, options_with};
 
-/// The words of each command, in the form that a usage text shows, are read as that command.
+/// The words of each command without options, in the form that a usage text shows, are read as that
+/// command.
 pub fn usage_is_read()
     ensures plan { (policy flow : Text) → IsPlain policy → IsPlain flow
         → command_of (codes "plan" ∷ policy ∷ flow ∷ []) ≡ Some (plan policy flow) }
@@ -26,6 +27,13 @@ pub fn usage_is_read()
     ensures model { (policy flow file : Text) → IsPlain policy → IsPlain flow → IsPlain file
         → command_of (codes "cnf" ∷ policy ∷ flow ∷ file ∷ []) ≡ Some
         (cnf policy flow (Some file)) }
+    ensures trial { (seed : ℕ) → seed < 2 ^ 64
+        → command_of (codes "trial" ∷ decimal seed ∷ []) ≡ Some (trial seed) }
+{}
+
+/// The words of each command with options, in the form that a usage text shows, are read as that
+/// command.
+pub fn usage_with_options_is_read()
     ensures serve { (policy : Text) (lanes rounds : Option ℕ) → IsPlain policy
         → AreOptions (options_with lanes rounds)
         → command_of (codes "serve" ∷ policy ∷ option_words lanes rounds)
@@ -40,6 +48,4 @@ pub fn usage_is_read()
         → command_of (codes "resume" ∷ policy ∷ requests ∷ transcript
         ∷ option_words lanes rounds)
         ≡ Some (resume policy requests transcript (options_with lanes rounds)) }
-    ensures trial { (seed : ℕ) → seed < 2 ^ 64
-        → command_of (codes "trial" ∷ decimal seed ∷ []) ≡ Some (trial seed) }
 {}

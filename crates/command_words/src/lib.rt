@@ -18,5 +18,5 @@ mod solve;
 mod trial;
 
 pub use command::{ABSENCE_LIMIT, Command, Options};
-pub use laws::usage_is_read;
+pub use laws::{usage_is_read, usage_with_options_is_read};
 pub use reading::read_words;

@@ -13,3 +13,4 @@ pub mod PlainDenials
 pub mod PlainLines
 pub mod Small
 pub mod FlowsBack
+pub mod Uses

@@ -14,7 +14,8 @@ use Rattle.wire_json.specs.Trees.{tree_data, branches_data}
 use Rattle.wire_json.specs.Replies.{denial_data}
 use Rattle.entry_reader.specs.Within.{IsUser, IsCase, IsPlan, IsTree, AreKids, IsDenial}
 
--- a tree over a workflow with at most so many nodes one below the other, by how deep its text nests
+-- a tree over a workflow with at most `height` nodes one below the other, by how deep its text
+-- nests
 abbrev pub IsLow : PolicyShape → ℕ → ℕ → Shape → Type 0
 IsLow p f height t = IsTree p f t × (depth (tree_data p f t) ≤ 3 * height + 1)
 

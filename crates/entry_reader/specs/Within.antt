@@ -76,7 +76,7 @@ IsBad bad.Lane = Unit {0}
 IsBad (bad.Key key) = IsTrue (is_name key)
 IsBad bad.Extra = Unit {0}
 
--- the workflow that is concerned, if any, is this one of the policy
+-- the workflow that is concerned is the workflow `f`, which the policy has
 abbrev pub IsConcerned : PolicyShape → Option ℕ → ℕ → Type 0
 IsConcerned p concerned f = (concerned ≡ Some f) × IsFlowNumber p f
 

@@ -81,7 +81,7 @@ fn items_of(value: &Value) -> Result<&[Value], TextFault>
     }
 }
 
-#[tactic(auto, using(crate::proofs::Readings::each_more, crate::proofs::Readings::each_none, crate::proofs::Readings::each_end, crate::proofs::Readings::each_start))]
+#[tactic(auto, using(crate::proofs::Uses::each_item))]
 fn users_of(alloc: Global, p: &Policy, items: &[Value]) -> Result<List<UserId>, TextFault>
     ensures { Reads (λ users. users) result
         (read.each_in (read.user_in p.now) (items_view items.now)) }
@@ -96,7 +96,7 @@ fn users_of(alloc: Global, p: &Policy, items: &[Value]) -> Result<List<UserId>, 
     Ok(users)
 }
 
-#[tactic(auto, using(crate::proofs::Readings::each_more, crate::proofs::Readings::each_none, crate::proofs::Readings::each_end, crate::proofs::Readings::each_start))]
+#[tactic(auto, using(crate::proofs::Uses::each_item))]
 fn each_state(alloc: Global, p: &Policy, items: &[Value]) -> Result<List<StepState>, TextFault>
     ensures { Reads (λ states. states) result
         (read.each_in (read.seen_in p.now) (items_view items.now)) }
@@ -111,7 +111,7 @@ fn each_state(alloc: Global, p: &Policy, items: &[Value]) -> Result<List<StepSta
     Ok(states)
 }
 
-#[tactic(auto, using(crate::proofs::Readings::each_more, crate::proofs::Readings::each_none, crate::proofs::Readings::each_end, crate::proofs::Readings::each_start))]
+#[tactic(auto, using(crate::proofs::Uses::each_item))]
 fn each_role(alloc: Global, p: &Policy, items: &[Value]) -> Result<RoleList, TextFault>
     ensures { Reads (λ roles. roles) result
         (read.each_in (read.numbered p.now.roster.roles) (items_view items.now)) }
@@ -126,7 +126,7 @@ fn each_role(alloc: Global, p: &Policy, items: &[Value]) -> Result<RoleList, Tex
     Ok(roles)
 }
 
-#[tactic(auto, using(crate::proofs::Readings::each_more, crate::proofs::Readings::each_none, crate::proofs::Readings::each_end, crate::proofs::Readings::each_start))]
+#[tactic(auto, using(crate::proofs::Uses::each_item))]
 fn each_item<F: FlowOf>(
     alloc: Global,
     p: &Policy,
@@ -156,7 +156,7 @@ fn item_of<F: FlowOf>(p: &Policy, cases: &F, value: &Value) -> Option<WorkItem>
     Some(WorkItem { case, flow, step })
 }
 
-#[tactic(auto, using(crate::proofs::Readings::each_more, crate::proofs::Readings::each_none, crate::proofs::Readings::each_end, crate::proofs::Readings::each_start))]
+#[tactic(auto, using(crate::proofs::Uses::each_item))]
 fn each_case(alloc: Global, items: &[Value]) -> Result<CaseList, TextFault>
     ensures { Reads (λ cases. cases) result
         (read.each_in told.number_of_case (items_view items.now)) }

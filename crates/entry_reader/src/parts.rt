@@ -124,7 +124,7 @@ pub(crate) fn state_of(p: &Policy, value: &Value) -> Option<StepState>
 }
 
 /// Where a step stands, as a view shows it.
-#[tactic(auto, using(crate::proofs::Small::seen_none, crate::proofs::Small::seen_free, crate::proofs::Small::seen_user))]
+#[tactic(auto, using(crate::proofs::Uses::seen_states))]
 pub(crate) fn seen_of(p: &Policy, value: &Value) -> Option<StepState>
     ensures { result ≡ read.seen_in p.now (view value.now) }
 {

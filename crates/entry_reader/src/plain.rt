@@ -28,7 +28,7 @@ pub fn guess_place(line: &[u8]) -> Option<Place> {
 /// The reply that a line tells for an ask at a place, where it is granted, finished, opened, one of
 /// a word or denied by anything but roles, without blanks and with its keys as they are written.
 /// None says nothing.
-#[tactic(auto, using(crate::proofs::PlainLines::guessed_reply, crate::proofs::PlainLines::guessed_place))]
+#[tactic(auto, using(crate::proofs::Uses::guessed_lines))]
 pub fn read_plain<F: FlowOf>(
     alloc: Global,
     p: &Policy,
@@ -192,7 +192,7 @@ fn guess_users(p: &Policy, text: &[u8]) -> ([UserId; STEP_LIMIT], usize)
     (users, STEP_LIMIT)
 }
 
-// The plan of users, where each of them is among the first so many.
+// The plan of users, where each of them is among the first `count` ones.
 #[tactic(auto, using(crate::proofs::PlainLines::all_within))]
 fn plan_of(users: &[UserId], count: u16) -> Option<Plan>
     requires { length users.now ≤ STEP_LIMIT }
@@ -221,7 +221,7 @@ fn find_user(p: &Policy, name: &[u8]) -> Option<UserId> {
     Some(UserId(p.roster().users().find(&name)?))
 }
 
-// Whether each of these is among the first so many users.
+// Whether all of these users are among the first `count` ones.
 fn are_users(users: &[UserId], count: u16) -> bool
     ensures { result ≡ list_all (λ u. nat_lt u count) users.now }
 {

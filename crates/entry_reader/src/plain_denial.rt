@@ -68,7 +68,7 @@ fn take_kind(rest: &mut Rest<'_>) -> Result<DenialKind, TextFault> {
 }
 
 // The denial of a kind.
-#[tactic(auto, using(crate::proofs::PlainDenials::unsatisfiable, crate::proofs::PlainDenials::stranded))]
+#[tactic(auto, using(crate::proofs::Uses::refuting_denials))]
 fn guess_by<F: FlowOf>(
     alloc: Global,
     p: &Policy,
@@ -116,7 +116,7 @@ fn guess_strands<F: FlowOf>(
 }
 
 // The denial of a kind that takes no memory.
-#[tactic(auto, using(crate::proofs::PlainDenials::taken, crate::proofs::PlainDenials::order, crate::proofs::PlainDenials::by_rule, crate::proofs::PlainDenials::not_held, crate::proofs::PlainDenials::unknown))]
+#[tactic(auto, using(crate::proofs::Uses::other_denials))]
 fn guess_short<F: FlowOf>(
     p: &Policy,
     cases: &F,

@@ -12,7 +12,7 @@ use refutation_tree::{Branch, Branches, Kid, Tree};
 use std::alloc::Global;
 use wf_names::{FlowId, StepId, UserId};
 
-/// The tree over a workflow that comes next, with at most so many nodes one below the other.
+/// The tree over a workflow that comes next, with at most `height` nodes one below the other.
 #[cycle(guess_tree)]
 #[tactic(auto, using(crate::proofs::LowTrees::low_node))]
 pub(crate) fn guess_tree(

@@ -27,7 +27,7 @@ use wire_json::{push_line, read_value};
 /// ask. The steps and trees in it are of the workflow that is concerned: the one of the case in the
 /// reply in a work list and where an edit strands a case, and else the one that the ask names or
 /// its case's.
-#[tactic(auto, using(crate::proofs::LinesBack::has_reply, crate::proofs::LinesBack::not_told, crate::proofs::LinesBack::not_written))]
+#[tactic(auto, using(crate::proofs::Uses::told_replies))]
 pub fn read_reply<F: FlowOf>(
     alloc: Global,
     p: &Policy,

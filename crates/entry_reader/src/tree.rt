@@ -32,7 +32,7 @@ pub fn tree_of(alloc: Global, p: &Policy, f: FlowId, value: &Value) -> Result<Tr
 
 /// What a value reads as: a leaf, or a node with its branches.
 #[cycle(read_tree)]
-#[tactic(auto, using(crate::proofs::TreeParts::tree_of_node, crate::proofs::TreeParts::tree_of_leaf))]
+#[tactic(auto, using(crate::proofs::Uses::trees))]
 pub(crate) fn read_tree(
     alloc: Global,
     p: &Policy,
@@ -84,7 +84,7 @@ fn read_branches(
 
 // The user of a branch, and the twin that it names, or its tree.
 #[cycle(read_tree)]
-#[tactic(auto, using(crate::proofs::TreeParts::branch_twin, crate::proofs::TreeParts::branch_tree, crate::proofs::TreeParts::branch_bad))]
+#[tactic(auto, using(crate::proofs::Uses::branches))]
 fn read_branch(alloc: Global, p: &Policy, f: FlowId, value: &Value) -> Result<Branch, TextFault>
     ensures { (rest : Option Kids) → ReadsOnto result rest
         (read.kid_in p.now f (view value.now) rest) }

@@ -37,7 +37,7 @@ pub(crate) fn advised(problem: &Problem, work: &mut Work, a: &Assign) -> Option<
     best
 }
 
-/// At most so many steps that are not assigned, chosen by their candidates and the weight of their
+/// At most `most` steps that are not assigned, chosen by their candidates and the weight of their
 /// rules.
 pub(crate) fn best_roots(problem: &Problem, work: &mut Work, a: &Assign, most: u32) -> u32 {
     let open = open_steps(problem, a);
@@ -173,7 +173,7 @@ fn restrict_at_least(work: &mut Work, law: &Law, a: &Assign, s: u8, least: u32) 
     }
 }
 
-// Finds the users of some steps, and tells how many of the steps are free.
+// Finds the users who have `steps`, and tells how many of these steps are free.
 fn find_users(work: &mut Work, a: &Assign, steps: u32) -> u32 {
     clear(work.taken.row_mut(0));
     let mut left = steps;

@@ -9,8 +9,8 @@ const FIRST_LIMIT: u32 = 1_000;
 /// The most tries of a run.
 const GREATEST_LIMIT: u32 = 1 << 30;
 
-/// After so many tries a short run of one more root ends, where its tree seems to become more than
-/// so many times as large as that of another root.
+/// After how many tries a short run of one more root ends, where its tree seems to become more than
+/// `TIMES` times as large as that of another root.
 const LOOK: u32 = 500;
 
 const TIMES: u64 = 2;
@@ -81,7 +81,7 @@ impl Guide {
         self.kept = self.kept.saturating_add(1);
     }
 
-    /// Of the branches that are kept now only so many are kept on.
+    /// Of the branches that are kept now only `kept` are kept on.
     pub(crate) fn drop_to(&mut self, kept: u32) {
         self.kept = kept;
     }
@@ -135,7 +135,7 @@ impl Guide {
         }
     }
 
-    /// Begins a node: so many users are to be tried there.
+    /// Begins a node, where `users` users are to be tried.
     pub(crate) fn enter(&mut self, depth: u8, s: u8, users: u32) {
         if depth == 0 {
             self.root = Some(s);
@@ -257,7 +257,7 @@ impl Guide {
         found
     }
 
-    // The first of some steps that was no root yet.
+    // The first step of `best` that was no root yet.
     fn untried(&self, best: u32) -> Option<u8> {
         let mut left = best & !self.seen;
         pop(&mut left)

@@ -14,8 +14,8 @@ use wf_names::RULE_LIMIT;
 /// How often blocks are looked at again after one step of the search, at most.
 const PASSES: u32 = 4_096;
 
-/// Follows the change of some blocks to what the rules leave. Tells whether everything can still be
-/// met.
+/// Follows the change of the blocks `changed` to what the rules leave. Tells whether everything can
+/// still be met.
 pub(crate) fn settle(problem: &Problem, state: &mut State, work: &mut Work, changed: u32) -> bool {
     let mut changed = Changed {
         blocks: changed,
@@ -33,7 +33,7 @@ pub(crate) fn settle(problem: &Problem, state: &mut State, work: &mut Work, chan
     state.refresh(problem, work) && can_match(state) && can_reach_all(problem, state, work)
 }
 
-// Whether each rule that wants so many users can have them.
+// Whether each rule that wants a number of users at least can have them.
 fn can_reach_all(problem: &Problem, state: &State, work: &mut Work) -> bool {
     for (k, law) in problem.laws.as_slice().iter().enumerate() {
         if let Demand::AtLeast(least) = law.demand {
@@ -205,7 +205,7 @@ fn follow_some_step(state: &mut State, law: &Law, same: bool) -> bool {
     homes & homes.wrapping_sub(1) != 0 || keep_options(state, law.step, !homes)
 }
 
-// The blocks of some steps that are not open.
+// The blocks of those of `steps` that are not open.
 fn homes_of(state: &State, steps: u32) -> u32 {
     let mut left = steps;
     let mut homes = 0;

@@ -21,7 +21,7 @@ pub(crate) fn can_match(state: &State) -> bool {
     are_wide(state, seats) || reach(state, seats) == seats.count_ones()
 }
 
-/// Whether some steps can have so many different users between them. Steps of one block have one.
+/// Whether `steps` can have `least` different users between them. Steps of one block have one.
 pub(crate) fn can_reach(state: &State, steps: u32, least: u32) -> bool {
     let seats = steps & (state.open | block_seats_of(state, steps));
     (seats.count_ones() >= least && are_wide(state, seats)) || reach(state, seats) >= least
@@ -136,8 +136,8 @@ fn give_one(state: &State, given: &mut Given, start: u8) {
     }
 }
 
-// A user of a seat who was given to none. Each seat before it can have taken one user, so one of
-// the first so many is free, if any is.
+// A user of a seat who was given to none. Each seat before it can have taken one user, and there
+// are at most 32 of them, so one of the first 33 users is free, if any is.
 fn free_user(state: &State, given: &Given, seat: u8) -> Option<u16> {
     for place in 0..33u32 {
         let user = nth_user(users_of(state, seat), place)?;

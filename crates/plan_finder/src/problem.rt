@@ -28,9 +28,9 @@ pub(crate) enum Demand {
     Some,
     /// Each member is related to the step.
     Each,
-    /// The members have so many users at most.
+    /// The members have this number of users at most.
     AtMost(u32),
-    /// The members have so many users at least.
+    /// The members have this number of users at least.
     AtLeast(u32),
 }
 
@@ -49,7 +49,8 @@ pub(crate) struct Law {
 }
 
 impl Law {
-    /// Whether the law asks nothing yet of one of some steps, all others of which are not assigned.
+    /// Whether the law asks nothing yet of any one step: none of its scope is assigned, all are in
+    /// `open`.
     pub(crate) fn is_free(&self, open: u32) -> bool {
         !self.asks_alone && self.scope & !open == 0
     }
@@ -487,7 +488,7 @@ fn learn_relation(
     Ok(())
 }
 
-// How many users may have some step of a set, in so many words.
+// How many users may have some step of `steps`, in the first `width` words.
 fn count_some(allowed: &Rows, steps: u32, width: usize) -> usize {
     let mut users = 0usize;
     for at in 0..width {

@@ -34,7 +34,7 @@ impl Reasons {
         }
     }
 
-    /// Makes room for those of so many users.
+    /// Makes room for the reasons of `users` users.
     pub(crate) fn make_room(&mut self, alloc: Global, users: usize) -> Result<(), AllocError> {
         self.rules = Vec::with_capacity(alloc, users.saturating_mul(STEP_LIMIT))?;
         self.none = Vec::with_capacity(alloc, users)?;

@@ -10,7 +10,7 @@ pub(crate) struct Rows {
 }
 
 impl Rows {
-    /// So many empty rows of so many words.
+    /// A number of empty rows, each of `width` words.
     pub(crate) fn new(alloc: Global, count: usize, width: usize) -> Result<Rows, AllocError> {
         Ok(Rows {
             words: vec![in alloc; 0u64; count.saturating_mul(width)]?,
@@ -61,12 +61,12 @@ impl Rows {
         Ok(())
     }
 
-    /// Makes room for so many rows more.
+    /// Makes room for `count` rows more.
     pub(crate) fn reserve(&mut self, count: usize) -> Result<(), AllocError> {
         self.words.reserve(count.saturating_mul(self.width))
     }
 
-    /// The first rows, one behind the other; none where there are not so many.
+    /// The first `count` rows, one behind the other; none where there are fewer.
     pub(crate) fn front(&self, count: usize) -> &[u64] {
         match self.words.get(0..count.saturating_mul(self.width)) {
             Some(rows) => rows,
@@ -74,7 +74,7 @@ impl Rows {
         }
     }
 
-    /// The first rows to be changed, one behind the other; none where there are not so many.
+    /// The first `count` rows to be changed, one behind the other; none where there are fewer.
     pub(crate) fn front_mut(&mut self, count: usize) -> &mut [u64] {
         let to = count.saturating_mul(self.width);
         if to <= self.words.len() {
@@ -113,7 +113,7 @@ pub(crate) fn turn(row: &mut [u64], everyone: &[u64]) {
     }
 }
 
-/// Puts so many of the first users in.
+/// Puts the first `users` users in.
 pub(crate) fn add_first(row: &mut [u64], users: u16) {
     let mut left = users;
     for word in row.iter_mut() {
@@ -227,7 +227,7 @@ pub(crate) fn count(row: &[u64]) -> u32 {
     users
 }
 
-/// Whether a row has so many users at least.
+/// Whether a row has `least` users at least.
 pub(crate) fn has_many(row: &[u64], least: u32) -> bool {
     let mut users = 0u32;
     for word in row.iter() {
@@ -346,7 +346,7 @@ pub(crate) fn user_at(at: usize, place: u32) -> u16 {
     (at.wrapping_mul(64).wrapping_add((place & 63) as usize) & 0xffff) as u16
 }
 
-// The place of a one of a word, behind so many others.
+// The place of the one of a word that comes behind `skip` others.
 fn nth_one(word: u64, skip: u32) -> u32 {
     let mut left = word;
     for _ in 0..skip {

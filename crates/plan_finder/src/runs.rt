@@ -54,7 +54,7 @@ pub struct Finder {
 }
 
 impl Finder {
-    /// A finder for a workflow, which has learned nothing yet. A run keeps at most so many
+    /// A finder for a workflow, which has learned nothing yet. A run keeps at most `most`
     /// branches.
     pub fn new(alloc: Global, p: &Policy, f: FlowId, most: u32) -> Result<Finder, AllocError>
         requires { f < length p.now.flows }
@@ -137,7 +137,7 @@ impl Finder {
         self.guide.keep();
     }
 
-    /// Counts on with so many branches, where others were dropped.
+    /// Counts on with `kept` branches, where others were dropped.
     pub fn drop_to(&mut self, kept: u32) {
         self.guide.drop_to(kept);
     }

@@ -124,7 +124,7 @@ impl State {
         }
     }
 
-    /// The block whose one user is this one, if there is one.
+    /// The block that has `user` as its only user, if there is one.
     pub(crate) fn block_of_user(&self, user: u16) -> Option<u8> {
         for b in 0..self.blocks {
             if has_user(self.block(b), user) {

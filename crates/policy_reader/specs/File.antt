@@ -8,7 +8,7 @@ use Rattle.policy_book.specs.Policies.{flow_at}
 use Rattle.policy_book.specs.Facts.{IsSoundPolicy}
 use Rattle.policy_reader.specs.Relations.{names_of}
 
--- each of some names has a name's form
+-- all names of a list have a name's form
 abbrev pub AreOfForm : List (List ℕ) → Type 0
 AreOfForm names = All (λ name. IsTrue (is_name name)) names
 

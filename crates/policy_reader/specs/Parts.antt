@@ -48,7 +48,7 @@ said _ = []
 abbrev pub first_said : Data → List ℕ
 first_said d = unwrap_or (option_map (λ texts. texts.0) (two_texts d)) []
 
--- a text is one of some texts
+-- a text is one of `texts`
 abbrev pub is_among : List (List ℕ) → List ℕ → Bool
 is_among texts text = list_any (pointwise nat_eq text) texts
 
@@ -74,7 +74,7 @@ module _ (table : PolicyPart) (index : ℕ) where
   unfoldable pub table_at : List ℕ → Members → Reading Members
   table_at key ms = value_at key ms >>= table_in
 
-  -- at most so many
+  -- at most `limit`
   unfoldable pub at_most : ℕ → ℕ → Reading (Unit {0})
   at_most limit count = check (nat_le count limit) (fault kind.TooMany table index)
 
@@ -82,20 +82,20 @@ module _ (table : PolicyPart) (index : ℕ) where
   unfoldable pub at_least_one : ℕ → Reading (Unit {0})
   at_least_one count = check (not (count == 0)) (fault kind.Empty table index)
 
-  -- at least one and at most so many
+  -- at least one and at most `limit`
   unfoldable pub count_in : ℕ → ℕ → Reading (Unit {0})
   count_in limit count = do
     _ ← at_least_one count
     at_most limit count
 
-  -- the array at a key, of at least one item and at most so many
+  -- the array at a key, of at least one item and at most `limit`
   unfoldable pub items_at : ℕ → List ℕ → Members → Reading Items
   items_at limit key ms = do
     ds ← array_at key ms
     _ ← count_in limit (length (items ds))
     Ok ds
 
-  -- the table at a key, of at least one entry and at most so many
+  -- the table at a key, of at least one entry and at most `limit`
   unfoldable pub entries_at : ℕ → List ℕ → Members → Reading Members
   entries_at limit key ms = do
     es ← table_at key ms

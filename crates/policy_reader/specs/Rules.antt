@@ -92,7 +92,7 @@ abbrev pub number_up_to : ℕ → ℤ → Option ℕ
 number_up_to most (pos n) = if nat_le 1 n && nat_le n most then Some n else None
 number_up_to most (negsuc n) = None
 
--- the number of users that a value gives, for a group of so many steps
+-- the number of users that a value gives, for a group of `most` steps
 unfoldable pub limit_in : ℕ → ℕ → Data → Reading ℕ
 limit_in f most d = do
   number ← or_fault (as_integer d) (fault kind.Shape Flows f)

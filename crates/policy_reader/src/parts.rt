@@ -135,7 +135,7 @@ fn counted(limit: usize, count: usize, part: PolicyPart, index: u32) -> Result<(
     at_most(limit, count, part, index)
 }
 
-/// The array at a key, of at least one item and at most so many.
+/// The array at a key, of at least one item and at most `limit`.
 #[tactic(auto, unfolding(crate::specs::Parts::items_at, crate::specs::Parts::array_at), using(crate::proofs::Counts::count_items))]
 pub(crate) fn items_at<'t>(
     limit: usize,
@@ -157,7 +157,7 @@ pub(crate) fn items_at<'t>(
     }
 }
 
-/// The table at a key, of at least one entry and at most so many.
+/// The table at a key, of at least one entry and at most `limit`.
 #[tactic(auto, unfolding(crate::specs::Parts::entries_at), using(crate::proofs::Counts::count_entries))]
 pub(crate) fn entries_at<'t>(
     limit: usize,
@@ -347,7 +347,7 @@ fn known_key(key: &str, known: &[&str], part: PolicyPart, index: u32) -> Result<
     }
 }
 
-/// Whether a text is one of some texts.
+/// Whether a text is one of `texts`.
 pub(crate) fn is_among(texts: &[&str], text: &str) -> bool
     ensures { result ≡ parts.is_among (map (λ k. k.now) texts.now) text.now }
 {

@@ -17,6 +17,7 @@ use Rattle.wf_names.specs.declared.limits.TheConstants.{STEP_LIMIT}
 use Rattle.policy_book.specs.Facts.{AreSoundRules, IsSoundRule, PermitsRolesBelow}
 use Rattle.trial_maker.specs.Named.{step_name}
 use Rattle.trial_maker.specs.Policy.{both, trial_flow, trial_rules}
+use Rattle.trial_maker.proofs.NameForms.{buy_form, steps_count}
 
 abbrev pub pair_up : ℕ → ℕ × ℕ
 pair_up k = (k, k + 1)
@@ -193,3 +194,12 @@ pub sound_rules : (steps relations : ℕ) (rules : List Rule) → steps ≡ leng
 sound_rules steps relations rules e two is =
     subst (AreSoundRules steps relations) (sym is)
     (subst (λ n. AreSoundRules steps n trial_rules) (sym two) (subst (λ n. AreSoundRules n 2 trial_rules) (sym e) rules_sound))
+
+-- what is made by one more pair of steps, and by the four rules behind them
+pub ruleset more = (pairs_more, four_more)
+
+-- what the building of the workflow rests on
+pub ruleset once_each = (steps_count, order_once_in, permits_once_in)
+
+-- what the policy rests on to take the workflow
+pub ruleset flow_facts = (buy_form, flow_permits, flow_steps, rules_few, rules_sound)

@@ -126,3 +126,18 @@ made_count seed n = omega (arith, rounds_count n 24 (record { state = after 60 s
 pub jobs_count : (seed n : ℕ) → length (trial_jobs seed n) ≡ job_count n
 unfolding trial_jobs
 jobs_count seed n = made_count seed n
+
+-- what is made by one more user
+pub ruleset drawn_roles = (after_none, after_more, members_none, members_more)
+
+-- what is made by one more opening
+pub ruleset all_openings = (openings_none, openings_more, openings_count)
+
+-- what is made by one more turn of a round
+pub ruleset cases = (turns_none, turns_more, turns_count, edit_count)
+
+-- what is made by one more round
+pub ruleset all_rounds = (rounds_none, rounds_more, rounds_count, openings_count)
+
+-- how many jobs a trial has
+pub ruleset counts = (made_count, jobs_count)

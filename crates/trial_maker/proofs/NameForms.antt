@@ -19,9 +19,9 @@ numbered_form letter n is small =
     let ones = digit_byte (n % 10) (omega arith) in
     grind arith
 
-pub role_form : (r : ℕ) → r < 10 → IsTrue (is_name (114 ∷ (48 + r) ∷ []))
+pub r_digit : (r : ℕ) → r < 10 → IsTrue (is_name (114 ∷ (48 + r) ∷ []))
 unfolding is_name
-role_form r small = let ones = digit_byte r small in grind arith
+r_digit r small = let ones = digit_byte r small in grind arith
 
 pub chief_form : IsTrue (is_name (codes "chief"))
 unfolding is_name
@@ -92,3 +92,12 @@ pub chief_fresh : (names : List (List ℕ)) (name : List ℕ) → names ≡ map 
     is_some (place_of names name) ≡ false
 chief_fresh names name first last = ap (λ xs. is_some (place_of xs name)) first ∙ ap (λ x. is_some (place_of (map role_name (range_with_len 0 5)) x)) last ∙
     chief_new
+
+-- what a table of the names of users rests on
+pub ruleset user_names = (user_fresh, users_count, users_more)
+
+-- what a table of the names of steps rests on
+pub ruleset step_names = (step_fresh, steps_count, steps_more)
+
+-- what a table of the names of roles rests on
+pub ruleset role_names = (role_fresh, roles_count, roles_more, chief_form, chief_fresh)

@@ -1,4 +1,4 @@
--- The pairs of peers among the first so many pairs of users.
+-- The pairs of peers among the first n pairs of users.
 use Rattle.std.proofs.Common.{◌≡◌, ℕ, zero, suc, ◌+◌, ◌<◌, ◌≤◌, ◌/◌, ◌%◌, Bool, true, false, List, [], ◌∷◌, ◌++◌, map, if◌then◌else◌, cond, length, Some, refl}
 use Rattle.std.proofs.Common.{sym, ap, subst, ◌∙◌, add-one, append-nil, arith}
 use Rattle.std.specs.List.{filter, range_with_len}
@@ -10,7 +10,7 @@ use Rattle.pair_set.specs.PairLaws.{all_empty, all_insert, pair_cmp_total, pair_
 use Rattle.user_relations.specs.Relations.{kind_of, listed, listed_pairs}
 use Rattle.policy_book.specs.Facts.{AreOfUsers}
 use Rattle.trial_maker.specs.Policy.{are_peers, peers, trial_relations, trial_roster, user_pairs}
-use Rattle.trial_maker.proofs.NameForms.{users_count}
+use Rattle.trial_maker.proofs.NameForms.{apart_form, peer_form, users_count}
 
 abbrev pair_at : ℕ → ℕ × ℕ
 pair_at n = (n / 60, n % 60)
@@ -108,3 +108,12 @@ relation_count = refl
 
 pub related_users : (seed users : ℕ) → users ≡ length (trial_roster seed).users → AreOfUsers users trial_relations
 related_users seed users e = subst (λ n. AreOfUsers n trial_relations) (sym (e ∙ roster_users seed)) below_users
+
+-- what is made by one more pair of users
+pub ruleset all_pairs = (peers_none, peers_more, peers_all)
+
+-- what the declarations of both relations rest on
+pub ruleset both = (apart_form, peer_form, peers_few, peers_users, none_few, none_users)
+
+-- how many users, roles and relations there are
+pub ruleset counts = (roster_roles, relation_count, related_users)

@@ -6,7 +6,7 @@ use Rattle.std.specs.Prelude.{ℕ, zero, suc, ◌+◌, ◌*◌, ◌/◌, ◌%◌
 unfoldable pub next_state : ℕ → ℕ
 next_state s = (s * 6364136223846793005 + 1442695040888963407) % 2 ^ 64
 
--- the state after so many draws
+-- the state after n draws
 unfoldable pub after : ℕ → ℕ → ℕ
 after zero s = s
 after (suc n) s = next_state (after n s)

@@ -21,7 +21,7 @@ abbrev pub with_job : List Job → ℕ → Request → List Job
 with_job jobs lane what =
     jobs ++ record { lane = lane; line = length jobs; ask = ask.Request what } ∷ []
 
--- so many cases are opened
+-- n cases are opened
 unfoldable pub openings : ℕ → List Job
 openings zero = []
 openings (suc i) = with_job (openings i) 0 (request.OpenCase flow_name)
@@ -46,7 +46,7 @@ unfoldable pub turn : ℕ → ℕ → Made → Made
 turn v c m =
     record { state = next_state m.state; jobs = with_turn v c (turn_user v m.state) m.jobs }
 
--- the turns of the first so many cases in the round v
+-- the turns of the cases below c in the round v
 unfoldable pub turns : ℕ → ℕ → Made → Made
 turns v zero m = m
 turns v (suc c) m = turn v c (turns v c m)
@@ -67,7 +67,7 @@ with_edit m = record {
 unfoldable pub with_round : ℕ → ℕ → Made → Made
 with_round n v m = turns v n (if is_edited v then with_edit m else m)
 
--- the first so many rounds with n cases
+-- the first v rounds with n cases
 unfoldable pub rounds : ℕ → ℕ → Made → Made
 rounds n zero m = m
 rounds n (suc v) m = with_round n v (rounds n v m)

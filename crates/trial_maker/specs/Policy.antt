@@ -14,8 +14,8 @@ use Rattle.policy_book.specs.Shapes.{PolicyShape}
 use Rattle.trial_maker.specs.Draws.{after, below}
 use Rattle.trial_maker.specs.Named.{user_name, step_name, role_name, admin_name, flow_name}
 
--- who has which role among the first so many users: the user i has the role i mod 5, and one of the
--- first five that is drawn
+-- who has which role among the first n users: the user i has the role i mod 5, and one of the first
+-- five that is drawn
 unfoldable pub drawn_members : ℕ → ℕ → Pairs
 drawn_members seed zero = set.empty
 drawn_members seed (suc i) =

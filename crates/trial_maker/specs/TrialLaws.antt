@@ -10,7 +10,7 @@ pub record AreTrialJobs (jobs : List Job) : Type 0 where
   pub lines : map (λ j. j.line) jobs ≡ range_with_len 0 (length jobs)
   pub lanes : All (λ j. j.lane < 4) jobs
 
--- so many jobs are cut into batches by their ends: each has a job, none has too many, and the last
+-- `count` jobs are cut into batches by their ends: each has a job, none has too many, and the last
 -- ends with the jobs
 pub record AreEndsOf (count : ℕ) (batch_ends : List ℕ) : Type 0 where
   pub ascend : (k : ℕ) → k < length batch_ends →

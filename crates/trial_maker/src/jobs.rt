@@ -33,7 +33,7 @@ impl Model for Maker {
     ghost view = { λ m. record { state = m.draws; jobs = m.jobs } };
 }
 
-/// The jobs for so many cases, and the ends of their batches.
+/// The jobs for a number of cases, and the ends of their batches.
 #[tactic(auto, using(crate::proofs::Growing::rounds_count, crate::proofs::Growing::openings_count))]
 pub(crate) fn batches_of(
     alloc: Global,
@@ -51,8 +51,8 @@ pub(crate) fn batches_of(
     Ok((jobs, ends))
 }
 
-// The jobs for so many cases.
-#[tactic(auto, using(crate::proofs::Growing::rounds_none, crate::proofs::Growing::rounds_more, crate::proofs::Growing::rounds_count, crate::proofs::Growing::openings_count))]
+// The jobs for a number of cases.
+#[tactic(auto, using(crate::proofs::Growing::all_rounds))]
 fn jobs_of(alloc: Global, draws: Generator, cases: u16) -> Result<Jobs, AllocError>
     requires { cases ≤ 40 }
     ensures { IfOk result (λ jobs. jobs ≡ (rounds cases 24
@@ -66,8 +66,8 @@ fn jobs_of(alloc: Global, draws: Generator, cases: u16) -> Result<Jobs, AllocErr
     Ok(maker.jobs)
 }
 
-// The openings of so many cases.
-#[tactic(auto, using(crate::proofs::NameForms::buy_form, crate::proofs::Growing::openings_none, crate::proofs::Growing::openings_more, crate::proofs::Growing::openings_count))]
+// The openings of a number of cases.
+#[tactic(auto, using(crate::proofs::NameForms::buy_form, crate::proofs::Growing::all_openings))]
 fn openings(alloc: Global, cases: u16) -> Result<Jobs, AllocError>
     requires { cases ≤ 40 }
     ensures { IfOk result (λ jobs. jobs ≡ openings cases) }
@@ -91,8 +91,8 @@ fn add_job(jobs: &mut Jobs, lane: u8, request: Request) -> Result<(), AllocError
 }
 
 impl Maker {
-    // Adds a round's turns of so many cases, and the edit before them if there is one.
-    #[tactic(auto, using(crate::proofs::Growing::turns_none, crate::proofs::Growing::turns_more, crate::proofs::Growing::turns_count, crate::proofs::Growing::edit_count), unfolding(crate::specs::Jobs::with_round))]
+    // Adds a round's turns of a number of cases, and the edit before them if there is one.
+    #[tactic(auto, using(crate::proofs::Growing::cases), unfolding(crate::specs::Jobs::with_round))]
     fn add_round(&mut self, round: u8, cases: u16) -> Result<(), AllocError>
         requires few { length self.old.jobs + 2 * cases + 1 ≤ 2 ^ 32 }
         requires round { round < 24 }
@@ -168,7 +168,7 @@ fn add_claim_and_finish(
     add_job(jobs, lane, Request::Finish { case, step, user })
 }
 
-/// The ends of batches, of which the first has so many of the jobs, and the others up to the limit.
+/// The ends of the batches of `count` jobs: the first has `first` jobs, the others up to the limit.
 #[tactic(auto, using(crate::proofs::Growing::ends_more), unfolding(crate::specs::Jobs::batch_ends))]
 pub(crate) fn batch_ends(alloc: Global, first: u32, count: u32) -> Result<Ends, AllocError>
     requires { first < count }

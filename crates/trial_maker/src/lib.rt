@@ -1,4 +1,4 @@
-//! Trials: a policy with the jobs of some cases, which a seed determines.
+//! Trials: a policy with the jobs of a number of cases, both determined by a seed.
 #![tactic(auto)]
 
 ghost use Rattle.std.specs.Prelude.{◌≡◌, ◌≤◌, IfOk};
@@ -27,8 +27,8 @@ pub struct Trial {
     pub ends: Ends,
 }
 
-/// The trial of a seed, for so many cases.
-#[tactic(auto, using(crate::proofs::Growing::made_count, crate::proofs::Growing::jobs_count), unfolding(crate::specs::Jobs::trial_jobs))]
+/// The trial of a seed, with `cases` cases.
+#[tactic(auto, using(crate::proofs::Growing::counts), unfolding(crate::specs::Jobs::trial_jobs))]
 pub fn make(alloc: Global, seed: u64, cases: u16) -> Result<Trial, AllocError>
     requires some { 1 ≤ cases }
     requires few { cases ≤ 40 }

@@ -61,7 +61,7 @@ pub(crate) fn step_name(s: StepId) -> Name
 }
 
 /// The name of a role other than that of the administrators.
-#[tactic(auto, using(crate::proofs::NameForms::role_form), unfolding(crate::specs::Named::role_name))]
+#[tactic(auto, using(crate::proofs::NameForms::r_digit), unfolding(crate::specs::Named::role_name))]
 pub(crate) fn role_name(r: RoleId) -> Name
     requires { r < 10 }
     ensures { result ≡ role_name r }

@@ -47,7 +47,7 @@ fn fill(roster: &mut Roster, draws: &mut Generator) -> Result<(), AllocError>
 }
 
 // The names of the roles.
-#[tactic(auto, using(crate::proofs::NameForms::role_fresh, crate::proofs::NameForms::roles_count, crate::proofs::NameForms::roles_more, crate::proofs::NameForms::chief_form, crate::proofs::NameForms::chief_fresh))]
+#[tactic(auto, using(crate::proofs::NameForms::role_names))]
 fn role_table(alloc: Global) -> Result<NameTable, AllocError>
     ensures { IfOk result (λ t. t.names ≡ map role_name (range_with_len 0 5) ++ admin_name ∷ []) }
 {
@@ -72,7 +72,7 @@ fn add_users(roster: &mut Roster) -> Result<(), AllocError>
 }
 
 // Adds the next user.
-#[tactic(auto, using(crate::proofs::NameForms::user_fresh, crate::proofs::NameForms::users_count, crate::proofs::NameForms::users_more))]
+#[tactic(auto, using(crate::proofs::NameForms::user_names))]
 fn add_user(roster: &mut Roster, u: UserId) -> Result<(), AllocError>
     requires few { u < 60 }
     requires earlier { roster.old.users ≡ map user_name (range_with_len 0 u) }
@@ -87,7 +87,7 @@ fn add_user(roster: &mut Roster, u: UserId) -> Result<(), AllocError>
 }
 
 // Gives each user a role by their number, and one that is drawn.
-#[tactic(auto, using(crate::proofs::Growing::after_none, crate::proofs::Growing::after_more, crate::proofs::Growing::members_none, crate::proofs::Growing::members_more))]
+#[tactic(auto, using(crate::proofs::Growing::drawn_roles))]
 fn draw_roles(roster: &mut Roster, draws: &mut Generator) -> Result<(), AllocError>
     requires users { length roster.old.users ≡ 60 }
     requires roles { length roster.old.roles ≡ 6 }

@@ -17,7 +17,7 @@ use wf_names::NameFault;
 use workflow_schema::Flow;
 
 /// The policy, whose roles are drawn.
-#[tactic(auto, using(crate::proofs::Peers::roster_roles, crate::proofs::Peers::relation_count), unfolding(crate::specs::Policy::trial_policy))]
+#[tactic(auto, using(crate::proofs::Peers::counts), unfolding(crate::specs::Policy::trial_policy))]
 pub(crate) fn policy_of(alloc: Global, draws: &mut Generator) -> Result<Policy, AllocError>
     ensures policy { IfOk result (λ p. p ≡ trial_policy draws.old) }
     ensures drawn { OnOk result (draws.new ≡ after 60 draws.old) }
@@ -28,7 +28,7 @@ pub(crate) fn policy_of(alloc: Global, draws: &mut Generator) -> Result<Policy, 
 }
 
 // The policy before its workflow.
-#[tactic(auto, using(crate::proofs::Peers::related_users, crate::proofs::Peers::roster_roles), unfolding(crate::specs::Policy::trial_policy))]
+#[tactic(auto, using(crate::proofs::Peers::counts), unfolding(crate::specs::Policy::trial_policy))]
 fn started(alloc: Global, draws: &mut Generator) -> Result<Policy, AllocError>
     ensures policy { IfOk result (λ p. p
         ≡ record (trial_policy draws.old) { flow_names = []; flows = [] }) }
@@ -54,7 +54,7 @@ fn add_workflow(alloc: Global, policy: &mut Policy) -> Result<(), AllocError>
 }
 
 // Adds the workflow to a policy without any.
-#[tactic(auto, using(crate::proofs::NameForms::buy_form, crate::proofs::FlowFacts::flow_permits, crate::proofs::FlowFacts::flow_steps, crate::proofs::FlowFacts::rules_few, crate::proofs::FlowFacts::rules_sound))]
+#[tactic(auto, using(crate::proofs::FlowFacts::flow_facts))]
 fn add_flow(policy: &mut Policy, flow: Flow, rules: Rules) -> Result<(), AllocError>
     requires flow { flow ≡ trial_flow }
     requires rules { rules ≡ trial_rules }

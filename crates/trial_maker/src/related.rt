@@ -23,7 +23,7 @@ pub(crate) const PEER: RelId = RelId(3);
 const TEAM: u16 = 6;
 
 /// The relations.
-#[tactic(auto, using(crate::proofs::NameForms::apart_form, crate::proofs::NameForms::peer_form, crate::proofs::Peers::peers_few, crate::proofs::Peers::peers_users, crate::proofs::Peers::none_few, crate::proofs::Peers::none_users), unfolding(crate::specs::Policy::trial_relations))]
+#[tactic(auto, using(crate::proofs::Peers::both), unfolding(crate::specs::Policy::trial_relations))]
 pub(crate) fn relations_of(alloc: Global) -> Result<Relations, AllocError>
     ensures { IfOk result (λ r. r ≡ trial_relations) }
 {
@@ -51,7 +51,7 @@ fn declare(relations: &mut Relations, name: Name, pairs: UserPairs) -> Result<()
 }
 
 // The pairs of different users of one team.
-#[tactic(auto, using(crate::proofs::Peers::peers_none, crate::proofs::Peers::peers_more, crate::proofs::Peers::peers_all))]
+#[tactic(auto, using(crate::proofs::Peers::all_pairs))]
 fn peers(alloc: Global) -> Result<UserPairs, AllocError>
     ensures { IfOk result (λ s. s ≡ peers) }
 {

@@ -28,7 +28,7 @@ pub(crate) fn flow_of(alloc: Global) -> Result<Flow, AllocError>
 }
 
 // The workflow of these steps.
-#[tactic(auto, using(crate::proofs::NameForms::steps_count, crate::proofs::FlowFacts::order_once_in, crate::proofs::FlowFacts::permits_once_in))]
+#[tactic(auto, using(crate::proofs::FlowFacts::once_each))]
 fn build(
     alloc: Global,
     steps: NameTable,
@@ -50,7 +50,7 @@ fn build(
 }
 
 // The names of the steps.
-#[tactic(auto, using(crate::proofs::NameForms::step_fresh, crate::proofs::NameForms::steps_count, crate::proofs::NameForms::steps_more))]
+#[tactic(auto, using(crate::proofs::NameForms::step_names))]
 fn step_table(alloc: Global) -> Result<NameTable, AllocError>
     ensures { IfOk result (λ t. t.names ≡ map step_name (range_with_len 0 12)) }
 {
@@ -84,7 +84,7 @@ fn permits(alloc: Global) -> Result<Vec<(RoleId, StepId)>, AllocError>
 }
 
 /// The rules.
-#[tactic(auto, using(crate::proofs::FlowFacts::pairs_more, crate::proofs::FlowFacts::four_more), unfolding(crate::specs::Policy::trial_rules))]
+#[tactic(auto, using(crate::proofs::FlowFacts::more), unfolding(crate::specs::Policy::trial_rules))]
 pub(crate) fn rules_of(alloc: Global) -> Result<Rules, AllocError>
     ensures { IfOk result (λ r. r ≡ trial_rules) }
 {

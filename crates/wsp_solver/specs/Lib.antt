@@ -1,3 +1,4 @@
 pub mod Crews
 pub mod Searches
 pub mod Lean
+pub mod Task

@@ -28,7 +28,7 @@ abbrev pub HasSolved : Problem → List (Option ℕ) → List Bool → Outcome �
 HasSolved p assigned finished (Plan plan) = IsValidPlan p assigned finished plan
 HasSolved p assigned finished (Refuted tree) = IsLeanRefutation p assigned finished tree
 
--- a tree has at most so many leaves and nodes
+-- a tree has at most `most` leaves and nodes
 abbrev pub FitsRoom : ℕ → Outcome → Type 0
 FitsRoom most (Plan plan) = Unit {0}
 FitsRoom most (Refuted tree) = nodes_of (shape_of tree) ≤ most

@@ -8,11 +8,13 @@ ghost use Rattle.policy_book.specs.Policies.{problem_of};
 ghost use Rattle.policy_book.specs.Refuting.{all_refute, authorised_users, have_users};
 ghost use Rattle.policy_book.specs.Refuting.{is_unassigned, refutes};
 ghost use Rattle.wsp_solver.specs.Crews.{IsCrewOf};
+ghost use Rattle.wsp_solver.specs.Task.{CanBeAsked, asked};
 ghost use Rattle.wsp_solver.specs.Lean.{IsTrimmed, IsTrimming};
 
 use crate::crew::{Crew, know_class};
 use crate::leaf::{Refutation, held_wrongly, leaf_of_rule};
 use crate::steps::{joined, step_count};
+use crate::task::Task;
 use crate::twin::twin_among;
 use plan_finder::Finder;
 use policy_book::{Assign, Policy, StepSet};
@@ -36,39 +38,43 @@ pub fn trim(
     requires refutes { IsTrue (refutes (problem_of p.now f) a.now done.now (shape_of tree)) }
     ensures { IfOk result (IsTrimmed (problem_of p.now f) a.now done.now (shape_of tree)) }
 {
+    let task = Task {
+        alloc,
+        policy: p,
+        flow: f,
+        done,
+        bounded: false,
+    };
     let mut finder = Finder::new(alloc, p, f, u32::MAX)?;
     let mut crew = Crew::new(alloc, p, f)?;
     'users: for u in 0..p.roster().users().len() {
         know_class(p, f, &mut crew, &mut finder, UserId(u));
     }
-    Ok(trim_tree(alloc, p, f, a, done, &crew, &mut finder, &tree)?.tree)
+    Ok(trim_tree(&task, a, &crew, &mut finder, &tree)?.tree)
 }
 
-/// The same, with the steps that the tree mentions.
+/// A lean tree made of one that refutes, with the steps that it mentions.
 #[cycle(trim)]
 pub(crate) fn trim_tree(
-    alloc: Global,
-    p: &Policy,
-    f: FlowId,
+    task: &Task,
     a: &Assign,
-    done: &StepSet,
     crew: &Crew,
     finder: &mut Finder,
     tree: &Tree,
 ) -> Result<Refutation, AllocError>
-    requires flow { f < length p.now.flows }
-    requires crew { IsCrewOf (problem_of p.now f) crew.now }
-    requires within { IsWithin (problem_of p.now f) a.now }
-    requires refutes { IsTrue (refutes (problem_of p.now f) a.now done.now (shape_of tree.now)) }
-    ensures { IfOk result (IsTrimming (problem_of p.now f) a.now done.now (shape_of tree.now)) }
+    requires asked { CanBeAsked task.now.policy.now task.now.flow a.now }
+    requires crew { IsCrewOf (asked task.now) crew.now }
+    requires refutes { IsTrue (refutes (asked task.now) a.now task.now.done.now (shape_of tree.now)) }
+    ensures { IfOk result
+        (IsTrimming (asked task.now) a.now task.now.done.now (shape_of tree.now)) }
 {
-    prove!(step_count(p, f) <= STEP_LIMIT);
+    prove!(step_count(task.policy, task.flow) <= STEP_LIMIT);
     match tree {
         Tree::Holder(s) => Ok(held_wrongly(*s)),
-        Tree::Rule(k) => Ok(leaf_of_rule(p, f, crew, *k)),
+        Tree::Rule(k) => Ok(leaf_of_rule(task.policy, task.flow, crew, *k)),
         Tree::Step(s, branches) => {
             let branches = branches.as_slice();
-            trim_node(alloc, p, f, a, done, crew, finder, *s, branches)
+            trim_node(task, a, crew, finder, *s, branches)
         }
     }
 }
@@ -78,34 +84,30 @@ pub(crate) fn trim_tree(
 // given more users may be twins.
 #[cycle(trim)]
 fn trim_node(
-    alloc: Global,
-    p: &Policy,
-    f: FlowId,
+    task: &Task,
     a: &Assign,
-    done: &StepSet,
     crew: &Crew,
     finder: &mut Finder,
     s: StepId,
     branches: &[Branch],
 ) -> Result<Refutation, AllocError>
-    requires flow { f < length p.now.flows }
-    requires crew { IsCrewOf (problem_of p.now f) crew.now }
-    requires within { IsWithin (problem_of p.now f) a.now }
+    requires asked { CanBeAsked task.now.policy.now task.now.flow a.now }
+    requires crew { IsCrewOf (asked task.now) crew.now }
     requires room { s < STEP_LIMIT }
-    requires free { IsTrue (is_unassigned (problem_of p.now f) a.now s) }
-    requires users { IsTrue (have_users (authorised_users (problem_of p.now f) s)
+    requires free { IsTrue (is_unassigned (asked task.now) a.now s) }
+    requires users { IsTrue (have_users (authorised_users (asked task.now) s)
         (kids_of_items branches.now)) }
-    requires each { IsTrue (all_refute (problem_of p.now f) a.now done.now s []
+    requires each { IsTrue (all_refute (asked task.now) a.now task.now.done.now s []
         (kids_of_items branches.now)) }
-    ensures { IfOk result (IsTrimming (problem_of p.now f) a.now done.now
+    ensures { IfOk result (IsTrimming (asked task.now) a.now task.now.done.now
         (node s (kids_of_items branches.now))) }
 {
-    let mut kept = Branches::new(alloc);
+    let mut kept = Branches::new(task.alloc);
     let mut steps = StepSet::empty();
     let mut last = StepSet::empty();
     'branches: for branch in branches {
         let user = branch.user;
-        if let Some(twin) = twin_among(p, f, a, crew, finder, &kept, user) {
+        if let Some(twin) = twin_among(task.policy, task.flow, a, crew, finder, &kept, user) {
             kept.push(Branch {
                 user,
                 kid: Kid::Twin(twin),
@@ -114,9 +116,9 @@ fn trim_node(
         }
         match &branch.kid {
             Kid::Tree(tree) => {
-                let kid = trim_tree(alloc, p, f, &a.with(s, user), done, crew, finder, tree)?;
+                let kid = trim_tree(task, &a.with(s, user), crew, finder, tree)?;
                 if !kid.steps.has(s) {
-                    return trim_tree(alloc, p, f, a, done, crew, finder, &kid.tree);
+                    return trim_tree(task, a, crew, finder, &kid.tree);
                 }
                 steps = joined(&steps, &kid.steps, &last);
                 last = kid.steps;

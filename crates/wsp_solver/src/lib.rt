@@ -9,6 +9,7 @@ mod near;
 mod next;
 mod search;
 mod steps;
+mod task;
 mod twin;
 
 pub use lean::trim;

@@ -7,6 +7,7 @@ ghost use Rattle.policy_book.specs.Refuting.{is_unassigned};
 ghost use Rattle.wsp_solver.specs.Crews.{IsCrewOf};
 ghost use Rattle.wsp_solver.specs.Searches.{HasDecided, FitsRoom, HasSolved, HasSearched};
 ghost use Rattle.wsp_solver.specs.Searches.{NoLeafRefutes, NoLeafRefutesWithout};
+ghost use Rattle.wsp_solver.specs.Task.{CanBeAsked, asked};
 
 use crate::crew::{Crew, know_class};
 use crate::found::found;
@@ -14,12 +15,13 @@ use crate::leaf::{Refutation, broken_rule, refuting_leaf};
 use crate::lean::trim_tree;
 use crate::next::{next_step, plan_of};
 use crate::steps::joined;
+use crate::task::Task;
 use crate::twin::twin_among;
 use plan_finder::Finder;
 use policy_book::{Assign, Plan, Policy, StepSet};
 use refutation_tree::{Branch, Branches, Kid, Tree};
 use std::alloc::{AllocError, Global};
-use wf_names::{FlowId, StepId};
+use wf_names::{FlowId, StepId, UserId};
 
 /// The most runs that are bounded.
 const RUNS: u8 = 64;
@@ -33,7 +35,7 @@ pub enum Outcome {
     Refuted(Tree),
 }
 
-/// Why a search that keeps at most so many branches has no answer.
+/// Why a search that may keep only a number of branches has no answer.
 pub enum Unsolved {
     /// An allocation was refused.
     NoMemory,
@@ -69,8 +71,8 @@ pub fn solve(
     }
 }
 
-/// The same, with a budget: a search that would keep more branches than that, those of twins among
-/// them, is given up, and a tree has at most so many leaves and nodes.
+/// Decides that with a budget: a search that would keep more than `branches` branches, those of
+/// twins among them, is given up, and a tree has at most `branches` leaves and nodes.
 pub fn solve_within(
     alloc: Global,
     p: &Policy,
@@ -119,13 +121,37 @@ fn decided(
     if let Some(leaf) = refuting_leaf(p, f, a, done) {
         return Ok(Searched::Refuted(leaf));
     }
+    let task = Task {
+        alloc,
+        policy: p,
+        flow: f,
+        done,
+        bounded: limited,
+    };
     let mut finder = Finder::new(alloc, p, f, branches)?;
     let mut crew = Crew::new(alloc, p, f)?;
     finder.make_room(alloc)?;
-    match search(alloc, p, f, a, done, &mut crew, &mut finder, limited)? {
+    search_and_trim(&task, a, &mut crew, &mut finder)
+}
+
+// A plan or a lean tree, where no leaf refutes.
+fn search_and_trim(
+    task: &Task,
+    a: &Assign,
+    crew: &mut Crew,
+    finder: &mut Finder,
+) -> Result<Searched, AllocError>
+    requires asked { CanBeAsked task.now.policy.now task.now.flow a.now }
+    requires assigned { AreAssigned task.now.done.now a.now }
+    requires crew { IsCrewOf (asked task.now) crew.old }
+    requires quiet { NoLeafRefutes (asked task.now) a.now task.now.done.now }
+    ensures { IfOk result
+        (HasDecided (asked task.now) a.now task.now.done.now task.now.bounded) }
+{
+    match search(task, a, crew, finder)? {
         Searched::Plan(plan) => Ok(Searched::Plan(plan)),
         Searched::Refuted(found) => {
-            let lean = trim_tree(alloc, p, f, a, done, &crew, &mut finder, &found.tree)?;
+            let lean = trim_tree(task, a, crew, finder, &found.tree)?;
             Ok(Searched::Refuted(lean))
         }
         Searched::Stopped => Ok(Searched::Stopped),
@@ -135,65 +161,64 @@ fn decided(
 // A search for a tree and one for a plan, in turns that go further and further, so that a small
 // tree is found where there is one, and a plan soon.
 fn search(
-    alloc: Global,
-    p: &Policy,
-    f: FlowId,
+    task: &Task,
     a: &Assign,
-    done: &StepSet,
     crew: &mut Crew,
     finder: &mut Finder,
-    limited: bool,
 ) -> Result<Searched, AllocError>
-    requires flow { f < length p.now.flows }
-    requires within { IsWithin (problem_of p.now f) a.now }
-    requires assigned { AreAssigned done.now a.now }
-    requires crew { IsCrewOf (problem_of p.now f) crew.old }
-    requires quiet { NoLeafRefutes (problem_of p.now f) a.now done.now }
-    ensures searched { IfOk result (HasSearched (problem_of p.now f) a.now done.now limited) }
-    ensures crew { IsCrewOf (problem_of p.now f) crew.new }
+    requires asked { CanBeAsked task.now.policy.now task.now.flow a.now }
+    requires assigned { AreAssigned task.now.done.now a.now }
+    requires crew { IsCrewOf (asked task.now) crew.old }
+    requires quiet { NoLeafRefutes (asked task.now) a.now task.now.done.now }
+    ensures searched { IfOk result
+        (HasSearched (asked task.now) a.now task.now.done.now task.now.bounded) }
+    ensures crew { IsCrewOf (asked task.now) crew.new }
 {
+    let run = Task {
+        alloc: task.alloc,
+        policy: task.policy,
+        flow: task.flow,
+        done: task.done,
+        bounded: true,
+    };
     'runs: for _ in 0..RUNS {
-        finder.begin_run(p, a)?;
-        match decide(alloc, p, f, a, done, crew, finder, 0, true)? {
+        finder.begin_run(task.policy, a)?;
+        match decide(&run, a, crew, finder, 0)? {
             Searched::Plan(found) => return Ok(Searched::Plan(found)),
             Searched::Refuted(found) => return Ok(Searched::Refuted(found)),
             Searched::Stopped => {}
         }
-        if let Some(plan) = found(alloc, p, f, a, done, finder)? {
+        if let Some(plan) = found(task.alloc, task.policy, task.flow, a, task.done, finder)? {
             return Ok(Searched::Plan(plan));
         }
-        if limited && finder.is_spent() {
+        if task.bounded && finder.is_spent() {
             return Ok(Searched::Stopped);
         }
     }
-    decide(alloc, p, f, a, done, crew, finder, 0, limited)
+    decide(task, a, crew, finder, 0)
 }
 
 // Tries everything, one free step after the other, where no leaf refutes.
 #[cycle(search)]
 fn decide(
-    alloc: Global,
-    p: &Policy,
-    f: FlowId,
+    task: &Task,
     a: &Assign,
-    done: &StepSet,
     crew: &mut Crew,
     finder: &mut Finder,
     depth: u8,
-    bounded: bool,
 ) -> Result<Searched, AllocError>
-    requires flow { f < length p.now.flows }
-    requires within { IsWithin (problem_of p.now f) a.now }
-    requires assigned { AreAssigned done.now a.now }
-    requires crew { IsCrewOf (problem_of p.now f) crew.old }
-    requires quiet { NoLeafRefutes (problem_of p.now f) a.now done.now }
-    ensures searched { IfOk result (HasSearched (problem_of p.now f) a.now done.now bounded) }
-    ensures crew { IsCrewOf (problem_of p.now f) crew.new }
+    requires asked { CanBeAsked task.now.policy.now task.now.flow a.now }
+    requires assigned { AreAssigned task.now.done.now a.now }
+    requires crew { IsCrewOf (asked task.now) crew.old }
+    requires quiet { NoLeafRefutes (asked task.now) a.now task.now.done.now }
+    ensures searched { IfOk result
+        (HasSearched (asked task.now) a.now task.now.done.now task.now.bounded) }
+    ensures crew { IsCrewOf (asked task.now) crew.new }
 {
-    let _ = p.rules(f);
-    match next_step(p, f, a, finder, depth) {
-        Some(s) => try_users(alloc, p, f, a, done, s, crew, finder, depth, bounded),
-        None => Ok(Searched::Plan(plan_of(p, f, a))),
+    let _ = task.policy.rules(task.flow);
+    match next_step(task.policy, task.flow, a, finder, depth) {
+        Some(s) => try_users(task, a, s, crew, finder, depth),
+        None => Ok(Searched::Plan(plan_of(task.policy, task.flow, a))),
     }
 }
 
@@ -202,29 +227,25 @@ fn decide(
 // step refutes without it, so that nobody else needs to be tried.
 #[cycle(search)]
 fn try_users(
-    alloc: Global,
-    p: &Policy,
-    f: FlowId,
+    task: &Task,
     a: &Assign,
-    done: &StepSet,
     s: StepId,
     crew: &mut Crew,
     finder: &mut Finder,
     depth: u8,
-    bounded: bool,
 ) -> Result<Searched, AllocError>
-    requires flow { f < length p.now.flows }
-    requires within { IsWithin (problem_of p.now f) a.now }
-    requires assigned { AreAssigned done.now a.now }
-    requires crew { IsCrewOf (problem_of p.now f) crew.old }
-    requires quiet { NoLeafRefutes (problem_of p.now f) a.now done.now }
+    requires asked { CanBeAsked task.now.policy.now task.now.flow a.now }
+    requires assigned { AreAssigned task.now.done.now a.now }
+    requires crew { IsCrewOf (asked task.now) crew.old }
+    requires quiet { NoLeafRefutes (asked task.now) a.now task.now.done.now }
     requires room { s < STEP_LIMIT }
-    requires free { IsTrue (is_unassigned (problem_of p.now f) a.now s) }
-    ensures searched { IfOk result (HasSearched (problem_of p.now f) a.now done.now bounded) }
-    ensures crew { IsCrewOf (problem_of p.now f) crew.new }
+    requires free { IsTrue (is_unassigned (asked task.now) a.now s) }
+    ensures searched { IfOk result
+        (HasSearched (asked task.now) a.now task.now.done.now task.now.bounded) }
+    ensures crew { IsCrewOf (asked task.now) crew.new }
 {
-    let row = p.authorised_users(f, s);
-    let mut branches = Branches::new(alloc);
+    let row = task.policy.authorised_users(task.flow, s);
+    let mut branches = Branches::new(task.alloc);
     let mut steps = StepSet::empty();
     let mut last = StepSet::empty();
     finder.find_reasons(a, depth, s);
@@ -232,25 +253,19 @@ fn try_users(
     let mut from = 0;
     'users: while let Some(user) = row.next(from) {
         from = user.0 as u32 + 1;
-        know_class(p, f, crew, finder, user);
-        if let Some(twin) = twin_among(p, f, a, crew, finder, &branches, user) {
+        know_class(task.policy, task.flow, crew, finder, user);
+        if let Some(twin) = twin_among(task.policy, task.flow, a, crew, finder, &branches, user) {
             finder.keep();
-            branches.push(Branch {
-                user,
-                kid: Kid::Twin(twin),
-            })?;
+            let kid = Kid::Twin(twin);
+            branches.push(Branch { user, kid })?;
             continue;
         }
-        if !finder.may_try(depth) && bounded {
+        if !finder.may_try(depth) && task.bounded {
             return Ok(Searched::Stopped);
         }
         let here = finder.kept();
-        let reason = finder.reason(depth, user);
         let given = a.with(s, user);
-        let next = depth.saturating_add(1);
-        match try_user(
-            alloc, p, f, &given, done, s, crew, finder, next, bounded, reason,
-        )? {
+        match try_user(task, &given, s, user, crew, finder, depth)? {
             Searched::Plan(plan) => return Ok(Searched::Plan(plan)),
             Searched::Stopped => return Ok(Searched::Stopped),
             Searched::Refuted(kid) => {
@@ -262,45 +277,38 @@ fn try_users(
                 finder.keep();
                 steps = joined(&steps, &kid.steps, &last);
                 last = kid.steps;
-                branches.push(Branch {
-                    user,
-                    kid: Kid::Tree(kid.tree),
-                })?;
+                let tree = Kid::Tree(kid.tree);
+                branches.push(Branch { user, kid: tree })?;
             }
         }
     }
-    Ok(Searched::Refuted(Refutation {
-        tree: Tree::Step(s, branches),
-        steps,
-    }))
+    let tree = Tree::Step(s, branches);
+    Ok(Searched::Refuted(Refutation { tree, steps }))
 }
 
-// Decides an assignment under which a leaf refutes only where it mentions the step that was given
-// last. The rule that the finder knows of is looked at first.
+// Decides an assignment under which a leaf refutes only where it mentions the step `s`, which was
+// given last, to the user `u`. The rule that the finder knows of is looked at first.
 #[cycle(search)]
 fn try_user(
-    alloc: Global,
-    p: &Policy,
-    f: FlowId,
+    task: &Task,
     a: &Assign,
-    done: &StepSet,
     s: StepId,
+    u: UserId,
     crew: &mut Crew,
     finder: &mut Finder,
     depth: u8,
-    bounded: bool,
-    reason: u8,
 ) -> Result<Searched, AllocError>
-    requires flow { f < length p.now.flows }
-    requires within { IsWithin (problem_of p.now f) a.now }
-    requires assigned { AreAssigned done.now a.now }
-    requires crew { IsCrewOf (problem_of p.now f) crew.old }
-    requires others { NoLeafRefutesWithout (problem_of p.now f) a.now done.now s }
-    ensures searched { IfOk result (HasSearched (problem_of p.now f) a.now done.now bounded) }
-    ensures crew { IsCrewOf (problem_of p.now f) crew.new }
+    requires asked { CanBeAsked task.now.policy.now task.now.flow a.now }
+    requires assigned { AreAssigned task.now.done.now a.now }
+    requires crew { IsCrewOf (asked task.now) crew.old }
+    requires others { NoLeafRefutesWithout (asked task.now) a.now task.now.done.now s }
+    ensures searched { IfOk result
+        (HasSearched (asked task.now) a.now task.now.done.now task.now.bounded) }
+    ensures crew { IsCrewOf (asked task.now) crew.new }
 {
-    match broken_rule(p, f, a, done, s, reason, crew) {
+    let reason = finder.reason(depth, u);
+    match broken_rule(task.policy, task.flow, a, task.done, s, reason, crew) {
         Some(leaf) => Ok(Searched::Refuted(leaf)),
-        None => decide(alloc, p, f, a, done, crew, finder, depth, bounded),
+        None => decide(task, a, crew, finder, depth.saturating_add(1)),
     }
 }

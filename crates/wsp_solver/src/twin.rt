@@ -15,8 +15,8 @@ use policy_book::{Assign, Policy};
 use refutation_tree::{Branch, Branches, Kid};
 use wf_names::{FlowId, STEP_LIMIT, StepId, UserId};
 
-/// A user whose branch has a tree, and who is a twin of this one; if there is one. The branches are
-/// of lower users, so that there is none for a user who is the first twin.
+/// A twin of the user `u` whose branch has a tree, if there is one. The branches are of lower
+/// users, so that there is none for a user who is the first twin.
 pub(crate) fn twin_among(
     p: &Policy,
     f: FlowId,
@@ -49,7 +49,7 @@ pub(crate) fn twin_among(
     None
 }
 
-// Whether a branch has a tree, and its user is a twin of this one, who has no step.
+// Whether a branch has a tree, and its user is a twin of the user `u`, who has no step.
 fn is_twin_branch(
     p: &Policy,
     f: FlowId,

@@ -1,4 +1,4 @@
-use Rattle.command_words.proofs.Usage.{audit_read, cnf_read, model_read, plan_read, resilience_read, resume_read, serve_read, show_read, solve_read, trial_read}
+use Rattle.command_words.proofs.Usage.{cnf_read, model_read, plan_read, resilience_read, show_read, solve_read, trial_read}
 use Rattle.command_words.proofs.laws.usage_is_read.Goals as goal
 
 pub returns : goal.returns
@@ -9,8 +9,5 @@ returns c = record {
   resilience = resilience_read;
   cnf = cnf_read;
   model = model_read;
-  serve = serve_read;
-  audit = audit_read;
-  resume = resume_read;
   trial = trial_read;
 }

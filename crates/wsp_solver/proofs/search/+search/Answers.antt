@@ -4,7 +4,6 @@ use Rattle.constraint_forms.specs.Assign.{is_member, user_at}
 use Rattle.refutation_tree.specs.Tree.{joined, no_kids, tree_kid, twin_kid}
 use Rattle.refutation_tree.specs.Views.{shape_of}
 use Rattle.policy_book.specs.Plans.{Problem, AreAssigned, IsWithin, IsValidPlan}
-use Rattle.policy_book.specs.Policies.{problem_of}
 use Rattle.policy_book.specs.Refuting.{all_refute, authorised_users, have_users, is_unassigned, refutes}
 use Rattle.basics.proofs.Booleans.{and_both, or_right}
 use Rattle.certificate_check.proofs.Assigned.{not_some}
@@ -12,6 +11,7 @@ use Rattle.certificate_check.proofs.Refuted.{assigned_given}
 use Rattle.certificate_check.proofs.Trees.{within_given}
 use Rattle.certificate_check.specs.Walks.{AreUsersBelow}
 use Rattle.wsp_solver.specs.Searches.{AreOfUsersBelow, AreMentionedIn, HasSearched, NoLeafRefutesWithout, free_count}
+use Rattle.wsp_solver.specs.Task.{asked}
 use Rattle.wsp_solver.proofs.Members.{mentioned_push, mentioned_push_twin}
 use Rattle.certificate_check.proofs.Dropped.{unmentioned_step_drops as drops}
 use Rattle.wsp_solver.proofs.Searching.{quiet_given, valid_full, valid_without, count_less}
@@ -21,7 +21,7 @@ use Rattle.wsp_solver.proofs.search.+search.Goals as goal
 
 pub decide-returns-in-None-clause-searched : goal.decide-returns-in-None-clause-searched
 decide-returns-in-None-clause-searched t c =
-    valid_full (problem_of c.args.p.now c.args.f) c.args.a.now c.args.done.now c.plan_of.result c.rules.ensures.well_formed c.requires.within
+    valid_full (asked c.args.task.now) c.args.a.now c.args.task.now.done.now c.plan_of.result c.rules.ensures.well_formed c.requires.asked.within
     c.requires.quiet c.plan_of.ensures
 
 -- a free step is a step, and has no user
@@ -44,7 +44,7 @@ try_users-twin_among-requires-clause-users t c =
 
 pub try_users-try_user-requires : goal.try_users-try_user-requires
 try_users-try_user-requires t c =
-    let p = problem_of c.args.p.now c.args.f in
+    let p = asked c.args.task.now in
     let a = c.args.a.now in
     let s = c.args.s in
     let u = c.in-Some.user in
@@ -56,17 +56,17 @@ try_users-try_user-requires t c =
     let same = ap (λ x. free_count x p.steps) c.with-given.ensures.given in (
       omega (arith, c.decreases, less, same),
       (
-        c.requires.flow,
+        record {
+          flow = c.requires.asked.flow;
+          within = subst (IsWithin p) (sym c.with-given.ensures.given) (within_given p a s u c.requires.asked.within c.requires.free within);
+        },
         (
-          subst (IsWithin p) (sym c.with-given.ensures.given) (within_given p a s u c.requires.within c.requires.free within),
+          subst (AreAssigned c.args.task.now.done.now) (sym c.with-given.ensures.given)
+              (assigned_given a c.args.task.now.done.now s u c.requires.assigned (step_open p a s c.requires.free)),
           (
-            subst (AreAssigned c.args.done.now) (sym c.with-given.ensures.given)
-                (assigned_given a c.args.done.now s u c.requires.assigned (step_open p a s c.requires.free)),
-            (
-              c.know_class.ensures,
-              subst (λ x. NoLeafRefutesWithout p x c.args.done.now s) (sym c.with-given.ensures.given)
-                  (quiet_given p a c.args.done.now s u (omega (arith, c.requires.room, c.with-given.ensures.len)) may c.requires.quiet),
-            ),
+            c.know_class.ensures,
+            subst (λ x. NoLeafRefutesWithout p x c.args.task.now.done.now s) (sym c.with-given.ensures.given)
+                (quiet_given p a c.args.task.now.done.now s u (omega (arith, c.requires.room, c.with-given.ensures.len)) may c.requires.quiet),
           ),
         ),
       ),
@@ -74,24 +74,25 @@ try_users-try_user-requires t c =
 
 pub try_users-returns-in-Plan-clause-searched : goal.try_users-returns-in-Plan-clause-searched
 try_users-returns-in-Plan-clause-searched t c =
-    let p = problem_of c.args.p.now c.args.f in
-    let done = c.args.done.now in
-    let found = subst (HasSearched p c.with-given.result done c.args.bounded) c.in-Plan.is c.in_ok-plan.ensures.searched in
+    let p = asked c.args.task.now in
+    let done = c.args.task.now.done.now in
+    let found = subst (HasSearched p c.with-given.result done c.args.task.now.bounded) c.in-Plan.is c.in_ok-plan.ensures.searched in
     valid_without p c.args.a.now done c.in-Plan.plan c.args.s c.in-Some.user (step_open p c.args.a.now c.args.s c.requires.free)
     (subst (λ x. IsValidPlan p x done c.in-Plan.plan) c.with-given.ensures.given found)
 
 pub try_users-returns-in-Stopped-clause-searched : goal.try_users-returns-in-Stopped-clause-searched
 try_users-returns-in-Stopped-clause-searched t c =
-    subst (HasSearched (problem_of c.args.p.now c.args.f) c.with-given.result c.args.done.now c.args.bounded) c.in-Stopped.is c.in_ok-plan.ensures.searched
+    subst (HasSearched (asked c.args.task.now) c.with-given.result c.args.task.now.done.now c.args.task.now.bounded) c.in-Stopped.is
+    c.in_ok-plan.ensures.searched
 
 pub try_users-returns-then-not-has-clause-searched : goal.try_users-returns-then-not-has-clause-searched
 try_users-returns-then-not-has-clause-searched t c =
-    let p = problem_of c.args.p.now c.args.f in
-    let done = c.args.done.now in
+    let p = asked c.args.task.now in
+    let done = c.args.task.now.done.now in
     let a = c.args.a.now in
     let s = c.args.s in
     let kid = c.in-Refuted.kid in
-    let found = subst (HasSearched p c.with-given.result done c.args.bounded) c.in-Refuted.is c.in_ok-plan.ensures.searched in
+    let found = subst (HasSearched p c.with-given.result done c.args.task.now.bounded) c.in-Refuted.is c.in_ok-plan.ensures.searched in
     let here = subst (λ x. refutes p x done (shape_of kid.tree) ≡ true) c.with-given.ensures.given found.refutes in
     let quiet = found.steps s ∙ sym c.if-not-has.ensures.flag in record {
       refutes = drops p a done s c.in-Some.user (shape_of kid.tree) (omega (arith, c.requires.room, c.with-given.ensures.len))
@@ -101,7 +102,7 @@ try_users-returns-then-not-has-clause-searched t c =
 
 pub try_users-users-preserved-in-Some-twin_among : goal.try_users-users-preserved-in-Some-twin_among
 try_users-users-preserved-in-Some-twin_among t c =
-    let p = problem_of c.args.p.now c.args.f in
+    let p = asked c.args.task.now in
     let a = c.args.a.now in
     let s = c.args.s in
     let u = c.in-Some.user in
@@ -118,8 +119,8 @@ try_users-users-preserved-in-Some-twin_among t c =
       subst (AreOfUsersBelow (p.authorised s) (n + 1) p.users) (sym pushed)
           (subst (λ k. AreOfUsersBelow (p.authorised s) (k + 1) p.users (joined front (twin_kid u twin no_kids))) (sym same)
           (users_push_twin (p.authorised s) u twin p.users front within may so_far)),
-      subst (λ k. all_refute p a c.args.done.now s [] k ≡ true) (sym pushed)
-          (refute_push_twin p a c.args.done.now s u twin front [] c.users.invariant.1 c.in-Some-twin_among.ensures.0 c.in-Some-twin_among.ensures.1),
+      subst (λ k. all_refute p a c.args.task.now.done.now s [] k ≡ true) (sym pushed)
+          (refute_push_twin p a c.args.task.now.done.now s u twin front [] c.users.invariant.1 c.in-Some-twin_among.ensures.0 c.in-Some-twin_among.ensures.1),
       subst (λ k. AreMentionedIn p.rules k c.users.steps) (sym pushed) (mentioned_push_twin p.rules front u twin c.users.steps c.users.invariant.2),
       subst (AreUsersBelow (n + 1)) (sym pushed) (below_push_twin (n + 1) u twin
           front (omega (arith, same)) (below_to c.users.from (n + 1) front (omega (arith, next.from_on, same)) c.users.invariant.3)),
@@ -130,8 +131,8 @@ try_users-users-preserved-in-Some-twin_among t c =
 
 pub try_users-users-preserved : goal.try_users-users-preserved
 try_users-users-preserved t c =
-    let p = problem_of c.args.p.now c.args.f in
-    let done = c.args.done.now in
+    let p = asked c.args.task.now in
+    let done = c.args.task.now.done.now in
     let a = c.args.a.now in
     let s = c.args.s in
     let u = c.in-Some.user in
@@ -143,7 +144,7 @@ try_users-users-preserved t c =
     let tree = shape_of kid.tree in
     let n = c.user.inside.0 in
     let same : n ≡ u = c.user.view_is in
-    let found = subst (HasSearched p c.with-given.result done c.args.bounded) c.in-Refuted.is c.in_ok-plan.ensures.searched in
+    let found = subst (HasSearched p c.with-given.result done c.args.task.now.bounded) c.in-Refuted.is c.in_ok-plan.ensures.searched in
     let here = subst (λ x. refutes p x done tree ≡ true) c.with-given.ensures.given found.refutes in
     let said = mentioned_push p.rules front u tree c.users.steps kid.steps c.joined-steps.result c.users.invariant.2 found.steps c.joined-steps.ensures in
     let pushed = c.in_ok-push-in-Refuted.ensures.ok in
@@ -163,17 +164,18 @@ try_users-users-preserved t c =
 
 pub try_users-returns-clause-searched : goal.try_users-returns-clause-searched
 try_users-returns-clause-searched t c =
-    let p = problem_of c.args.p.now c.args.f in
+    let p = asked c.args.task.now in
     let front = c.users.branches in
     let users = users_all (p.authorised c.args.s) c.users.from p.users front c.users.invariant.6
     (λ v on below. sym (c.authorised_users-row.ensures.authorised v) ∙ c.in_default.ensures v on) c.users.invariant.0 in record {
       refutes =
           and_from (is_unassigned p c.args.a.now c.args.s)
-          (have_users (authorised_users p c.args.s) front && all_refute p c.args.a.now c.args.done.now c.args.s [] front) c.requires.free
-          (and_from (have_users (authorised_users p c.args.s) front) (all_refute p c.args.a.now c.args.done.now c.args.s [] front) users c.users.invariant.1);
+          (have_users (authorised_users p c.args.s) front && all_refute p c.args.a.now c.args.task.now.done.now c.args.s [] front) c.requires.free
+          (and_from (have_users (authorised_users p c.args.s) front) (all_refute p c.args.a.now c.args.task.now.done.now c.args.s [] front) users
+          c.users.invariant.1);
       steps = c.users.invariant.2;
     }
 
 pub try_user-decide-requires : goal.try_user-decide-requires
 try_user-decide-requires t c =
-    (omega (arith, c.decreases), (c.requires.flow, (c.requires.within, (c.requires.assigned, (c.requires.crew, c.in-None.ensures)))))
+    (omega (arith, c.decreases), (c.requires.asked, (c.requires.assigned, (c.requires.crew, c.in-None.ensures))))
