@@ -162,6 +162,18 @@ impl Cases {
         ensures plan { result ≡ plan_at self.now c }
         ensures open { is_some result ≡ is_open_case (case_at self.now c) }
     {
+        match self.kept_plan(c) {
+            Some(plan) => Some(*plan),
+            None => None,
+        }
+    }
+
+    /// The same where it is kept.
+    pub fn kept_plan(&self, c: CaseId) -> Option<&Plan>
+        ensures plan { MatchOption result (plan_at self.now c ≡ None)
+            (λ plan. plan_at self.now c ≡ Some plan.now) }
+        ensures open { is_some (plan_at self.now c) ≡ is_open_case (case_at self.now c) }
+    {
         plan_in(&self.rows, c.0)
     }
 

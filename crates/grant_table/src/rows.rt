@@ -96,11 +96,16 @@ pub(crate) fn case_of(rows: &[Row], n: u16) -> Option<&Case>
 }
 
 /// The plan that is kept for the case with a number.
-pub(crate) fn plan_in(rows: &[Row], n: u16) -> Option<Plan>
+pub(crate) fn plan_in(rows: &[Row], n: u16) -> Option<&Plan>
     requires { AscendFrom 0 rows.now }
-    ensures { result ≡ plan_of (row_at n rows.now) }
+    ensures { MatchOption result (plan_of (row_at n rows.now) ≡ None)
+        (λ plan. plan_of (row_at n rows.now) ≡ Some plan.now) }
 {
-    row_of(rows, n)?.plan
+    let i = find(rows, n)?;
+    match &rows[i].plan {
+        Some(plan) => Some(plan),
+        None => None,
+    }
 }
 
 /// Puts a row in the place of the one with its number.
