@@ -149,7 +149,8 @@ fn on_step<'a>(
 ) -> Result<(&'a Case, StepId, UserId), Denial>
     requires { ArePlanned p.now cases.now.rows }
     ensures deed { IfOk result (λ x. (deed : ℕ → CaseShape → ℕ → ℕ → Deed)
-        → on_step deed (book_of p.now cases.now) n step.now user.now ≡ Ok (deed n x.0.now x.1 x.2)) }
+        → on_step deed (book_of p.now cases.now) n step.now user.now ≡ Ok
+        (deed n x.0.now x.1 x.2)) }
     ensures denied { IfErr result (λ d. (deed : ℕ → CaseShape → ℕ → ℕ → Deed)
         → on_step deed (book_of p.now cases.now) n step.now user.now ≡ Err d) }
     ensures found { IfOk result (λ x. AreFound p.now cases.now.rows n x.0.now x.1 x.2) }

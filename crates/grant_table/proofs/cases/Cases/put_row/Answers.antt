@@ -16,7 +16,8 @@ past_ended-self-inside-requires c =
 pub invariant_of-self : goal.invariant_of-self
 invariant_of-self c =
     let sound =
-    kept_put c.self.inside.ever c.self.inside.live c.still_open-self-inside.result c.self.inside.rows.items c.args.row.now c.args.has_ended c.self.invariant.sound
+    kept_put c.self.inside.ever c.self.inside.live c.still_open-self-inside.result c.self.inside.rows.items c.args.row.now c.args.has_ended
+    c.self.invariant.sound
     (rw (← c.self.view_is) at c.requires.there) c.requires.planned c.still_open-self-inside.ensures in
     record { sound = rw c.put.ensures.rows sound; passed = rw c.deref.ensures.value at c.past_ended-self-inside.ensures }
 
