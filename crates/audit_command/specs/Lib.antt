@@ -1,5 +1,5 @@
-pub mod Auditing
-pub mod Running
+pub mod Finding
+pub mod Run
 pub mod Loading
 pub mod Steps
 pub mod Laws

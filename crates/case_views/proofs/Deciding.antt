@@ -2,8 +2,8 @@
 use Rattle.std.proofs.Common.{◌≡◌, ℕ, ◌<◌, Bool, true, false, List, length, Option, Some, Result, Ok, Err, IfOk, MatchResult, slice_set, refl, sym, ap}
 use Rattle.std.proofs.Common.{subst, ◌∙◌}
 use Rattle.std.proofs.lemmas.Bool.Decides.{eqb_tells}
-use Rattle.first_fault.specs.Reading.{Gives}
-use Rattle.constraint_forms.specs.Assigned.{no_steps, no_users, planned, user_at}
+use Rattle.basics.specs.Reading.{Gives}
+use Rattle.constraint_forms.specs.Assign.{no_steps, no_users, planned, user_at}
 use Rattle.policy_book.specs.Shapes.{PolicyShape}
 use Rattle.policy_book.specs.Policies.{problem_of}
 use Rattle.policy_book.specs.Plans.{AreAssigned, IsValidPlan, IsWithin, Problem}

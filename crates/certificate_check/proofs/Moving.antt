@@ -6,11 +6,11 @@ use Rattle.std.proofs.lemmas.List.{get_or-set_same, get_or-set_other, get_or_pas
 use Rattle.std.proofs.lemmas.Option.{slice_get_within}
 use Rattle.basics.proofs.Booleans.{bool_cases}
 use Rattle.constraint_forms.specs.declared.rule.Rule.{Rule}
-use Rattle.constraint_forms.specs.Assigned.{planned, user_at}
+use Rattle.constraint_forms.specs.Assign.{planned, user_at}
 use Rattle.constraint_forms.specs.Rules.{is_satisfied, names}
 use Rattle.constraint_forms.proofs.RuleLaws.{satisfied_by_named}
 use Rattle.policy_book.specs.Plans.{IsValidPlan, Problem}
-use Rattle.certificate_check.specs.Faults.{keeps_rule}
+use Rattle.certificate_check.specs.Plan.{keeps_rule}
 use Rattle.certificate_check.proofs.Assigned.{given, given_same, none_not_some, same_some}
 
 moved_here : (plan : List ℕ) (s u : ℕ) → s < length plan → planned (slice_set plan s u) s ≡ u

@@ -1,3 +1,3 @@
-pub mod Refusing
-pub mod Loading
-pub mod Begun
+pub mod Refusal
+pub mod Load
+pub mod Start

@@ -5,10 +5,10 @@ ghost use Rattle.wf_names.specs.declared.limits.TheConstants.{SESSION_LINE_LIMIT
 ghost use Rattle.line_cutter.specs.Jobs.{jobs_of_input};
 ghost use Rattle.line_cutter.specs.Laws.{AreInOrder, AreNamedJobs};
 ghost use Rattle.run_record.specs.Fault.{how_of, refused, CountsLoads};
-ghost use Rattle.resume_command.specs.Loading.{IsCutOf, ending_at, OverBoth, OverFiles};
-ghost use Rattle.resume_command.specs.Loading.{OverTranscript, OverTranscriptFile};
-ghost use Rattle.resume_command.specs.Begun.{BeginsBy, EndsBeginning, EndsLoaded, StopsBy, ends_to};
-ghost use Rattle.resume_command.specs.Begun.{fault_by, session_of};
+ghost use Rattle.resume_command.specs.Load.{IsCutOf, ending_at, OverBoth, OverFiles};
+ghost use Rattle.resume_command.specs.Load.{OverTranscript, OverTranscriptFile};
+ghost use Rattle.resume_command.specs.Start.{BeginsBy, EndsBeginning, EndsLoaded, StopsBy, ends_to};
+ghost use Rattle.resume_command.specs.Start.{fault_by, session_of};
 
 use crate::Refusal;
 use crate::load::load_requests;

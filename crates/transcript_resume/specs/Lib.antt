@@ -1,3 +1,3 @@
-pub mod Places
+pub mod Unserved
 pub mod Resumed
 pub mod Auditing

@@ -3,7 +3,7 @@ use Rattle.std.proofs.Common.{◌≡◌, ℕ, ◌+◌, ◌<◌, ◌≤◌, ◌^�
 use Rattle.std.proofs.lemmas.List.{length-append, take-append-drop}
 use Rattle.wf_names.specs.declared.limits.TheConstants.{LANE_LIMIT}
 use Rattle.policy_book.specs.Shapes.{PolicyShape}
-use Rattle.policy_reader.specs.FilePolicies.{IsFilePolicy}
+use Rattle.policy_reader.specs.File.{IsFilePolicy}
 use Rattle.wf_talk.specs.declared.entry.Entry.{Entry}
 use Rattle.wf_board.specs.States.{State, opening_state}
 use Rattle.wf_board.specs.Histories.{AreRightful, IsLegal, state_after}
@@ -19,10 +19,10 @@ use Rattle.run_record.specs.Run.{Streams}
 use Rattle.command_words.specs.Words.{AreOptions, Options}
 use Rattle.resume_command.specs.declared.start.Beginning.{Beginning}
 use Rattle.resume_command.specs.declared.start.TheConstants.{PIECE}
-use Rattle.resume_command.specs.Begun.{HasBegun, session_of}
+use Rattle.resume_command.specs.Start.{HasBegun, session_of}
 use Rattle.wf_server.specs.Batches.{AreInOrderFrom}
-use Rattle.wf_server.specs.Resuming.{setting_behind}
-use Rattle.wf_server.specs.Serving.{setting}
+use Rattle.wf_server.specs.GoingOn.{setting_behind}
+use Rattle.wf_server.specs.Serve.{setting}
 use Rattle.wf_server.specs.Sessions.{Served, Setting}
 use Rattle.wf_server.proofs.Handed.{answer_lines, lines_behind, nothing_open}
 

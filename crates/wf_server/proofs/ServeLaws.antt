@@ -2,7 +2,7 @@
 use Rattle.std.proofs.Common.{◌≡◌, ℕ, List, false, Ok, Err, inl, inr, refl, sym, subst, arith}
 use Rattle.wf_outside.specs.Outside.{Filed, told, missing, untold}
 use Rattle.policy_book.specs.Shapes.{PolicyShape}
-use Rattle.policy_reader.specs.FilePolicies.{IsFilePolicy}
+use Rattle.policy_reader.specs.File.{IsFilePolicy}
 use Rattle.run_record.specs.declared.fault.RunFault.{RunFault}
 use Rattle.run_record.specs.declared.fault.RunFault.TheVariants.{Nothing, Found, Usage, Policy, Read, Write, Load, NoMemory, FileTooLong, LineTooLong}
 use Rattle.run_record.specs.declared.fault.RunFault.TheVariants.{TooManyLines, BadInput, TooLarge}
@@ -17,7 +17,7 @@ use Rattle.wf_board.specs.Histories.{AreRightful}
 use Rattle.entry_laws.specs.Fits.{FitLines}
 use Rattle.entry_laws.specs.Transcripts.{texts_of}
 use Rattle.command_words.specs.Words.{AreOptions, Options}
-use Rattle.wf_server.specs.Serving.{setting, EndsBefore, ServesFile, ServesRun}
+use Rattle.wf_server.specs.Serve.{setting, EndsBefore, ServesFile, ServesRun}
 
 ends_before : (file : List ℕ) (fault : RunFault) → PolicyOf file (Err fault) → IsLoadEnding fault → EndsBefore file fault
 ends_before file FileTooLong gives ending = gives

@@ -6,7 +6,7 @@ use Rattle.wf_desk.specs.Desks.{DeskShape}
 use Rattle.run_record.specs.declared.fault.RunFault.{RunFault}
 use Rattle.run_record.specs.declared.fault.RunFault.TheVariants.{Write}
 use Rattle.run_record.specs.Report.{Told}
-use Rattle.wf_server.specs.Batches.{HasAnswered, HasAnsweredPart}
+use Rattle.wf_server.specs.Batches.{HasAnsweredAll, HasAnsweredPart}
 use Rattle.wf_server.specs.Ways.{setting_of}
 
 -- the jobs of so many batches of a file are told, from the first on
@@ -27,6 +27,6 @@ pub record StopsIn (jobs : List Job) (batch_ends : List ℕ) (fault : RunFault) 
 abbrev pub FileTo : Option (List ℕ) → Option (List ℕ) → List Job → List ℕ → DeskShape → Told →
     Result (Unit {0}) RunFault → Type 0
 FileTo held held-after jobs batch_ends d told (Ok done) =
-    IsToldTo jobs batch_ends (length batch_ends) told × HasAnswered held held-after d told
+    IsToldTo jobs batch_ends (length batch_ends) told × HasAnsweredAll held held-after d told
 FileTo held held-after jobs batch_ends d told (Err fault) =
     StopsIn jobs batch_ends fault told × HasAnsweredPart (setting_of d) held held-after told

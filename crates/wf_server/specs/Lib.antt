@@ -2,7 +2,7 @@ pub mod Sessions
 pub mod Ways
 pub mod Batches
 pub mod Names
-pub mod Serving
+pub mod Serve
 pub mod Files
-pub mod Resuming
-pub mod Run
+pub mod GoingOn
+pub mod Runs

@@ -10,7 +10,8 @@ ghost use Rattle.wf_desk.specs.Schedules.{HasGrown};
 ghost use Rattle.wire_json.specs.Replies.{entry_text};
 ghost use Rattle.run_record.specs.Fault.{fault_in, CountsWrites};
 ghost use Rattle.run_record.specs.Report.{Told};
-ghost use Rattle.wf_server.specs.Batches.{entries_text, told_of, HasAnswered, HasLoaded, IsAdded};
+ghost use Rattle.wf_server.specs.Batches.{entries_text, told_of, HasAnsweredAll, HasLoaded};
+ghost use Rattle.wf_server.specs.Batches.{IsBatchAdded};
 ghost use Rattle.wf_server.specs.Batches.{IsBatch, AnswersTo, LoadedTo, IsWriteEnding};
 ghost use Rattle.wf_server.specs.Ways.{IsWay, ServesOnce, setting_of};
 
@@ -64,7 +65,7 @@ pub(crate) fn answer_batch<K: Sink, W: Fn(Desk) -> Desk>(
     ensures setting { setting_of result.0 ≡ setting_of desk }
     ensures begins { take desk.restored result.0.entries ≡ take desk.restored desk.entries }
     ensures answers { (held : Option (List ℕ)) →
-        HasAnswered held (K.held sink.old) desk (told_of desk told.old) →
+        HasAnsweredAll held (K.held sink.old) desk (told_of desk told.old) →
         AnswersTo held (K.held sink.new) (told_of desk told.old) batch.now result.0
         (told_of result.0 told.new) result.1 }
     ensures once { ServesOnce (W.post way.now) → AreAnsweredOnce (drop desk.restored desk.entries)
@@ -94,7 +95,7 @@ pub(crate) fn answer_loaded<K: Sink, W: Fn(Desk) -> Desk>(
     ensures setting { setting_of result.0 ≡ setting_of desk }
     ensures begins { take desk.restored result.0.entries ≡ take desk.restored desk.entries }
     ensures answers { (held : Option (List ℕ)) (before after : Told) →
-        HasLoaded held (K.held sink.old) desk before → IsAdded before desk.jobs after →
+        HasLoaded held (K.held sink.old) desk before → IsBatchAdded before desk.jobs after →
         after.entries ≡ result.0.entries → LoadedTo held (K.held sink.new) result.0 after result.1 }
     ensures once { ServesOnce (W.post way.now) → AreAnsweredOnce (drop desk.restored desk.entries)
         → AreAnsweredOnce (drop desk.restored result.0.entries) }

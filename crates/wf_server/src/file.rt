@@ -3,10 +3,10 @@ ghost use Rattle.std.specs.Prelude.{◌≡◌, ◌≤◌, ◌<◌, ℕ, List, le
 ghost use Rattle.wf_board.specs.Histories.{AreAnsweredOnce};
 ghost use Rattle.wf_desk.specs.Desks.{AreOfLanes, IsDone};
 ghost use Rattle.line_cutter.specs.Laws.{AreInOrder};
-ghost use Rattle.transcript_resume.specs.Places.{jobs_between};
-ghost use Rattle.resume_command.specs.Begun.{StandsAt};
+ghost use Rattle.transcript_resume.specs.Unserved.{jobs_between};
+ghost use Rattle.resume_command.specs.Start.{StandsAt};
 ghost use Rattle.run_record.specs.Fault.{fault_in, CountsWrites};
-ghost use Rattle.wf_server.specs.Batches.{told_of, HasAnswered, IsWriteEnding};
+ghost use Rattle.wf_server.specs.Batches.{told_of, HasAnsweredAll, IsWriteEnding};
 ghost use Rattle.wf_server.specs.Files.{FileTo, IsToldTo};
 ghost use Rattle.wf_server.specs.Ways.{IsWay, ServesOnce, setting_of};
 
@@ -68,11 +68,11 @@ fn answer_file<K: Sink, W: Fn(Desk) -> Desk>(
     requires order { AreInOrder desk.lanes file.now.jobs file.now.ends }
     requires told { IsToldTo file.now.jobs file.now.ends count (told_of desk told.old) }
     requires answered { (held : Option (List ℕ))
-        × HasAnswered held (K.held sink.old) desk (told_of desk told.old) }
+        × HasAnsweredAll held (K.held sink.old) desk (told_of desk told.old) }
     ensures setting { setting_of result.0 ≡ setting_of desk }
     ensures begins { take desk.restored result.0.entries ≡ take desk.restored desk.entries }
     ensures answers { (held : Option (List ℕ)) →
-        HasAnswered held (K.held sink.old) desk (told_of desk told.old) →
+        HasAnsweredAll held (K.held sink.old) desk (told_of desk told.old) →
         FileTo held (K.held sink.new) file.now.jobs file.now.ends result.0
         (told_of result.0 told.new) result.1 }
     ensures once { ServesOnce (W.post way.now) → AreAnsweredOnce (drop desk.restored desk.entries)

@@ -10,13 +10,13 @@ ghost use Rattle.entry_reader.specs.Named.{HasNames};
 ghost use Rattle.line_cutter.specs.Jobs.{Cut, next_input};
 ghost use Rattle.transcript_resume.specs.Resumed.{Session};
 ghost use Rattle.resume_command.specs.declared.start.TheConstants.{PIECE};
-ghost use Rattle.resume_command.specs.Begun.{HasBegun};
-ghost use Rattle.audit_command.specs.Auditing.{fault_line};
+ghost use Rattle.resume_command.specs.Start.{HasBegun};
+ghost use Rattle.audit_command.specs.Finding.{fault_line};
 ghost use Rattle.command_words.specs.Words.{AreOptions};
 ghost use Rattle.command_words.specs.Asked.{options_in};
 ghost use Rattle.wf_server.specs.Sessions.{Served};
-ghost use Rattle.wf_server.specs.Resuming.{CountsRefusal, RefusesAs, ResumesRun, TellsAs};
-ghost use Rattle.wf_server.specs.Resuming.{setting_behind};
+ghost use Rattle.wf_server.specs.GoingOn.{CountsRefusal, RefusesAs, ResumesRun, TellsAs};
+ghost use Rattle.wf_server.specs.GoingOn.{setting_behind};
 ghost use Rattle.wf_server.specs.Ways.{IsWay, ServesOnce};
 
 use crate::batch::Answered;

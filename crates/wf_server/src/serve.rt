@@ -3,7 +3,7 @@ ghost use Rattle.std.specs.Prelude.{◌≡◌, false};
 ghost use Rattle.run_record.specs.Fault.{status_of, is_before_input};
 ghost use Rattle.run_record.specs.Report.{told_by};
 ghost use Rattle.run_record.specs.Run.{run_of, streams_of};
-ghost use Rattle.policy_reader.specs.FilePolicies.{IsFilePolicy};
+ghost use Rattle.policy_reader.specs.File.{IsFilePolicy};
 ghost use Rattle.wf_board.specs.States.{opening_state};
 ghost use Rattle.wf_board.specs.Histories.{AreAnsweredOnce, AreRightful};
 ghost use Rattle.entry_laws.specs.Fits.{FitLines};
@@ -12,7 +12,7 @@ ghost use Rattle.line_cutter.specs.Jobs.{start};
 ghost use Rattle.wf_server.specs.Sessions.{Served};
 ghost use Rattle.command_words.specs.Words.{AreOptions};
 ghost use Rattle.command_words.specs.Asked.{options_in};
-ghost use Rattle.wf_server.specs.Serving.{setting, ServesRun};
+ghost use Rattle.wf_server.specs.Serve.{setting, ServesRun};
 ghost use Rattle.wf_server.specs.Ways.{IsWay, ServesOnce};
 
 use crate::session::run_session;

@@ -4,13 +4,13 @@ ghost use Rattle.wf_board.specs.States.{opening_state};
 ghost use Rattle.wf_board.specs.Histories.{AreAnsweredOnce, AreRightful, IsLegal};
 ghost use Rattle.wf_desk.specs.Desks.{IsSoundDesk};
 ghost use Rattle.line_cutter.specs.Jobs.{Cut, start};
-ghost use Rattle.batch_reader.specs.Reading.{IsReady, left_to_read};
+ghost use Rattle.batch_reader.specs.Reader.{CanReadOn, left_to_read};
 ghost use Rattle.run_record.specs.Fault.{status_of};
 ghost use Rattle.run_record.specs.Report.{told_by};
 ghost use Rattle.run_record.specs.Run.{Streams, streams_of};
 ghost use Rattle.command_words.specs.Words.{AreOptions};
 ghost use Rattle.command_words.specs.Asked.{options_in};
-ghost use Rattle.wf_server.specs.Serving.{setting};
+ghost use Rattle.wf_server.specs.Serve.{setting};
 ghost use Rattle.wf_server.specs.Batches.{told_of, ending_after, IsServing, BatchEnds, Serves};
 ghost use Rattle.wf_server.specs.Ways.{IsWay, ServesOnce, setting_of};
 
@@ -76,7 +76,7 @@ pub(crate) fn serve_batches<S: Source, K: Sink, W: Fn(Desk) -> Desk>(
     sink: &mut K,
 ) -> Report
     requires way { IsWay (W.pre way.now) (W.post way.now) }
-    requires ready { IsReady reader.old }
+    requires ready { CanReadOn reader.old }
     requires lanes { 0 < desk.lanes }
     requires serving { (first : Cut) × ((before : Streams) × IsServing first before
         (streams_of S.left S.faults K.held K.faults source.old sink.old)
@@ -115,7 +115,7 @@ fn serve_batch<S: Source, K: Sink, W: Fn(Desk) -> Desk>(
     sink: &mut K,
 ) -> (Desk, Option<RunFault>)
     requires way { IsWay (W.pre way.now) (W.post way.now) }
-    requires ready { IsReady reader.old }
+    requires ready { CanReadOn reader.old }
     requires lanes { 0 < desk.lanes }
     requires serving { (first : Cut) × ((before : Streams) × IsServing first before
         (streams_of S.left S.faults K.held K.faults source.old sink.old)
@@ -130,7 +130,7 @@ fn serve_batch<S: Source, K: Sink, W: Fn(Desk) -> Desk>(
         → AreAnsweredOnce (drop desk.restored result.0.entries) }
     ensures setting { setting_of result.0 ≡ setting_of desk }
     ensures begins { take desk.restored result.0.entries ≡ take desk.restored desk.entries }
-    ensures ready { result.1 ≡ None → IsReady reader.new }
+    ensures ready { result.1 ≡ None → CanReadOn reader.new }
     ensures less { result.1 ≡ None → left_to_read reader.new < left_to_read reader.old }
     ensures room { reader.new.room ≡ reader.old.room }
 {

@@ -1,6 +1,6 @@
 use Rattle.std.proofs.Common.{◌≡◌, ◌≤◌, ◌-◌, length, None}
 use Rattle.wf_names.specs.declared.limits.TheConstants.{SESSION_LINE_LIMIT, TRANSCRIPT_LINE_LIMIT}
-use Rattle.line_reader.specs.Lines.{pending}
+use Rattle.line_reader.specs.Reader.{pending}
 use Rattle.audit_command.specs.declared.lines.TheConstants.{PIECE}
 use Rattle.audit_command.specs.Steps.{HasAudited}
 use Rattle.audit_command.proofs.lines.audit_lines.Given as goal

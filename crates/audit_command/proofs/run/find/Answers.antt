@@ -1,6 +1,6 @@
 use Rattle.std.proofs.Common.{subst}
 use Rattle.wf_outside.specs.Outside.{Filed}
-use Rattle.audit_command.specs.Running.{AuditsPolicy}
+use Rattle.audit_command.specs.Run.{AuditsPolicy}
 use Rattle.audit_command.specs.Steps.{FindsAs}
 use Rattle.audit_command.proofs.Loaded.{finds_file, no_policy}
 use Rattle.wf_commands.proofs.Loading.{policy_named}

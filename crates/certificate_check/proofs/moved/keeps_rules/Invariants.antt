@@ -1,6 +1,6 @@
 use Rattle.std.proofs.Common.{◌≡◌, ◌<◌, ℕ, slice_get, true}
 use Rattle.policy_book.specs.Policies.{problem_of}
-use Rattle.certificate_check.specs.Faults.{keeps_rule}
+use Rattle.certificate_check.specs.Plan.{keeps_rule}
 use Rattle.certificate_check.proofs.moved.keeps_rules.Given as goal
 
 -- the rules so far are kept

@@ -1,7 +1,7 @@
 use Rattle.std.proofs.Common.{◌≤◌, length, take, ap, sym, subst, ◌∙◌}
 use Rattle.wf_desk.specs.Desks.{DeskShape}
 use Rattle.transcript_resume.specs.Resumed.{HasResumed, RefusesBy, Session}
-use Rattle.resume_command.specs.Begun.{ends_to}
+use Rattle.resume_command.specs.Start.{ends_to}
 use Rattle.resume_command.proofs.Taken.{has_begun, lacked, next_within, refused_so}
 use Rattle.resume_command.proofs.start.take_up.Goals as goal
 

@@ -3,7 +3,7 @@ use Rattle.std.proofs.lemmas.Grind.{common_steps}
 use Rattle.line_cutter.specs.Laws.{AreInOrder}
 use Rattle.wf_board.specs.Histories.{AreAnsweredOnce}
 use Rattle.wf_server.specs.Sessions.{Setting}
-use Rattle.transcript_resume.specs.Places.{jobs_between}
+use Rattle.transcript_resume.specs.Unserved.{jobs_between}
 use Rattle.wf_server.specs.Batches.{told_of, IsBatch}
 use Rattle.wf_server.specs.Files.{IsToldTo}
 use Rattle.wf_server.proofs.FileLaws.{file_batch, file_fails, is_next, told_more}

@@ -1,6 +1,6 @@
 use Rattle.std.proofs.Common.{inl, inr, refl}
 use Rattle.command_words.specs.Asked.{options_in}
-use Rattle.resume_command.specs.Loading.{Names}
+use Rattle.resume_command.specs.Load.{Names}
 use Rattle.wf_server.proofs.ResumeLaws.{all_refused, begun_there, gone_on, refused_usage, served_usage}
 use Rattle.wf_server.proofs.going_on.run_resume.Goals as goal
 

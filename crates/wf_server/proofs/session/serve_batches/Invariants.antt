@@ -1,6 +1,6 @@
 use Rattle.std.proofs.Common.{◌≡◌, drop, take}
 use Rattle.line_cutter.specs.Jobs.{Cut}
-use Rattle.batch_reader.specs.Reading.{IsReady, left_to_read}
+use Rattle.batch_reader.specs.Reader.{CanReadOn, left_to_read}
 use Rattle.run_record.specs.Run.{Streams}
 use Rattle.wf_board.specs.Histories.{AreAnsweredOnce}
 use Rattle.wf_server.specs.Batches.{told_of, IsServing}
@@ -17,7 +17,7 @@ invariant-serving g l =
       write_faults = g.K.Sink.faults l.fn.sink;
     } in
     record {
-      ready : IsReady l.reader;
+      ready : CanReadOn l.reader;
       room : l.reader.room ≡ l.fn.reader.room;
       setting : setting_of l.desk ≡ setting_of l.fn.desk;
       once : ServesOnce (λ d e. goal.W-post g l.way d e) → AreAnsweredOnce (drop l.fn.desk.restored l.fn.desk.entries) →

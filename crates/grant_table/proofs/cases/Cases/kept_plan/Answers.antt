@@ -1,5 +1,5 @@
 use Rattle.std.proofs.Common.{◌≡◌, List, ℕ, Option, None, Some, MatchOption, is_some, ap, sym, ◌∙◌}
-use Rattle.grant_table.specs.Tables.{plan_of, row_at}
+use Rattle.grant_table.specs.Cases.{plan_of, row_at}
 use Rattle.grant_table.proofs.Keeping.{planned_case}
 use Rattle.grant_table.proofs.cases.Cases.kept_plan.Goals as goal
 
