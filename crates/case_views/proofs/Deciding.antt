@@ -1,7 +1,6 @@
 -- What the decider finds on a deed.
-use Rattle.std.proofs.Common.{◌≡◌, ℕ, ◌<◌, Bool, true, false, List, length, Option, None, Some, Result, Ok, Err, IfOk, MatchResult, slice_set, refl, sym, ap}
+use Rattle.std.proofs.Common.{◌≡◌, ℕ, ◌<◌, Bool, true, false, List, length, Option, Some, Result, Ok, Err, IfOk, MatchResult, slice_set, refl, sym, ap}
 use Rattle.std.proofs.Common.{subst, ◌∙◌}
-use Rattle.std.specs.Option.{option_map}
 use Rattle.std.proofs.lemmas.Bool.Decides.{eqb_tells}
 use Rattle.basics.specs.Reading.{Gives}
 use Rattle.constraint_forms.specs.Assign.{no_steps, no_users, planned, user_at}
@@ -9,9 +8,7 @@ use Rattle.policy_book.specs.Shapes.{PolicyShape}
 use Rattle.policy_book.specs.Policies.{problem_of}
 use Rattle.policy_book.specs.Plans.{AreAssigned, IsValidPlan, IsWithin, Problem}
 use Rattle.certificate_check.proofs.Assigned.{either, given, given_other, given_same}
-use Rattle.case_record.specs.Cases.{CaseShape, assigned_of, finished_of, is_open}
-use Rattle.grant_table.specs.declared.rows.Row.{Row}
-use Rattle.grant_table.specs.Cases.{case_in, plan_of, row_at}
+use Rattle.case_record.specs.Cases.{CaseShape, assigned_of, finished_of}
 use Rattle.wf_talk.specs.declared.reply.Denial.{Denial}
 use Rattle.wf_talk.specs.declared.reply.WorkItem.{WorkItem}
 use Rattle.denial_reasons.specs.Causes.{assigned_with}
@@ -32,8 +29,7 @@ use Rattle.wf_board.specs.Refusals.{denial_in}
 use Rattle.wf_board.specs.Verdicts.{Decides}
 use Rattle.wf_talk.specs.declared.request.Ask.{Ask}
 use Rattle.std.proofs.lemmas.Bool.{false≢true}
-use Rattle.wf_board.specs.Kept.{ArePlanned, IsOfPolicy, IsPlanned}
-use Rattle.wf_board.proofs.Rows.{each_at}
+use Rattle.wf_board.specs.Kept.{IsOfPolicy}
 use Rattle.wf_board.proofs.Within.{claimed_within, planned_within}
 use Rattle.wf_board.proofs.Exact.{finished_assigned}
 use Rattle.admin_edits.specs.declared.amendment.Amendment.{Amendment}
@@ -42,56 +38,6 @@ use Rattle.admin_edits.specs.Edits.{amended}
 use Rattle.case_views.specs.declared.found.Unfound.{Unfound}
 use Rattle.case_views.specs.declared.found.Unfound.TheVariants as unfound
 use Rattle.case_views.specs.Deciding.{DecidesChange, DecidesFor, DecidesWhatIf, DecidesWork, IsVerdictOf, verdict_without}
-
--- a row that is there, with its case
-found_row : (o : Option Row) (c : CaseShape) → option_map (λ (r : Row). r.case) o ≡ Some c → (r : Row) × ((o ≡ Some r) × (r.case ≡ c))
-found_row None c is = cc
-found_row (Some r) c is = (r, (refl, unsome is))
-  where
-    unsome : Some r.case ≡ Some c → r.case ≡ c
-    unsome e = cc
-
--- the plan that is kept for a case
-pub record Keeps (p : PolicyShape) (rows : List Row) (n : ℕ) (c : CaseShape) : Type 0 where
-  pub plan : List ℕ
-  pub kept : plan_of (row_at n rows) ≡ Some plan
-  pub valid : IsValidPlan (problem_of p c.flow) (assigned_of c) (finished_of c) plan
-
-planned_keeps : (p : PolicyShape) (rows : List Row) (n : ℕ) (c : CaseShape) (o : Option (List ℕ)) → plan_of (row_at n rows) ≡ o → is_open c ≡ true →
-    IsPlanned p c o → Keeps p rows n c
-planned_keeps p rows n c None is live planned = cc
-planned_keeps p rows n c (Some plan) is live planned = record { plan = plan; kept = is; valid = planned }
-
--- each open case has a kept plan, which is valid
-pub kept_plan : (p : PolicyShape) (rows : List Row) (n : ℕ) (c : CaseShape) → ArePlanned p rows → case_in n rows ≡ Some c → is_open c ≡ true → Keeps p rows n c
-kept_plan p rows n c are is live =
-    let row = found_row (row_at n rows) c is in
-    let planned = each_at (λ r. IsPlanned p r.case r.plan) n rows row.0 are.plans row.1.0 in
-    planned_keeps p rows n c row.0.plan (ap plan_of row.1.0) live (subst (λ k. IsPlanned p k row.0.plan) row.1.1 planned)
-
-unsome_plan : (a b : List ℕ) → Some a ≡ Some b → a ≡ b
-unsome_plan a b e = cc
-
--- the plan that is kept for an open case is valid
-pub kept_valid : (p : PolicyShape) (rows : List Row) (n : ℕ) (c : CaseShape) (plan : List ℕ) → ArePlanned p rows → case_in n rows ≡ Some c →
-    is_open c ≡ true → plan_of (row_at n rows) ≡ Some plan
-    → IsValidPlan (problem_of p c.flow) (assigned_of c) (finished_of c) plan
-kept_valid p rows n c plan are is live kept =
-    let keeps = kept_plan p rows n c are is live in
-    subst (IsValidPlan (problem_of p c.flow) (assigned_of c) (finished_of c)) (unsome_plan keeps.plan plan (sym keeps.kept ∙ kept)) keeps.valid
-
--- a plan that is valid and gives a step to a user is valid with the user there
-pub valid_with : (p : Problem) (c : CaseShape) (t u : ℕ) (plan : List ℕ) → planned plan t ≡ u → IsValidPlan p (assigned_of c) (finished_of c) plan →
-    IsValidPlan p (assigned_with c t u) (finished_of c) plan
-valid_with p c t u plan gives valid = record {
-  whole = valid.whole;
-  known = valid.known;
-  keeps = λ s w is. either (given (assigned_of c) t u s w is)
-      (λ same. ap Some (ap (planned plan) same.0 ∙ gives ∙ sym same.1))
-      (λ other. valid.keeps s w other);
-  allowed = valid.allowed;
-  obeyed = valid.obeyed;
-}
 
 -- finished steps stay assigned where one more step is given
 pub still_assigned : (done : List Bool) (a : List (Option ℕ)) (t u : ℕ) → t < length a → AreAssigned done a → AreAssigned done (slice_set a t (Some u))

@@ -84,10 +84,10 @@ fn near_claim(
         (assigned_with case.now step user)
         (finished_of case.now)) }
 {
-    let Some(kept) = cases.plan(number) else {
+    let Some(kept) = cases.kept_plan(number) else {
         unreachable!()
     };
-    plan_with(p, case, &kept, step, user)
+    plan_with(p, case, kept, step, user)
 }
 
 // A plan for an opening, by a plan with which a case of the workflow was opened before.
@@ -145,10 +145,10 @@ fn claim_verdict(
         (assigned_with case.now step user)
         (finished_of case.now) result }
 {
-    let Some(kept) = cases.plan(number) else {
+    let Some(kept) = cases.kept_plan(number) else {
         unreachable!()
     };
-    match outcome_with(alloc, p, case, &kept, step, user) {
+    match outcome_with(alloc, p, case, kept, step, user) {
         Ok(outcome) => verdict_of(outcome),
         Err(unfound) => verdict_without(unfound),
     }

@@ -11,6 +11,7 @@ ghost use Rattle.wf_board.specs.Edition.{IsPlanOf};
 ghost use Rattle.wf_board.specs.Kept.{IsOfPolicy};
 
 use case_record::Case;
+use certificate_check::moved_plan;
 use constraint_forms::{Assign, Plan, StepSet};
 use policy_book::Policy;
 use std::alloc::{AllocError, Global};
@@ -57,15 +58,34 @@ pub(crate) fn outcome_with(
 {
     match plan_with(p, case, kept, step, user) {
         Some(plan) => Ok(Outcome::Plan(plan)),
-        None => {
-            let assigned = assigned_with(case, step, user);
-            solve_for_entry(alloc, p, case.flow(), &assigned, &case.finished())
-        }
+        None => outcome_by_search(alloc, p, case, kept, step, user),
     }
 }
 
+// What a search finds for a case with one of its steps given to a user.
+fn outcome_by_search(
+    alloc: Global,
+    p: &Policy,
+    case: &Case,
+    kept: &Plan,
+    step: StepId,
+    user: UserId,
+) -> Result<Outcome, Unfound>
+    requires known { IsOfPolicy p.now case.now }
+    requires valid { IsPlanOf p.now case.now kept.now }
+    requires step { step < length case.now.states }
+    requires user { user < length p.now.roster.users }
+    ensures { IfOk result (HasSolved (problem_of p.now case.now.flow)
+        (assigned_with case.now step user)
+        (finished_of case.now)) }
+{
+    let _ = kept;
+    let assigned = assigned_with(case, step, user);
+    solve_for_entry(alloc, p, case.flow(), &assigned, &case.finished())
+}
+
 /// A plan for a case with one of its steps given to a user, with no search: the one that is kept
-/// for it, where it gives the user the step, or one near that.
+/// for it, where it gives the user the step, or that one with the user there, or one near that.
 pub(crate) fn plan_with(
     p: &Policy,
     case: &Case,
@@ -84,6 +104,22 @@ pub(crate) fn plan_with(
     if kept.at(step) == user {
         return Some(*kept);
     }
+    match moved_plan(p, case.flow(), kept, step, user) {
+        Some(plan) => Some(plan),
+        None => plan_beside(p, case, kept, step, user),
+    }
+}
+
+// A plan for a case with one of its steps given to a user, near the one that is kept for it.
+fn plan_beside(p: &Policy, case: &Case, kept: &Plan, step: StepId, user: UserId) -> Option<Plan>
+    requires known { IsOfPolicy p.now case.now }
+    requires valid { IsPlanOf p.now case.now kept.now }
+    requires step { step < length case.now.states }
+    requires user { user < length p.now.roster.users }
+    ensures { IfSome result (IsValidPlan (problem_of p.now case.now.flow)
+        (assigned_with case.now step user)
+        (finished_of case.now)) }
+{
     let assigned = assigned_with(case, step, user);
     plan_near(p, case.flow(), &assigned, &case.finished(), kept)
 }

@@ -2,6 +2,7 @@ pub mod Assigned
 pub mod Below
 pub mod Dropped
 pub mod Failing
+pub mod Moving
 pub mod Refuted
 pub mod Trees
 pub mod TwinLaws

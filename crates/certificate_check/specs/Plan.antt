@@ -1,9 +1,9 @@
 -- What is wrong with a plan, the first of it.
-use Rattle.std.specs.Prelude.{ℕ, zero, suc, ◌+◌, Bool, true, ◌||◌, ◌==◌, List, length, Option, None}
-use Rattle.std.specs.Prelude.{Some, Result, Ok, Err, if◌then◌else◌, slice_get}
+use Rattle.std.specs.Prelude.{ℕ, zero, suc, ◌+◌, Bool, true, not, ◌||◌, ◌==◌, List, length, Option}
+use Rattle.std.specs.Prelude.{None, Some, Result, Ok, Err, if◌then◌else◌, slice_get}
 use Rattle.constraint_forms.specs.declared.rule.Rule.{Rule}
 use Rattle.constraint_forms.specs.Assign.{user_at, planned, is_member}
-use Rattle.constraint_forms.specs.Rules.{is_satisfied}
+use Rattle.constraint_forms.specs.Rules.{is_satisfied, names}
 use Rattle.policy_book.specs.Plans.{Problem}
 use Rattle.certificate_check.specs.declared.plan.PlanFault.TheVariants.{Moved, Role}
 use Rattle.certificate_check.specs.declared.plan.PlanFault.TheVariants.{Rule as Rule_fault}
@@ -27,6 +27,12 @@ may_perform p finished plan s = is_member finished s || p.authorised s (planned 
 abbrev pub is_obeyed : Problem → List ℕ → Option Rule → Bool
 is_obeyed p plan None = true
 is_obeyed p plan (Some rule) = is_satisfied p.related rule (planned plan)
+
+-- there is no such rule, or it does not name a step, or the plan satisfies it
+abbrev pub keeps_rule : Problem → List ℕ → ℕ → Option Rule → Bool
+keeps_rule p plan step None = true
+keeps_rule p plan step (Some rule) =
+    not (names rule step) || is_satisfied p.related rule (planned plan)
 
 -- the fault with a number, or else what comes next
 abbrev pub or_else : Option ℕ → (ℕ → PlanFault) → Result (Unit {0}) PlanFault →

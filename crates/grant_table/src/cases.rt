@@ -12,7 +12,7 @@ ghost use Rattle.grant_table.specs.Cases.{is_open_case, next_open, only, open_co
 ghost use Rattle.grant_table.specs.Cases.{ones, plan_at, replanned, row_at, with_case, with_row};
 ghost use Rattle.grant_table.specs.Cases.{withdrawn_row, IsNextOpen, HasFreeStep, HasHeldStep};
 
-use crate::changes::{finished, freed, held, withdrawn};
+use crate::changes::{finish, free, hold, withdraw};
 use crate::recent::Recent;
 use crate::rows::{
     Row, behind, case_of, next_behind, one_live, only, open_behind, past_ended, plan_in, put,
@@ -107,8 +107,9 @@ impl Cases {
         requires { IsSomeAnd (case_at self.old c) (λ k. HasFreeStep k s) }
         ensures { self.new ≡ with_row self.old c (held_row s u plan) }
     {
-        let row = self.row(c);
-        self.put_row(held(row, s, u, plan), false);
+        let mut row = self.row(c);
+        hold(&mut row, s, u, plan);
+        self.put_row(&row, false);
     }
 
     /// Finishes a held step of an open case, and answers whether the case is then done.
@@ -117,9 +118,10 @@ impl Cases {
         ensures finished { self.new ≡ with_row self.old c (finished_row s) }
         ensures done { IsSomeAnd (case_at self.new c) (λ k. result ≡ is_done k.phase) }
     {
-        let row = finished(self.row(c), s);
+        let mut row = self.row(c);
+        finish(&mut row, s);
         let done = row.case.phase().is_done();
-        self.put_row(row, done);
+        self.put_row(&row, done);
         done
     }
 
@@ -128,8 +130,9 @@ impl Cases {
         requires { IsSomeAnd (case_at self.old c) (λ k. HasHeldStep k s) }
         ensures { self.new ≡ with_row self.old c (freed_row s) }
     {
-        let row = self.row(c);
-        self.put_row(freed(row, s), false);
+        let mut row = self.row(c);
+        free(&mut row, s);
+        self.put_row(&row, false);
     }
 
     /// Ends an open case before its steps are finished.
@@ -137,8 +140,9 @@ impl Cases {
         requires { IsSomeAnd (case_at self.old c) (λ k. is_open k ≡ true) }
         ensures { self.new ≡ with_row self.old c withdrawn_row }
     {
-        let row = self.row(c);
-        self.put_row(withdrawn(row), true);
+        let mut row = self.row(c);
+        withdraw(&mut row);
+        self.put_row(&row, true);
     }
 
     /// Keeps other plans for the open cases, by ascending number, as far as there are plans. Takes
@@ -160,6 +164,18 @@ impl Cases {
     /// The plan that is kept for a case; none where the case is not open.
     pub fn plan(&self, c: CaseId) -> Option<Plan>
         ensures plan { result ≡ plan_at self.now c }
+        ensures open { is_some result ≡ is_open_case (case_at self.now c) }
+    {
+        match self.kept_plan(c) {
+            Some(plan) => Some(*plan),
+            None => None,
+        }
+    }
+
+    /// The same where it is kept.
+    pub fn kept_plan(&self, c: CaseId) -> Option<&Plan>
+        ensures plan { MatchOption result (plan_at self.now c ≡ None)
+            (λ plan. plan_at self.now c ≡ Some plan.now) }
         ensures open { is_some result ≡ is_open_case (case_at self.now c) }
     {
         plan_in(&self.rows, c.0)
@@ -288,11 +304,11 @@ impl Cases {
     }
 
     /// Puts a row in the place of the one with its number.
-    fn put_row(&mut self, row: Row, has_ended: bool)
-        requires there { IsSomeAnd (row_at row.number self.old.rows)
-            (λ r. ones r ≡ ones row + cond has_ended 1 0) }
-        requires planned { is_some row.plan ≡ is_open row.case }
-        ensures { self.new ≡ with_row self.old row.number (λ _. row) }
+    fn put_row(&mut self, row: &Row, has_ended: bool)
+        requires there { IsSomeAnd (row_at row.now.number self.old.rows)
+            (λ r. ones r ≡ ones row.now + cond has_ended 1 0) }
+        requires planned { is_some row.now.plan ≡ is_open row.now.case }
+        ensures { self.new ≡ with_row self.old row.now.number (λ _. row.now) }
     {
         self.live = still_open(self.live, has_ended);
         put(&mut self.rows, row);

@@ -8,46 +8,38 @@ use crate::rows::Row;
 use constraint_forms::Plan;
 use wf_names::{StepId, UserId};
 
-/// A row with a free step given to a user, and the plan for it.
-pub(crate) fn held(row: Row, s: StepId, u: UserId, plan: Plan) -> Row
-    requires { HasFreeStep row.case s }
-    ensures { result ≡ held_row s u plan row }
+/// Gives a free step of a row's case to a user, and keeps the plan for it.
+pub(crate) fn hold(row: &mut Row, s: StepId, u: UserId, plan: Plan)
+    requires { HasFreeStep row.old.case s }
+    ensures { row.new ≡ held_row s u plan row.old }
 {
-    let mut held = row;
-    held.case.hold(s, u);
-    held.plan = Some(plan);
-    held
+    row.case.hold(s, u);
+    row.plan = Some(plan);
 }
 
-/// A row with a held step finished.
-pub(crate) fn finished(row: Row, s: StepId) -> Row
-    requires { HasHeldStep row.case s }
-    ensures { result ≡ finished_row s row }
+/// Finishes a held step of a row's case; the plan is kept while the case is open.
+pub(crate) fn finish(row: &mut Row, s: StepId)
+    requires { HasHeldStep row.old.case s }
+    ensures { row.new ≡ finished_row s row.old }
 {
-    let mut finished = row;
-    finished.case.finish(s);
-    finished.plan = plan_while(finished.case.phase().is_live(), row.plan);
-    finished
+    row.case.finish(s);
+    row.plan = plan_while(row.case.phase().is_live(), row.plan);
 }
 
-/// A row with a held step free again.
-pub(crate) fn freed(row: Row, s: StepId) -> Row
-    requires { HasHeldStep row.case s }
-    ensures { result ≡ freed_row s row }
+/// Takes a held step of a row's case from its holder.
+pub(crate) fn free(row: &mut Row, s: StepId)
+    requires { HasHeldStep row.old.case s }
+    ensures { row.new ≡ freed_row s row.old }
 {
-    let mut freed = row;
-    freed.case.release(s);
-    freed
+    row.case.release(s);
 }
 
-/// A row with its case withdrawn.
-pub(crate) fn withdrawn(row: Row) -> Row
-    ensures { result ≡ withdrawn_row row }
+/// Withdraws a row's case; no plan is kept for it any more.
+pub(crate) fn withdraw(row: &mut Row)
+    ensures { row.new ≡ withdrawn_row row.old }
 {
-    let mut withdrawn = row;
-    withdrawn.case.withdraw();
-    withdrawn.plan = None;
-    withdrawn
+    row.case.withdraw();
+    row.plan = None;
 }
 
 /// A row with another plan.

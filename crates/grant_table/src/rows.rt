@@ -96,25 +96,30 @@ pub(crate) fn case_of(rows: &[Row], n: u16) -> Option<&Case>
 }
 
 /// The plan that is kept for the case with a number.
-pub(crate) fn plan_in(rows: &[Row], n: u16) -> Option<Plan>
+pub(crate) fn plan_in(rows: &[Row], n: u16) -> Option<&Plan>
     requires { AscendFrom 0 rows.now }
-    ensures { result ≡ plan_of (row_at n rows.now) }
+    ensures { MatchOption result (plan_of (row_at n rows.now) ≡ None)
+        (λ plan. plan_of (row_at n rows.now) ≡ Some plan.now) }
 {
-    row_of(rows, n)?.plan
+    let i = find(rows, n)?;
+    match &rows[i].plan {
+        Some(plan) => Some(plan),
+        None => None,
+    }
 }
 
 /// Puts a row in the place of the one with its number.
-pub(crate) fn put(rows: &mut Vec<Row>, row: Row)
+pub(crate) fn put(rows: &mut Vec<Row>, row: &Row)
     requires order { AscendFrom 0 rows.old.items }
-    requires there { is_some (row_at row.number rows.old.items) ≡ true }
-    ensures rows { rows.new.items ≡ change_row row.number (λ _. row) rows.old.items }
+    requires there { is_some (row_at row.now.number rows.old.items) ≡ true }
+    ensures rows { rows.new.items ≡ change_row row.now.number (λ _. row.now) rows.old.items }
     ensures len { vec_len rows.new ≡ vec_len rows.old }
     ensures capacity { vec_capacity rows.new ≡ vec_capacity rows.old }
 {
     let Some(i) = find(rows, row.number) else {
         unreachable!()
     };
-    rows[i] = row;
+    rows[i] = *row;
 }
 
 /// Keeps other plans for the open cases, in order, as far as there are plans. None of the first

@@ -11,7 +11,7 @@ use Rattle.wf_names.specs.States.{user_of}
 use Rattle.wf_names.specs.declared.states.StepState.{StepState}
 use Rattle.wf_names.specs.declared.states.StepState.TheVariants.{Free, Held, Finished}
 use Rattle.constraint_forms.specs.declared.rule.Rule.{Rule}
-use Rattle.constraint_forms.specs.Assign.{user_at}
+use Rattle.constraint_forms.specs.Assign.{planned, user_at}
 use Rattle.constraint_forms.specs.Rules.{Relating, is_falsified, names}
 use Rattle.constraint_forms.proofs.RuleLaws.{falsified_by_named}
 use Rattle.refutation_tree.specs.Tree.{rule}
@@ -24,6 +24,8 @@ use Rattle.certificate_check.proofs.Assigned.{given_other}
 use Rattle.certificate_check.proofs.Refuted.{refutes_soundly}
 use Rattle.case_record.specs.Cases.{CaseShape, assigned_of, finished_of, state_at}
 use Rattle.case_record.specs.Order.{first_missing, is_free, is_ready}
+use Rattle.grant_table.specs.declared.rows.Row.{Row}
+use Rattle.grant_table.specs.Cases.{plan_of, row_at}
 use Rattle.wf_talk.specs.declared.request.Request.TheVariants as request
 use Rattle.wf_talk.specs.declared.request.Ask.TheVariants as ask
 use Rattle.wf_talk.specs.declared.reply.Reply.{Reply}
@@ -37,7 +39,10 @@ use Rattle.wf_board.specs.Decisions.{cause_full, decision_of, unless_denied}
 use Rattle.wf_board.specs.Steps.{Answers}
 use Rattle.wf_board.specs.Grants.{AreNamed, MayBeGranted}
 use Rattle.wf_board.specs.Edition.{CanBeCompleted}
+use Rattle.wf_board.specs.Found.{AreFound}
+use Rattle.wf_board.specs.Kept.{ArePlanned}
 use Rattle.wf_board.specs.Laws.{GrantsAreExact}
+use Rattle.wf_board.proofs.Giving.{kept_valid, may_planned, valid_with}
 use Rattle.wf_board.proofs.Told.{place_within, unless_tells}
 use Rattle.wf_board.proofs.Exact.{claimed_assigned, claims_are_exact, finished_assigned, well_formed}
 
@@ -209,6 +214,23 @@ clear_none p c t u sound known complete ready may quiet =
     (made_of_nothing (first_missing c (flow_at p c.flow).flow.order t) (denial.Order c.flow) tests.1)
     (passed (is_authorised p c.flow t u) (denial.Role (permitted_roles p c.flow t)) may)
     (ap (option_map denial.Rule) (still_none (problem_of p c.flow).related c t u 0 (flow_at p c.flow).rules quiet before))
+
+-- no cause is against the claim of a ready step that the kept plan gives to the user
+pub planned_none : (p : PolicyShape) (rows : List Row) (n : ℕ) (c : CaseShape) (t u : ℕ) (plan : List ℕ) → IsSoundPolicy p → ArePlanned p rows
+    → AreFound p rows n c t u → is_ready c (flow_at p c.flow).flow.order t ≡ true → plan_of (row_at n rows) ≡ Some plan → planned plan t ≡ u →
+    first_cause p c t u ≡ None
+planned_none p rows n c t u plan sound are found ready kept gives =
+    let tests = and_both (nat_lt t (length c.states) && is_free (state_at c t)) (is_none (first_missing c (flow_at p c.flow).flow.order t)) ready in
+    let free = (and_both (nat_lt t (length c.states)) (is_free (state_at c t)) tests.0).1 in
+    let valid = kept_valid p rows n c plan are found.case.found kept in
+    none_all _ _ _ _
+    (users_of_free (state_at c t) denial.Taken free)
+    (made_of_nothing (first_missing c (flow_at p c.flow).flow.order t) (denial.Order c.flow) tests.1)
+    (passed (is_authorised p c.flow t u) (denial.Role (permitted_roles p c.flow t))
+    (may_planned p rows n c t u plan found (free_is (state_at c t) free) gives valid))
+    (made_of_nothing (first_falsified (problem_of p c.flow).related (user_at (assigned_with c t u)) 0 (flow_at p c.flow).rules) denial.Rule
+    (no_rule_falsified p c t u sound found.case.known.flow (free_is (state_at c t) free)
+    (plan, valid_with (problem_of p c.flow) c t u plan gives valid)))
 
 -- where there is no cause, the user is authorised and the step ready
 none_granted : (s : State) (c : CaseShape) (t u : ℕ) → t < length c.states → first_cause s.book.policy c t u ≡ None →

@@ -12,6 +12,7 @@ pub mod Exact
 pub mod Listed
 pub mod Within
 pub mod Known
+pub mod Giving
 pub mod Grants
 pub mod Rows
 pub mod Planned

@@ -1,18 +1,19 @@
 //! What a line asks, or the first cause against it.
-ghost use Rattle.std.specs.Prelude.{◌≡◌, ◌<◌, ◌&&◌, length, None, Ok, true, IfErr, IfOk, OnErr};
+ghost use Rattle.std.specs.Prelude.{◌≡◌, ◌<◌, ◌&&◌, ℕ, List, length, None, Ok, Some, true, IfErr};
+ghost use Rattle.std.specs.Prelude.{IfOk, OnErr};
 ghost use Rattle.std.specs.List.{list_any};
 ghost use Rattle.wf_names.specs.States.{is_held};
 ghost use Rattle.basics.specs.Reading.{Gives};
 ghost use Rattle.case_record.specs.Cases.{state_at};
 ghost use Rattle.denial_reasons.specs.Causes as causes;
 ghost use Rattle.wf_board.specs.Boards.{book_of};
-ghost use Rattle.constraint_forms.specs.Assign.{user_at};
+ghost use Rattle.constraint_forms.specs.Assign.{planned, user_at};
 ghost use Rattle.constraint_forms.specs.Rules.{is_falsified, names};
 ghost use Rattle.policy_book.specs.Policies.{flow_at, problem_of};
 ghost use Rattle.denial_reasons.specs.Causes.{assigned_with};
-ghost use Rattle.wf_board.specs.Edition.{CanBeCompleted};
+ghost use Rattle.grant_table.specs.Cases.{plan_at};
 ghost use Rattle.wf_board.specs.Kept.{ArePlanned, IsOfPolicy};
-ghost use Rattle.wf_board.specs.Found.{IsFound};
+ghost use Rattle.wf_board.specs.Found.{AreFound, IsFound};
 ghost use Rattle.wf_board.specs.Decisions.{cause_aside, cause_full, decision_aside, decision_of};
 ghost use Rattle.wf_board.specs.Decisions.{is_held_by, is_view, needs_plan, needs_verdict};
 ghost use Rattle.wf_board.specs.Decisions.{takes_memory};
@@ -28,7 +29,7 @@ use denial_reasons::{first_cause, has_cause};
 use grant_table::Cases;
 use policy_book::Policy;
 use std::alloc::{AllocError, Global};
-use wf_names::{CASE_LIMIT, FlowId, OPEN_CASE_LIMIT, StepId, StepState, UserId};
+use wf_names::{CASE_LIMIT, CaseId, FlowId, OPEN_CASE_LIMIT, StepId, StepState, UserId};
 use wf_talk::{Ask, Denial, Request};
 
 /// Why a deed is not done.
@@ -146,15 +147,14 @@ fn cause_aside(
     ensures memory { OnErr result
         (causes.takes_memory (cause_aside (book_of p.now cases.now) deed.now) ≡ true) }
 {
-    let _ = cases;
     match deed {
         Deed::Open { flow } if p.retired(*flow) => Ok(Some(Denial::Retired)),
         Deed::Claim {
+            number,
             case,
             step,
             user,
-            ..
-        } => claim_cause(alloc, p, case, *step, *user),
+        } => claim_cause(alloc, p, cases, *number, case, *step, *user),
         Deed::Finish {
             case,
             step,
@@ -177,41 +177,54 @@ fn cause_aside(
 fn claim_cause(
     alloc: Global,
     p: &Policy,
+    cases: &Cases,
+    n: CaseId,
     case: &Case,
     s: StepId,
     u: UserId,
 ) -> Result<Option<Denial>, AllocError>
-    requires known { IsOfPolicy p.now case.now }
-    requires step { s < length case.now.states }
-    requires user { u < length p.now.roster.users }
-    requires complete { CanBeCompleted p.now case.now }
+    requires kept { ArePlanned p.now cases.now.rows }
+    requires found { AreFound p.now cases.now.rows n case.now s u }
     ensures cause { IfOk result (λ cause. cause ≡ causes.first_cause p.now case.now s u) }
     ensures memory { OnErr result
         (causes.takes_memory (causes.first_cause p.now case.now s u) ≡ true) }
 {
-    if is_clear(p, case, s, u) {
+    if is_clear(p, cases, n, case, s, u) {
         return Ok(None);
     }
     first_cause(alloc, p, case, s, u)
 }
 
-/// Whether there is no cause against a claim of a case that can be completed as it stands.
-fn is_clear(p: &Policy, case: &Case, s: StepId, u: UserId) -> bool
-    requires known { IsOfPolicy p.now case.now }
-    requires step { s < length case.now.states }
-    requires user { u < length p.now.roster.users }
-    requires complete { CanBeCompleted p.now case.now }
+/// Whether there is no cause against a claim of a case that can be completed as it stands. Where
+/// the kept plan gives the step to the user, no rule has to be looked at.
+fn is_clear(p: &Policy, cases: &Cases, n: CaseId, case: &Case, s: StepId, u: UserId) -> bool
+    requires kept { ArePlanned p.now cases.now.rows }
+    requires found { AreFound p.now cases.now.rows n case.now s u }
     ensures { result ≡ true → causes.first_cause p.now case.now s u ≡ None }
 {
     let f = case.flow();
     if !case.ready(p.flow(f), s) {
         return false;
     }
+    let _sound = p.admin();
+    if is_planned(cases, n, s, u) {
+        return true;
+    }
     if !p.authorised(f, s, u) {
         return false;
     }
-    let _sound = p.admin();
     !breaks_rule(p, case, s, u)
+}
+
+/// Whether the plan that is kept for a case gives a step to a user.
+fn is_planned(cases: &Cases, n: CaseId, s: StepId, u: UserId) -> bool
+    ensures { result ≡ true → (plan : List ℕ) × ((plan_at cases.now n ≡ Some plan)
+        × (planned plan s ≡ u)) }
+{
+    match cases.kept_plan(n) {
+        Some(plan) => s.0 < plan.len() && plan.at(s) == u,
+        None => false,
+    }
 }
 
 /// Whether a rule that names a step is falsified once a user has the step.

@@ -1,5 +1,5 @@
 //! What a line asks, with numbers in place of names.
-ghost use Rattle.std.specs.Prelude.{◌≡◌, ◌<◌, ℕ, length, Err, IfErr, IfOk, Ok, Some};
+ghost use Rattle.std.specs.Prelude.{◌≡◌, ◌<◌, ℕ, length, Err, IfErr, IfOk, MatchResult, Ok, Some};
 ghost use Rattle.basics.specs.Reading.{check, or_fault};
 ghost use Rattle.policy_book.specs.Policies.{flow_at};
 ghost use Rattle.case_record.specs.Cases.{CaseShape};
@@ -55,7 +55,7 @@ fn resolve_request(p: &Policy, cases: &Cases, request: &Request) -> Result<Deed,
             let (case, step, user) = on_step(p, cases, *number, step, user)?;
             Ok(Deed::Claim {
                 number: *number,
-                case,
+                case: *case,
                 step,
                 user,
             })
@@ -68,7 +68,7 @@ fn resolve_request(p: &Policy, cases: &Cases, request: &Request) -> Result<Deed,
             let (case, step, user) = on_step(p, cases, *number, step, user)?;
             Ok(Deed::Finish {
                 number: *number,
-                case,
+                case: *case,
                 step,
                 user,
             })
@@ -81,7 +81,7 @@ fn resolve_request(p: &Policy, cases: &Cases, request: &Request) -> Result<Deed,
             let (case, step, user) = on_step(p, cases, *number, step, user)?;
             Ok(Deed::GiveBack {
                 number: *number,
-                case,
+                case: *case,
                 step,
                 user,
             })
@@ -97,7 +97,7 @@ fn resolve_request(p: &Policy, cases: &Cases, request: &Request) -> Result<Deed,
             Ok(Deed::Change { amendment })
         }
         Request::Show { case: number } => Ok(Deed::Show {
-            case: case_with(p, cases, *number)?,
+            case: *case_with(p, cases, *number)?,
         }),
         Request::Worklist { user } => {
             let user = user_named(p, user)?;
@@ -119,10 +119,10 @@ fn release(p: &Policy, cases: &Cases, by: &Name, n: CaseId, step: &Name) -> Resu
 {
     check_admin(p, by)?;
     let case = open_case(p, cases, n)?;
-    let step = step_named(p, &case, step)?;
+    let step = step_named(p, case, step)?;
     Ok(Deed::Release {
         number: n,
-        case,
+        case: *case,
         step,
     })
 }
@@ -140,22 +140,23 @@ fn withdrawal(p: &Policy, cases: &Cases, by: &Name, n: CaseId) -> Result<Deed, D
 }
 
 /// An open case, a step of its workflow and a user.
-fn on_step(
+fn on_step<'a>(
     p: &Policy,
-    cases: &Cases,
+    cases: &'a Cases,
     n: CaseId,
     step: &Name,
     user: &Name,
-) -> Result<(Case, StepId, UserId), Denial>
+) -> Result<(&'a Case, StepId, UserId), Denial>
     requires { ArePlanned p.now cases.now.rows }
     ensures deed { IfOk result (λ x. (deed : ℕ → CaseShape → ℕ → ℕ → Deed)
-        → on_step deed (book_of p.now cases.now) n step.now user.now ≡ Ok (deed n x.0 x.1 x.2)) }
+        → on_step deed (book_of p.now cases.now) n step.now user.now ≡ Ok
+        (deed n x.0.now x.1 x.2)) }
     ensures denied { IfErr result (λ d. (deed : ℕ → CaseShape → ℕ → ℕ → Deed)
         → on_step deed (book_of p.now cases.now) n step.now user.now ≡ Err d) }
-    ensures found { IfOk result (λ x. AreFound p.now cases.now.rows n x.0 x.1 x.2) }
+    ensures found { IfOk result (λ x. AreFound p.now cases.now.rows n x.0.now x.1 x.2) }
 {
     let case = open_case(p, cases, n)?;
-    let s = step_named(p, &case, step)?;
+    let s = step_named(p, case, step)?;
     let u = user_named(p, user)?;
     Ok((case, s, u))
 }
@@ -172,10 +173,11 @@ fn user_named(p: &Policy, name: &Name) -> Result<UserId, Denial>
 }
 
 /// The open case with a number.
-fn open_case(p: &Policy, cases: &Cases, n: CaseId) -> Result<Case, Denial>
+fn open_case<'a>(p: &Policy, cases: &'a Cases, n: CaseId) -> Result<&'a Case, Denial>
     requires { ArePlanned p.now cases.now.rows }
-    ensures case { result ≡ open_case_at (book_of p.now cases.now) n }
-    ensures found { IfOk result (IsOpenAt p.now cases.now.rows n) }
+    ensures case { MatchResult result (λ c. open_case_at (book_of p.now cases.now) n ≡ Ok c.now)
+        (λ d. open_case_at (book_of p.now cases.now) n ≡ Err d) }
+    ensures found { IfOk result (λ c. IsOpenAt p.now cases.now.rows n c.now) }
 {
     let case = case_with(p, cases, n)?;
     if case.phase().is_live() {
@@ -186,16 +188,17 @@ fn open_case(p: &Policy, cases: &Cases, n: CaseId) -> Result<Case, Denial>
 }
 
 /// The case with a number.
-fn case_with(p: &Policy, cases: &Cases, n: CaseId) -> Result<Case, Denial>
+fn case_with<'a>(p: &Policy, cases: &'a Cases, n: CaseId) -> Result<&'a Case, Denial>
     requires { ArePlanned p.now cases.now.rows }
-    ensures case { result ≡ or_fault (numbered_case (book_of p.now cases.now).cases n)
-        Denial.NoCase }
-    ensures found { IfOk result (λ c. case_in n cases.now.rows ≡ Some c) }
-    ensures known { IfOk result (IsOfPolicy p.now) }
+    ensures case { MatchResult result (λ c. or_fault (numbered_case (book_of p.now
+        cases.now).cases n) Denial.NoCase ≡ Ok c.now)
+        (λ d. or_fault (numbered_case (book_of p.now cases.now).cases n) Denial.NoCase ≡ Err d) }
+    ensures found { IfOk result (λ c. case_in n cases.now.rows ≡ Some c.now) }
+    ensures known { IfOk result (λ c. IsOfPolicy p.now c.now) }
 {
     let _ = p;
     match cases.case(n) {
-        Some(case) => Ok(*case),
+        Some(case) => Ok(case),
         None => Err(Denial::NoCase),
     }
 }

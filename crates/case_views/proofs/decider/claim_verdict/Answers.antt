@@ -1,16 +1,16 @@
-use Rattle.std.proofs.Common.{sym}
 use Rattle.policy_book.specs.Policies.{problem_of}
 use Rattle.case_record.specs.Cases.{finished_of}
 use Rattle.denial_reasons.specs.Causes.{assigned_with}
 use Rattle.case_views.specs.Deciding.{DecidesFor}
-use Rattle.case_views.proofs.Deciding.{kept_valid, unfound_is, verdict_decides}
+use Rattle.wf_board.proofs.Giving.{kept_valid}
+use Rattle.case_views.proofs.Deciding.{unfound_is, verdict_decides}
 use Rattle.case_views.proofs.decider.claim_verdict.Goals as goal
 
 pub outcome_with-requires-clause-valid : goal.outcome_with-requires-clause-valid
 outcome_with-requires-clause-valid c =
     let k = c.args.case.now in
-    kept_valid c.args.p.now c.args.cases.now.rows c.args.number k c.in-Some.kept c.requires.kept c.requires.found.case.found c.requires.found.case.live
-    (sym c.in-Some.ensures.plan)
+    kept_valid c.args.p.now c.args.cases.now.rows c.args.number k c.in-Some.kept.now c.requires.kept c.requires.found.case.found
+    c.in-Some.ensures.plan
 
 pub returns-in-Ok : goal.returns-in-Ok
 returns-in-Ok c =

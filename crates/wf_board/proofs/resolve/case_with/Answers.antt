@@ -1,4 +1,4 @@
-use Rattle.std.proofs.Common.{sym, ap, ◌∙◌}
+use Rattle.std.proofs.Common.{ap, ◌∙◌}
 use Rattle.basics.specs.Reading.{or_fault}
 use Rattle.wf_talk.specs.declared.reply.Denial.TheVariants.{NoCase}
 use Rattle.wf_board.proofs.Rows.{case_numbered}
@@ -7,7 +7,7 @@ use Rattle.wf_board.proofs.resolve.case_with.Goals as goal
 
 pub returns-in-Some-clause-case : goal.returns-in-Some-clause-case
 returns-in-Some-clause-case c =
-    ap (λ o. or_fault o NoCase) (sym (case_numbered c.args.n c.args.cases.now.rows ∙ c.in-Some.ensures))
+    ap (λ o. or_fault o NoCase) (case_numbered c.args.n c.args.cases.now.rows ∙ c.in-Some.ensures)
 
 pub returns-in-Some-clause-known : goal.returns-in-Some-clause-known
 returns-in-Some-clause-known c =
@@ -15,4 +15,4 @@ returns-in-Some-clause-known c =
 
 pub returns-in-None-clause-case : goal.returns-in-None-clause-case
 returns-in-None-clause-case c =
-    ap (λ o. or_fault o NoCase) (sym (case_numbered c.args.n c.args.cases.now.rows ∙ c.in-None.ensures))
+    ap (λ o. or_fault o NoCase) (case_numbered c.args.n c.args.cases.now.rows ∙ c.in-None.ensures)

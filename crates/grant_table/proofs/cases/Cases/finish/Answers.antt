@@ -8,19 +8,19 @@ use Rattle.grant_table.proofs.cases.Cases.finish.Goals as goal
 pub put_row-requires-clause-there : goal.put_row-requires-clause-there
 put_row-requires-clause-there c =
     let rows = c.args.self.now.rows in
-    let open_case = (known (λ k. HasHeldStep k c.args.s) c.args.c rows c.row.result c.row.ensures.row c.requires).open_case in
-    let done = ap (λ r. is_done r.case.phase) (sym c.finished-row.ensures) ∙ ap is_done (sym c.phase.ensures) ∙ sym c.is_done-done.ensures in
-    there_again (λ r. ones r ≡ ones c.finished-row.result + cond c.is_done-done.result 1 0) c.args.c rows c.row.result c.finished-row.result c.row.ensures.row
-    (ap (λ r. r.number) c.finished-row.ensures)
-    (finish_counts c.args.s c.row.result open_case ∙ (λ i. ones (sym c.finished-row.ensures i) + cond (done i) 1 0))
+    let open_case = (known (λ k. HasHeldStep k c.args.s) c.args.c rows c.row-row.result c.row-row.ensures.row c.requires).open_case in
+    let done = ap (λ r. is_done r.case.phase) (sym c.finish.ensures) ∙ ap is_done (sym c.phase.ensures) ∙ sym c.is_done-done.ensures in
+    there_again (λ r. ones r ≡ ones c.finish.new.row + cond c.is_done-done.result 1 0) c.args.c rows c.row-row.result c.finish.new.row c.row-row.ensures.row
+    (ap (λ r. r.number) c.finish.ensures)
+    (finish_counts c.args.s c.row-row.result open_case ∙ (λ i. ones (sym c.finish.ensures i) + cond (done i) 1 0))
 
 pub returns-clause-finished : goal.returns-clause-finished
 returns-clause-finished c = c.put_row.ensures ∙
-    table_put c.args.self.now c.args.c c.row.result c.finished-row.result (finished_row c.args.s) c.row.ensures.row c.finished-row.ensures refl
+    table_put c.args.self.now c.args.c c.row-row.result c.finish.new.row (finished_row c.args.s) c.row-row.ensures.row c.finish.ensures refl
 
 pub returns-clause-done : goal.returns-clause-done
 returns-clause-done c =
     let P : CaseShape → Type 0 = λ k. c.is_done-done.result ≡ is_done k.phase in
     subst (λ t. IsSomeAnd (case_at t c.args.c) P) (sym c.put_row.ensures)
-    (case_changed P c.args.self.now c.args.c c.row.result c.finished-row.result c.row.ensures.row (ap (λ r. r.number) c.finished-row.ensures)
+    (case_changed P c.args.self.now c.args.c c.row-row.result c.finish.new.row c.row-row.ensures.row (ap (λ r. r.number) c.finish.ensures)
     (c.is_done-done.ensures ∙ ap is_done c.phase.ensures))

@@ -5,9 +5,9 @@ use Rattle.grant_table.proofs.cases.Cases.give_back.Goals as goal
 
 pub put_row-requires-clause-there : goal.put_row-requires-clause-there
 put_row-requires-clause-there c =
-    there_again (λ r. ones r ≡ ones c.freed.result + 0) c.args.c c.args.self.now.rows c.row-row.result c.freed.result c.row-row.ensures.row
-    (ap (λ r. r.number) c.freed.ensures) (omega (arith, ap ones c.freed.ensures))
+    there_again (λ r. ones r ≡ ones c.free.new.row + 0) c.args.c c.args.self.now.rows c.row-row.result c.free.new.row c.row-row.ensures.row
+    (ap (λ r. r.number) c.free.ensures) (omega (arith, ap ones c.free.ensures))
 
 pub returns : goal.returns
 returns c = c.put_row.ensures ∙
-    table_put c.args.self.now c.args.c c.row-row.result c.freed.result (freed_row c.args.s) c.row-row.ensures.row c.freed.ensures refl
+    table_put c.args.self.now c.args.c c.row-row.result c.free.new.row (freed_row c.args.s) c.row-row.ensures.row c.free.ensures refl

@@ -6,13 +6,13 @@ use Rattle.grant_table.proofs.cases.Cases.withdraw.Goals as goal
 
 pub put_row-requires-clause-there : goal.put_row-requires-clause-there
 put_row-requires-clause-there c =
-    there_again (λ r. ones r ≡ ones c.withdrawn.result + 1) c.args.c c.args.self.now.rows c.row-row.result c.withdrawn.result c.row-row.ensures.row
-    (ap (λ r. r.number) c.withdrawn.ensures) (omega (
+    there_again (λ r. ones r ≡ ones c.withdraw.new.row + 1) c.args.c c.args.self.now.rows c.row-row.result c.withdraw.new.row c.row-row.ensures.row
+    (ap (λ r. r.number) c.withdraw.ensures) (omega (
       arith,
-      ap ones c.withdrawn.ensures,
+      ap ones c.withdraw.ensures,
       ap {B = ℕ} (λ b. cond b 1 0) (known (λ k. is_open k ≡ true) c.args.c c.args.self.now.rows c.row-row.result c.row-row.ensures.row c.requires),
     ))
 
 pub returns : goal.returns
 returns c = c.put_row.ensures ∙
-    table_put c.args.self.now c.args.c c.row-row.result c.withdrawn.result withdrawn_row c.row-row.ensures.row c.withdrawn.ensures refl
+    table_put c.args.self.now c.args.c c.row-row.result c.withdraw.new.row withdrawn_row c.row-row.ensures.row c.withdraw.ensures refl
