@@ -1,3 +1,4 @@
 pub mod Places
 pub mod Resumed
 pub mod Auditing
+pub mod Sessions
