@@ -3,3 +3,5 @@ pub mod Running
 pub mod Loading
 pub mod Steps
 pub mod Laws
+pub mod Run
+pub mod Lines
