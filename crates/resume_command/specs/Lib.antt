@@ -1,3 +1,4 @@
 pub mod Refusing
 pub mod Loading
 pub mod Begun
+pub mod Start
