@@ -4,3 +4,5 @@ pub mod Followed
 pub mod Telling
 pub mod Writing
 pub mod Running
+pub mod Session
+pub mod Follow
