@@ -200,16 +200,6 @@ late_begun set first room before after told ending served = late_reads before.in
 
 -- ---- what was taken up
 
-pub begins_behind : (b d : DeskShape) (es : List Entry) → b.restored ≡ length b.entries → d.restored ≡ b.restored →
-    take d.restored es ≡ take d.restored d.entries
-    → take b.restored d.entries ≡ take b.restored b.entries → take (length b.entries) es ≡ b.entries
-begins_behind b d es size same later first =
-    ap (λ n. take n es) (sym (same ∙ size)) ∙ later ∙ ap (λ n. take n d.entries) same ∙ first ∙ ap (λ n. take n b.entries) size ∙
-    take_all (length b.entries) b.entries (omega arith)
-
-pub none_before : (b : DeskShape) → b.restored ≡ length b.entries → AreAnsweredOnce (drop b.restored b.entries)
-none_before b size = subst AreAnsweredOnce (sym (drop_all b.restored b.entries (omega (arith, size)))) tt
-
 -- ---- the run
 
 -- what a run is, over a shelf and streams that are told

@@ -6,3 +6,7 @@ pub mod Serving
 pub mod Files
 pub mod Resuming
 pub mod Run
+pub mod Batch
+pub mod Session
+pub mod GoingOn
+pub mod Serve
