@@ -34,6 +34,9 @@ serving-preserved g c = record {
   serving = λ first before begun. rw c.in-None.is at c.serve_batch-next.ensures.batch first before (c.serving.invariant.serving first before begun);
 }
 
+pub serving-smaller : goal.serving-smaller
+serving-smaller g c = (c.serve_batch-next.ensures.goes_on c.in-None.is).less
+
 pub returns-in-Some-clause-serves : goal.returns-in-Some-clause-serves
 returns-in-Some-clause-serves g c first before begun =
     let after : Streams = record {
