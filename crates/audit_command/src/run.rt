@@ -49,7 +49,8 @@ pub fn run_audit<V: Decider, F: Shelf, S: Source, K: Sink>(
     requires lanes { session.lanes ≤ LANE_LIMIT }
     ensures status { result.status ≡ status_of result.fault }
     ensures usage { result.fault ≡ RunFault.Usage → ⊥ }
-    ensures audits { AuditsRun session.policy.now session.requests.now session.lanes session.rounds (
+    ensures audits { AuditsRun session.entry.policy.now session.entry.requests.now
+        session.entry.lanes session.entry.rounds (
         run_of F.file F.faults shelf.old shelf.new
         (streams_of S.left S.faults K.held K.faults source.old sink.old)
         (streams_of S.left S.faults K.held K.faults source.new sink.new) result) }
@@ -74,13 +75,13 @@ fn find<V: Decider, F: Shelf, S: Source>(
     requires ready { V.ready decider.now }
     requires lanes { IsOnLanes session.lanes }
     ensures finds { FindsFile (AuditsPolicy (record {
-      requests = F.file shelf.old session.requests.now;
-      lanes = session.lanes;
-      rounds = session.rounds;
+      requests = F.file shelf.old session.entry.requests.now;
+      lanes = session.entry.lanes;
+      rounds = session.entry.rounds;
     }) (record { before = S.left source.old; after = S.left source.new }))
-        (F.file shelf.old session.policy.now) result }
-    ensures ends { EndsFinding (F.file shelf.old session.requests.now) result }
-    ensures named { EndsTooLong POLICY_FILE_LIMIT (F.file shelf.old session.policy.now)
+        (F.file shelf.old session.entry.policy.now) result }
+    ensures ends { EndsFinding (F.file shelf.old session.entry.requests.now) result }
+    ensures named { EndsTooLong POLICY_FILE_LIMIT (F.file shelf.old session.entry.policy.now)
         (fault_in result) }
     ensures loads { CountsLoads (fault_in result) (F.faults shelf.old) (F.faults shelf.new) }
     ensures reads { CountsReadsAlone (fault_in result) (S.faults source.old) (S.faults source.new) }
@@ -102,11 +103,11 @@ fn find_under<V: Decider, F: Shelf, S: Source>(
     requires ready { V.ready decider.now }
     requires lanes { IsOnLanes session.lanes }
     ensures finds { FindsAs (AuditsPolicy (record {
-      requests = F.file shelf.old session.requests.now;
-      lanes = session.lanes;
-      rounds = session.rounds;
+      requests = F.file shelf.old session.entry.requests.now;
+      lanes = session.entry.lanes;
+      rounds = session.entry.rounds;
     }) (record { before = S.left source.old; after = S.left source.new }) policy) result }
-    ensures ends { EndsFinding (F.file shelf.old session.requests.now) result }
+    ensures ends { EndsFinding (F.file shelf.old session.entry.requests.now) result }
     ensures loads { CountsLoads (fault_in result) (F.faults shelf.old) (F.faults shelf.new) }
     ensures reads { CountsReadsAlone (fault_in result) (S.faults source.old) (S.faults source.new) }
     ensures input { ReadsAsAudit (fault_in result) (S.left source.old) (S.left source.new) }

@@ -41,7 +41,8 @@ pub fn run_told<F: Shelf, K: Sink>(
 ) -> RunFault
     requires some { 0 < files.lanes }
     requires lanes { files.lanes ≤ LANE_LIMIT }
-    ensures tells { TellsRun (F.file shelf.old) (named_by files) files.lanes files.rounds
+    ensures tells { TellsRun (F.file shelf.old) (named_by files.entry) files.entry.lanes
+        files.entry.rounds
         (Tells what) (K.held sink.old) (K.held sink.new) result }
     ensures loads { CountsLoads result (F.faults shelf.old) (F.faults shelf.new) }
     ensures writes { CountsWrites result (K.faults sink.old) (K.faults sink.new) }
@@ -64,7 +65,8 @@ fn find<F: Shelf>(
 ) -> Result<Answer, RunFault>
     requires some { 0 < files.lanes }
     requires lanes { files.lanes ≤ LANE_LIMIT }
-    ensures finds { FindsRun (F.file shelf.old) (named_by files) files.lanes files.rounds
+    ensures finds { FindsRun (F.file shelf.old) (named_by files.entry) files.entry.lanes
+        files.entry.rounds
         (Tells what) result }
     ensures ending { IfErr result IsCommandEnding }
     ensures loads { CountsLoads (fault_in result) (F.faults shelf.old) (F.faults shelf.new) }

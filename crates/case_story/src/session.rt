@@ -68,9 +68,9 @@ pub(crate) fn load_session<F: Shelf>(
 ) -> Result<Session, RunFault>
     requires some { 0 < files.lanes }
     requires lanes { files.lanes ≤ LANE_LIMIT }
-    ensures gives { GivesSession (F.file shelf.old) (named_by files) result }
-    ensures lanes { IfOk result (λ s. s.lanes ≡ files.lanes) }
-    ensures rounds { IfOk result (λ s. s.rounds ≡ files.rounds) }
+    ensures gives { GivesSession (F.file shelf.old) (named_by files.entry) result }
+    ensures lanes { IfOk result (λ s. s.lanes ≡ files.entry.lanes) }
+    ensures rounds { IfOk result (λ s. s.rounds ≡ files.entry.rounds) }
     ensures served { IfOk result IsServed }
     ensures ending { IfErr result IsLoadEnding }
     ensures loads { CountsLoads (fault_in result) (F.faults shelf.old) (F.faults shelf.new) }

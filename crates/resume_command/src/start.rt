@@ -68,9 +68,11 @@ pub fn begin<V: Decider, F: Shelf>(
 ) -> Result<Beginning, Refusal>
     requires ready { V.ready decider.now }
     requires within { AreServedWithin earlier.lanes earlier.rounds }
-    ensures begins { OverFiles (F.file shelf.old) (names_in earlier) earlier.lanes (StopsBy result)
+    ensures begins { OverFiles (F.file shelf.old) (names_in earlier.entry) earlier.entry.lanes
+        (StopsBy result)
         (λ p cut transcript.
-        BeginsBy (session_of p earlier.lanes earlier.rounds cut) cut transcript result) }
+        BeginsBy (session_of p earlier.entry.lanes earlier.entry.rounds cut) cut transcript
+        result) }
     ensures ending { EndsBeginning (how_of (fault_by result)) }
     ensures loads { CountsLoads (fault_by result) (F.faults shelf.old) (F.faults shelf.new) }
 {
@@ -88,9 +90,11 @@ fn begin_under<V: Decider, F: Shelf>(
 ) -> Result<Beginning, Refusal>
     requires ready { V.ready decider.now }
     requires within { AreServedWithin earlier.lanes earlier.rounds }
-    ensures begins { OverBoth earlier.lanes (StopsBy result) (λ cut transcript.
-        BeginsBy (session_of policy earlier.lanes earlier.rounds cut) cut transcript result)
-        (F.file shelf.old earlier.requests.now) (F.file shelf.old earlier.transcript.now) }
+    ensures begins { OverBoth earlier.entry.lanes (StopsBy result) (λ cut transcript.
+        BeginsBy (session_of policy earlier.entry.lanes earlier.entry.rounds cut) cut transcript
+        result)
+        (F.file shelf.old earlier.entry.requests.now)
+        (F.file shelf.old earlier.entry.transcript.now) }
     ensures ending { EndsBeginning (how_of (fault_by result)) }
     ensures loads { CountsLoads (fault_by result) (F.faults shelf.old) (F.faults shelf.new) }
 {
@@ -125,11 +129,12 @@ fn begin_behind<V: Decider, F: Shelf>(
     requires ready { V.ready decider.now }
     requires within { AreServedWithin earlier.lanes earlier.rounds }
     requires whole { AreWhole earlier.lanes text }
-    ensures begins { (requests : List ℕ) → IsCutOf requests earlier.lanes text →
+    ensures begins { (requests : List ℕ) → IsCutOf requests earlier.entry.lanes text →
         OverTranscriptFile (StopsBy result) (λ transcript. BeginsBy
-        (session_of policy earlier.lanes earlier.rounds (jobs_of_input requests true earlier.lanes))
-        (jobs_of_input requests true earlier.lanes) transcript result)
-        (F.file shelf.old earlier.transcript.now) }
+        (session_of policy earlier.entry.lanes earlier.entry.rounds
+        (jobs_of_input requests true earlier.entry.lanes))
+        (jobs_of_input requests true earlier.entry.lanes) transcript result)
+        (F.file shelf.old earlier.entry.transcript.now) }
     ensures ending { EndsBeginning (how_of (fault_by result)) }
     ensures loads { CountsLoads (fault_by result) (F.faults shelf.old) (F.faults shelf.new) }
 {

@@ -51,8 +51,8 @@ pub(crate) fn run_resume<F: Shelf, S: Source, K: Sink, W: Fn(Desk) -> Desk>(
     ensures status { result.status ≡ status_of result.fault }
     ensures usage { result.fault ≡ RunFault.Usage → ⊥ }
     ensures resumes { (repeats : Bool) →
-        (repeats ≡ false → ServesOnce (W.post way.now) ⊎ (earlier.rounds ≡ 0)) →
-        ResumesRun (names_in earlier) (options_by earlier) repeats (
+        (repeats ≡ false → ServesOnce (W.post way.now) ⊎ (earlier.entry.rounds ≡ 0)) →
+        ResumesRun (names_in earlier.entry) (options_by earlier.entry) repeats (
         run_of F.file F.faults shelf.old shelf.new
         (streams_of S.left S.faults K.held K.faults source.old sink.old)
         (streams_of S.left S.faults K.held K.faults source.new sink.new) result) }

@@ -35,7 +35,8 @@ returns-in_err-transcript-clause-gives g c =
             subst (λ f. GivesBytes REQUESTS_FILE_LIMIT f (Ok c.in_ok-requests.requests)) (c.in_ok-policy.ensures.kept c.args.files.requests.now)
                 c.in_ok-requests.ensures.bytes,
             subst (λ f. GivesBytes TRANSCRIPT_FILE_LIMIT f (Err c.in_err-transcript.field-0.0))
-                (c.in_ok-requests.ensures.kept c.args.files.transcript.now ∙ c.in_ok-policy.ensures.kept c.args.files.transcript.now) c.in_err-transcript.ensures.bytes,
+                (c.in_ok-requests.ensures.kept c.args.files.transcript.now ∙ c.in_ok-policy.ensures.kept c.args.files.transcript.now)
+                c.in_err-transcript.ensures.bytes,
           ),
         ),
       ),
