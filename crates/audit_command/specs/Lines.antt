@@ -17,7 +17,7 @@ pub record IsUnread (a : AuditShape) : Type 0 where
 -- an audit stands before the line with a number, and has found no fault
 pub record IsAtLine (a : AuditShape) (number : ℕ) : Type 0 where
   pub going : a.fault ≡ None
-  pub number : number ≡ length a.entries
+  pub here : number ≡ length a.entries
 
 -- a reader looks for lines of a transcript, and takes one piece of the input at once
 pub record ReadsLines (r : ReaderShape) : Type 0 where

@@ -17,7 +17,7 @@ pub record CanTake (d : DeskShape) (told : Told) (batch : List Job) : Type 0 whe
   pub some : 0 < d.lanes
   pub done : IsDone d
   pub whole : length told.entries ≡ length told.jobs
-  pub batch : IsBatch d.lanes (length told.jobs) batch
+  pub follows : IsBatch d.lanes (length told.jobs) batch
 
 -- a desk was served on: how it serves and what was taken up stay as they were, and by a way of
 -- serving that answers no request again none is

@@ -19,4 +19,4 @@ pub returns-in-TooLong-clause-steps : goal.returns-in-TooLong-clause-steps
 returns-in-TooLong-clause-steps g c first before h =
     long_found first c.args.auditor.now before (g.S.Source.left c.args.source.now) (g.S.Source.left c.next.new.source) c.args.reader.now c.next.new.self
     c.args.number h c.in-TooLong.ensures.reads
-    c.requires.reader.limit c.requires.reader.room c.requires.at.number
+    c.requires.reader.limit c.requires.reader.room c.requires.at.here

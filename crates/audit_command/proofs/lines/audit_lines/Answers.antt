@@ -6,7 +6,7 @@ use Rattle.audit_command.proofs.lines.audit_lines.Goals as goal
 pub auditing-init : goal.auditing-init
 auditing-init g c = record {
   audited = audit_begins c.args.auditor (g.S.Source.left c.args.source.now) (pending c.args.reader.now) c.requires.first.first c.requires.nothing;
-  at = record { going = c.requires.first.going; number = sym (ap length c.requires.first.first) };
+  at = record { going = c.requires.first.going; here = sym (ap length c.requires.first.first) };
   few = c.requires.first.few;
   within = omega (arith, ap length c.requires.first.first);
   reader = c.requires.reader;

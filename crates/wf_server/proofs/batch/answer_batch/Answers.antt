@@ -34,7 +34,7 @@ returns-in-Err-clause-answers g c held answered =
 pub answer_loaded-requires-clause-ready : goal.answer_loaded-requires-clause-ready
 answer_loaded-requires-clause-ready g c =
     loaded_ready c.args.desk c.take_batch.new.desk c.args.batch.now c.take_batch.ensures.setting c.in-Ok.ensures.loaded c.requires.takes.some
-    c.requires.takes.batch.of_lanes
+    c.requires.takes.follows.of_lanes
 
 pub returns-in-Ok-clause-on : goal.returns-in-Ok-clause-on
 returns-in-Ok-clause-on g c =

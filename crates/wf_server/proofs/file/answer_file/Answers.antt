@@ -58,7 +58,7 @@ answer_batch-next-requires-clause-takes g c =
       some = subst (λ n. 0 < n) (sym same) c.requires.lanes;
       done = answered.done;
       whole = answered.fills.whole;
-      batch = subst (λ js. IsBatch d.lanes (length c.answering.told.jobs) js) (sym batch) (file_batch d.lanes jobs ends c.answering.count _ _ order known next);
+      follows = subst (λ js. IsBatch d.lanes (length c.answering.told.jobs) js) (sym batch) (file_batch d.lanes jobs ends c.answering.count _ _ order known next);
     }
 
 pub answering-preserved : goal.answering-preserved

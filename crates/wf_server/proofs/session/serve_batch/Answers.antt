@@ -16,7 +16,7 @@ answer_batch-served-requires-clause-takes g c =
       some = c.requires.lanes;
       done = serving.answered.done;
       whole = serving.answered.fills.whole;
-      batch = rw c.as_slice.ensures
+      follows = rw c.as_slice.ensures
           (next_batch d.lanes first _ _ told c.next_batch-jobs.result.jobs serving.order serving.read.closed
           (c.next_batch-jobs.ensures.up c.requires.serving.1.0.input (handed_in first told) serving.read));
     }
