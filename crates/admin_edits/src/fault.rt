@@ -6,7 +6,7 @@ use std::alloc::AllocError;
 use wf_talk::Missing;
 
 /// Why an edit is refused, whatever cases are open. Want of memory never is why.
-#[derive(Clone, Copy, Debug, PartialEq, Eq)]
+#[derive(Clone, Copy)]
 pub enum EditCause {
     /// No user of that name holds the admin role.
     NotAdmin,
@@ -25,7 +25,7 @@ pub enum EditCause {
 }
 
 /// Why an edit gives no policy: a cause against it, or that there was no memory.
-#[derive(Clone, Copy, Debug, PartialEq, Eq)]
+#[derive(Clone, Copy, PartialEq, Eq)]
 pub enum EditFault {
     /// No user of that name holds the admin role.
     NotAdmin,

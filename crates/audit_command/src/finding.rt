@@ -7,7 +7,7 @@ use std::alloc::{AllocError, Global};
 use transcript_audit::AuditKind;
 
 /// What an audit finds in a transcript.
-#[derive(Clone, Copy, Debug, PartialEq, Eq)]
+#[derive(Clone, Copy)]
 pub(crate) enum Finding {
     /// It is the transcript of a legal session.
     Legal,

@@ -18,7 +18,7 @@ use wf_outside::{Failed, Source};
 use wf_talk::Jobs;
 
 /// Where reading paused.
-#[derive(Clone, Copy, Debug, PartialEq, Eq)]
+#[derive(Clone, Copy)]
 pub enum Paused {
     /// At the end of a batch.
     Batch,

@@ -22,7 +22,7 @@ use workflow_schema::Flow;
 ///
 /// No call takes memory. A call that takes a workflow is about the case's own: one with as many
 /// steps as the case has.
-#[derive(Clone, Copy, Debug)]
+#[derive(Clone, Copy)]
 pub struct Case {
     flow: FlowId,
     // The cells from `steps` on are free.

@@ -11,7 +11,7 @@ use policy_book::{Assign, Plan, Policy, StepSet};
 use wf_names::{FlowId, StepId};
 
 /// What is wrong with a plan.
-#[derive(Clone, Copy, Debug, PartialEq, Eq)]
+#[derive(Clone, Copy)]
 pub enum PlanFault {
     /// It gives an assigned step to another user.
     Moved(StepId),

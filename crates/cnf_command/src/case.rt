@@ -20,7 +20,7 @@ use wf_commands::{InputError, json_of};
 use wf_names::{FlowId, StepId, StepState};
 
 /// The state of a case, as it is said from the first step on.
-#[derive(Clone, Copy, Debug, PartialEq, Eq)]
+#[derive(Clone, Copy)]
 pub(crate) struct Case {
     /// How many steps were said.
     pub(crate) said: u8,

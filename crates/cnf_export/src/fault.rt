@@ -5,7 +5,7 @@ ghost use Rattle.cnf_export.specs.declared.fault.CnfFault.TheVariants.{NoMemory}
 use std::alloc::AllocError;
 
 /// Why a case is not written as clauses.
-#[derive(Clone, Copy, Debug, PartialEq, Eq)]
+#[derive(Clone, Copy, Debug)]
 pub enum CnfFault {
     /// Its clauses have too many literals.
     TooLarge,

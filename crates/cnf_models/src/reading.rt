@@ -20,7 +20,7 @@ use std::alloc::{AllocError, Global};
 use wf_names::{FlowId, STEP_LIMIT, USER_LIMIT, UserId};
 
 /// What a model says.
-#[derive(Clone, Copy, Debug, PartialEq, Eq)]
+#[derive(Clone, Copy, PartialEq, Eq)]
 pub enum Reading {
     /// A valid plan: the model satisfies all clauses.
     Plan(Plan),

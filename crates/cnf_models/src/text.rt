@@ -15,7 +15,7 @@ use memchr::memchr;
 use std::alloc::{AllocError, Global};
 
 /// Why a text is no model.
-#[derive(Clone, Copy, Debug, PartialEq, Eq)]
+#[derive(Clone, Copy)]
 pub enum ModelFault {
     /// This is its first word that is none, numbered from 0.
     Word(usize),

@@ -15,7 +15,7 @@ use wf_outside::{Failed, Sink, put_all, put_and_flush};
 const PIECE: usize = 65_536;
 
 /// Why clauses were not written whole.
-#[derive(Clone, Copy, Debug, PartialEq, Eq)]
+#[derive(Clone, Copy)]
 pub enum WriteFault {
     /// The sink failed, and its count of faults has risen.
     Failed,

@@ -4,7 +4,7 @@
 pub const ABSENCE_LIMIT: u8 = 3;
 
 /// How a session is served.
-#[derive(Clone, Copy, Debug, PartialEq, Eq)]
+#[derive(Clone, Copy)]
 pub struct Options {
     /// How many lanes there are, at least one.
     pub lanes: u8,
@@ -13,7 +13,7 @@ pub struct Options {
 }
 
 /// A command with its words: the policy file, and what else it names.
-#[derive(Clone, Copy, Debug, PartialEq, Eq)]
+#[derive(Clone, Copy)]
 pub enum Command<'a> {
     /// Judges the plan in the input for a workflow.
     Plan {

@@ -6,7 +6,7 @@ use std::marker::Model;
 use wf_names::{STEP_LIMIT, StepId, UserId};
 
 /// A list of users, one for each step of a workflow in the order of the steps' numbers.
-#[derive(Clone, Copy, Debug, PartialEq, Eq)]
+#[derive(Clone, Copy, PartialEq, Eq)]
 pub struct Plan {
     users: [UserId; STEP_LIMIT],
     len: u8,

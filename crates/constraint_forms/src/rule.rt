@@ -6,7 +6,7 @@ use crate::StepSet;
 use wf_names::{RelId, StepId, UserId};
 
 /// A rule of a workflow: it names some of its steps, and reads relations.
-#[derive(Clone, Copy, Debug, PartialEq, Eq)]
+#[derive(Clone, Copy)]
 pub enum Rule {
     /// The user of the first step is related to the user of the second.
     Pair {

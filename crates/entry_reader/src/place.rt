@@ -12,7 +12,7 @@ use wire_json::read_value;
 
 /// Where an entry stands in a session: its place in the journal, the lane of its job and the number
 /// of the job's line, all counted from 0.
-#[derive(Clone, Copy, Debug, PartialEq, Eq)]
+#[derive(Clone, Copy, PartialEq, Eq)]
 pub struct Place {
     pub at: u32,
     pub lane: u8,

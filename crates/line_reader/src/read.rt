@@ -1,7 +1,7 @@
 //! What came of reading a line.
 
 /// What came of reading a line.
-#[derive(Clone, Copy, Debug, PartialEq, Eq)]
+#[derive(Clone, Copy)]
 pub enum Read {
     /// A line was read, with its line end; the last one of the input may have none.
     Line,

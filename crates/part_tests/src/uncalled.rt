@@ -82,7 +82,7 @@ fn keeps_both(log: &mut Log<u32>) -> Result<bool, AllocError> {
 fn a_relation_is_declared(alloc: Global) -> Result<bool, AllocError> {
     let mut relations = Relations::new(alloc)?;
     match Name::read("mentor") {
-        Some(mentor) => Ok(relations.add_listed(mentor) == Ok(RelId(2))),
+        Some(mentor) => Ok(matches!(relations.add_listed(mentor), Ok(RelId(2)))),
         None => Ok(false),
     }
 }

@@ -10,7 +10,7 @@ use user_relations::UserPairs;
 use wf_names::{FlowId, RelId, STEP_LIMIT, StepId, UserId, UserSet};
 
 /// Over what a law is.
-#[derive(Clone, Copy, PartialEq, Eq)]
+#[derive(Clone, Copy)]
 pub(crate) enum Over {
     /// One user.
     Same,
@@ -22,7 +22,7 @@ pub(crate) enum Over {
 }
 
 /// What a law asks of its group.
-#[derive(Clone, Copy, PartialEq, Eq)]
+#[derive(Clone, Copy)]
 pub(crate) enum Demand {
     /// Some member is related to the step.
     Some,

@@ -18,7 +18,7 @@ use std::marker::Model;
 use wf_names::{Name, NameFault, NameTable, ROLE_LIMIT, RoleId, USER_LIMIT, UserId, UserSet};
 
 /// Why a role was not given or not taken away.
-#[derive(Clone, Copy, Debug, PartialEq, Eq)]
+#[derive(Clone, Copy)]
 pub enum RosterFault {
     /// The user has the role already.
     Already,

@@ -9,7 +9,7 @@ use std::alloc::AllocError;
 use transcript_audit::{AuditFault, AuditKind};
 
 /// Why a run ends before its session goes on.
-#[derive(Clone, Copy, Debug)]
+#[derive(Clone, Copy)]
 pub enum Refusal {
     /// The run ends so, and nothing is written.
     Ends(RunFault),

@@ -10,7 +10,7 @@ use std::error::Error;
 use std::fmt;
 
 /// What is wrong with what is asked about, with the input of `plan` or `cnf`, or with a model.
-#[derive(Clone, Copy, Debug, PartialEq, Eq)]
+#[derive(Clone, Copy, Debug)]
 pub enum InputFault {
     /// The policy has no workflow of the name given.
     NoFlow,

@@ -2,7 +2,7 @@
 
 /// What is wrong with a line of a transcript: the first of these that applies, in the order of
 /// checks: `Text` where it tells no place or does not end, `At`, `Job`, `Text`, `Reply`.
-#[derive(Clone, Copy, Debug, PartialEq, Eq)]
+#[derive(Clone, Copy)]
 pub enum AuditKind {
     /// It does not tell its place and end with LF, or it is the text of no reply to its request.
     Text,
@@ -18,7 +18,7 @@ pub enum AuditKind {
 }
 
 /// Why an audit does not go on.
-#[derive(Clone, Copy, Debug, PartialEq, Eq)]
+#[derive(Clone, Copy)]
 pub enum AuditFault {
     /// The line with this number, counted from 0, is the first that is wrong, and how.
     At(u32, AuditKind),

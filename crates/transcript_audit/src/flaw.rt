@@ -9,7 +9,7 @@ use std::alloc::AllocError;
 use wf_board::AdmitFault;
 
 /// Why a line is not taken.
-#[derive(Clone, Copy, PartialEq, Eq)]
+#[derive(Clone, Copy)]
 pub(crate) enum Flaw {
     /// What is wrong with it.
     Kind(AuditKind),

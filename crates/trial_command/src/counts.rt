@@ -5,7 +5,7 @@ ghost use Rattle.trial_command.specs.Counting.{counts_of};
 use wf_talk::{Entry, Reply};
 
 /// How often each kind of reply was given.
-#[derive(Clone, Copy, Debug, PartialEq, Eq)]
+#[derive(Clone, Copy)]
 pub(crate) struct Counts {
     pub(crate) opened: u64,
     pub(crate) granted: u64,

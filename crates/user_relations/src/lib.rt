@@ -30,7 +30,7 @@ pub use user_pairs::UserPairs;
 use wf_names::{Name, NameFault, RELATION_LIMIT, RelId, USER_LIMIT, UserId, UserSet};
 
 /// Why a pair was not put into a relation or not taken out of it.
-#[derive(Clone, Copy, Debug, PartialEq, Eq)]
+#[derive(Clone, Copy)]
 pub enum RelationFault {
     /// The relation is not a listed one.
     Fixed,

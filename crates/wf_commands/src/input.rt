@@ -21,7 +21,7 @@ use wf_names::{Name, UserId};
 use wire_json::read_value;
 
 /// Why an input was not read.
-#[derive(Clone, Copy, Debug)]
+#[derive(Clone, Copy)]
 pub enum InputError {
     /// It has this fault.
     Fault(InputFault),

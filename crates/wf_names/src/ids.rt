@@ -4,7 +4,7 @@
 use std::marker::Model;
 
 /// A user's number in a policy: users are numbered from 0 and keep their numbers.
-#[derive(Clone, Copy, Debug, PartialEq, Eq, PartialOrd, Ord, Hash)]
+#[derive(Clone, Copy, PartialEq, Eq)]
 pub struct UserId(pub u16);
 
 impl Model for UserId {
@@ -18,7 +18,7 @@ impl Model for UserId {
 }
 
 /// A role's number in a policy, counted from 0.
-#[derive(Clone, Copy, Debug, PartialEq, Eq, PartialOrd, Ord, Hash)]
+#[derive(Clone, Copy, PartialEq, Eq)]
 pub struct RoleId(pub u8);
 
 impl Model for RoleId {
@@ -32,7 +32,7 @@ impl Model for RoleId {
 }
 
 /// A relation's number: 0 is `same`, 1 is `other`, and declared relations count from 2.
-#[derive(Clone, Copy, Debug, PartialEq, Eq, PartialOrd, Ord, Hash)]
+#[derive(Clone, Copy, PartialEq, Eq)]
 pub struct RelId(pub u8);
 
 impl RelId {
@@ -53,7 +53,7 @@ impl Model for RelId {
 }
 
 /// A step's number in its workflow, counted from 0.
-#[derive(Clone, Copy, Debug, PartialEq, Eq, PartialOrd, Ord, Hash)]
+#[derive(Clone, Copy, PartialEq, Eq)]
 pub struct StepId(pub u8);
 
 impl Model for StepId {
@@ -67,7 +67,7 @@ impl Model for StepId {
 }
 
 /// A workflow's number in a policy, counted from 0.
-#[derive(Clone, Copy, Debug, PartialEq, Eq, PartialOrd, Ord, Hash)]
+#[derive(Clone, Copy, PartialEq, Eq)]
 pub struct FlowId(pub u8);
 
 impl Model for FlowId {
@@ -81,7 +81,7 @@ impl Model for FlowId {
 }
 
 /// A case's number in a run, counted from 0.
-#[derive(Clone, Copy, Debug, PartialEq, Eq, PartialOrd, Ord, Hash)]
+#[derive(Clone, Copy, PartialEq, Eq)]
 pub struct CaseId(pub u16);
 
 impl Model for CaseId {

@@ -5,7 +5,7 @@ ghost use Rattle.wf_names.specs.States.{user_of, is_held, is_finished, is_live, 
 use crate::UserId;
 
 /// Where a step of a case stands.
-#[derive(Clone, Copy, Debug, PartialEq, Eq)]
+#[derive(Clone, Copy, PartialEq, Eq)]
 pub enum StepState {
     /// Nobody has it.
     Free,
@@ -16,7 +16,7 @@ pub enum StepState {
 }
 
 /// Where a case stands. A case that is done or withdrawn stays so.
-#[derive(Clone, Copy, Debug, PartialEq, Eq)]
+#[derive(Clone, Copy, PartialEq, Eq)]
 pub enum Phase {
     /// It is open.
     Live,

@@ -13,7 +13,7 @@ use std::marker::Model;
 const USER_WORDS: usize = USER_LIMIT as usize / 64;
 
 /// A set of users. Contracts see its words, and whether a user is in them.
-#[derive(Clone, Copy, Debug, PartialEq, Eq)]
+#[derive(Clone, Copy)]
 pub struct UserSet {
     words: [u64; USER_WORDS],
 }

@@ -8,7 +8,7 @@ use crate::{LoadFault, Loaded};
 use std::alloc::Global;
 
 /// A call to a source or a sink failed, and its count of faults has risen.
-#[derive(Clone, Copy, Debug, PartialEq, Eq)]
+#[derive(Clone, Copy)]
 pub struct Failed;
 
 impl From<Failed> for LoadFault {

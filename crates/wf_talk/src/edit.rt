@@ -54,7 +54,7 @@ pub enum Edit {
 }
 
 /// What a name in an edit stands for, where the policy has none of that name.
-#[derive(Clone, Copy, Debug, PartialEq, Eq)]
+#[derive(Clone, Copy, PartialEq, Eq)]
 pub enum Missing {
     Flow,
     Step,

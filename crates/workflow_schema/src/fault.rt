@@ -3,7 +3,7 @@
 use wf_names::StepId;
 
 /// The first reason against a workflow.
-#[derive(Clone, Copy, Debug, PartialEq, Eq, Drop)]
+#[derive(Clone, Copy, Drop)]
 pub enum FlowFault {
     /// There are no steps, or more than the limit.
     TooMany,
