@@ -7,7 +7,7 @@ use Rattle.std.proofs.lemmas.List.Quantifiers.{position-Some}
 use Rattle.std.specs.Cmp.Lexicographic.{pointwise}
 use Rattle.std.specs.Prelude.{nat_eq}
 use Rattle.std.specs.FinSet as set
-use Rattle.first_fault.specs.Reading.{◌>>=◌, check, or_fault}
+use Rattle.basics.specs.Reading.{◌>>=◌, check, or_fault}
 use Rattle.basics.proofs.Booleans.{lt_back}
 use Rattle.wf_names.specs.Table.{place_of}
 use Rattle.wf_names.specs.declared.limits.TheConstants.{FLOW_LIMIT, USER_LIMIT}
@@ -16,7 +16,7 @@ use Rattle.policy_book.specs.Shapes.{PolicyShape, WorkflowShape}
 use Rattle.policy_book.specs.Facts.{IsSoundPolicy, IsSoundWorkflow}
 use Rattle.policy_book.specs.Policies.{flow_at, problem_of, with_flow}
 use Rattle.policy_book.specs.Plans.{IsWithin}
-use Rattle.policy_book.specs.Stored.{IsStored}
+use Rattle.policy_book.specs.Stored.{IsStoredPolicy}
 use Rattle.policy_book.proofs.Keeping.{all_inserted, all_removed, pairs_of_users, sound_forbidden, sound_permitted, stored_with_flow, stored_with_pairs}
 use Rattle.policy_book.proofs.Keeping.{stored_with_user}
 use Rattle.wf_talk.specs.declared.edit.Edit.{Edit}
@@ -86,7 +86,7 @@ within_after p a f assigned is within =
 -- ---- what every policy keeps
 
 -- a sound policy, by its parts
-stored : (p : PolicyShape) → IsSoundPolicy p → IsStored p.roster p.relations (record { names = p.flow_names; limit = FLOW_LIMIT }) p.flows p.admin
+stored : (p : PolicyShape) → IsSoundPolicy p → IsStoredPolicy p.roster p.relations (record { names = p.flow_names; limit = FLOW_LIMIT }) p.flows p.admin
 stored p sound = record { limit = refl; sound = sound }
 
 sound_with_flow : (p : PolicyShape) (f : ℕ) (w : WorkflowShape) → IsSoundPolicy p → f < length p.flows →

@@ -17,7 +17,7 @@ use Rattle.user_relations.specs.Relations.{RelationKind, RelationShape, change_k
 use Rattle.user_relations.specs.Relations.{listed, listed_pairs, pairs_of, with_kind}
 use Rattle.constraint_forms.specs.declared.rule.Rule.{Rule}
 use Rattle.constraint_forms.specs.declared.rule.Rule.TheVariants.{Pair, SomeOf, AllOf, SomeTo, AllTo, AtMost, AtLeast}
-use Rattle.constraint_forms.specs.Assigned.{is_member, planned}
+use Rattle.constraint_forms.specs.Assign.{is_member, planned}
 use Rattle.constraint_forms.specs.Rules.{Relating, all_from, any_from, is_satisfied, reads}
 use Rattle.constraint_forms.proofs.Reading.{none_read}
 use Rattle.policy_book.specs.Shapes.{PolicyShape, WorkflowShape}

@@ -2,13 +2,13 @@
 use Rattle.std.specs.Prelude.{ℕ, zero, suc, ◌==◌, ◌&&◌, nat_lt, not, Bool, true, false, ◌∷◌, []}
 use Rattle.std.specs.Prelude.{◌++◌, List, length, Option, None, Some, is_some, Result, Ok, Err}
 use Rattle.std.specs.FinSet as set
-use Rattle.first_fault.specs.Reading.{◌>>=◌, check, or_fault}
+use Rattle.basics.specs.Reading.{◌>>=◌, check, or_fault}
 use Rattle.wf_names.specs.Table.{place_of}
 use Rattle.wf_names.specs.declared.limits.TheConstants.{USER_LIMIT}
 use Rattle.pair_set.specs.Pairs.{Pairs}
 use Rattle.rbac_state.specs.Rosters.{RosterShape, has_role}
 use Rattle.user_relations.specs.Relations.{known_names, pairs_of}
-use Rattle.user_relations.specs.Faults.{relate_fault, unrelate_fault}
+use Rattle.user_relations.specs.Kinds.{relate_fault, unrelate_fault}
 use Rattle.user_relations.specs.declared.RelationFault.{RelationFault}
 use Rattle.user_relations.specs.declared.RelationFault.TheVariants as relations
 use Rattle.policy_book.specs.Shapes.{PolicyShape}

@@ -5,7 +5,7 @@ use Rattle.std.specs.List.{list_any}
 use Rattle.rbac_state.specs.Rosters.{has_role}
 use Rattle.user_relations.specs.Relations.{RelationShape, complement_of}
 use Rattle.constraint_forms.specs.declared.rule.Rule.{Rule}
-use Rattle.constraint_forms.specs.Assigned.{is_member, planned}
+use Rattle.constraint_forms.specs.Assign.{is_member, planned}
 use Rattle.constraint_forms.specs.Rules.{any_read}
 use Rattle.policy_book.specs.Shapes.{PolicyShape}
 use Rattle.policy_book.specs.Policies.{any_below, flow_at, problem_of}

@@ -1,6 +1,6 @@
 //! Why an edit is refused.
 ghost use Rattle.std.specs.Prelude.{◌≡◌, ◌≢◌, ◌==◌, ◌&&◌, not, IfOk, Ok, Some};
-ghost use Rattle.first_fault.specs.Reading.{check};
+ghost use Rattle.basics.specs.Reading.{check};
 ghost use Rattle.admin_edits.specs.declared.amendment.Amendment.TheVariants as amend;
 ghost use Rattle.admin_edits.specs.Edits.{allowed, amendment_of, edit_cause, has_other};
 ghost use Rattle.admin_edits.specs.Edits.{has_some_role, is_last_admin, pair_fault, unless_fault};

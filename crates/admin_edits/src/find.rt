@@ -1,6 +1,6 @@
 //! The numbers for the names of an edit.
 ghost use Rattle.std.specs.Prelude.{◌≡◌, ◌<◌, length, Err, IfOk, MatchResult, Ok};
-ghost use Rattle.first_fault.specs.Reading.{check, or_fault};
+ghost use Rattle.basics.specs.Reading.{check, or_fault};
 ghost use Rattle.policy_book.specs.Policies.{flow_at};
 ghost use Rattle.user_relations.specs.Relations.{known_names};
 ghost use Rattle.wf_names.specs.Table.{place_of};

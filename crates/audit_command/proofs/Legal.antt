@@ -7,13 +7,13 @@ use Rattle.policy_book.specs.Shapes.{PolicyShape}
 use Rattle.wf_talk.specs.declared.entry.Entry.{Entry}
 use Rattle.wf_talk.specs.declared.job.Job.{Job}
 use Rattle.line_cutter.specs.Laws.{AreInOrder}
-use Rattle.line_reader.specs.Lines.{line_length, lines_of}
-use Rattle.transcript_audit.specs.Audits.{AuditShape, AreNext, IsNextLine, IsTranscript, audit_of, with_entry}
+use Rattle.line_reader.specs.Reader.{line_length, lines_of}
+use Rattle.transcript_audit.specs.Auditor.{AuditShape, AreNext, IsNextLine, IsTranscript, audit_of, with_entry}
 use Rattle.transcript_audit.proofs.Exact.{next_pushed}
 use Rattle.transcript_audit.specs.Laws.{AreOfSession, AuditIsExact, FaultsExclude, NextIsOne}
 use Rattle.audit_command.specs.declared.finding.Finding.{Finding}
 use Rattle.audit_command.specs.declared.finding.Finding.TheVariants.{Legal, Fault, TooLong}
-use Rattle.audit_command.specs.Auditing.{AreShort, EndsAs, GoesOn, IsAudited, StopsAt}
+use Rattle.audit_command.specs.Finding.{AreShort, EndsAs, AuditsLine, IsAudited, StopsAtLine}
 use Rattle.audit_command.specs.Laws.{LegalIsExact}
 
 pub next_of : (a : AuditShape) (lines : List (List ℕ)) → IsAudited a lines Legal → (es : List Entry) ×
@@ -41,7 +41,7 @@ not_stopped : FaultsExclude →
     (p : PolicyShape) (rounds : ℕ) (jobs : List Job) (ends : List ℕ) (done : List (List ℕ)) (es : List Entry) (line : List ℕ) (e : Entry) (f : Finding) →
     AreOfSession p rounds jobs ends → AreNext (audit_of p rounds jobs ends) done es →
     IsNextLine (record (audit_of p rounds jobs ends) { entries = es }) line e →
-    line_length line ≤ TRANSCRIPT_LINE_LIMIT → ¬ StopsAt (record (audit_of p rounds jobs ends) { entries = es }) line f
+    line_length line ≤ TRANSCRIPT_LINE_LIMIT → ¬ StopsAtLine (record (audit_of p rounds jobs ends) { entries = es }) line f
 not_stopped law p rounds jobs ends done es line e Legal session so_far next short stops = stops
 not_stopped law p rounds jobs ends done es line e (Fault n kind) session so_far next short stops =
     law p rounds jobs ends done es session so_far line kind e stops.1.1 next
@@ -66,8 +66,8 @@ found_legal law one p rounds jobs ends done (line ∷ lines) es (e ∷ rest) f s
     (next_pushed (audit_of p rounds jobs ends) done es line e so_far next.0) next.1 short.1
     (omega (arith, size, length-append es (e ∷ []))) more)
   where
-    by_line : StopsAt (record (audit_of p rounds jobs ends) { entries = es }) line f
-        ⊎ ((x : Entry) × (GoesOn (record (audit_of p rounds jobs ends) { entries = es }) line x ×
+    by_line : StopsAtLine (record (audit_of p rounds jobs ends) { entries = es }) line f
+        ⊎ ((x : Entry) × (AuditsLine (record (audit_of p rounds jobs ends) { entries = es }) line x ×
         IsAudited (record (audit_of p rounds jobs ends) { entries = es ++ x ∷ [] }) lines f)) →
         (IsAudited (record (audit_of p rounds jobs ends) { entries = es ++ e ∷ [] }) lines f → f ≡ Legal) → f ≡ Legal
     by_line (inl stops) later = absurd (not_stopped law p rounds jobs ends done es line e f session so_far next.0 short.0 stops)

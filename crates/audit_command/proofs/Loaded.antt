@@ -6,8 +6,8 @@ use Rattle.wf_names.specs.declared.limits.TheConstants.{POLICY_FILE_LIMIT, REQUE
 use Rattle.wf_outside.specs.Outside.{Filed, told, missing, untold}
 use Rattle.policy_book.specs.Shapes.{PolicyShape}
 use Rattle.line_cutter.specs.declared.whole.Batch.{Batch}
-use Rattle.line_reader.specs.Lines.{lines_of}
-use Rattle.transcript_audit.specs.Audits.{AuditShape, IsTranscript, audit_of}
+use Rattle.line_reader.specs.Reader.{lines_of}
+use Rattle.transcript_audit.specs.Auditor.{AuditShape, IsTranscript, audit_of}
 use Rattle.transcript_audit.specs.Laws.{AreOfSession}
 use Rattle.run_record.specs.declared.fault.RunFault.{RunFault}
 use Rattle.run_record.specs.declared.fault.RunFault.TheVariants.{Nothing, Found, Usage, Policy, Read, Write, Load, NoMemory, FileTooLong, LineTooLong}
@@ -18,7 +18,7 @@ use Rattle.wf_commands.proofs.Loading.{answers_file}
 use Rattle.audit_command.specs.declared.finding.Finding.{Finding}
 use Rattle.audit_command.specs.declared.finding.Finding.TheVariants.{Legal}
 use Rattle.audit_command.proofs.Legal.{legal_input}
-use Rattle.audit_command.specs.Auditing.{AreShort, HasFound, ending_of, text_of}
+use Rattle.audit_command.specs.Finding.{AreShort, HasFound, ending_of, finding_text}
 use Rattle.audit_command.specs.Laws.{LegalIsExact}
 use Rattle.audit_command.specs.Loading.{GivesJobs, JobsOf}
 use Rattle.audit_command.specs.Running.{AuditOf, AuditsFile, AuditsPolicy, AuditsRequests, EndsWithout, Input, audit_for}
@@ -28,7 +28,7 @@ use Rattle.audit_command.specs.Steps.{FindsAs, FindsFile, IsReadEnding}
 
 audits_requests : LegalIsExact → (p : PolicyShape) (o : AuditOf) (i : Input) (requests : List ℕ) (batch : Batch) (f : Finding) →
     JobsOf requests o.lanes (Ok batch) → AreOfSession p o.rounds batch.jobs batch.ends
-    → HasFound (audit_of p o.rounds batch.jobs batch.ends) f i.before i.after → AuditsRequests p o i requests (ending_of f) (text_of f)
+    → HasFound (audit_of p o.rounds batch.jobs batch.ends) f i.before i.after → AuditsRequests p o i requests (ending_of f) (finding_text f)
 audits_requests exact p o i requests batch f gives order found =
     let same : audit_of p o.rounds batch.jobs batch.ends ≡ audit_for p o requests = rw (gives.1.0, gives.1.1) refl in
     rw (le-ltb REQUESTS_FILE_LIMIT (length requests) gives.0)
@@ -44,7 +44,7 @@ audits_requests exact p o i requests batch f gives order found =
 
 audits_file : LegalIsExact → (p : PolicyShape) (o : AuditOf) (i : Input) (filed : Filed) (batch : Batch) (f : Finding) →
     GivesJobs filed o.lanes (Ok batch) → AreOfSession p o.rounds batch.jobs batch.ends
-    → HasFound (audit_of p o.rounds batch.jobs batch.ends) f i.before i.after → AuditsFile p o i filed (ending_of f) (text_of f)
+    → HasFound (audit_of p o.rounds batch.jobs batch.ends) f i.before i.after → AuditsFile p o i filed (ending_of f) (finding_text f)
 audits_file exact p o i untold batch f gives order found = (gives.0, audits_requests exact p o i gives.0 batch f gives.1 order found)
 audits_file exact p o i missing batch f gives order found = cc
 audits_file exact p o i (told file) batch f gives order found = audits_requests exact p o i file batch f gives order found
@@ -110,8 +110,8 @@ no_jobs p o i (Err e) fault is gives ending = rw is (finds_no_jobs p o i fault g
 -- ---- what is found over the policy file
 
 finds_over : (A : PolicyShape → RunFault → List ℕ → Type 0) (file : List ℕ) (p : PolicyShape) (f : Finding) → PolicyOf file (Ok p) →
-    A p (ending_of f) (text_of f)
-    → OverPolicy A file (ending_of f) (text_of f)
+    A p (ending_of f) (finding_text f)
+    → OverPolicy A file (ending_of f) (finding_text f)
 finds_over A file p f gives h = rw (le-ltb POLICY_FILE_LIMIT (length file) gives.0, gives.1) h
 
 pub finds_file : (A : PolicyShape → RunFault → List ℕ → Type 0) (f : Filed) (p : PolicyShape) (result : Result Finding RunFault)

@@ -10,16 +10,17 @@ use Rattle.wf_outside.proofs.OutsideLaws.{more_taken, nothing_taken}
 use Rattle.policy_book.specs.Shapes.{PolicyShape}
 use Rattle.wf_talk.specs.declared.entry.Entry.{Entry}
 use Rattle.wire_json.specs.Replies.{entry_text}
-use Rattle.line_reader.specs.Lines.{ReaderShape, pending, HasSeen, HasReadLine, HasEnded, HasPassed, first_line, behind_line, has_end, line_length, lines_of}
+use Rattle.line_reader.specs.Reader.{ReaderShape, pending, HasSeen, HasReadLine, HasReadToEnd, HasPassed, first_line, behind_line, has_end, line_length}
+use Rattle.line_reader.specs.Reader.{lines_of}
 use Rattle.line_reader.proofs.FirstLines.{line_alone, line_before, line_one, line_longer, lines_first, more_behind, ends_with_lf, split_line}
 use Rattle.transcript_audit.specs.declared.fault.AuditKind.{AuditKind}
-use Rattle.transcript_audit.specs.Audits.{AuditShape, HasFault, IsNextLine, with_entry}
+use Rattle.transcript_audit.specs.Auditor.{AuditShape, HasFault, IsNextLine, with_entry}
 use Rattle.run_record.specs.declared.fault.RunFault.{RunFault}
 use Rattle.audit_command.specs.declared.finding.Finding.{Finding}
 use Rattle.audit_command.specs.declared.finding.Finding.TheVariants.{Legal, Fault, TooLong}
 use Rattle.audit_command.specs.declared.lines.TheConstants.{PIECE}
-use Rattle.audit_command.specs.Auditing.{EndsAs, StopsAt, IsAudited, IsFar, HasFound}
-use Rattle.audit_command.specs.Steps.{HasAudited, HasTakenSome, TakesLine, StepsTo}
+use Rattle.audit_command.specs.Finding.{EndsAs, StopsAtLine, IsAudited, IsFar, HasFound}
+use Rattle.audit_command.specs.Steps.{HasAudited, HasTakenSome, TakesLine, AuditStepsTo}
 
 -- the text of an entry ends with LF
 text_ends : (p : PolicyShape) (e : Entry) → has_end (entry_text p e) ≡ true
@@ -76,7 +77,7 @@ audit_goes first a b before middle after r s e h read limit next is =
 -- what is told of the whole input: its next line stops the audit
 whole_stops : (first a : AuditShape) (bytes seen : List ℕ) (f : Finding) (after : Option (List ℕ))
     → ((more : List ℕ) → IsAudited a (lines_of more) f → IsAudited first (lines_of (bytes ++ more)) f)
-    → ((left : List ℕ) → after ≡ Some left → 0 < length (seen ++ left)) → ((left : List ℕ) → after ≡ Some left → StopsAt a (first_line (seen ++ left)) f)
+    → ((left : List ℕ) → after ≡ Some left → 0 < length (seen ++ left)) → ((left : List ℕ) → after ≡ Some left → StopsAtLine a (first_line (seen ++ left)) f)
     → IfSome (bytes_before (bytes ++ seen) after) (λ input. IsAudited first (lines_of input) f)
 unfolding bytes_before
 whole_stops first a bytes seen f None goes some stops = tt
@@ -99,9 +100,9 @@ same_line seen left after false is ended some =
 -- a line stops the audit
 line_stops : (first a : AuditShape) (before middle after : Option (List ℕ)) (r : ReaderShape) (seen rest : List ℕ) (f : Finding)
     (h : HasAudited first a before middle (pending r))
-    → HasSeen middle after r seen → 0 < length seen → rest ≡ behind_line seen → StopsAt a (first_line seen) f
+    → HasSeen middle after r seen → 0 < length seen → rest ≡ behind_line seen → StopsAtLine a (first_line seen) f
     → (length (lines_of (h.bytes ++ first_line seen)) ≡ length a.entries + 1 → IsFar f (h.bytes ++ first_line seen) rest after)
-    → ((left : List ℕ) → after ≡ Some left → StopsAt a (first_line (seen ++ left)) f) → HasFound first f before after
+    → ((left : List ℕ) → after ≡ Some left → StopsAtLine a (first_line (seen ++ left)) f) → HasFound first f before after
 line_stops first a before middle after r seen rest f h read some left stops far whole =
     let line = first_line seen in
     let one = line_one seen some in
@@ -126,10 +127,10 @@ fault_found first a before middle after r s n kind h read limit room number faul
     let seen = read.bytes in
     let alone = line_alone seen in
     let fits : line_length (first_line seen) ≤ TRANSCRIPT_LINE_LIMIT = let f = read.fits in let c = alone.counted in omega (arith, f, c, limit) in
-    let stops : StopsAt a (first_line seen) (Fault n kind) = (number, (fits, subst (λ (l : List ℕ). HasFault a l kind) read.line fault)) in
+    let stops : StopsAtLine a (first_line seen) (Fault n kind) = (number, (fits, subst (λ (l : List ℕ). HasFault a l kind) read.line fault)) in
     line_stops first a before middle after r seen s.ahead (Fault n kind) h read.seen read.some read.behind stops
     (λ count. inr (count ∙ ap (λ k. k + 1) (sym number), subst (λ (k : ℕ). length s.ahead < k) room read.less))
-    (λ left is. subst (λ (l : List ℕ). StopsAt a l (Fault n kind)) (sym (same_line seen left after (has_end seen) refl read.ended is)) stops)
+    (λ left is. subst (λ (l : List ℕ). StopsAtLine a l (Fault n kind)) (sym (same_line seen left after (has_end seen) refl read.ended is)) stops)
 
 pub long_found : (first a : AuditShape) (before middle after : Option (List ℕ)) (r s : ReaderShape) (n : ℕ) → HasAudited first a before middle (pending r)
     → HasPassed middle after r s → r.limit ≡ TRANSCRIPT_LINE_LIMIT → r.room ≡ PIECE → n ≡ length a.entries → HasFound first (TooLong n) before after
@@ -173,7 +174,7 @@ whole_ends first bytes f (Some left) ended found =
     subst (λ (xs : List ℕ). IsAudited first (lines_of xs) f) (sym (append-nil bytes) ∙ ap (λ xs. bytes ++ xs) (sym ended)) found
 
 pub end_found : (first a : AuditShape) (before middle after : Option (List ℕ)) (r s : ReaderShape) (f : Finding) → HasAudited first a before middle (pending r)
-    → HasEnded middle after r s → EndsAs a f → HasFound first f before after
+    → HasReadToEnd middle after r s → EndsAs a f → HasFound first f before after
 end_found first a before middle after r s f h read ends =
     let taken : HasTaken before after (h.bytes ++ []) = taken_all before middle after h.bytes [] r [] h.taken read.seen in
     let found : IsAudited first (lines_of (h.bytes ++ [])) f = h.goes [] f ends in
@@ -190,7 +191,7 @@ end_found first a before middle after r s f h read ends =
 pub line_taken : (first a b : AuditShape) (before middle after : Option (List ℕ)) (r s : ReaderShape) (result : Result (Option Finding) RunFault) →
     HasAudited first a before middle (pending r)
     → HasReadLine middle after r s → r.limit ≡ TRANSCRIPT_LINE_LIMIT → r.room ≡ PIECE → TakesLine a b s.line result →
-    StepsTo first b before after (pending s) result
+    AuditStepsTo first b before after (pending s) result
 line_taken first a b before middle after r s (Ok None) h read limit room takes =
     audit_goes first a b before middle after r s takes.0 h read limit takes.1.0 takes.1.1
 line_taken first a b before middle after r s (Ok (Some Legal)) h read limit room takes = absurd takes
@@ -206,7 +207,7 @@ pub taken_on : (first a : AuditShape) (before middle after : Option (List ℕ)) 
 taken_on first a before middle after rest h more = ((h.bytes ++ rest) ++ more.0, more_taken before middle after (h.bytes ++ rest) more.0 h.taken more.1)
 
 pub steps_found : (first b : AuditShape) (before after : Option (List ℕ)) (rest : List ℕ) (result : Result (Option Finding) RunFault) (f : Finding)
-    → StepsTo first b before after rest result → result ≡ Ok (Some f) → HasFound first f before after
+    → AuditStepsTo first b before after rest result → result ≡ Ok (Some f) → HasFound first f before after
 steps_found first b before after rest (Ok None) f h is = cc
 steps_found first b before after rest (Ok (Some x)) f h is =
     let same : x ≡ f = cc in

@@ -17,7 +17,7 @@ use Rattle.wf_commands.specs.Answer as answer
 use Rattle.wf_commands.proofs.Runs.{ends_refused, loaded, no_writes, own_reads, quiet_refused}
 use Rattle.audit_command.specs.declared.finding.Finding.{Finding}
 use Rattle.audit_command.specs.declared.finding.Finding.TheVariants.{Legal, Fault, TooLong}
-use Rattle.audit_command.specs.Auditing.{ending_of, text_of}
+use Rattle.audit_command.specs.Finding.{ending_of, finding_text}
 use Rattle.audit_command.specs.Running.{AuditsPolicy, AuditsRun, EndsWithout, ReadsAsAudit}
 use Rattle.audit_command.specs.Steps.{FailsAs, FindsFile, HasTakenSome, HasToldPart, IsAuditEnding}
 
@@ -72,19 +72,19 @@ finding_input Legal before after taken = taken
 finding_input (Fault n kind) before after taken = taken
 finding_input (TooLong n) before after taken = taken
 
-finding_quiet : (f : Finding) (before after : Option (List ℕ)) → after ≡ with_bytes before (text_of f) → IsQuiet (ending_of f) before after
+finding_quiet : (f : Finding) (before after : Option (List ℕ)) → after ≡ with_bytes before (finding_text f) → IsQuiet (ending_of f) before after
 finding_quiet Legal before after wrote = tt
 finding_quiet (Fault n kind) before after wrote = tt
 finding_quiet (TooLong n) before after wrote = wrote ∙ nothing_put before
 
-finding_ends : (A : RunFault → List ℕ → Type 0) (f : Finding) (before after : Option (List ℕ)) → A (ending_of f) (text_of f) →
-    after ≡ with_bytes before (text_of f) → Ends A before after (ending_of f)
-finding_ends A Legal before after h wrote = (text_of Legal, h, wrote)
-finding_ends A (Fault n kind) before after h wrote = (text_of (Fault n kind), h, wrote)
-finding_ends A (TooLong n) before after h wrote = (text_of (TooLong n), h, wrote)
+finding_ends : (A : RunFault → List ℕ → Type 0) (f : Finding) (before after : Option (List ℕ)) → A (ending_of f) (finding_text f) →
+    after ≡ with_bytes before (finding_text f) → Ends A before after (ending_of f)
+finding_ends A Legal before after h wrote = (finding_text Legal, h, wrote)
+finding_ends A (Fault n kind) before after h wrote = (finding_text (Fault n kind), h, wrote)
+finding_ends A (TooLong n) before after h wrote = (finding_text (TooLong n), h, wrote)
 
 finding_over : (A : PolicyShape → RunFault → List ℕ → Type 0) (f : Finding) (filed : Filed) (before after : Option (List ℕ)) → FindsFile A filed (Ok f)
-    → after ≡ with_bytes before (text_of f) → OverFile filed (ending_of f) (λ file. Ends (OverPolicy A file) before after (ending_of f))
+    → after ≡ with_bytes before (finding_text f) → OverFile filed (ending_of f) (λ file. Ends (OverPolicy A file) before after (ending_of f))
 finding_over A f untold before after h is = (h.0, finding_ends (OverPolicy A h.0) f before after h.1 is)
 finding_over A f missing before after h wrote = cc
 finding_over A f (told file) before after h is = finding_ends (OverPolicy A file) f before after h is
@@ -100,7 +100,7 @@ pub told_run : (policy requests : List ℕ) (lanes rounds : ℕ) (r : Run) (f : 
     (record { before = r.before.input; after = r.after.input })) (r.files policy) (Ok f)
     → EndsTooLong POLICY_FILE_LIMIT (r.files policy) Nothing → EndsWithout (r.files requests) Nothing → r.load_faults_after ≡ r.load_faults →
     r.after.read_faults ≡ r.before.read_faults → r.after.write_faults ≡ r.before.write_faults
-    → HasTakenSome r.before.input r.after.input → r.after.output ≡ with_bytes r.before.output (text_of f) → r.told ≡ nothing_told →
+    → HasTakenSome r.before.input r.after.input → r.after.output ≡ with_bytes r.before.output (finding_text f) → r.told ≡ nothing_told →
     AuditsRun policy requests lanes rounds r
 told_run policy requests lanes rounds r f is finds named without loads reads writes input wrote nothing = record {
   orderly = record {
@@ -122,16 +122,16 @@ told_run policy requests lanes rounds r f is finds named without loads reads wri
 }
 
 -- what is found could not be told
-part_told : (f : Finding) (before after : Option (List ℕ)) → HasToldPart f before after → HasText (ending_of f) × HasPart before after (text_of f)
+part_told : (f : Finding) (before after : Option (List ℕ)) → HasToldPart f before after → HasText (ending_of f) × HasPart before after (finding_text f)
 part_told Legal before after h = (tt, h)
 part_told (Fault n kind) before after h = (tt, h)
 part_told (TooLong n) before after h = absurd h
 
 part_over : (A : PolicyShape → RunFault → List ℕ → Type 0) (f : Finding) (filed : Filed) (before after : Option (List ℕ)) → FindsFile A filed (Ok f)
     → HasToldPart f before after → OverFile filed Write (λ file. Ends (OverPolicy A file) before after Write)
-part_over A f untold before after h part = let told_part = part_told f before after part in (h.0, (ending_of f, text_of f, told_part.0, h.1, told_part.1))
+part_over A f untold before after h part = let told_part = part_told f before after part in (h.0, (ending_of f, finding_text f, told_part.0, h.1, told_part.1))
 part_over A f missing before after h part = cc
-part_over A f (told file) before after h part = let told_part = part_told f before after part in (ending_of f, text_of f, told_part.0, h, told_part.1)
+part_over A f (told file) before after h part = let told_part = part_told f before after part in (ending_of f, finding_text f, told_part.0, h, told_part.1)
 
 none_over : (A : PolicyShape → RunFault → List ℕ → Type 0) (f : Finding) (filed : Filed) (before after : Option (List ℕ)) → FindsFile A filed (Ok f)
     → after ≡ before → OverFile filed NoMemory (λ file. Ends (OverPolicy A file) before after NoMemory)

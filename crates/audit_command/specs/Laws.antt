@@ -3,11 +3,11 @@ use Rattle.std.specs.Prelude.{◌≡◌, ◌↔◌, ◌≤◌, ℕ, List, [], �
 use Rattle.policy_book.specs.Shapes.{PolicyShape}
 use Rattle.wf_talk.specs.declared.entry.Entry.{Entry}
 use Rattle.wf_talk.specs.declared.job.Job.{Job}
-use Rattle.transcript_audit.specs.Audits.{AreNext, IsTranscript, audit_of}
+use Rattle.transcript_audit.specs.Auditor.{AreNext, IsTranscript, audit_of}
 use Rattle.transcript_audit.specs.Laws.{AreOfSession}
 use Rattle.audit_command.specs.declared.finding.Finding.{Finding}
 use Rattle.audit_command.specs.declared.finding.Finding.TheVariants.{Legal}
-use Rattle.audit_command.specs.Auditing.{AreShort, IsAudited}
+use Rattle.audit_command.specs.Finding.{AreShort, IsAudited}
 
 -- lines are found legal exactly where they are the texts of entries that come next, one for each
 -- job

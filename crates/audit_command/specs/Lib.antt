@@ -1,4 +1,4 @@
-pub mod Auditing
+pub mod Finding
 pub mod Running
 pub mod Loading
 pub mod Steps

@@ -1,10 +1,10 @@
 -- Inside: an audit between the lines of its input.
 use Rattle.std.specs.Prelude.{◌≡◌, ◌≤◌, ℕ, List, [], length, Option, None}
 use Rattle.wf_names.specs.declared.limits.TheConstants.{SESSION_LINE_LIMIT, TRANSCRIPT_LINE_LIMIT}
-use Rattle.line_reader.specs.Lines.{ReaderShape}
+use Rattle.line_reader.specs.Reader.{ReaderShape}
 use Rattle.run_record.specs.declared.fault.RunFault.{RunFault}
 use Rattle.run_record.specs.Fault.{CountsReadsAlone}
-use Rattle.transcript_audit.specs.Audits.{AuditShape}
+use Rattle.transcript_audit.specs.Auditor.{AuditShape}
 use Rattle.audit_command.specs.declared.lines.TheConstants.{PIECE}
 use Rattle.audit_command.specs.Steps.{HasTakenSome}
 

@@ -6,16 +6,16 @@ use Rattle.wf_names.specs.declared.limits.TheConstants.{REQUESTS_FILE_LIMIT}
 use Rattle.wf_outside.specs.Outside.{Filed, told, missing, untold, HasTaken}
 use Rattle.policy_book.specs.Shapes.{PolicyShape}
 use Rattle.line_cutter.specs.Jobs.{jobs_of_input}
-use Rattle.transcript_audit.specs.Audits.{AuditShape, IsTranscript, audit_of}
+use Rattle.transcript_audit.specs.Auditor.{AuditShape, IsTranscript, audit_of}
 use Rattle.run_record.specs.declared.fault.RunFault.{RunFault}
 use Rattle.run_record.specs.declared.fault.RunFault.TheVariants.{Policy, Load, FileTooLong}
 use Rattle.run_record.specs.Run.{Run, IsOrderly}
 use Rattle.wf_commands.specs.Once.{AnswersOnce, Refuses}
 use Rattle.wf_commands.specs.Load.{IsLoadEnding}
-use Rattle.line_reader.specs.Lines.{lines_of}
+use Rattle.line_reader.specs.Reader.{lines_of}
 use Rattle.audit_command.specs.declared.finding.Finding.{Finding}
 use Rattle.audit_command.specs.declared.finding.Finding.TheVariants.{Legal}
-use Rattle.audit_command.specs.Auditing.{AreShort, HasFound, ending_of, text_of}
+use Rattle.audit_command.specs.Finding.{AreShort, HasFound, ending_of, finding_text}
 
 -- what is told of the requests file, and how the session was served
 pub record AuditOf : Type 0 where
@@ -43,7 +43,7 @@ pub record Audits (a : AuditShape) (i : Input) (ending : RunFault) (text : List 
       (finding ≡ Legal) ↔ IsTranscript a.opening a.rounds a.jobs a.batch_ends (lines_of input))
   pub found : HasFound a finding i.before i.after
   pub ends : ending ≡ ending_of finding
-  pub writes : text ≡ text_of finding
+  pub writes : text ≡ finding_text finding
 
 -- for the requests in a file; one that is too long is refused
 abbrev pub AuditsRequests : PolicyShape → AuditOf → Input → List ℕ → RunFault → List ℕ → Type 0

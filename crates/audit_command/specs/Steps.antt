@@ -4,8 +4,8 @@ use Rattle.std.specs.Prelude.{Ok, Err}
 use Rattle.wf_outside.specs.Outside.{Filed, told, missing, untold, HasPart, HasTaken}
 use Rattle.policy_book.specs.Shapes.{PolicyShape}
 use Rattle.wf_talk.specs.declared.entry.Entry.{Entry}
-use Rattle.line_reader.specs.Lines.{lines_of}
-use Rattle.transcript_audit.specs.Audits.{AuditShape, HasFault, IsNextLine, with_entry}
+use Rattle.line_reader.specs.Reader.{lines_of}
+use Rattle.transcript_audit.specs.Auditor.{AuditShape, HasFault, IsNextLine, with_entry}
 use Rattle.run_record.specs.declared.fault.RunFault.{RunFault}
 use Rattle.run_record.specs.declared.fault.RunFault.TheVariants.{Policy, Read, Write, Load}
 use Rattle.run_record.specs.declared.fault.RunFault.TheVariants.{NoMemory, FileTooLong}
@@ -13,7 +13,7 @@ use Rattle.wf_commands.specs.Answer.{AnswersAs}
 use Rattle.wf_commands.specs.Once.{OverPolicy}
 use Rattle.audit_command.specs.declared.finding.Finding.{Finding}
 use Rattle.audit_command.specs.declared.finding.Finding.TheVariants.{Legal, Fault, TooLong}
-use Rattle.audit_command.specs.Auditing.{IsAudited, HasFound, ending_of, text_of}
+use Rattle.audit_command.specs.Finding.{IsAudited, HasFound, ending_of, finding_text}
 
 -- of an input that had `before` left and has `after` left, the lines in some bytes are the texts of
 -- entries that come next, and what else was taken is pending
@@ -39,11 +39,11 @@ TakesLine a b line (Ok (Some (TooLong n))) = ⊥
 TakesLine a b line (Err fault) = fault ≡ NoMemory
 
 -- one more line goes on, or something is found
-abbrev pub StepsTo : AuditShape → AuditShape → Option (List ℕ) → Option (List ℕ) → List ℕ →
+abbrev pub AuditStepsTo : AuditShape → AuditShape → Option (List ℕ) → Option (List ℕ) → List ℕ →
     Result (Option Finding) RunFault → Type 0
-StepsTo first b before after pending (Ok None) = HasAudited first b before after pending
-StepsTo first b before after pending (Ok (Some f)) = HasFound first f before after
-StepsTo first b before after pending (Err fault) = Unit {0}
+AuditStepsTo first b before after pending (Ok None) = HasAudited first b before after pending
+AuditStepsTo first b before after pending (Ok (Some f)) = HasFound first f before after
+AuditStepsTo first b before after pending (Err fault) = Unit {0}
 
 -- an audit has one more entry, and no more of them than jobs
 pub record HasOneMore (a b : AuditShape) : Type 0 where
@@ -69,7 +69,7 @@ IsAuditEnding fault = ⊥
 
 -- a finding is one of these; the ending without one as that of every command
 abbrev pub FindsAs : (RunFault → List ℕ → Type 0) → Result Finding RunFault → Type 0
-FindsAs Answers (Ok f) = Answers (ending_of f) (text_of f)
+FindsAs Answers (Ok f) = Answers (ending_of f) (finding_text f)
 FindsAs Answers (Err fault) = AnswersAs Answers (Err fault)
 
 -- the same about the policy in a file, by what is told of the file
@@ -81,8 +81,8 @@ FindsFile Answers (told file) result = FindsAs (OverPolicy Answers file) result
 
 -- a finding was told in part; that a line is too long is not told
 abbrev pub HasToldPart : Finding → Option (List ℕ) → Option (List ℕ) → Type 0
-HasToldPart Legal before after = HasPart before after (text_of Legal)
-HasToldPart (Fault n kind) before after = HasPart before after (text_of (Fault n kind))
+HasToldPart Legal before after = HasPart before after (finding_text Legal)
+HasToldPart (Fault n kind) before after = HasPart before after (finding_text (Fault n kind))
 HasToldPart (TooLong n) before after = ⊥
 
 -- what the sink holds where a finding could not be told

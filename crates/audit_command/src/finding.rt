@@ -1,6 +1,6 @@
 //! What an audit finds.
 ghost use Rattle.std.specs.Prelude.{◌≡◌, ◌++◌, IfOk, codes, decimal, string_bytes};
-ghost use Rattle.audit_command.specs.Auditing.{ending_of, fault_line, text_of, word_of};
+ghost use Rattle.audit_command.specs.Finding.{ending_of, fault_line, finding_text, kind_word};
 
 use run_record::RunFault;
 use std::alloc::{AllocError, Global};
@@ -31,7 +31,7 @@ impl Finding {
 
     /// What is written.
     pub(crate) fn text(&self, alloc: Global) -> Result<String, AllocError>
-        ensures { IfOk result (λ text. string_bytes text ≡ text_of self.now) }
+        ensures { IfOk result (λ text. string_bytes text ≡ finding_text self.now) }
     {
         match self {
             Finding::Legal => String::from_str(alloc, "legal\n"),
@@ -46,7 +46,7 @@ pub fn fault_text(alloc: Global, n: u32, kind: AuditKind) -> Result<String, Allo
     ensures { IfOk result (λ text. string_bytes text ≡ fault_line n kind) }
 {
     let mut text = fault_start(alloc, n)?;
-    text.push_str(word_of(kind))?;
+    text.push_str(kind_word(kind))?;
     text.push_str("\n")?;
     Ok(text)
 }
@@ -58,8 +58,8 @@ fn fault_start(alloc: Global, n: u32) -> Result<String, AllocError>
     format!(in alloc; "fault {n} ")
 }
 
-fn word_of(kind: AuditKind) -> &'static str
-    ensures { result.now ≡ word_of kind }
+fn kind_word(kind: AuditKind) -> &'static str
+    ensures { result.now ≡ kind_word kind }
 {
     match kind {
         AuditKind::Text => "text",

@@ -2,13 +2,13 @@
 ghost use Rattle.std.specs.Prelude.{◌≡◌, ◌<◌, ◌≤◌, ◌+◌, ℕ, List, [], length, Option, None, Some};
 ghost use Rattle.std.specs.Prelude.{Ok, Err, IfErr, IfOk};
 ghost use Rattle.wf_names.specs.declared.limits.TheConstants.{SESSION_LINE_LIMIT};
-ghost use Rattle.line_reader.specs.Lines.{pending};
+ghost use Rattle.line_reader.specs.Reader.{pending};
 ghost use Rattle.run_record.specs.Fault.{fault_in, CountsReadsAlone};
-ghost use Rattle.transcript_audit.specs.Audits.{AuditShape};
-ghost use Rattle.audit_command.specs.Auditing.{EndsAs, HasFound};
+ghost use Rattle.transcript_audit.specs.Auditor.{AuditShape};
+ghost use Rattle.audit_command.specs.Finding.{EndsAs, HasFound};
 ghost use Rattle.audit_command.specs.Lines.{HasReadSome, IsUnread, IsAtLine, ReadsLines};
 ghost use Rattle.audit_command.specs.Steps.{HasAudited, HasOneMore, HasTakenSome, IsReadEnding};
-ghost use Rattle.audit_command.specs.Steps.{StepsTo, TakesLine};
+ghost use Rattle.audit_command.specs.Steps.{AuditStepsTo, TakesLine};
 
 use crate::finding::Finding;
 use line_reader::{LineReader, Read};
@@ -84,7 +84,7 @@ fn audit_line<V: Decider, S: Source>(
     requires reader { ReadsLines reader.old }
     ensures steps { (first : AuditShape) (before : Option (List ℕ)) →
         HasAudited first auditor.old before (S.left source.old) (pending reader.old) →
-        StepsTo first auditor.new before (S.left source.new) (pending reader.new) result }
+        AuditStepsTo first auditor.new before (S.left source.new) (pending reader.new) result }
     ensures more { result ≡ Ok None → HasOneMore auditor.old auditor.new }
     ensures read { HasReadSome (fault_in result) (S.left source.old) (S.left source.new)
         (S.faults source.old) (S.faults source.new) }

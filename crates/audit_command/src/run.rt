@@ -6,7 +6,7 @@ ghost use Rattle.run_record.specs.Fault.{fault_in, status_of, CountsLoads, Count
 ghost use Rattle.run_record.specs.Fault.{CountsWrites};
 ghost use Rattle.run_record.specs.Run.{run_of, streams_of};
 ghost use Rattle.wf_commands.specs.Load.{EndsTooLong};
-ghost use Rattle.audit_command.specs.Auditing.{text_of};
+ghost use Rattle.audit_command.specs.Finding.{finding_text};
 ghost use Rattle.audit_command.specs.Run.{EndsFinding, IsOnLanes};
 ghost use Rattle.audit_command.specs.Running.{AuditsPolicy, AuditsRun, ReadsAsAudit};
 ghost use Rattle.audit_command.specs.Steps.{FailsAs, FindsAs, FindsFile};
@@ -121,7 +121,7 @@ fn find_under<V: Decider, F: Shelf, S: Source>(
 
 // Writes what is found, if it is something to write.
 fn tell<K: Sink>(alloc: Global, finding: Finding, sink: &mut K) -> Result<(), RunFault>
-    ensures told { OnOk result (K.held sink.new ≡ with_bytes (K.held sink.old) (text_of finding)) }
+    ensures told { OnOk result (K.held sink.new ≡ with_bytes (K.held sink.old) (finding_text finding)) }
     ensures fails { IfErr result (FailsAs finding (K.held sink.old) (K.held sink.new)) }
     ensures counts { CountsWrites (fault_in result) (K.faults sink.old) (K.faults sink.new) }
 {

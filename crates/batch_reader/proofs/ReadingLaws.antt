@@ -13,15 +13,15 @@ use Rattle.line_cutter.specs.Cutter.{Cuts, IsEnded, after_handing, ends_after, e
 use Rattle.line_cutter.proofs.CutLaws.{cut_all-append, handed_all, handed_finish, handed_over, closed_after, up_to_end, stopped, finished_stop}
 use Rattle.batch_reader.specs.declared.reader.Paused.{Paused}
 use Rattle.batch_reader.specs.declared.reader.Paused.TheVariants.{Batch, End, Failed, Stopped, NoMemory}
-use Rattle.batch_reader.specs.Reading.{ReaderShape, Handed, handed_more, HasRead, HasPaused, HasReadAll, HasStopped, IsReadUp, ReadsTo, CountsAs}
+use Rattle.batch_reader.specs.Reader.{BatchReaderShape, Handed, handed_more, HasRead, HasPaused, HasReadAll, StopsCutting, IsReadUp, ReadsBatch, CountsPause}
 use Rattle.batch_reader.specs.Pausing.{HasCut, PausesBy, PausesAs, ClosesAs, FinishesAs}
 
 -- what was cut was read
-pub read_behind : (before after : Option (List ℕ)) (h : Handed) (r : ReaderShape) → HasCut before after h r → HasRead before after h r
+pub read_behind : (before after : Option (List ℕ)) (h : Handed) (r : BatchReaderShape) → HasCut before after h r → HasRead before after h r
 read_behind before after h r cut = record { bytes = cut.front ++ cut.last ∷ []; taken = cut.taken; cut = cut.cut; closed = cut.closed }
 
 -- some of what is pending is cut
-pub cut_more : (before after : Option (List ℕ)) (h : Handed) (r s : ReaderShape) (more : List ℕ)
+pub cut_more : (before after : Option (List ℕ)) (h : Handed) (r s : BatchReaderShape) (more : List ℕ)
     → Cuts r.cut s.cut more → r.cut.ends ≡ [] → r.pending ≡ more ++ s.pending → HasRead before after h r → HasCut before after h s
 cut_more before after h r s more cuts none pending read =
     let bytes = read.bytes in
@@ -43,7 +43,7 @@ cut_more before after h r s more cuts none pending read =
     }
 
 -- the next piece is taken, where the last one is cut
-pub take_more : (before left after : Option (List ℕ)) (h : Handed) (r s : ReaderShape)
+pub take_more : (before left after : Option (List ℕ)) (h : Handed) (r s : BatchReaderShape)
     → r.pending ≡ [] → s.cut ≡ r.cut → HasTaken left after s.pending → HasRead before left h r → HasRead before after h s
 take_more before left after h r s empty same taken read =
     let all : HasTaken before left read.bytes =
@@ -68,7 +68,7 @@ split_between bytes at filled n begun =
 -- ---- at the end of a batch, or of what can be read
 
 -- what was read is up to an end
-pub up_read : (before after : Option (List ℕ)) (h : Handed) (r : ReaderShape) → HasRead before after h r → IsReadUp before after h
+pub up_read : (before after : Option (List ℕ)) (h : Handed) (r : BatchReaderShape) → HasRead before after h r → IsReadUp before after h
 unfolding jobs_from
 up_read before after h r read =
     let rest : Cut = cut_all r.cut r.pending in
@@ -85,14 +85,15 @@ up_read before after h r read =
     }
 
 -- and so with no more jobs
-pub up_none : (before after : Option (List ℕ)) (h : Handed) (r : ReaderShape) (none : List Job) → none ≡ [] → HasRead before after h r →
+pub up_none : (before after : Option (List ℕ)) (h : Handed) (r : BatchReaderShape) (none : List Job) → none ≡ [] → HasRead before after h r →
     IsReadUp before after (handed_more h none)
 up_none before after h r none e read =
     let same : h.jobs ++ [] ≡ h.jobs = append-nil h.jobs in
     rw (e, same) (up_read before after h r read)
 
 -- what reading had read, however it paused
-pub read_by : (before after : Option (List ℕ)) (h : Handed) (r : ReaderShape) (paused : Paused) → PausesBy before after h r paused → HasRead before after h r
+pub read_by : (before after : Option (List ℕ)) (h : Handed) (r : BatchReaderShape) (paused : Paused) → PausesBy before after h r paused →
+    HasRead before after h r
 read_by before after h r Batch read = read_behind before after h r read
 read_by before after h r End read = read
 read_by before after h r Failed read = read
@@ -100,11 +101,11 @@ read_by before after h r (Stopped stop) read = read_behind before after h r read
 read_by before after h r NoMemory read = read
 
 -- a batch that has ended is handed over
-batch_over : (before after : Option (List ℕ)) (h : Handed) (r : ReaderShape) (cut : HasCut before after h r) → IsEnded r.cut
+batch_over : (before after : Option (List ℕ)) (h : Handed) (r : BatchReaderShape) (cut : HasCut before after h r) → IsEnded r.cut
     → after_handing (h.jobs ++ r.cut.jobs) (ends_after h.batch_ends (length h.jobs) r.cut.jobs) (emptied r.cut) ≡ cut_all h.first (cut.front ++ cut.last ∷ [])
 batch_over before after h r cut ended = sym (handed_over h.jobs h.batch_ends r.cut ended) ∙ cut.cut
 
-batch_read : (before after : Option (List ℕ)) (h : Handed) (r : ReaderShape) → HasCut before after h r → IsEnded r.cut
+batch_read : (before after : Option (List ℕ)) (h : Handed) (r : BatchReaderShape) → HasCut before after h r → IsEnded r.cut
     → HasRead before after (handed_more h r.cut.jobs) (record r { cut = emptied r.cut })
 batch_read before after h r cut ended = record {
   bytes = cut.front ++ cut.last ∷ [];
@@ -113,7 +114,7 @@ batch_read before after h r cut ended = record {
   closed = closed_after h.jobs r.cut.jobs h.batch_ends cut.closed;
 }
 
-batch_paused : (before after : Option (List ℕ)) (h : Handed) (r : ReaderShape) → HasCut before after h r → IsEnded r.cut → 0 < length r.cut.jobs →
+batch_paused : (before after : Option (List ℕ)) (h : Handed) (r : BatchReaderShape) → HasCut before after h r → IsEnded r.cut → 0 < length r.cut.jobs →
     length r.pending < r.room
     → HasPaused before after r.room (handed_more h r.cut.jobs)
 batch_paused before after h r cut ended some ahead =
@@ -131,7 +132,7 @@ batch_paused before after h r cut ended some ahead =
     }
 
 -- the input was ended, and the last batch is handed over
-finish_over : (before after : Option (List ℕ)) (ended : Bool) (h : Handed) (r : ReaderShape) (d : Cut) (read : HasRead before after h r) →
+finish_over : (before after : Option (List ℕ)) (ended : Bool) (h : Handed) (r : BatchReaderShape) (d : Cut) (read : HasRead before after h r) →
     d ≡ end_batch (flush ended r.cut) → IsEnded d
     → jobs_from h.first read.bytes ended ≡ after_handing (h.jobs ++ d.jobs) (ends_after h.batch_ends (length h.jobs) d.jobs) (emptied d)
 unfolding jobs_from
@@ -140,11 +141,11 @@ finish_over before after ended h r d read is closed =
     ∙ handed_over h.jobs h.batch_ends d closed
 
 -- so are the jobs of all that was taken, where nothing is pending
-all_taken : (before after : Option (List ℕ)) (h : Handed) (r : ReaderShape) (read : HasRead before after h r) → r.pending ≡ [] →
+all_taken : (before after : Option (List ℕ)) (h : Handed) (r : BatchReaderShape) (read : HasRead before after h r) → r.pending ≡ [] →
     HasTaken before after read.bytes
 all_taken before after h r read none = subst (λ xs. HasTaken before after xs) (ap (λ xs. read.bytes ++ xs) none ∙ append-nil read.bytes) read.taken
 
-all_read : (before after : Option (List ℕ)) (ended : Bool) (h : Handed) (r : ReaderShape) (d : Cut) → HasRead before after h r →
+all_read : (before after : Option (List ℕ)) (ended : Bool) (h : Handed) (r : BatchReaderShape) (d : Cut) → HasRead before after h r →
     d ≡ end_batch (flush ended r.cut) → IsEnded d
     → r.pending ≡ [] → r.cut.stop ≡ None → (ended ≡ true → IsAtEnd after) → HasReadAll before after ended (handed_more h d.jobs)
 all_read before after ended h r d read is closed none going at_end =
@@ -158,9 +159,9 @@ all_read before after ended h r d read is closed none going at_end =
       going = ap (λ (c : Cut). c.stop) over ∙ ap (λ (c : Cut). c.stop) is ∙ finished_stop r.cut ended ∙ going;
     }
 
-stop_read : (before after : Option (List ℕ)) (h : Handed) (r : ReaderShape) (d : Cut) (stop : Stop) → HasCut before after h r →
+stop_read : (before after : Option (List ℕ)) (h : Handed) (r : BatchReaderShape) (d : Cut) (stop : Stop) → HasCut before after h r →
     d ≡ end_batch (flush false r.cut) → IsEnded d
-    → r.cut.stop ≡ Some stop → length r.pending < r.room → HasStopped before after r.room stop (handed_more h d.jobs)
+    → r.cut.stop ≡ Some stop → length r.pending < r.room → StopsCutting before after r.room stop (handed_more h d.jobs)
 unfolding read_behind
 stop_read before after h r d stop cut is closed stops ahead =
     let over = finish_over before after false h r d (read_behind before after h r cut) is closed in
@@ -177,7 +178,7 @@ stop_read before after h r d stop cut is closed stops ahead =
     }
 
 -- its jobs are up to an end, where nothing is pending or the cutting has stopped
-all_up : (before after : Option (List ℕ)) (ended : Bool) (h : Handed) (r : ReaderShape) (d : Cut) → HasRead before after h r →
+all_up : (before after : Option (List ℕ)) (ended : Bool) (h : Handed) (r : BatchReaderShape) (d : Cut) → HasRead before after h r →
     d ≡ end_batch (flush ended r.cut) → IsEnded d
     → cut_all r.cut r.pending ≡ r.cut → (ended ≡ true → IsAtEnd after) → IsReadUp before after (handed_more h d.jobs)
 unfolding jobs_from
@@ -200,19 +201,19 @@ all_up before after ended h r d read is closed rest at_end =
 
 -- what a closed reading has read, and that its jobs are up to an end
 pub record HasClosed (before after : Option (List ℕ)) (room : ℕ) (h : Handed) (result : Paused) : Type 0 where
-  pub reads : ReadsTo before after room h result
+  pub reads : ReadsBatch before after room h result
   pub up : IsReadUp before after h
 
-finished : (before after : Option (List ℕ)) (ended : Bool) (h : Handed) (r : ReaderShape) (d : Cut) (paused result : Paused)
+finished : (before after : Option (List ℕ)) (ended : Bool) (h : Handed) (r : BatchReaderShape) (d : Cut) (paused result : Paused)
     → HasRead before after h r → FinishesAs r.cut d ended paused result → result ≢ NoMemory → cut_all r.cut r.pending ≡ r.cut → (ended ≡ true → IsAtEnd after)
-    → (d ≡ end_batch (flush ended r.cut) → IsEnded d → ReadsTo before after r.room (handed_more h d.jobs) paused)
+    → (d ≡ end_batch (flush ended r.cut) → IsEnded d → ReadsBatch before after r.room (handed_more h d.jobs) paused)
     → HasClosed before after r.room (handed_more h d.jobs) result
 finished before after ended h r d paused result read finishes memory rest at_end reads = elim finishes [
   | inl done ↦ rw done.0 (record { reads = reads done.1 done.2; up = all_up before after ended h r d read done.1 done.2 rest at_end })
   | inr none ↦ absurd (memory none.0)
 ]
 
-closed_reads : (before after : Option (List ℕ)) (h : Handed) (r : ReaderShape) (d : Cut) (paused result : Paused)
+closed_reads : (before after : Option (List ℕ)) (h : Handed) (r : BatchReaderShape) (d : Cut) (paused result : Paused)
     → PausesBy before after h r paused → PausesAs r after paused → ClosesAs r.cut d paused result → result ≢ NoMemory
     → HasClosed before after r.room (handed_more h d.jobs) result
 closed_reads before after h r d Batch result read pauses closes memory =
@@ -233,14 +234,14 @@ closed_reads before after h r d (Stopped stop) result read pauses closes memory 
     (λ is closed. stop_read before after h r d stop read is closed pauses.0 pauses.2)
 
 -- the same with these jobs
-pub closed_at : (before after : Option (List ℕ)) (h : Handed) (r : ReaderShape) (d : Cut) (jobs : List Job) (room : ℕ) (paused result : Paused)
+pub closed_at : (before after : Option (List ℕ)) (h : Handed) (r : BatchReaderShape) (d : Cut) (jobs : List Job) (room : ℕ) (paused result : Paused)
     → PausesBy before after h r paused → PausesAs r after paused → ClosesAs r.cut d paused result → result ≢ NoMemory
     → jobs ≡ d.jobs → room ≡ r.room → HasClosed before after room (handed_more h jobs) result
 closed_at before after h r d jobs room paused result read pauses closes memory same is =
     rw (same, is) (closed_reads before after h r d paused result read pauses closes memory)
 
 -- after a batch reading goes on
-pub closed_on : (before after : Option (List ℕ)) (h : Handed) (r t : ReaderShape) (jobs : List Job) (paused : Paused)
+pub closed_on : (before after : Option (List ℕ)) (h : Handed) (r t : BatchReaderShape) (jobs : List Job) (paused : Paused)
     → PausesBy before after h r paused → PausesAs r after paused → paused ≡ Batch → jobs ≡ r.cut.jobs → t.cut ≡ emptied r.cut → t.pending ≡ r.pending
     → HasRead before after (handed_more h jobs) t
 closed_on before after h r t jobs Batch read pauses e same cut pending =
@@ -257,11 +258,12 @@ closed_on before after h r t jobs Failed read pauses e same cut pending = cc
 closed_on before after h r t jobs (Stopped stop) read pauses e same cut pending = cc
 
 -- what was handed over before is up to an end
-pub up_before : (before after : Option (List ℕ)) (h : Handed) (r : ReaderShape) (paused : Paused) → PausesBy before after h r paused → IsReadUp before after h
+pub up_before : (before after : Option (List ℕ)) (h : Handed) (r : BatchReaderShape) (paused : Paused) → PausesBy before after h r paused →
+    IsReadUp before after h
 up_before before after h r paused read = up_read before after h r (read_by before after h r paused read)
 
 -- where memory was refused
-pub closed_none : (before after : Option (List ℕ)) (h : Handed) (r : ReaderShape) (none : List Job) (paused : Paused)
+pub closed_none : (before after : Option (List ℕ)) (h : Handed) (r : BatchReaderShape) (none : List Job) (paused : Paused)
     → PausesBy before after h r paused → none ≡ [] → IsReadUp before after (handed_more h none)
 closed_none before after h r none paused read e = up_none before after h r none e (read_by before after h r paused read)
 
@@ -274,8 +276,8 @@ closed_batch c d Failed result closes e = elim closes [ inl done ↦ cc | inr no
 closed_batch c d (Stopped stop) result closes e = elim closes [ inl done ↦ cc | inr none ↦ cc ]
 
 -- closing counts no fault
-pub closed_counts : (c d : Cut) (paused result : Paused) (before after : ℕ) → ClosesAs c d paused result → CountsAs paused before after →
-    CountsAs result before after
+pub closed_counts : (c d : Cut) (paused result : Paused) (before after : ℕ) → ClosesAs c d paused result → CountsPause paused before after →
+    CountsPause result before after
 closed_counts c d Batch result before after closes counts = rw closes.0 counts
 closed_counts c d NoMemory result before after closes counts = rw closes.0 counts
 closed_counts c d End result before after closes counts = elim closes [ inl done ↦ rw done.0 counts | inr none ↦ rw none.0 (omega (arith, counts)) ]

@@ -8,12 +8,13 @@ use Rattle.line_cutter.specs.Cutter.{after_handing, IsEnded}
 use Rattle.batch_reader.specs.declared.reader.Paused.{Paused}
 use Rattle.batch_reader.specs.declared.reader.Paused.TheVariants.{Batch, End, Failed, Stopped}
 use Rattle.batch_reader.specs.declared.reader.Paused.TheVariants.{NoMemory}
-use Rattle.batch_reader.specs.Reading.{ReaderShape, Handed, HasRead, IsReady, CountsAs}
-use Rattle.batch_reader.specs.Reading.{left_to_read}
+use Rattle.batch_reader.specs.Reader.{BatchReaderShape, Handed, HasRead, CanReadOn, CountsPause}
+use Rattle.batch_reader.specs.Reader.{left_to_read}
 
 -- some bytes were cut, and before the last of them no batch had ended and the cutting had not
 -- stopped
-pub record HasCut (before after : Option (List ℕ)) (h : Handed) (r : ReaderShape) : Type 0 where
+pub record HasCut (before after : Option (List ℕ)) (h : Handed) (r : BatchReaderShape) : Type
+    0 where
   pub front : List ℕ
   pub last : ℕ
   pub taken : HasTaken before after ((front ++ last ∷ []) ++ r.pending)
@@ -23,7 +24,8 @@ pub record HasCut (before after : Option (List ℕ)) (h : Handed) (r : ReaderSha
   pub going : (cut_all h.first front).stop ≡ None
 
 -- what was read where reading paused so, before the jobs are handed over
-abbrev pub PausesBy : Option (List ℕ) → Option (List ℕ) → Handed → ReaderShape → Paused → Type 0
+abbrev pub PausesBy : Option (List ℕ) → Option (List ℕ) → Handed → BatchReaderShape → Paused →
+    Type 0
 PausesBy before after h r Batch = HasCut before after h r
 PausesBy before after h r End = HasRead before after h r
 PausesBy before after h r Failed = HasRead before after h r
@@ -31,28 +33,28 @@ PausesBy before after h r (Stopped stop) = HasCut before after h r
 PausesBy before after h r NoMemory = HasRead before after h r
 
 -- what was read by one step, after which reading pauses or goes on
-abbrev pub AdvancesTo : Option (List ℕ) → Option (List ℕ) → Handed → ReaderShape →
+abbrev pub AdvancesTo : Option (List ℕ) → Option (List ℕ) → Handed → BatchReaderShape →
     Option Paused → Type 0
 AdvancesTo before after h r None = HasRead before after h r
 AdvancesTo before after h r (Some paused) = PausesBy before after h r paused
 
 -- where reading pauses so
-abbrev pub PausesAs : ReaderShape → Option (List ℕ) → Paused → Type 0
+abbrev pub PausesAs : BatchReaderShape → Option (List ℕ) → Paused → Type 0
 PausesAs r left Batch = (r.cut.stop ≡ None) × IsEnded r.cut × (0 < length r.cut.jobs) ×
     (length r.pending < r.room)
-PausesAs r left End = IsReady r × (r.pending ≡ []) × IsAtEnd left
-PausesAs r left Failed = IsReady r × (r.pending ≡ [])
+PausesAs r left End = CanReadOn r × (r.pending ≡ []) × IsAtEnd left
+PausesAs r left Failed = CanReadOn r × (r.pending ≡ [])
 PausesAs r left (Stopped stop) = (r.cut.stop ≡ Some stop) × (r.cut.ends ≡ []) ×
     (length r.pending < r.room)
 PausesAs r left NoMemory = Unit {0}
 
 -- how much reading still has to do at most: cut bytes, and take a piece where none is left
-abbrev pub steps_left : ReaderShape → ℕ
+abbrev pub steps_left : BatchReaderShape → ℕ
 steps_left r = 2 * left_to_read r + (1 - length r.pending)
 
 -- one step goes on, or pauses
-abbrev pub StepsAs : ReaderShape → ReaderShape → Option (List ℕ) → Option Paused → Type 0
-StepsAs r s left None = IsReady s × (steps_left s < steps_left r)
+abbrev pub StepsAs : BatchReaderShape → BatchReaderShape → Option (List ℕ) → Option Paused → Type 0
+StepsAs r s left None = CanReadOn s × (steps_left s < steps_left r)
 StepsAs r s left (Some paused) = PausesAs s left paused
 
 -- the input is ended, unless memory was refused
@@ -70,6 +72,6 @@ ClosesAs c d (Stopped stop) result = FinishesAs c d false (Stopped stop) result
 ClosesAs c d NoMemory result = (result ≡ NoMemory) × (d ≡ c)
 
 -- the count of faults of the source over one step
-abbrev pub CountsStep : Option Paused → ℕ → ℕ → Type 0
-CountsStep None before after = after ≡ before
-CountsStep (Some paused) before after = CountsAs paused before after
+abbrev pub CountsPauseStep : Option Paused → ℕ → ℕ → Type 0
+CountsPauseStep None before after = after ≡ before
+CountsPauseStep (Some paused) before after = CountsPause paused before after

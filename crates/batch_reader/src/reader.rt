@@ -6,10 +6,11 @@ ghost use Rattle.wf_outside.specs.Outside.{Rose, HasTaken, IsAtEnd};
 ghost use Rattle.wf_names.specs.declared.limits.TheConstants.{SESSION_LINE_LIMIT};
 ghost use Rattle.line_cutter.specs.Jobs.{start_at};
 ghost use Rattle.line_cutter.specs.Cutter.{IsEnded};
-ghost use Rattle.batch_reader.specs.Reading.{ReaderShape, Handed, handed_more, HasRead, IsReadUp};
-ghost use Rattle.batch_reader.specs.Reading.{ReadsTo, IsReady, CountsAs, left_to_read};
+ghost use Rattle.batch_reader.specs.Reader.{BatchReaderShape, Handed, handed_more, HasRead};
+ghost use Rattle.batch_reader.specs.Reader.{IsReadUp};
+ghost use Rattle.batch_reader.specs.Reader.{ReadsBatch, CanReadOn, CountsPause, left_to_read};
 ghost use Rattle.batch_reader.specs.Pausing.{HasCut, PausesBy, AdvancesTo, PausesAs, StepsAs};
-ghost use Rattle.batch_reader.specs.Pausing.{ClosesAs, FinishesAs, CountsStep};
+ghost use Rattle.batch_reader.specs.Pausing.{ClosesAs, FinishesAs, CountsPauseStep};
 
 use line_cutter::{Cutter, Stop};
 use std::alloc::{AllocError, Global};
@@ -55,9 +56,9 @@ pub struct Reader {
 impl Model for Reader {
     ghost use Rattle.std.specs.Prelude.{◌≤◌, ◌<◌, length, take, drop};
     ghost use Rattle.line_cutter.specs.Cutter.{IsSound};
-    ghost use Rattle.batch_reader.specs.Reading.{ReaderShape};
+    ghost use Rattle.batch_reader.specs.Reader.{BatchReaderShape};
 
-    ghost Value = { ReaderShape };
+    ghost Value = { BatchReaderShape };
 
     ghost view = { λ r. record {
       cut = r.cutter;
@@ -91,10 +92,10 @@ impl Reader {
     /// input ends, or no more of it can be read, so does the open batch. Where there is no memory,
     /// nothing is handed over, and what was read is kept.
     pub fn next_batch<S: Source>(&mut self, source: &mut S) -> Reading
-        requires { IsReady self.old }
+        requires { CanReadOn self.old }
         ensures reads { (before : Option (List ℕ)) (h : Handed)
             → HasRead before (S.left source.old) h self.old →
-            ReadsTo before (S.left source.new) self.new.room (handed_more h result.jobs)
+            ReadsBatch before (S.left source.new) self.new.room (handed_more h result.jobs)
             result.paused }
         ensures up { (before : Option (List ℕ)) (h : Handed)
             → HasRead before (S.left source.old) h self.old →
@@ -109,11 +110,11 @@ impl Reader {
             HasRead before (S.left source.old) h self.old →
             HasRead before (S.left source.new) h self.new }
         ensures none { result.paused ≡ Paused.NoMemory → result.jobs ≡ [] }
-        ensures ready { result.paused ≡ Paused.Batch → IsReady self.new }
+        ensures ready { result.paused ≡ Paused.Batch → CanReadOn self.new }
         ensures less { result.paused ≡ Paused.Batch
             → left_to_read self.new < left_to_read self.old }
         ensures room { self.new.room ≡ self.old.room }
-        ensures counts { CountsAs result.paused (S.faults source.old) (S.faults source.new) }
+        ensures counts { CountsPause result.paused (S.faults source.old) (S.faults source.new) }
     {
         let paused = self.read_batch(source);
         match self.close_batch(paused) {
@@ -130,14 +131,14 @@ impl Reader {
 
     // Reads up to the end of a batch that has a job, or of what can be read.
     fn read_batch<S: Source>(&mut self, source: &mut S) -> Paused
-        requires { IsReady self.old }
+        requires { CanReadOn self.old }
         ensures reads { (before : Option (List ℕ)) (h : Handed)
             → HasRead before (S.left source.old) h self.old →
             PausesBy before (S.left source.new) h self.new result }
         ensures pauses { PausesAs self.new (S.left source.new) result }
         ensures less { result ≡ Paused.Batch → left_to_read self.new < left_to_read self.old }
         ensures room { self.new.room ≡ self.old.room }
-        ensures counts { CountsAs result (S.faults source.old) (S.faults source.new) }
+        ensures counts { CountsPause result (S.faults source.old) (S.faults source.new) }
     {
         'reading: loop {
             match self.advance(source) {
@@ -149,14 +150,14 @@ impl Reader {
 
     // Cuts some of the piece, or takes the next one where all of it is cut.
     fn advance<S: Source>(&mut self, source: &mut S) -> Option<Paused>
-        requires { IsReady self.old }
+        requires { CanReadOn self.old }
         ensures reads { (before : Option (List ℕ)) (h : Handed)
             → HasRead before (S.left source.old) h self.old →
             AdvancesTo before (S.left source.new) h self.new result }
         ensures steps { StepsAs self.old self.new (S.left source.new) result }
         ensures less { result ≡ Some Paused.Batch → left_to_read self.new < left_to_read self.old }
         ensures room { self.new.room ≡ self.old.room }
-        ensures counts { CountsStep result (S.faults source.old) (S.faults source.new) }
+        ensures counts { CountsPauseStep result (S.faults source.old) (S.faults source.new) }
     {
         if self.at < self.filled {
             return self.cut_on();
@@ -170,7 +171,7 @@ impl Reader {
     // Cuts some of what is left of the piece; reading pauses where that ends a batch or stops the
     // cutting.
     fn cut_on(&mut self) -> Option<Paused>
-        requires ready { IsReady self.old }
+        requires ready { CanReadOn self.old }
         requires some { 0 < length self.old.pending }
         ensures reads { (before after : Option (List ℕ)) (h : Handed)
             → HasRead before after h self.old → AdvancesTo before after h self.new result }
@@ -194,7 +195,7 @@ impl Reader {
 
     // Cuts some of what is left of the piece.
     fn cut_some(&mut self) -> Result<(), AllocError>
-        requires ready { IsReady self.old }
+        requires ready { CanReadOn self.old }
         requires some { 0 < length self.old.pending }
         ensures reads { OnOk result ((before after : Option (List ℕ)) (h : Handed)
             → HasRead before after h self.old → HasCut before after h self.new) }

@@ -1,3 +1,3 @@
-pub mod Escaping
-pub mod Parts
+pub mod Escape
+pub mod Html
 pub mod Pages

@@ -2,7 +2,7 @@
 use Rattle.std.specs.Prelude.{ℕ, Bool, false, nat_lt, length, Option, None, Some}
 use Rattle.policy_book.specs.Shapes.{PolicyShape}
 use Rattle.case_record.specs.Cases.{CaseShape}
-use Rattle.grant_table.specs.Tables.{CasesShape, case_at}
+use Rattle.grant_table.specs.Cases.{CasesShape, case_at}
 
 -- it is a case of a workflow of the policy
 abbrev pub is_of : PolicyShape → Option CaseShape → Bool

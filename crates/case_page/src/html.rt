@@ -1,6 +1,6 @@
 //! The text of a page.
 ghost use Rattle.std.specs.Prelude.{◌≡◌, ◌++◌, [], OnOk, string_bytes};
-ghost use Rattle.case_page.specs.Parts.{part_text, text_of};
+ghost use Rattle.case_page.specs.Html.{part_text, parts_text};
 
 use crate::escape::push_escaped;
 use itoa::Buffer;
@@ -45,7 +45,7 @@ impl Html {
 
     /// Adds some parts, one behind the other.
     pub(crate) fn put(&mut self, parts: &[Part<'_>]) -> Result<(), AllocError>
-        ensures { OnOk result (self.new ≡ self.old ++ text_of parts.now) }
+        ensures { OnOk result (self.new ≡ self.old ++ parts_text parts.now) }
     {
         'parts: for part in parts {
             self.add(*part)?;

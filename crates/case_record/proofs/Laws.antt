@@ -8,10 +8,10 @@ use Rattle.wf_names.specs.declared.limits.TheConstants.{STEP_LIMIT}
 use Rattle.wf_names.specs.declared.states.StepState.{StepState}
 use Rattle.wf_names.specs.declared.states.StepState.TheVariants.{Free, Held, Finished}
 use Rattle.wf_names.specs.States.{is_held, is_finished, user_of}
-use Rattle.constraint_forms.specs.Assigned.{is_member, no_steps, no_users, user_at}
+use Rattle.constraint_forms.specs.Assign.{is_member, no_steps, no_users, user_at}
 use Rattle.wf_names.specs.Padded.{padded, padded-take}
 use Rattle.wf_names.proofs.PaddedLists.{all_blank}
-use Rattle.case_record.specs.Cells.{all_steps}
+use Rattle.case_record.specs.Steps.{all_steps}
 use Rattle.case_record.specs.Cases.{CaseShape, as_finished, assigned_of, finished_case, finished_of, fresh_case, state_at, with_state}
 use Rattle.case_record.proofs.Changes.{held_within}
 

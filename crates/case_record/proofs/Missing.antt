@@ -8,7 +8,7 @@ use Rattle.workflow_schema.specs.Flows.{is_before}
 use Rattle.wf_names.specs.States.{is_finished}
 use Rattle.wf_names.specs.declared.states.StepState.{StepState}
 use Rattle.wf_names.specs.declared.states.StepState.TheVariants.{Free}
-use Rattle.case_record.specs.Ready.{first_missing_from}
+use Rattle.case_record.specs.Order.{first_missing_from}
 
 -- one step of the search
 searched : (order : Pairs) (s t : ℕ) (states : List StepState) (b : Bool) → t < length states →

@@ -7,7 +7,7 @@ use Rattle.wf_names.specs.declared.states.StepState.{StepState}
 use Rattle.wf_names.specs.declared.states.StepState.TheVariants.{Free, Held, Finished}
 use Rattle.wf_names.specs.declared.states.Phase.{Phase}
 use Rattle.wf_names.specs.declared.states.Phase.TheVariants.{Live, Done}
-use Rattle.case_record.specs.Cells.{all_steps}
+use Rattle.case_record.specs.Steps.{all_steps}
 
 -- the workflow's number, where each step stands, and where the case stands
 pub record CaseShape : Type 0 where

@@ -1,3 +1,3 @@
-pub mod Cells
+pub mod Steps
 pub mod Cases
-pub mod Ready
+pub mod Order

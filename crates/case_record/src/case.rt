@@ -5,11 +5,11 @@ ghost use Rattle.wf_names.specs.declared.limits.TheConstants.{STEP_LIMIT};
 ghost use Rattle.wf_names.specs.declared.states.StepState.TheVariants.{Free, Held, Finished};
 ghost use Rattle.wf_names.specs.declared.states.Phase.TheVariants.{Live, Done, Withdrawn};
 ghost use Rattle.wf_names.specs.States.{is_held, is_finished, is_done, user_of};
-ghost use Rattle.constraint_forms.specs.Assigned.{is_member, no_steps, no_users, user_at};
+ghost use Rattle.constraint_forms.specs.Assign.{is_member, no_steps, no_users, user_at};
 ghost use Rattle.workflow_schema.specs.Flows.{Precedes};
 ghost use Rattle.case_record.specs.Cases.{assigned_of, finished_of, fresh_case, finished_case};
 ghost use Rattle.case_record.specs.Cases.{state_at, with_phase, with_state};
-ghost use Rattle.case_record.specs.Ready.{first_missing, is_ready, IsFirstMissing, IsReady};
+ghost use Rattle.case_record.specs.Order.{first_missing, is_ready, IsFirstMissing, IsReady};
 
 use crate::order::{first_unfinished, is_free_step};
 use crate::steps::{all_free, as_finished, assigned, finished, phase_after};
@@ -37,7 +37,7 @@ impl Model for Case {
     ghost use Rattle.wf_names.specs.declared.limits.TheConstants.{STEP_LIMIT};
     ghost use Rattle.wf_names.specs.declared.states.StepState.TheVariants.{Free};
     ghost use Rattle.wf_names.specs.Padded.{IsPadded, padded-take, length-taken};
-    ghost use Rattle.case_record.specs.Cells.{all_steps};
+    ghost use Rattle.case_record.specs.Steps.{all_steps};
 
     ghost Value = { CaseShape };
 

@@ -3,7 +3,7 @@ ghost use Rattle.std.specs.Prelude.{◌≡◌, ℕ, ◌&&◌, nat_lt, length, Is
 ghost use Rattle.wf_names.specs.States.{is_finished};
 ghost use Rattle.workflow_schema.specs.Flows.{Precedes};
 ghost use Rattle.case_record.specs.Cases.{state_at};
-ghost use Rattle.case_record.specs.Ready.{first_missing, is_free, IsFirstMissing};
+ghost use Rattle.case_record.specs.Order.{first_missing, is_free, IsFirstMissing};
 
 use crate::Case;
 use wf_names::{StepId, StepState};

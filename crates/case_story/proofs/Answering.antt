@@ -14,7 +14,7 @@ use Rattle.wf_commands.specs.Once.{Ends}
 use Rattle.wf_commands.proofs.Runs.{ends_refused}
 use Rattle.case_story.specs.declared.session.Session.{Session}
 use Rattle.case_story.specs.Sessions.{GivesSession, Names}
-use Rattle.case_story.specs.Running.{FindsRun, Gives, TellsRun}
+use Rattle.case_story.specs.Run.{FindsRun, GivesServed, TellsRun}
 
 refuses_wider : (A B : RunFault → List ℕ → Type 0) (how : How) (fault : RunFault) → ((f : RunFault) (text : List ℕ) → A f text → B f text) →
     RefusesSo how A fault → RefusesSo how B fault
@@ -82,7 +82,7 @@ not_given files n (Err e) fault is h = subst (λ (x : RunFault). GivesSession fi
 -- what is told of a session that the files give
 pub found_all : (files : List ℕ → Filed) (n : Names) (lanes rounds : ℕ) (T : Session → RunFault → List ℕ → Type 0) (s : Session)
     (result : Result Answer RunFault)
-    → Gives files n lanes rounds s → AnswersAs (T s) result → FindsRun files n lanes rounds T result
+    → GivesServed files n lanes rounds s → AnswersAs (T s) result → FindsRun files n lanes rounds T result
 found_all files n lanes rounds T s (Ok answer) gives h = (s, (gives, h))
 found_all files n lanes rounds T s (Err fault) gives h = inr (s, (gives, h))
 

@@ -2,7 +2,7 @@
 use Rattle.std.proofs.Common.{◌≡◌, ℕ, suc, ◌+◌, ◌-◌, ◌<◌, ◌≤◌, List, length, take, drop, Option, None, Some, sym, ap, subst, ◌∙◌, arith}
 use Rattle.std.proofs.lemmas.List.{drop_all, length-drop, take_all}
 use Rattle.memchr.specs.Find.{IsFirstByte, is_byte}
-use Rattle.line_reader.specs.Lines.{behind_line, first_line, line_length}
+use Rattle.line_reader.specs.Reader.{behind_line, first_line, line_length}
 use Rattle.line_reader.specs.Steps.{FindsEnd}
 use Rattle.line_reader.proofs.FirstLines.{finds_end, open_line}
 

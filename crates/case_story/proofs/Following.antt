@@ -5,10 +5,10 @@ use Rattle.std.proofs.lemmas.Grind.{common_steps}
 use Rattle.std.proofs.lemmas.List.{append-nil, append_assoc, drop_all, drop-drop, length-append}
 use Rattle.wf_names.specs.declared.limits.TheConstants.{TRANSCRIPT_LINE_LIMIT}
 use Rattle.wf_talk.specs.declared.entry.Entry.{Entry}
-use Rattle.line_reader.specs.Lines.{behind_line, first_line, line_length, lines_of}
+use Rattle.line_reader.specs.Reader.{behind_line, first_line, line_length, lines_of}
 use Rattle.line_reader.proofs.FirstLines.{line_alone, lines_first}
 use Rattle.transcript_audit.specs.declared.fault.AuditKind.{AuditKind}
-use Rattle.transcript_audit.specs.Audits.{AuditShape, AreNext, HasFault, IsNextLine, with_entry}
+use Rattle.transcript_audit.specs.Auditor.{AuditShape, AreNext, HasFault, IsNextLine, with_entry}
 use Rattle.transcript_audit.specs.Outcomes.{HasTakenLine, IsFirstFault}
 use Rattle.transcript_audit.specs.declared.fault.AuditFault.TheVariants.{At}
 use Rattle.transcript_audit.proofs.Exact.{next_pushed}
@@ -16,7 +16,7 @@ use Rattle.case_story.specs.declared.place.Place.{Place}
 use Rattle.case_story.specs.declared.verdict.Verdict.{Verdict}
 use Rattle.case_story.specs.declared.verdict.Verdict.TheVariants.{Legal, Fault, TooLong}
 use Rattle.case_story.specs.Verdicts.{AreShort, EndsWith, IsVerdict, right_lines}
-use Rattle.case_story.specs.Followed.{EndsAt, HasFollowed, HasStopped, HasTaken, StepsTo, StopsTo}
+use Rattle.case_story.specs.Followed.{EndsAt, HasFollowed, StopsAudit, HasTakenLines, FollowsTo, StopsTo}
 
 -- before the first line
 pub begins : (first : AuditShape) (text : List ℕ) (place : Place) → first.entries ≡ [] → place.at ≡ 0 → place.number ≡ 0 → HasFollowed first first text place
@@ -57,8 +57,8 @@ short_pushed [] line short fits = (fits, tt)
 short_pushed (l ∷ ls) line short fits = (short.0, short_pushed ls line short.1 fits)
 
 -- one more line is taken
-took : (first a b : AuditShape) (lines : List (List ℕ)) (line : List ℕ) (e : Entry) → HasTaken first a lines → a ≡ record first { entries = a.entries }
-    → IsNextLine a line e → b ≡ with_entry a e → HasTaken first b (lines ++ line ∷ [])
+took : (first a b : AuditShape) (lines : List (List ℕ)) (line : List ℕ) (e : Entry) → HasTakenLines first a lines → a ≡ record first { entries = a.entries }
+    → IsNextLine a line e → b ≡ with_entry a e → HasTakenLines first b (lines ++ line ∷ [])
 took first a b lines line e h same next is =
     let here : a ≡ record first { entries = first.entries ++ h.entries } = same ∙ ap (λ es. record first { entries = es }) h.after in
     record {
@@ -91,7 +91,7 @@ one_more first a b text rest place after count r short taken at number h =
 
 -- the audit stopped behind the lines that were followed, where the entries stay
 stopped : (first a b : AuditShape) (text : List ℕ) (place : Place) (n : ℕ) → HasFollowed first a text place → b.opening ≡ a.opening →
-    b.entries ≡ a.entries → n ≡ place.number → HasStopped first b text n
+    b.entries ≡ a.entries → n ≡ place.number → StopsAudit first b text n
 stopped first a b text place n h opened entries number = record {
   front = h.front;
   rest = lines_of (drop place.at text);
@@ -155,7 +155,7 @@ at_end first a text place (Fault n kind) past ends h = record {
 at_end first a text place (TooLong n) past ends h = absurd ends
 
 -- how many lines there are
-pub few_right : (first b : AuditShape) (text : List ℕ) (n : ℕ) → HasStopped first b text n → n ≤ length (lines_of text)
+pub few_right : (first b : AuditShape) (text : List ℕ) (n : ℕ) → StopsAudit first b text n → n ≤ length (lines_of text)
 few_right first b text n h =
     let c = h.count in
     let whole = ap length h.lines in
@@ -176,10 +176,10 @@ wrong_line first a b text rest place count n kind r short going taken h =
     (ap (λ (x : AuditShape). x.opening) taken.1.1) (ap (λ (x : AuditShape). x.entries) taken.1.1) h
 
 -- what came of a step
-pub stepped : (first b : AuditShape) (text : List ℕ) (place : Place) (o : Option Verdict) (v : Verdict) → o ≡ Some v → StepsTo first b text place o →
+pub stepped : (first b : AuditShape) (text : List ℕ) (place : Place) (o : Option Verdict) (v : Verdict) → o ≡ Some v → FollowsTo first b text place o →
     StopsTo first b text v
-stepped first b text place o v is h = subst (λ x. StepsTo first b text place x) is h
+stepped first b text place o v is h = subst (λ x. FollowsTo first b text place x) is h
 
-pub walked : (first b : AuditShape) (text : List ℕ) (place : Place) (o : Option Verdict) → o ≡ None → StepsTo first b text place o →
+pub walked : (first b : AuditShape) (text : List ℕ) (place : Place) (o : Option Verdict) → o ≡ None → FollowsTo first b text place o →
     HasFollowed first b text place
-walked first b text place o is h = subst (λ x. StepsTo first b text place x) is h
+walked first b text place o is h = subst (λ x. FollowsTo first b text place x) is h

@@ -4,20 +4,20 @@ use Rattle.std.proofs.lemmas.List.{append-nil, append_assoc}
 use Rattle.wf_talk.specs.declared.entry.Entry.{Entry}
 use Rattle.wf_board.specs.Histories.{state_after}
 use Rattle.wf_board.specs.States.{opening_state}
-use Rattle.line_reader.specs.Lines.{lines_of}
+use Rattle.line_reader.specs.Reader.{lines_of}
 use Rattle.wf_names.specs.declared.limits.TheConstants.{TRANSCRIPT_LINE_LIMIT}
-use Rattle.line_reader.specs.Lines.{line_length}
-use Rattle.transcript_audit.specs.Audits.{AuditShape, AreNext, IsNextLine, IsTranscript, state_now, with_entry}
+use Rattle.line_reader.specs.Reader.{line_length}
+use Rattle.transcript_audit.specs.Auditor.{AuditShape, AreNext, IsNextLine, IsTranscript, state_now, with_entry}
 use Rattle.transcript_audit.specs.Laws.{AreOfSession, AuditIsExact, FaultsExclude, NextIsOne, PartIsExact}
 use Rattle.transcript_audit.proofs.Exact.{next_pushed}
 use Rattle.case_story.specs.declared.place.Place.{Place}
 use Rattle.case_story.specs.declared.session.Session.{Session}
 use Rattle.case_story.specs.declared.verdict.Verdict.{Verdict}
 use Rattle.case_story.specs.declared.verdict.Verdict.TheVariants.{Legal, Fault, TooLong}
-use Rattle.case_story.specs.Followed.{HasFollowed, HasStopped, StopsTo}
+use Rattle.case_story.specs.Followed.{HasFollowed, StopsAudit, StopsTo}
 use Rattle.case_story.specs.Sessions.{AreFirst, audit_in, cut_in, state_of}
 use Rattle.case_story.specs.Verdicts.{AreShort, EndsWith, IsVerdict, is_wrong}
-use Rattle.case_story.specs.Telling.{Finds}
+use Rattle.case_story.specs.Printed.{Finds}
 use Rattle.case_story.proofs.Following.{begins}
 
 -- an audit with some entries
@@ -131,7 +131,7 @@ stops_in s b text v same h = subst (λ xs. StopsTo (audit_in s) b xs v) same h
 
 -- where the audit of a session stops, its entries are those of the first lines
 pub first_entries : PartIsExact → (s : Session) (b : AuditShape) (n : ℕ) → AreOfSession s.policy s.rounds (cut_in s).jobs (cut_in s).ends
-    → (h : HasStopped (audit_in s) b s.transcript n) → AreFirst s n h.taken.entries
+    → (h : StopsAudit (audit_in s) b s.transcript n) → AreFirst s n h.taken.entries
 first_entries exact s b n session h = record {
   front = h.front;
   rest = h.rest;
@@ -141,11 +141,11 @@ first_entries exact s b n session h = record {
 }
 
 -- and its state is the one after them
-pub state_there : (s : Session) (b : AuditShape) (n : ℕ) → (h : HasStopped (audit_in s) b s.transcript n) → state_now b ≡ state_of s h.taken.entries
+pub state_there : (s : Session) (b : AuditShape) (n : ℕ) → (h : StopsAudit (audit_in s) b s.transcript n) → state_now b ≡ state_of s h.taken.entries
 state_there s b n h = λ i. state_after (opening_state ((h.taken.opened) i)) ((h.taken.after) i)
 
 -- what was followed, as what stopped
-pub as_stopped : (first a : AuditShape) (text : List ℕ) (place : Place) → HasFollowed first a text place → HasStopped first a text place.number
+pub as_stopped : (first a : AuditShape) (text : List ℕ) (place : Place) → HasFollowed first a text place → StopsAudit first a text place.number
 as_stopped first a text place h = record {
   front = h.front;
   rest = lines_of (drop place.at text);

@@ -4,13 +4,13 @@ use Rattle.std.proofs.Common.{ap, subst, ◌∙◌, codes, inl, inr, arith}
 use Rattle.std.proofs.lemmas.Grind.{common_steps}
 use Rattle.basics.proofs.Booleans.{bool_cases}
 use Rattle.policy_book.specs.Shapes.{PolicyShape}
-use Rattle.transcript_audit.specs.Audits.{AuditShape, state_now}
+use Rattle.transcript_audit.specs.Auditor.{AuditShape, state_now}
 use Rattle.transcript_audit.specs.Laws.{AreOfSession, PartIsExact}
 use Rattle.case_story.specs.declared.place.Place.{Place}
 use Rattle.case_story.specs.declared.session.Session.{Session}
 use Rattle.case_story.specs.declared.verdict.Verdict.{Verdict}
 use Rattle.case_story.specs.declared.verdict.Verdict.TheVariants.{Fault}
-use Rattle.case_story.specs.Followed.{HasFollowed, HasStopped, StopsTo}
+use Rattle.case_story.specs.Followed.{HasFollowed, StopsAudit, StopsTo}
 use Rattle.case_story.specs.Sessions.{audit_in, cut_in, state_of}
 use Rattle.case_story.specs.Verdicts.{right_lines}
 use Rattle.transcript_audit.specs.declared.fault.AuditKind.{AuditKind}
@@ -18,8 +18,8 @@ use Rattle.run_record.specs.declared.fault.RunFault.{RunFault}
 use Rattle.run_record.specs.declared.fault.InputFault.TheVariants as input
 use Rattle.wf_commands.specs.declared.answer.Answer.{Answer}
 use Rattle.wf_commands.specs.Answer.{ending_with, AnswersAs}
-use Rattle.case_story.specs.Telling.{Finds, TellsBy, TellsEntry, TellsLog, TellsPage, WritesPolicy, first_line, has_retired}
-use Rattle.case_story.specs.Telling.{retired_lines}
+use Rattle.case_story.specs.Printed.{Finds, TellsBy, TellsEntry, TellsLog, TellsPage, WritesPolicy, first_line, has_retired}
+use Rattle.case_story.specs.Printed.{retired_lines}
 use Rattle.case_story.proofs.Answering.{answers_wider}
 use Rattle.case_story.specs.Writing.{PrintsAfter}
 use Rattle.case_story.proofs.Founds.{Laws, as_stopped, finds, first_entries, started, state_there, stops_in}
@@ -41,7 +41,7 @@ told laws s a b text place v session is same at number steps = finds laws s v se
 -- the policy that is printed is the one after the first entries
 pub prints : PartIsExact → (s : Session) (b : AuditShape) (n : ℕ) (p : PolicyShape) (remarks : List ℕ) (less : Bool) (document : List ℕ) →
     AreOfSession s.policy s.rounds (cut_in s).jobs (cut_in s).ends
-    → HasStopped (audit_in s) b s.transcript n → p ≡ (state_now b).book.policy → remarks ≡ retired_lines p (length p.flows) → less ≡ has_retired p →
+    → StopsAudit (audit_in s) b s.transcript n → p ≡ (state_now b).book.policy → remarks ≡ retired_lines p (length p.flows) → less ≡ has_retired p →
     WritesPolicy p document
     → PrintsAfter s n remarks less document
 prints exact s b n p remarks less document session h is remarked lessened written =
@@ -56,9 +56,9 @@ prints exact s b n p remarks less document session h is remarked lessened writte
 
 -- what was followed of a session, as what stopped
 pub followed : (s : Session) (a b : AuditShape) (text : List ℕ) (place after : Place) → a ≡ audit_in s → text ≡ s.transcript → place.at ≡ 0 → place.number ≡ 0
-    → ((first : AuditShape) → HasFollowed first a text place → HasFollowed first b text after) → HasStopped (audit_in s) b s.transcript after.number
+    → ((first : AuditShape) → HasFollowed first a text place → HasFollowed first b text after) → StopsAudit (audit_in s) b s.transcript after.number
 followed s a b text place after is same at number steps =
-    subst (λ xs. HasStopped (audit_in s) b xs after.number) same
+    subst (λ xs. StopsAudit (audit_in s) b xs after.number) same
     (as_stopped (audit_in s) b text after (steps (audit_in s) (started s a text place is same at number)))
 
 -- how many lines are followed, where at most so many are wanted and those behind them are followed too
@@ -115,7 +115,7 @@ tells_entry s at v mark end there result finds m e t h =
     h
 
 pub tells_page : (s : Session) (number : ℕ) (v : Verdict) (b : AuditShape) (mark end : List ℕ) (there : Bool) (result : Result Answer RunFault) → PartIsExact
-    → AreOfSession s.policy s.rounds (cut_in s).jobs (cut_in s).ends → Finds s v → HasStopped (audit_in s) b s.transcript (right_lines v) →
+    → AreOfSession s.policy s.rounds (cut_in s).jobs (cut_in s).ends → Finds s v → StopsAudit (audit_in s) b s.transcript (right_lines v) →
     mark ≡ codes "<!-- " → end ≡ codes " -->\n"
     → there ≡ nat_lt number (state_now b).book.ever → AnswersAs (TellsBy mark v end there) result → AnswersAs (TellsPage number s) result
 tells_page s number v b mark end there result exact session finds stopped m e t h =

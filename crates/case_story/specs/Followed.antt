@@ -1,8 +1,8 @@
 -- Inside: how the lines of a transcript are followed.
 use Rattle.std.specs.Prelude.{◌≡◌, ℕ, ◌<◌, ◌≤◌, List, ◌++◌, length, drop, Option, None, Some}
 use Rattle.wf_talk.specs.declared.entry.Entry.{Entry}
-use Rattle.line_reader.specs.Lines.{lines_of}
-use Rattle.transcript_audit.specs.Audits.{AuditShape, AreNext}
+use Rattle.line_reader.specs.Reader.{lines_of}
+use Rattle.transcript_audit.specs.Auditor.{AuditShape, AreNext}
 use Rattle.transcript_audit.specs.declared.fault.AuditKind.TheVariants.{Missing}
 use Rattle.case_story.specs.declared.place.Place.{Place}
 use Rattle.case_story.specs.declared.verdict.Verdict.{Verdict}
@@ -10,7 +10,7 @@ use Rattle.case_story.specs.declared.verdict.Verdict.TheVariants.{Legal, Fault, 
 use Rattle.case_story.specs.Verdicts.{AreShort, IsVerdict, right_lines}
 
 -- an audit that began so has taken the entries of these lines
-pub record HasTaken (first a : AuditShape) (lines : List (List ℕ)) : Type 0 where
+pub record HasTakenLines (first a : AuditShape) (lines : List (List ℕ)) : Type 0 where
   pub entries : List Entry
   pub next : AreNext first lines entries
   pub opened : a.opening ≡ first.opening
@@ -27,27 +27,27 @@ pub record HasFollowed (first a : AuditShape) (text : List ℕ) (place : Place) 
   pub front : List (List ℕ)
   pub lines : lines_of text ≡ front ++ lines_of (drop place.at text)
   pub count : length front ≡ place.number
-  pub taken : HasTaken first a front
+  pub taken : HasTakenLines first a front
   pub same : a ≡ record first { entries = a.entries }
   pub short : AreShort front
 
 -- an audit that began so has taken the first n lines
-pub record HasStopped (first b : AuditShape) (text : List ℕ) (n : ℕ) : Type 0 where
+pub record StopsAudit (first b : AuditShape) (text : List ℕ) (n : ℕ) : Type 0 where
   pub front : List (List ℕ)
   pub rest : List (List ℕ)
   pub lines : lines_of text ≡ front ++ rest
   pub count : length front ≡ n
-  pub taken : HasTaken first b front
+  pub taken : HasTakenLines first b front
 
 -- it is found, and the lines before a fault are taken
 pub record StopsTo (first b : AuditShape) (text : List ℕ) (v : Verdict) : Type 0 where
   pub found : IsVerdict first (lines_of text) v
-  pub stopped : HasStopped first b text (right_lines v)
+  pub stopped : StopsAudit first b text (right_lines v)
 
 -- one more line is taken, or something is found
-abbrev pub StepsTo : AuditShape → AuditShape → List ℕ → Place → Option Verdict → Type 0
-StepsTo first b text place None = HasFollowed first b text place
-StepsTo first b text place (Some v) = StopsTo first b text v
+abbrev pub FollowsTo : AuditShape → AuditShape → List ℕ → Place → Option Verdict → Type 0
+FollowsTo first b text place None = HasFollowed first b text place
+FollowsTo first b text place (Some v) = StopsTo first b text v
 
 -- where no line is left
 abbrev pub EndsAt : AuditShape → ℕ → Verdict → Type 0

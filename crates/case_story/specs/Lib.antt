@@ -1,8 +1,8 @@
 pub mod Verdicts
 pub mod Sessions
 pub mod Followed
-pub mod Telling
+pub mod Printed
 pub mod Writing
-pub mod Running
+pub mod Run
 pub mod Session
 pub mod Follow

@@ -8,8 +8,8 @@ use Rattle.wf_talk.specs.declared.entry.Entry.{Entry}
 use Rattle.wf_board.specs.States.{State, opening_state}
 use Rattle.wf_board.specs.Histories.{state_after}
 use Rattle.line_cutter.specs.Jobs.{Cut, jobs_of_input}
-use Rattle.line_reader.specs.Lines.{lines_of}
-use Rattle.transcript_audit.specs.Audits.{AuditShape, IsTranscriptPart, audit_of}
+use Rattle.line_reader.specs.Reader.{lines_of}
+use Rattle.transcript_audit.specs.Auditor.{AuditShape, IsTranscriptPart, audit_of}
 use Rattle.run_record.specs.declared.fault.RunFault.{RunFault}
 use Rattle.wf_commands.specs.Load.{GivesBytes, GivesPolicy}
 use Rattle.case_story.specs.declared.session.Session.{Session}

@@ -3,11 +3,11 @@ use Rattle.std.specs.Prelude.{◌≡◌, ◌↔◌, ◌<◌, ◌≤◌, ◌==◌
 use Rattle.std.specs.Prelude.{false, List, [], ◌∷◌, ◌++◌, length, codes, decimal}
 use Rattle.wf_names.specs.declared.limits.TheConstants.{TRANSCRIPT_LINE_LIMIT}
 use Rattle.wf_talk.specs.declared.entry.Entry.{Entry}
-use Rattle.line_reader.specs.Lines.{line_length}
+use Rattle.line_reader.specs.Reader.{line_length}
 use Rattle.transcript_audit.specs.declared.fault.AuditKind.{AuditKind}
 use Rattle.transcript_audit.specs.declared.fault.AuditKind.TheVariants.{Text, At, Job as WrongJob}
 use Rattle.transcript_audit.specs.declared.fault.AuditKind.TheVariants.{Reply, Missing}
-use Rattle.transcript_audit.specs.Audits.{AuditShape, AreNext, HasFault, IsTranscript}
+use Rattle.transcript_audit.specs.Auditor.{AuditShape, AreNext, HasFault, IsTranscript}
 use Rattle.case_story.specs.declared.verdict.Verdict.{Verdict}
 use Rattle.case_story.specs.declared.verdict.Verdict.TheVariants.{Legal, Fault, TooLong}
 
@@ -53,7 +53,7 @@ pub record IsVerdict (a : AuditShape) (lines : List (List ℕ)) (v : Verdict) : 
 
 -- what the audit of these lines finds; where none is too long nothing is wrong exactly where they
 -- are those of a legal history that fills the jobs
-pub record HasVerdict (a : AuditShape) (lines : List (List ℕ)) (v : Verdict) : Type 0 where
+pub record EndsInVerdict (a : AuditShape) (lines : List (List ℕ)) (v : Verdict) : Type 0 where
   pub found : IsVerdict a lines v
   pub exact : AreShort lines → (is_wrong v ≡ false) ↔
       IsTranscript a.opening a.rounds a.jobs a.batch_ends lines

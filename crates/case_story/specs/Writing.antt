@@ -3,7 +3,7 @@ use Rattle.std.specs.Prelude.{◌≡◌, ℕ, Bool, List, length}
 use Rattle.wf_talk.specs.declared.entry.Entry.{Entry}
 use Rattle.case_story.specs.declared.session.Session.{Session}
 use Rattle.case_story.specs.Sessions.{AreFirst, state_of}
-use Rattle.case_story.specs.Telling.{WritesPolicy, has_retired, retired_lines}
+use Rattle.case_story.specs.Printed.{WritesPolicy, has_retired, retired_lines}
 
 -- the policy after the first n entries, and what a file cannot hold of it
 pub record PrintsAfter (s : Session) (n : ℕ) (remarks : List ℕ) (less : Bool)

@@ -2,7 +2,7 @@
 ghost use Rattle.std.specs.Prelude.{◌≡◌, ◌++◌, IfOk, string_bytes, IfErr};
 ghost use Rattle.wf_commands.specs.Answer.{AnswersAs, IsAnswerEnding};
 ghost use Rattle.case_story.specs.Verdicts.{is_wrong};
-ghost use Rattle.case_story.specs.Telling.{TellsBy, first_line};
+ghost use Rattle.case_story.specs.Printed.{TellsBy, first_line};
 
 use crate::lines::first_len;
 use crate::place::Place;

@@ -2,7 +2,7 @@
 ghost use Rattle.std.specs.Prelude.{◌≡◌, IfOk, nat_lt, IfErr};
 ghost use Rattle.wf_commands.specs.Answer.{AnswersAs, IsAnswerEnding};
 ghost use Rattle.case_story.specs.Sessions.{IsServed};
-ghost use Rattle.case_story.specs.Telling.{Finds, TellsEntry};
+ghost use Rattle.case_story.specs.Printed.{Finds, TellsEntry};
 
 use crate::answer::{push_wrong, tell_by};
 use crate::follow::{Quiet, follow_rest, follow_to};

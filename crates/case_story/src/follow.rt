@@ -1,7 +1,7 @@
 //! Following a transcript line by line.
 ghost use Rattle.std.specs.Prelude.{◌≡◌, ◌<◌, ◌≤◌, ◌+◌, length, None, Some, Ok, IfOk, IfSome};
-ghost use Rattle.transcript_audit.specs.Audits.{AuditShape};
-ghost use Rattle.case_story.specs.Followed.{EndsAt, HasFollowed, IsAt, StepsTo, StopsTo};
+ghost use Rattle.transcript_audit.specs.Auditor.{AuditShape};
+ghost use Rattle.case_story.specs.Followed.{EndsAt, HasFollowed, IsAt, FollowsTo, StopsTo};
 ghost use Rattle.case_story.specs.Follow.{IsBetween};
 ghost use Rattle.case_story.specs.Verdicts.{right_lines};
 
@@ -64,7 +64,7 @@ pub(crate) fn follow_to<W: Watches>(
     requires most { place.old.number ≤ most }
     ensures steps { IfOk result (λ o. (first : AuditShape) →
         HasFollowed first auditor.old text.now place.old →
-        StepsTo first auditor.new text.now place.new o) }
+        FollowsTo first auditor.new text.now place.new o) }
     ensures at { result ≡ Ok None → IsAt text.now auditor.new place.new }
     ensures all { result ≡ Ok None → place.new.number < most → length text.now ≤ place.new.at }
     ensures between { IfOk result (λ _. IsBetween place.old.number place.new.number most) }
@@ -92,7 +92,7 @@ fn follow_line<W: Watches>(
     requires some { place.old.at < length text.now }
     ensures steps { IfOk result (λ o. (first : AuditShape) →
         HasFollowed first auditor.old text.now place.old →
-        StepsTo first auditor.new text.now place.new o) }
+        FollowsTo first auditor.new text.now place.new o) }
     ensures at { result ≡ Ok None → IsAt text.now auditor.new place.new }
     ensures more { result ≡ Ok None → place.new.number ≡ place.old.number + 1 }
     ensures further { result ≡ Ok None → place.old.at < place.new.at }

@@ -1,7 +1,7 @@
 //! The first line of a text.
 ghost use Rattle.std.specs.Prelude.{◌≡◌, ◌<◌, ◌≤◌, length, nat_lt, take, drop};
 ghost use Rattle.wf_names.specs.declared.limits.TheConstants.{TRANSCRIPT_LINE_LIMIT};
-ghost use Rattle.line_reader.specs.Lines.{behind_line, first_line, line_length};
+ghost use Rattle.line_reader.specs.Reader.{behind_line, first_line, line_length};
 
 use memchr::memchr;
 use wf_names::TRANSCRIPT_LINE_LIMIT;

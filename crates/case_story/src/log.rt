@@ -2,7 +2,7 @@
 ghost use Rattle.std.specs.Prelude.{IfErr};
 ghost use Rattle.wf_commands.specs.Answer.{AnswersAs, IsAnswerEnding};
 ghost use Rattle.case_story.specs.Sessions.{IsServed};
-ghost use Rattle.case_story.specs.Telling.{TellsLog};
+ghost use Rattle.case_story.specs.Printed.{TellsLog};
 
 use crate::answer::{push_wrong, tell_by};
 use crate::follow::Watches;

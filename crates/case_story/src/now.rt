@@ -5,7 +5,7 @@ ghost use Rattle.wf_commands.specs.Answer.{AnswersAs, IsAnswerEnding};
 ghost use Rattle.case_story.specs.Sessions.{IsServed};
 ghost use Rattle.case_story.specs.Writing.{PrintsAfter};
 ghost use Rattle.case_story.specs.Verdicts.{is_wrong, right_lines};
-ghost use Rattle.case_story.specs.Telling.{Finds, TellsNow, first_line, is_among, is_told};
+ghost use Rattle.case_story.specs.Printed.{Finds, TellsNow, first_line, is_among, is_told};
 
 use crate::answer::{answered, tell_by};
 use crate::follow::{Quiet, follow_rest, follow_to};

@@ -1,9 +1,9 @@
 //! The command `page`: one case as a page that stands alone.
 ghost use Rattle.std.specs.Prelude.{◌≡◌, IfOk, nat_lt, IfErr};
-ghost use Rattle.transcript_audit.specs.Audits.{state_now};
+ghost use Rattle.transcript_audit.specs.Auditor.{state_now};
 ghost use Rattle.wf_commands.specs.Answer.{AnswersAs, IsAnswerEnding};
 ghost use Rattle.case_story.specs.Sessions.{IsServed};
-ghost use Rattle.case_story.specs.Telling.{TellsPage};
+ghost use Rattle.case_story.specs.Printed.{TellsPage};
 
 use crate::answer::tell_by;
 use crate::follow::Watches;

@@ -2,7 +2,7 @@
 ghost use Rattle.std.specs.Prelude.{◌≡◌, ◌<◌, ◌++◌, ◌||◌, IfOk, OnOk, length, string_bytes};
 ghost use Rattle.policy_book.specs.Policies.{flow_at};
 ghost use Rattle.policy_printer.specs.Documents.{name_at};
-ghost use Rattle.case_story.specs.Telling.{WritesPolicy, has_retired, retired_line, retired_lines};
+ghost use Rattle.case_story.specs.Printed.{WritesPolicy, has_retired, retired_line, retired_lines};
 
 use policy_book::Policy;
 use policy_printer::print;

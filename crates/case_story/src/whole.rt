@@ -1,10 +1,10 @@
 //! The audit of a whole transcript.
 ghost use Rattle.std.specs.Prelude.{◌≡◌, IfOk};
-ghost use Rattle.line_reader.specs.Lines.{lines_of};
+ghost use Rattle.line_reader.specs.Reader.{lines_of};
 ghost use Rattle.transcript_audit.specs.Laws.{AreOfSession};
 ghost use Rattle.case_story.specs.Sessions.{IsServed, audit_in, cut_in};
-ghost use Rattle.case_story.specs.Followed.{HasStopped};
-ghost use Rattle.case_story.specs.Verdicts.{HasVerdict, right_lines};
+ghost use Rattle.case_story.specs.Followed.{StopsAudit};
+ghost use Rattle.case_story.specs.Verdicts.{EndsInVerdict, right_lines};
 
 use crate::follow::{Watches, follow_rest};
 use crate::place::Place;
@@ -33,11 +33,11 @@ pub(crate) fn audit_whole<W: Watches>(
 ) -> Result<Audited, AllocError>
     requires served { IsServed s.now }
     ensures verdict { IfOk result (λ r.
-        HasVerdict (audit_in s.now) (lines_of s.now.transcript) r.verdict) }
+        EndsInVerdict (audit_in s.now) (lines_of s.now.transcript) r.verdict) }
     ensures session { IfOk result (λ _. AreOfSession s.now.policy s.now.rounds
         (cut_in s.now).jobs (cut_in s.now).ends) }
     ensures stopped { IfOk result (λ r.
-        HasStopped (audit_in s.now) r.auditor s.now.transcript (right_lines r.verdict)) }
+        StopsAudit (audit_in s.now) r.auditor s.now.transcript (right_lines r.verdict)) }
 {
     audit_is_exact();
     faults_exclude();

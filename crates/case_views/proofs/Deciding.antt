@@ -3,15 +3,15 @@ use Rattle.std.proofs.Common.{◌≡◌, ℕ, ◌<◌, Bool, true, false, List, 
 use Rattle.std.proofs.Common.{subst, ◌∙◌}
 use Rattle.std.specs.Option.{option_map}
 use Rattle.std.proofs.lemmas.Bool.Decides.{eqb_tells}
-use Rattle.first_fault.specs.Reading.{Gives}
-use Rattle.constraint_forms.specs.Assigned.{no_steps, no_users, planned, user_at}
+use Rattle.basics.specs.Reading.{Gives}
+use Rattle.constraint_forms.specs.Assign.{no_steps, no_users, planned, user_at}
 use Rattle.policy_book.specs.Shapes.{PolicyShape}
 use Rattle.policy_book.specs.Policies.{problem_of}
 use Rattle.policy_book.specs.Plans.{AreAssigned, IsValidPlan, IsWithin, Problem}
 use Rattle.certificate_check.proofs.Assigned.{either, given, given_other, given_same}
 use Rattle.case_record.specs.Cases.{CaseShape, assigned_of, finished_of, is_open}
 use Rattle.grant_table.specs.declared.rows.Row.{Row}
-use Rattle.grant_table.specs.Tables.{case_in, plan_of, row_at}
+use Rattle.grant_table.specs.Cases.{case_in, plan_of, row_at}
 use Rattle.wf_talk.specs.declared.reply.Denial.{Denial}
 use Rattle.wf_talk.specs.declared.reply.WorkItem.{WorkItem}
 use Rattle.denial_reasons.specs.Causes.{assigned_with}

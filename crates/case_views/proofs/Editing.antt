@@ -12,12 +12,12 @@ use Rattle.case_record.specs.Cases.{CaseShape, is_open}
 use Rattle.grant_table.specs.declared.rows.Row.{Row}
 use Rattle.grant_table.proofs.Places.{taken_off}
 use Rattle.wf_board.specs.Boards.{numbered}
-use Rattle.wf_board.specs.Edited.{ArePlansOf, IsFirstStranded, IsPlanOf, IsTreeOf}
+use Rattle.wf_board.specs.Edition.{ArePlansOf, IsFirstStranded, IsPlanOf, IsTreeOf}
 use Rattle.wf_board.specs.Kept.{IsPlanned}
 use Rattle.wf_board.specs.States.{Numbered}
 use Rattle.wsp_solver.specs.declared.search.Outcome.{Outcome}
 use Rattle.wsp_solver.specs.declared.search.Outcome.TheVariants as outcome
-use Rattle.case_views.specs.Deciding.{HasAdded, IsPartAdded}
+use Rattle.case_views.specs.Deciding.{AddsPlanOfRow, IsPartAdded}
 use Rattle.case_views.specs.Listing.{IsLeftAt, open_in}
 
 -- what is said of a workflow, an assignment and finished steps is said of equal ones
@@ -94,9 +94,9 @@ kept_plan_of p c d o plan is same planned = subst (λ k. IsPlanOf p k plan) (sym
 
 -- what is left of the case of a row is what is added for it
 pub added_of : (p : PolicyShape) (r : Row) (left : Option Outcome) (tree : Option Tree) (before after : List (List ℕ)) → IsLeftAt p r left →
-    IsPartAdded left before after tree → HasAdded p r before after tree
+    IsPartAdded left before after tree → AddsPlanOfRow p r before after tree
 added_of p r None tree before after left added =
-    subst (HasAdded p r before after) (sym added.0) ([], (added.1 ∙ sym (append-nil before), no_plan p r left))
+    subst (AddsPlanOfRow p r before after) (sym added.0) ([], (added.1 ∙ sym (append-nil before), no_plan p r left))
 added_of p r (Some (outcome.Plan plan)) tree before after left added =
-    subst (HasAdded p r before after) (sym added.0) (plan ∷ [], (added.1, one_plan p r plan left.0 left.1))
-added_of p r (Some (outcome.Refuted shown)) tree before after left added = subst (HasAdded p r before after) (sym added) (left.0, left.1.refutes)
+    subst (AddsPlanOfRow p r before after) (sym added.0) (plan ∷ [], (added.1, one_plan p r plan left.0 left.1))
+added_of p r (Some (outcome.Refuted shown)) tree before after left added = subst (AddsPlanOfRow p r before after) (sym added) (left.0, left.1.refutes)

@@ -9,7 +9,7 @@ use Rattle.policy_book.specs.Shapes.{PolicyShape}
 use Rattle.grant_table.specs.declared.rows.Row.{Row}
 use Rattle.wf_talk.specs.declared.reply.WorkItem.{WorkItem}
 use Rattle.wsp_solver.specs.declared.search.Outcome.{Outcome}
-use Rattle.wf_board.specs.Edited.{ArePlansOf, IsFirstStranded}
+use Rattle.wf_board.specs.Edition.{ArePlansOf, IsFirstStranded}
 use Rattle.wf_board.specs.Views.{AreThose, steps_of}
 use Rattle.case_views.specs.Deciding.{IsPartAdded}
 use Rattle.case_views.specs.Listing.{AreGrantable, AreStrandedIn, IsLeftAt, IsWorkIn, list_of, open_in}

@@ -16,7 +16,7 @@ use Rattle.wf_board.specs.declared.verdict.Verdict.{Verdict}
 use Rattle.wf_board.specs.declared.verdict.Verdict.TheVariants as verdict
 use Rattle.wf_board.specs.States.{Book, Numbered, open_cases}
 use Rattle.wf_board.specs.Boards.{numbered}
-use Rattle.wf_board.specs.Edited.{ArePlansOf, IsFirstStranded, IsTreeOf}
+use Rattle.wf_board.specs.Edition.{ArePlansOf, IsFirstStranded, IsTreeOf}
 use Rattle.wf_board.specs.Verdicts.{IsEditionFor, IsStrandingFor, IsViewFor}
 use Rattle.case_views.specs.declared.edit_decider.Left.{Left}
 use Rattle.case_views.specs.declared.edit_decider.Left.TheVariants as left
@@ -76,19 +76,19 @@ IsVerdictOn p (left.Plans plans) v = v ≡ verdict.Edited (record { policy = p; 
 IsVerdictOn p (left.Stranded n tree) v = v ≡ verdict.Strands n tree
 
 -- a plan that was found is added to others, or there is a tree
-abbrev pub IsAdded : Outcome → List (List ℕ) → List (List ℕ) → Option Tree → Type 0
-IsAdded (outcome.Plan plan) before after tree = (tree ≡ None) × (after ≡ before ++ plan ∷ [])
-IsAdded (outcome.Refuted shown) before after tree = tree ≡ Some shown
+abbrev pub AddsPlan : Outcome → List (List ℕ) → List (List ℕ) → Option Tree → Type 0
+AddsPlan (outcome.Plan plan) before after tree = (tree ≡ None) × (after ≡ before ++ plan ∷ [])
+AddsPlan (outcome.Refuted shown) before after tree = tree ≡ Some shown
 
 -- the same of a case that may be closed, for which nothing is added
 abbrev pub IsPartAdded : Option Outcome → List (List ℕ) → List (List ℕ) → Option Tree → Type 0
 IsPartAdded None before after tree = (tree ≡ None) × (after ≡ before)
-IsPartAdded (Some o) before after tree = IsAdded o before after tree
+IsPartAdded (Some o) before after tree = AddsPlan o before after tree
 
 -- a plan for the case of a row is added to others, if the case is open; or there is none, as a tree
 -- shows
-abbrev pub HasAdded : PolicyShape → Row → List (List ℕ) → List (List ℕ) → Option Tree → Type 0
-HasAdded p r before after None =
+abbrev pub AddsPlanOfRow : PolicyShape → Row → List (List ℕ) → List (List ℕ) → Option Tree → Type 0
+AddsPlanOfRow p r before after None =
     (more : List (List ℕ)) ×
     ((after ≡ before ++ more) × ArePlansOf p (open_cases (numbered r ∷ [])) more)
-HasAdded p r before after (Some tree) = (is_open r.case ≡ true) × IsTreeOf p r.case tree
+AddsPlanOfRow p r before after (Some tree) = (is_open r.case ≡ true) × IsTreeOf p r.case tree

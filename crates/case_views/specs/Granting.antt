@@ -1,7 +1,7 @@
 -- Inside: what steps of cases that came before a user would be granted.
 use Rattle.std.specs.Prelude.{ℕ, ◌<◌, Bool, List, length, MatchBool}
 use Rattle.std.specs.List.{All}
-use Rattle.constraint_forms.specs.Assigned.{is_member}
+use Rattle.constraint_forms.specs.Assign.{is_member}
 use Rattle.policy_book.specs.Shapes.{PolicyShape}
 use Rattle.case_record.specs.Cases.{CaseShape}
 use Rattle.wf_board.specs.Views.{IsGrantable}

@@ -3,7 +3,7 @@ use Rattle.std.specs.Prelude.{Bool, MatchBool}
 use Rattle.std.specs.List.{All}
 use Rattle.policy_book.specs.Shapes.{PolicyShape}
 use Rattle.case_record.specs.Cases.{CaseShape}
-use Rattle.wf_board.specs.Edited.{CanBeCompleted}
+use Rattle.wf_board.specs.Edition.{CanBeCompleted}
 use Rattle.case_views.specs.declared.seen.Seen.{Seen}
 
 -- a test tells whether a case can be completed under a policy

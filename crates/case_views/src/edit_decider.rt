@@ -6,10 +6,11 @@ ghost use Rattle.case_record.specs.Cases.{assigned_of, finished_of};
 ghost use Rattle.admin_edits.specs.Edits.{amended};
 ghost use Rattle.wsp_solver.specs.Searches.{HasSolved};
 ghost use Rattle.wf_board.specs.Boards.{book_of};
-ghost use Rattle.wf_board.specs.Edited.{IsPlanOf};
+ghost use Rattle.wf_board.specs.Edition.{IsPlanOf};
 ghost use Rattle.wf_board.specs.Found.{IsAllowed};
 ghost use Rattle.wf_board.specs.Kept.{ArePlanned, IsOfPolicy, IsPlanned};
-ghost use Rattle.case_views.specs.Deciding.{DecidesChange, HasAdded, IsAdded, IsLeft, IsPartAdded};
+ghost use Rattle.case_views.specs.Deciding.{DecidesChange, AddsPlanOfRow, AddsPlan, IsLeft};
+ghost use Rattle.case_views.specs.Deciding.{IsPartAdded};
 ghost use Rattle.case_views.specs.Deciding.{IsVerdictOn};
 ghost use Rattle.case_views.specs.Listing.{IsLeftAt, open_in};
 
@@ -109,7 +110,7 @@ fn add_plan(
     requires after { after.now ≡ amended p.now a.now }
     requires known { IsOfPolicy p.now row.now.case }
     requires planned { IsPlanned p.now row.now.case row.now.plan }
-    ensures { IfOk result (HasAdded after.now row.now plans.old.items plans.new.items) }
+    ensures { IfOk result (AddsPlanOfRow after.now row.now plans.old.items plans.new.items) }
 {
     let left = left_at(alloc, p, a, after, row, recent)?;
     Ok(add_part(&left, plans)?)
@@ -130,7 +131,7 @@ pub(crate) fn add_part(
 }
 
 fn add_outcome(outcome: &Outcome, plans: &mut Vec<Plan>) -> Result<Option<Tree>, AllocError>
-    ensures { IfOk result (IsAdded outcome.now plans.old.items plans.new.items) }
+    ensures { IfOk result (AddsPlan outcome.now plans.old.items plans.new.items) }
 {
     match outcome {
         Outcome::Plan(plan) => {

@@ -1,13 +1,13 @@
 //! Whether an assignment can be completed, as a plan that is known and then a search tells.
 ghost use Rattle.std.specs.Prelude.{◌≡◌, ◌<◌, length, IfOk, IfSome};
-ghost use Rattle.constraint_forms.specs.Assigned.{no_steps, no_users};
+ghost use Rattle.constraint_forms.specs.Assign.{no_steps, no_users};
 ghost use Rattle.policy_book.specs.Policies.{problem_of};
 ghost use Rattle.policy_book.specs.Plans.{AreAssigned, IsValidPlan, IsWithin};
 ghost use Rattle.wf_names.specs.declared.limits.TheConstants.{STEP_LIMIT};
 ghost use Rattle.case_record.specs.Cases.{assigned_of, finished_of};
 ghost use Rattle.denial_reasons.specs.Causes.{assigned_with};
 ghost use Rattle.wsp_solver.specs.Searches.{HasSolved};
-ghost use Rattle.wf_board.specs.Edited.{IsPlanOf};
+ghost use Rattle.wf_board.specs.Edition.{IsPlanOf};
 ghost use Rattle.wf_board.specs.Kept.{IsOfPolicy};
 
 use case_record::Case;

@@ -6,7 +6,7 @@ ghost use Rattle.policy_book.specs.Plans.{IsWithin};
 ghost use Rattle.case_record.specs.Cases.{assigned_of, is_open};
 ghost use Rattle.admin_edits.specs.Edits.{amended, edit_cause, edited_policy};
 ghost use Rattle.wf_board.specs.Boards.{book_of, book_on};
-ghost use Rattle.wf_board.specs.Edited.{IsPlanOf};
+ghost use Rattle.wf_board.specs.Edition.{IsPlanOf};
 ghost use Rattle.wf_board.specs.Found.{IsAllowed};
 ghost use Rattle.wf_board.specs.Kept.{ArePlanned, IsOfPolicy, IsPlanned};
 ghost use Rattle.wf_board.specs.States.{open_cases};

@@ -5,10 +5,10 @@ use Rattle.std.proofs.lemmas.Bool.{false≢true, ltb-true, eqb-true}
 use Rattle.std.proofs.lemmas.Bool.Decides.{nat_tests, eqb_tells, leb_tells}
 use Rattle.std.proofs.lemmas.List.{set_past}
 use Rattle.constraint_forms.specs.declared.rule.Rule.{Rule}
-use Rattle.constraint_forms.specs.Assigned.{user_at, planned, is_member}
+use Rattle.constraint_forms.specs.Assign.{user_at, planned, is_member}
 use Rattle.constraint_forms.specs.Laws.{exchanged}
 use Rattle.constraint_forms.proofs.RuleLaws.{totals_decide, stays_falsified}
-use Rattle.refutation_tree.specs.Shapes.{Shape, Kids, holder, rule, node, no_kids, tree_kid, twin_kid}
+use Rattle.refutation_tree.specs.Tree.{Shape, Kids, holder, rule, node, no_kids, tree_kid, twin_kid}
 use Rattle.policy_book.specs.Plans.{Problem, IsValidPlan, IsWellFormed, AreAssigned}
 use Rattle.policy_book.specs.Twins.{are_twins, is_one_of}
 use Rattle.policy_book.specs.Refuting.{refutes, all_refute, have_users, authorised_users, passing, is_misheld, is_broken, is_unassigned}

@@ -5,8 +5,8 @@ use Rattle.std.proofs.lemmas.Bool.{false≢true, ltb-true, eqb-true, ne_eqb}
 use Rattle.std.proofs.lemmas.Bool.Decides.{nat_tests}
 use Rattle.std.proofs.lemmas.List.{drop-drop, length-drop, take_more}
 use Rattle.constraint_forms.specs.declared.rule.Rule.{Rule}
-use Rattle.constraint_forms.specs.Assigned.{user_at}
-use Rattle.refutation_tree.specs.Shapes.{Kids, no_kids, tree_kid, twin_kid, kids_from, kid_count, nodes_of_kids}
+use Rattle.constraint_forms.specs.Assign.{user_at}
+use Rattle.refutation_tree.specs.Tree.{Kids, no_kids, tree_kid, twin_kid, kids_from, kid_count, nodes_of_kids}
 use Rattle.refutation_tree.specs.Views.{kid_onto, branch_onto, kids_of_items, shape_of}
 use Rattle.refutation_tree.specs.declared.tree.Branch.{Branch}
 use Rattle.refutation_tree.specs.declared.tree.Kid.{Kid}

@@ -7,7 +7,7 @@ use Rattle.std.proofs.lemmas.List.{length-map}
 use Rattle.std.proofs.lemmas.Option.{slice_get_within}
 use Rattle.basics.proofs.Booleans.{and_both, and_from, bool_cases, eq_is, eq_other, not_yes, or_left, or_right}
 use Rattle.constraint_forms.specs.declared.rule.Rule.{Rule}
-use Rattle.constraint_forms.specs.Assigned.{user_at, planned}
+use Rattle.constraint_forms.specs.Assign.{user_at, planned}
 use Rattle.constraint_forms.specs.Laws.{AreInterchangeable, AreTwinsFor, exchanged}
 use Rattle.constraint_forms.proofs.Reading.{all_as_each, each_read}
 use Rattle.constraint_forms.proofs.RuleLaws.{satisfied_by_named}

@@ -1,8 +1,8 @@
 -- What a refuting tree shows, which of its steps it needs, and that twins can be exchanged.
 use Rattle.std.specs.Prelude.{◌≡◌, ◌<◌, ◌↔◌, Bool, false, List, length, ℕ, Option, None, Some}
 use Rattle.std.specs.Prelude.{IsTrue, slice_set}
-use Rattle.constraint_forms.specs.Assigned.{user_at}
-use Rattle.refutation_tree.specs.Shapes.{Shape}
+use Rattle.constraint_forms.specs.Assign.{user_at}
+use Rattle.refutation_tree.specs.Tree.{Shape}
 use Rattle.policy_book.specs.Plans.{Problem, AreAssigned, IsCompletable, IsWellFormed}
 use Rattle.policy_book.specs.Refuting.{refutes, mentions}
 use Rattle.policy_book.specs.Twins.{are_twins}

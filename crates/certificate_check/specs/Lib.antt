@@ -1,3 +1,3 @@
-pub mod Faults
+pub mod Plan
 pub mod Laws
 pub mod Walks

@@ -1,6 +1,6 @@
 -- Inside: what the walk over a node's branches looks at.
 use Rattle.std.specs.Prelude.{ℕ, ◌<◌, Bool, false, ◌==◌, List, [], ◌∷◌}
-use Rattle.refutation_tree.specs.Shapes.{Kids, no_kids, tree_kid, twin_kid}
+use Rattle.refutation_tree.specs.Tree.{Kids, no_kids, tree_kid, twin_kid}
 use Rattle.refutation_tree.specs.declared.tree.Branch.{Branch}
 use Rattle.refutation_tree.specs.declared.tree.Kid.{Kid}
 use Rattle.refutation_tree.specs.declared.tree.Kid.TheVariants.{Tree as Tree_kid, Twin}

@@ -1,7 +1,7 @@
 //! Whether two users are twins, so that nothing depends on which of them is given a step.
 ghost use Rattle.std.specs.Prelude.{◌≡◌, ◌<◌, ◌&&◌, ◌||◌, ◌==◌, length, slice_get};
 ghost use Rattle.wf_names.specs.declared.limits.TheConstants.{STEP_LIMIT};
-ghost use Rattle.constraint_forms.specs.Assigned.{user_at};
+ghost use Rattle.constraint_forms.specs.Assign.{user_at};
 ghost use Rattle.constraint_forms.specs.Rules.{all_read};
 ghost use Rattle.policy_book.specs.Policies.{problem_of};
 ghost use Rattle.policy_book.specs.Twins.{agree, all_below, are_related_alike, are_twins};

@@ -1,10 +1,10 @@
 //! Whether a plan is valid, and what is the first thing wrong with it.
 ghost use Rattle.std.specs.Prelude.{◌≡◌, ◌<◌, ◌==◌, ◌↔◌, ℕ, length, slice_get, true, IsOk};
-ghost use Rattle.constraint_forms.specs.Assigned.{planned, user_at};
+ghost use Rattle.constraint_forms.specs.Assign.{planned, user_at};
 ghost use Rattle.policy_book.specs.Plans.{IsValidPlan, IsWithin};
 ghost use Rattle.policy_book.specs.Policies.{problem_of};
-ghost use Rattle.certificate_check.specs.Faults.{first_failing, is_kept, is_obeyed, may_perform};
-ghost use Rattle.certificate_check.specs.Faults.{plan_verdict};
+ghost use Rattle.certificate_check.specs.Plan.{first_failing, is_kept, is_obeyed, may_perform};
+ghost use Rattle.certificate_check.specs.Plan.{plan_verdict};
 
 use constraint_forms::satisfied;
 use policy_book::{Assign, Plan, Policy, StepSet};

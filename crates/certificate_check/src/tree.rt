@@ -1,8 +1,8 @@
 //! Whether a tree refutes an assignment, and which steps a tree speaks of.
 ghost use Rattle.std.specs.Prelude.{◌≡◌, ◌<◌, ◌&&◌, nat_lt, ℕ, length, slice_get, IsTrue, [], drop};
 ghost use Rattle.wf_names.specs.declared.limits.TheConstants.{STEP_LIMIT};
-ghost use Rattle.constraint_forms.specs.Assigned.{user_at};
-ghost use Rattle.refutation_tree.specs.Shapes.{no_kids, Kids};
+ghost use Rattle.constraint_forms.specs.Assign.{user_at};
+ghost use Rattle.refutation_tree.specs.Tree.{no_kids, Kids};
 ghost use Rattle.refutation_tree.specs.Views.{branch_onto, kids_of_items, shape_of};
 ghost use Rattle.policy_book.specs.Plans.{IsWithin};
 ghost use Rattle.policy_book.specs.Policies.{problem_of};

@@ -5,7 +5,7 @@ use Rattle.std.proofs.lemmas.List.{get_or-set_other, length-set}
 use Rattle.wf_names.specs.declared.limits.TheConstants.{STEP_LIMIT}
 use Rattle.wf_names.specs.declared.states.StepState.{StepState}
 use Rattle.wf_names.specs.declared.states.StepState.TheVariants.{Free, Held, Finished}
-use Rattle.constraint_forms.specs.Assigned.{is_member, user_at}
+use Rattle.constraint_forms.specs.Assign.{is_member, user_at}
 use Rattle.policy_book.specs.Plans.{AreAssigned}
 use Rattle.certificate_check.proofs.Assigned.{either, given, given_other, given_same}
 use Rattle.cnf_command.specs.declared.case.Case.{Case}

@@ -5,17 +5,17 @@ use Rattle.wf_names.specs.declared.limits.TheConstants.{LINE_LIMIT, POLICY_FILE_
 use Rattle.wf_outside.specs.Outside.{Filed, told, missing, untold, HasPart, Rose, with_bytes}
 use Rattle.policy_book.specs.Shapes.{PolicyShape}
 use Rattle.cnf_export.specs.Encoders.{EncoderShape}
-use Rattle.cnf_text.specs.Dimacs.{dimacs_text}
+use Rattle.cnf_text.specs.Text.{dimacs_text}
 use Rattle.run_record.specs.declared.fault.RunFault.{RunFault}
 use Rattle.run_record.specs.declared.fault.RunFault.TheVariants.{Nothing, Write, NoMemory}
 use Rattle.run_record.specs.Fault.{fault_in, CountsLoads, CountsReadsAlone}
 use Rattle.run_record.specs.Report.{nothing_told}
 use Rattle.run_record.specs.Run.{Run, OverFile}
 use Rattle.wf_commands.specs.Answer.{AnswersFile, IsCommandEnding}
-use Rattle.wf_commands.specs.Once.{Ends, HasReadAll, OverPolicy, ReadsInput, RunsOnce}
+use Rattle.wf_commands.specs.Once.{Ends, HasReadInput, OverPolicy, ReadsInput, RunsOnce}
 use Rattle.wf_commands.specs.Load.{EndsTooLong, IsLoadEnding}
 use Rattle.wf_commands.proofs.Runs.{loaded, unread, without_answer, WritesNothing}
-use Rattle.cnf_command.specs.Running.{BreaksOff, EndsEarly, EndsWithout, HasWritten}
+use Rattle.cnf_command.specs.Model.{BreaksOff, EndsEarly, EndsWithoutModel, HasWritten}
 use Rattle.cnf_command.specs.Steps.{EncodesFile}
 
 -- the text of clauses is an answer for the policy in a file
@@ -36,7 +36,7 @@ pub record HasClauses (policy : List ℕ) (A : PolicyShape → RunFault → List
   pub named : EndsTooLong POLICY_FILE_LIMIT (r.files policy) Nothing
   pub loads : r.load_faults_after ≡ r.load_faults
   pub reads : r.after.read_faults ≡ r.before.read_faults
-  pub input : HasReadAll LINE_LIMIT r.before.input r.after.input
+  pub input : HasReadInput LINE_LIMIT r.before.input r.after.input
   pub untold : r.told ≡ nothing_told
 
 over_all : (A : PolicyShape → RunFault → List ℕ → Type 0) (f : Filed) (before after : Option (List ℕ)) (text : List ℕ) → AnswersWith A f text
@@ -125,7 +125,7 @@ early_nothing : EndsEarly Nothing → ⊥
 early_nothing (inl e) = cc
 early_nothing (inr e) = cc
 
-pub model_stays : (filed : Filed) (fault : RunFault) → EndsWithout filed Nothing → EndsWithout filed fault
+pub model_stays : (filed : Filed) (fault : RunFault) → EndsWithoutModel filed Nothing → EndsWithoutModel filed fault
 model_stays untold fault h = tt
 model_stays missing fault h = absurd (early_nothing h)
 model_stays (told file) fault h = λ long. absurd (early_nothing (h long))

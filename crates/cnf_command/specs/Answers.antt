@@ -10,13 +10,13 @@ use Rattle.policy_book.specs.Plans.{IsCompletable}
 use Rattle.wire_json.specs.Entries.{plan_data}
 use Rattle.cnf_export.specs.Encodings.{clauses_of, literals, variables_of}
 use Rattle.cnf_export.specs.declared.tally.TheConstants.{LITERAL_LIMIT}
-use Rattle.cnf_models.specs.Flags.{has_variable}
+use Rattle.cnf_models.specs.Saying.{has_variable}
 use Rattle.cnf_models.specs.Laws.{IsSatisfiable}
 use Rattle.cnf_models.specs.Readings.{IsReading}
 use Rattle.cnf_models.specs.Texts.{model_of_text}
 use Rattle.cnf_models.specs.declared.reading.Reading.{Reading}
 use Rattle.cnf_models.specs.declared.reading.Reading.TheVariants.{Plan, Clause}
-use Rattle.cnf_text.specs.Dimacs.{dimacs_text}
+use Rattle.cnf_text.specs.Text.{dimacs_text}
 use Rattle.run_record.specs.declared.fault.RunFault.{RunFault}
 use Rattle.run_record.specs.declared.fault.RunFault.TheVariants.{Nothing, Found, FileTooLong}
 use Rattle.run_record.specs.declared.fault.RunFault.TheVariants.{LineTooLong, BadInput, TooLarge}
@@ -71,9 +71,9 @@ clause_line k = codes "clause " ++ decimal k ++ codes "\n"
 
 -- the line of what a model says, and how a run ends that writes it: a plan is told, and a clause is
 -- found
-abbrev pub Tells : List (List ℕ) → Reading → RunFault → List ℕ → Type 0
-Tells users (Plan plan) fault text = (fault ≡ Nothing) × (text ≡ plan_line users plan)
-Tells users (Clause k) fault text = (fault ≡ Found) × (text ≡ clause_line k)
+abbrev pub TellsOutcome : List (List ℕ) → Reading → RunFault → List ℕ → Type 0
+TellsOutcome users (Plan plan) fault text = (fault ≡ Nothing) × (text ≡ plan_line users plan)
+TellsOutcome users (Clause k) fault text = (fault ≡ Found) × (text ≡ clause_line k)
 
 -- the plan that a model says, which is valid, where it satisfies all clauses of the case; or the
 -- first one that it does not satisfy
@@ -81,7 +81,7 @@ pub record TellsReading (p : PolicyShape) (f : ℕ) (c : Case) (model : ℕ → 
     (text : List ℕ) : Type 0 where
   pub reading : Reading
   pub says : IsReading (problem_of p f) c.assigned c.finished model reading
-  pub tells : Tells p.roster.users reading fault text
+  pub tells : TellsOutcome p.roster.users reading fault text
 
 -- the model in a text is told, or its first word that is none
 abbrev pub ReadsModel : PolicyShape → ℕ → List ℕ → Case → RunFault → List ℕ → Type 0

@@ -1,4 +1,4 @@
 pub mod Cases
 pub mod Answers
-pub mod Running
+pub mod Model
 pub mod Steps

@@ -4,10 +4,10 @@ ghost use Rattle.serde_json.specs.View.{view};
 ghost use Rattle.serde_json.specs.Written.{compact_text};
 ghost use Rattle.policy_book.specs.Policies.{problem_of};
 ghost use Rattle.cnf_export.specs.Encodings.{variables_of};
-ghost use Rattle.cnf_models.specs.Flags.{has_variable};
+ghost use Rattle.cnf_models.specs.Saying.{has_variable};
 ghost use Rattle.wire_json.specs.Entries.{named, plan_data};
 ghost use Rattle.wf_commands.specs.Answer.{AnswersAs, ending_with};
-ghost use Rattle.cnf_command.specs.Answers.{clause_line, plan_line, ReadsModel, Tells};
+ghost use Rattle.cnf_command.specs.Answers.{clause_line, plan_line, ReadsModel, TellsOutcome};
 ghost use Rattle.cnf_command.specs.Answers.{TellsReading, UnlessLarge};
 ghost use Rattle.cnf_command.specs.Cases.{IsCaseOf};
 ghost use Rattle.cnf_command.specs.Steps.{GivesModel, IsLateEnding};
@@ -81,7 +81,7 @@ fn answer_model(
 // The answer with what a model says.
 fn answer_with(alloc: Global, p: &Policy, reading: &Reading) -> Result<Answer, AllocError>
     ensures { IfOk result (λ answer.
-        Tells p.now.roster.users reading.now (ending_with answer.found) answer.text.items) }
+        TellsOutcome p.now.roster.users reading.now (ending_with answer.found) answer.text.items) }
 {
     match reading {
         Reading::Plan(plan) => Ok(Answer {

@@ -8,7 +8,7 @@ ghost use Rattle.wf_commands.specs.Answer.{IsAnswerEnding, IsCommandEnding};
 ghost use Rattle.wf_commands.specs.Load.{EndsTooLong};
 ghost use Rattle.wf_commands.specs.Once.{ReadsInput};
 ghost use Rattle.cnf_command.specs.Answers.{ClausesAsked};
-ghost use Rattle.cnf_command.specs.Running.{WritesClauses};
+ghost use Rattle.cnf_command.specs.Model.{WritesClauses};
 ghost use Rattle.cnf_command.specs.Steps.{EncodesAs, EncodesFile};
 
 use crate::encoding::{encode, take_case};

@@ -8,7 +8,7 @@ ghost use Rattle.wf_commands.specs.Answer.{AnswersAs, AnswersFile, IsCommandEndi
 ghost use Rattle.wf_commands.specs.Load.{EndsTooLong};
 ghost use Rattle.wf_commands.specs.Once.{ReadsInput};
 ghost use Rattle.cnf_command.specs.Answers.{ModelAsked};
-ghost use Rattle.cnf_command.specs.Running.{EndsWithout, ReadsModelFile};
+ghost use Rattle.cnf_command.specs.Model.{EndsWithoutModel, ReadsModelFile};
 
 use crate::answer::answer_case;
 use crate::encoding::take_case;
@@ -61,7 +61,7 @@ fn find_reading<F: Shelf, S: Source>(
         (F.file shelf.old policy.now) result }
     ensures ending { IfErr result IsCommandEnding }
     ensures named { EndsTooLong POLICY_FILE_LIMIT (F.file shelf.old policy.now) (fault_in result) }
-    ensures without { EndsWithout (F.file shelf.old model.now) (fault_in result) }
+    ensures without { EndsWithoutModel (F.file shelf.old model.now) (fault_in result) }
     ensures loads { CountsLoads (fault_in result) (F.faults shelf.old) (F.faults shelf.new) }
     ensures reads { CountsReadsAlone (fault_in result) (S.faults source.old) (S.faults source.new) }
     ensures input { ReadsInput (Some LINE_LIMIT) (fault_in result) (S.left source.old)
@@ -83,7 +83,7 @@ fn read_under<F: Shelf, S: Source>(
     ensures answer { AnswersAs
         (ModelAsked p.now flow.now (F.file shelf.old model.now) (S.left source.old)) result }
     ensures ending { IfErr result IsCommandEnding }
-    ensures without { EndsWithout (F.file shelf.old model.now) (fault_in result) }
+    ensures without { EndsWithoutModel (F.file shelf.old model.now) (fault_in result) }
     ensures loads { CountsLoads (fault_in result) (F.faults shelf.old) (F.faults shelf.new) }
     ensures reads { CountsReadsAlone (fault_in result) (S.faults source.old) (S.faults source.new) }
     ensures input { ReadsInput (Some LINE_LIMIT) (fault_in result) (S.left source.old)

@@ -4,7 +4,7 @@ use Rattle.std.proofs.Common.{◌⊎◌, inl, inr, arith}
 use Rattle.std.proofs.lemmas.Bool.{false≢true}
 use Rattle.basics.proofs.Booleans.{bool_cases, differ, eq_above, eq_back, eq_is, eq_same, or_cases, or_left, or_right}
 use Rattle.wf_names.specs.UserSets.{count_below}
-use Rattle.constraint_forms.specs.Assigned.{is_member}
+use Rattle.constraint_forms.specs.Assign.{is_member}
 use Rattle.constraint_forms.specs.Rules.{count_members, different, is_among, users_from}
 
 -- a member's user is among them

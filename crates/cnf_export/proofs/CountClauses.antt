@@ -5,7 +5,7 @@ use Rattle.std.specs.Prelude.{ℤ}
 use Rattle.std.specs.List.{AllByRecursion as Every}
 use Rattle.std.proofs.lemmas.Bool.{false≢true}
 use Rattle.basics.proofs.Booleans.{eq_above}
-use Rattle.constraint_forms.specs.Assigned.{is_member}
+use Rattle.constraint_forms.specs.Assign.{is_member}
 use Rattle.cnf_export.specs.Clauses.{no_to, satisfies, yes_to}
 use Rattle.cnf_export.specs.Encodings.{Encoding, clause, counting_clause, counts, has, height, items, members, numbers, rows, takes, taking_clause}
 use Rattle.cnf_export.specs.declared.group.Group.TheVariants.{Taking, Counting, Ending}

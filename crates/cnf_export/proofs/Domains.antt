@@ -6,7 +6,7 @@ use Rattle.basics.proofs.Booleans.{lt_no, lt_yes}
 use Rattle.std.specs.Prelude.{slice_index_or}
 use Rattle.wf_names.specs.UserSets.{has_user}
 use Rattle.user_relations.specs.Relations.{is_related}
-use Rattle.constraint_forms.specs.Assigned.{user_at}
+use Rattle.constraint_forms.specs.Assign.{user_at}
 use Rattle.policy_book.specs.Plans.{Problem}
 use Rattle.cnf_export.specs.Encodings.{encoding_of, may_be}
 use Rattle.cnf_export.specs.Terms.{AreDomains, TermsShape, encoding_in}

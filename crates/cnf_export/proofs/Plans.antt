@@ -9,7 +9,7 @@ use Rattle.std.proofs.lemmas.List.Elements.{recursion_from_All}
 use Rattle.basics.proofs.Booleans.{and_both, and_from, bool_cases, differ, le_yes, lt_back, lt_back_no, or_left, or_right, same_by}
 use Rattle.constraint_forms.specs.declared.rule.Rule.{Rule}
 use Rattle.constraint_forms.specs.declared.rule.Rule.TheVariants as rule
-use Rattle.constraint_forms.specs.Assigned.{is_member, planned, user_at}
+use Rattle.constraint_forms.specs.Assign.{is_member, planned, user_at}
 use Rattle.constraint_forms.specs.Rules.{all_from, any_from, different, is_satisfied, names, turned, users_from}
 use Rattle.constraint_forms.proofs.RuleLaws.{first-named, second-named, step-named, member-named}
 use Rattle.policy_book.specs.Facts.{HasMembers, IsWithinGroup}
@@ -17,7 +17,7 @@ use Rattle.policy_book.specs.Plans.{Problem}
 use Rattle.cnf_export.specs.Clauses.{no_to, satisfies, yes_to}
 use Rattle.cnf_export.specs.Encodings.{Encoding, blocks, clause, clauses_of, count_groups, counts, encoding_of, group_clauses, groups, has, height, may_be}
 use Rattle.cnf_export.specs.Encodings.{members, numbers, rule_groups, rules_groups, step_blocks, step_groups, takes, users_who}
-use Rattle.cnf_export.specs.Models.{ModelsArePlans, has_some, last_below, plan_in}
+use Rattle.cnf_export.specs.Models.{ModelsArePlans, has_some, last_below, plan_said}
 use Rattle.cnf_export.specs.declared.group.Group.{Group}
 use Rattle.cnf_export.specs.declared.group.Group.TheVariants.{Outside, Someone, Once, Pair, SomeOf, Taking}
 use Rattle.cnf_export.proofs.Every.{every_flat, every_left, every_map, every_number, every_passing, every_right}
@@ -127,7 +127,7 @@ pair_related e m rho s t u v h first second = elim (bool_cases (e.related rho u 
 ]
 
 -- the plan of a model gives a step a user
-plan_user : (e : Encoding) (m : ℕ → Bool) → ((s : ℕ) → s < e.steps → StepHolds e m s) → (s : ℕ) → s < e.steps → HasUser e m s (planned (plan_in e m) s)
+plan_user : (e : Encoding) (m : ℕ → Bool) → ((s : ℕ) → s < e.steps → StepHolds e m s) → (s : ℕ) → s < e.steps → HasUser e m s (planned (plan_said e m) s)
 plan_user e m h s below =
     let same : 0 + s ≡ s = omega arith in
     subst (λ u. HasUser e m s u) (sym (made_at (λ t. last_below e.users (λ u. m (has e t u))) 0 e.steps s below ∙
@@ -137,28 +137,28 @@ plan_user e m h s below =
 all_related : (e : Encoding) (m : ℕ → Bool) (back : Bool) (rho : ℕ) (group : List Bool) (s : ℕ) → ((t : ℕ) → t < e.steps → StepHolds e m t) →
     ((x : ℕ) → is_member group x ≡ true → x < e.steps) → s < e.steps →
     Every (λ x. GroupHolds e m (pair_group back rho x s)) (members group) →
-    all_from 0 group (λ x. turned back e.related rho (planned (plan_in e m) x) (planned (plan_in e m) s)) ≡ true
+    all_from 0 group (λ x. turned back e.related rho (planned (plan_said e m) x) (planned (plan_said e m) s)) ≡ true
 all_related e m back rho group s h within inside holds =
-    all_members 0 group (λ x. turned back e.related rho (planned (plan_in e m) x) (planned (plan_in e m) s)) (λ x y one same.
+    all_members 0 group (λ x. turned back e.related rho (planned (plan_said e m) x) (planned (plan_said e m) s)) (λ x y one same.
     let here : x ≡ y = omega (arith, same) in
-    subst (λ z. turned back e.related rho (planned (plan_in e m) z) (planned (plan_in e m) s) ≡ true) here
+    subst (λ z. turned back e.related rho (planned (plan_said e m) z) (planned (plan_said e m) s) ≡ true) here
     (at back x (every_passing (λ z. GroupHolds e m (pair_group back rho z s)) (is_member group) 0 (length group) holds x (omega arith)
     (let low = member_within group x one in omega (arith, low)) one)
     (plan_user e m h x (within x one)) (plan_user e m h s inside)))
   where
-    at : (b : Bool) (x : ℕ) → GroupHolds e m (pair_group b rho x s) → HasUser e m x (planned (plan_in e m) x) → HasUser e m s (planned (plan_in e m) s) →
-        turned b e.related rho (planned (plan_in e m) x) (planned (plan_in e m) s) ≡ true
-    at false x pair one two = pair_related e m rho x s (planned (plan_in e m) x) (planned (plan_in e m) s) pair one two
-    at true x pair one two = pair_related e m rho s x (planned (plan_in e m) s) (planned (plan_in e m) x) pair two one
+    at : (b : Bool) (x : ℕ) → GroupHolds e m (pair_group b rho x s) → HasUser e m x (planned (plan_said e m) x) → HasUser e m s (planned (plan_said e m) s) →
+        turned b e.related rho (planned (plan_said e m) x) (planned (plan_said e m) s) ≡ true
+    at false x pair one two = pair_related e m rho x s (planned (plan_said e m) x) (planned (plan_said e m) s) pair one two
+    at true x pair one two = pair_related e m rho s x (planned (plan_said e m) s) (planned (plan_said e m) x) pair two one
 
 -- some member of a group is related to a step's user, or the other way round
 some_related : (e : Encoding) (m : ℕ → Bool) (back : Bool) (rho : ℕ) (group : List Bool) (s : ℕ) → ((t : ℕ) → t < e.steps → StepHolds e m t) →
     ((x : ℕ) → is_member group x ≡ true → x < e.steps) → s < e.steps →
-    GroupHolds e m (SomeOf rho back group s) → any_from 0 group (λ x. turned back e.related rho (planned (plan_in e m) x) (planned (plan_in e m) s)) ≡ true
+    GroupHolds e m (SomeOf rho back group s) → any_from 0 group (λ x. turned back e.related rho (planned (plan_said e m) x) (planned (plan_said e m) s)) ≡ true
 some_related e m back rho group s h within inside holds = at (one_joined m listed (is_member group) 0 (length group) rest)
   where
     v : ℕ
-    v = planned (plan_in e m) s
+    v = planned (plan_said e m) s
 
     whose : HasUser e m s v
     whose = plan_user e m h s inside
@@ -172,15 +172,15 @@ some_related e m back rho group s h within inside holds = at (one_joined m liste
         (omega arith)) v (omega arith) (let below = whose.below in omega (arith, below)) whose.may) whose.has_it
 
     at : OneOf (is_member group) 0 (length group) (λ t. satisfies m (listed t) ≡ true) →
-        any_from 0 group (λ x. turned back e.related rho (planned (plan_in e m) x) v) ≡ true
+        any_from 0 group (λ x. turned back e.related rho (planned (plan_said e m) x) v) ≡ true
     at one =
         let user = one_listed m (has e one.at) (λ u. e.may_have one.at u && turned back e.related rho u v) 0 e.users one.is in
         let both = and_both (e.may_have one.at user.at) (turned back e.related rho user.at v) user.passes in
         let there : one.at < e.steps = within one.at one.passes in
         let planned_user = plan_user e m h one.at there in
-        let same = same_user e m one.at (h one.at there).once user.at (planned (plan_in e m) one.at) (let high = user.high in omega (arith, high))
+        let same = same_user e m one.at (h one.at there).once user.at (planned (plan_said e m) one.at) (let high = user.high in omega (arith, high))
         planned_user.below user.is planned_user.has_it in
-        any_member 0 group (λ x. turned back e.related rho (planned (plan_in e m) x) v) one.at one.at one.passes (omega arith)
+        any_member 0 group (λ x. turned back e.related rho (planned (plan_said e m) x) v) one.at one.at one.passes (omega arith)
         (subst (λ u. turned back e.related rho u v ≡ true) same both.1)
 
 -- ---- rules that count
@@ -188,41 +188,41 @@ some_related e m back rho group s h within inside holds = at (one_joined m liste
 -- a user has some step of a group in the model exactly where one has in the plan
 group_taken : (e : Encoding) (m : ℕ → Bool) (block : ℕ) (group : List Bool) → ((t : ℕ) → t < e.steps → StepHolds e m t) →
     ((x : ℕ) → is_member group x ≡ true → x < e.steps) → GroupHolds e m (Taking block group) →
-    (u : ℕ) → u < e.users → m (takes e block u) ≡ has_some group (plan_in e m) u
-group_taken e m block group h within holds u below = same_by (m (takes e block u)) (has_some group (plan_in e m) u) to from
+    (u : ℕ) → u < e.users → m (takes e block u) ≡ has_some group (plan_said e m) u
+group_taken e m block group h within holds u below = same_by (m (takes e block u)) (has_some group (plan_said e m) u) to from
   where
-    to : m (takes e block u) ≡ true → has_some group (plan_in e m) u ≡ true
+    to : m (takes e block u) ≡ true → has_some group (plan_said e m) u ≡ true
     to one =
         let member = taken_by e m block group u (part_holds e m (Taking block group) holds u below) one in
         let inside : member.at < e.steps = within member.at member.passes in
         let whose = plan_user e m h member.at inside in
-        let same = same_user e m member.at (h member.at inside).once u (planned (plan_in e m) member.at) below whose.below member.is whose.has_it in
-        among_from 0 group (planned (plan_in e m)) member.at member.at u member.passes (omega arith) (sym same)
+        let same = same_user e m member.at (h member.at inside).once u (planned (plan_said e m) member.at) below whose.below member.is whose.has_it in
+        among_from 0 group (planned (plan_said e m)) member.at member.at u member.passes (omega arith) (sym same)
 
-    from : has_some group (plan_in e m) u ≡ true → m (takes e block u) ≡ true
+    from : has_some group (plan_said e m) u ≡ true → m (takes e block u) ≡ true
     from one =
-        let member = member_among 0 group (planned (plan_in e m)) u one in
+        let member = member_among 0 group (planned (plan_said e m)) u one in
         let same : member.at ≡ member.place = let place = member.same in omega (arith, place) in
         let inside : member.at < e.steps = within member.at member.member in
         let whose = plan_user e m h member.at inside in
         takes_where e m block group u (part_holds e m (Taking block group) holds u below) member.at member.member member.below
-        (subst (λ v. m (has e member.at v) ≡ true) (ap (planned (plan_in e m)) same ∙ member.user) whose.has_it)
+        (subst (λ v. m (has e member.at v) ≡ true) (ap (planned (plan_said e m)) same ∙ member.user) whose.has_it)
 
 -- the clauses of a rule that counts say how many users its steps have in the plan
 group_counted : (e : Encoding) (m : ℕ → Bool) (block : ℕ) (most : Bool) (limit : ℕ) (group : List Bool) → ((t : ℕ) → t < e.steps → StepHolds e m t) →
     ((x : ℕ) → is_member group x ≡ true → x < e.steps) →
     Every (GroupHolds e m) (count_groups block most limit group) → (u j : ℕ) → suc u ≡ e.users → j < height most limit →
-    m (counts e block (height most limit) u j) ≡ nat_lt j (different (users_from 0 group (λ s. Some (planned (plan_in e m) s))))
+    m (counts e block (height most limit) u j) ≡ nat_lt j (different (users_from 0 group (λ s. Some (planned (plan_said e m) s))))
 group_counted e m block most limit group h within holds u j last less =
     let z = λ (w : ℕ). m (takes e block w) in
     counted z (λ v i. m (counts e block (height most limit) v i)) e.users (height most limit) (is_counter e m block most limit holds.1.0) u j
     (omega (arith, last)) less
     ∙ ap (λ n. nat_lt j (count_below n z)) last
-    ∙ ap (nat_lt j) (count_same e.users z (has_some group (plan_in e m)) (group_taken e m block group h within holds.0)
-    ∙ sym (different_counted e.users (users_from 0 group (λ s. Some (planned (plan_in e m) s))) (λ w one.
-    let member = member_among 0 group (planned (plan_in e m)) w one in
+    ∙ ap (nat_lt j) (count_same e.users z (has_some group (plan_said e m)) (group_taken e m block group h within holds.0)
+    ∙ sym (different_counted e.users (users_from 0 group (λ s. Some (planned (plan_said e m) s))) (λ w one.
+    let member = member_among 0 group (planned (plan_said e m)) w one in
     let same : member.at ≡ member.place = let place = member.same in omega (arith, place) in
-    subst (λ v. v < e.users) (ap (planned (plan_in e m)) same ∙ member.user) (plan_user e m h member.at (within member.at member.member)).below)))
+    subst (λ v. v < e.users) (ap (planned (plan_said e m)) same ∙ member.user) (plan_user e m h member.at (within member.at member.member)).below)))
 
 -- a group with members has a user, and so there is a last one
 last_user : (e : Encoding) (m : ℕ → Bool) (group : List Bool) (limit : ℕ) → ((t : ℕ) → t < e.steps → StepHolds e m t) →
@@ -237,30 +237,30 @@ last_user e m group limit h within some =
 
 most_obeyed : (e : Encoding) (m : ℕ → Bool) (block limit : ℕ) (group : List Bool) → ((t : ℕ) → t < e.steps → StepHolds e m t) →
     ((x : ℕ) → is_member group x ≡ true → x < e.steps) → IsWithinGroup limit group →
-    Every (GroupHolds e m) (count_groups block true limit group) → nat_le (different (users_from 0 group (λ s. Some (planned (plan_in e m) s)))) limit ≡ true
+    Every (GroupHolds e m) (count_groups block true limit group) → nat_le (different (users_from 0 group (λ s. Some (planned (plan_said e m) s)))) limit ≡ true
 most_obeyed e m block limit group h within some holds =
     let last = last_user e m group limit h within some in
     let ended : m (counts e block (limit + 1) last.0 limit) ≡ false = ended_most e m block limit last.0 last.1 holds.1.1.0 in
-    let few = lt_back_no limit (different (users_from 0 group (λ s. Some (planned (plan_in e m) s))))
+    let few = lt_back_no limit (different (users_from 0 group (λ s. Some (planned (plan_said e m) s))))
     (sym (group_counted e m block true limit group h within holds last.0 limit last.1 (omega arith)) ∙ ended) in
     le_yes _ limit few
 
 least_obeyed : (e : Encoding) (m : ℕ → Bool) (block limit : ℕ) (group : List Bool) → ((t : ℕ) → t < e.steps → StepHolds e m t) →
     ((x : ℕ) → is_member group x ≡ true → x < e.steps) → IsWithinGroup limit group →
-    Every (GroupHolds e m) (count_groups block false limit group) → nat_le limit (different (users_from 0 group (λ s. Some (planned (plan_in e m) s)))) ≡ true
+    Every (GroupHolds e m) (count_groups block false limit group) → nat_le limit (different (users_from 0 group (λ s. Some (planned (plan_said e m) s)))) ≡ true
 least_obeyed e m block limit group h within some holds =
     let last = last_user e m group limit h within some in
     let low : 0 < limit = some.0 in
     let ended : m (counts e block limit last.0 (limit - 1)) ≡ true = ended_least e m block limit last.0 last.1 holds.1.1.0 in
-    let many = lt_back (limit - 1) (different (users_from 0 group (λ s. Some (planned (plan_in e m) s))))
+    let many = lt_back (limit - 1) (different (users_from 0 group (λ s. Some (planned (plan_said e m) s))))
     (sym (group_counted e m block false limit group h within holds last.0 (limit - 1) last.1 (omega (arith, low))) ∙ ended) in
     le_yes limit _ (omega (arith, many, low))
 
 rule_obeyed : (e : Encoding) (m : ℕ → Bool) (block : ℕ) (r : Rule) → ((s : ℕ) → s < e.steps → StepHolds e m s) →
     ((s : ℕ) → names r s ≡ true → s < e.steps) → HasMembers r → Every (GroupHolds e m) (rule_groups block r) →
-    is_satisfied e.related r (planned (plan_in e m)) ≡ true
+    is_satisfied e.related r (planned (plan_said e m)) ≡ true
 rule_obeyed e m block (rule.Pair rho s t) h within some holds =
-    pair_related e m rho s t (planned (plan_in e m) s) (planned (plan_in e m) t) holds.0 (plan_user e m h s (within s (first-named rho s t)))
+    pair_related e m rho s t (planned (plan_said e m) s) (planned (plan_said e m) t) holds.0 (plan_user e m h s (within s (first-named rho s t)))
     (plan_user e m h t (within t (second-named rho s t)))
 rule_obeyed e m block (rule.AllOf rho group s) h within some holds =
     all_related e m false rho group s h (λ x one. within x (member-named rho group s x one)) (within s (step-named rho group s))
@@ -319,12 +319,12 @@ models_are_plans p assigned finished m sound within model =
     let holds = every_flat (Holds m) (group_clauses e) (groups p.steps p.rules) (recursion_from_All (Holds m) (clauses_of p assigned finished) model) in
     let steps = step_holds e m p.rules holds in
     let may = λ (s : ℕ) (below : s < p.steps).
-    (and_both (nat_lt s p.steps) (may_be p finished s (user_at assigned s) (planned (plan_in e m) s)) (plan_user e m steps s below).may).1 in
+    (and_both (nat_lt s p.steps) (may_be p finished s (user_at assigned s) (planned (plan_said e m) s)) (plan_user e m steps s below).may).1 in
     record {
       whole = length-made (λ s. last_below e.users (λ u. m (has e s u))) 0 e.steps;
       known = λ s below. (plan_user e m steps s below).below;
-      keeps = λ s u is. ap Some (kept_user p finished s (planned (plan_in e m) s) u (user_at assigned s) is (may s (within.steps s u is)));
-      allowed = λ s below open_. may_authorised p finished s (planned (plan_in e m) s) (user_at assigned s) open_ (may s below);
+      keeps = λ s u is. ap Some (kept_user p finished s (planned (plan_said e m) s) u (user_at assigned s) is (may s (within.steps s u is)));
+      allowed = λ s below open_. may_authorised p finished s (planned (plan_said e m) s) (user_at assigned s) open_ (may s below);
       obeyed = λ k r is.
           let here = rule_at (GroupHolds e m) (step_blocks e.steps) p.rules k r is
           (every_right (GroupHolds e m) (flat_map step_groups (numbers 0 e.steps)) (rules_groups (step_blocks e.steps) p.rules) holds) in

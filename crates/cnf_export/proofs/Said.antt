@@ -10,7 +10,7 @@ use Rattle.basics.proofs.Booleans.{and_both, and_from, bool_cases, differ, eq_is
 use Rattle.basics.proofs.Booleans.{or_right}
 use Rattle.constraint_forms.specs.declared.rule.Rule.{Rule}
 use Rattle.constraint_forms.specs.declared.rule.Rule.TheVariants as rule
-use Rattle.constraint_forms.specs.Assigned.{is_member, planned, user_at}
+use Rattle.constraint_forms.specs.Assign.{is_member, planned, user_at}
 use Rattle.constraint_forms.specs.Rules.{all_from, any_from, different, is_satisfied, names, turned, users_from}
 use Rattle.constraint_forms.proofs.RuleLaws.{first-named, second-named, step-named, member-named}
 use Rattle.policy_book.specs.Facts.{HasMembers, IsWithinGroup}

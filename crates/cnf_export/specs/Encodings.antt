@@ -5,7 +5,7 @@ use Rattle.std.specs.Prelude.{Option, None, Some, if◌then◌else◌}
 use Rattle.std.specs.List.{flat_map}
 use Rattle.constraint_forms.specs.declared.rule.Rule.{Rule}
 use Rattle.constraint_forms.specs.declared.rule.Rule.TheVariants as rule
-use Rattle.constraint_forms.specs.Assigned.{user_at, is_member}
+use Rattle.constraint_forms.specs.Assign.{user_at, is_member}
 use Rattle.constraint_forms.specs.Rules.{Relating, turned}
 use Rattle.policy_book.specs.Plans.{Problem}
 use Rattle.policy_book.specs.Refuting.{passing}

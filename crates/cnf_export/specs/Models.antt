@@ -4,7 +4,7 @@ use Rattle.std.specs.Prelude.{List, [], ◌∷◌, Option, Some, map, slice_get,
 use Rattle.wf_names.specs.UserSets.{count_below}
 use Rattle.constraint_forms.specs.declared.rule.Rule.{Rule}
 use Rattle.constraint_forms.specs.declared.rule.Rule.TheVariants as rule
-use Rattle.constraint_forms.specs.Assigned.{planned}
+use Rattle.constraint_forms.specs.Assign.{planned}
 use Rattle.constraint_forms.specs.Rules.{is_among, users_from}
 use Rattle.policy_book.specs.Facts.{HasMembers}
 use Rattle.policy_book.specs.Plans.{Problem, AreAssigned, IsValidPlan, IsWellFormed, IsWithin}
@@ -18,8 +18,8 @@ last_below zero test = 0
 last_below (suc n) test = if test n then n else last_below n test
 
 -- the plan that a model says: each step's user
-abbrev pub plan_in : Encoding → (ℕ → Bool) → List ℕ
-plan_in e model = map (λ s. last_below e.users (λ u. model (has e s u))) (numbers 0 e.steps)
+abbrev pub plan_said : Encoding → (ℕ → Bool) → List ℕ
+plan_said e model = map (λ s. last_below e.users (λ u. model (has e s u))) (numbers 0 e.steps)
 
 -- rules name steps of the workflow alone, groups have members, and counts are ones that a
 -- group can have
@@ -32,7 +32,7 @@ abbrev pub ModelsArePlans : Type 0
 ModelsArePlans =
     (p : Problem) (assigned : List (Option ℕ)) (finished : List Bool) (model : ℕ → Bool) →
     AreSound p → IsWithin p assigned → IsModelOf model (clauses_of p assigned finished) →
-    IsValidPlan p assigned finished (plan_in (encoding_of p assigned finished) model)
+    IsValidPlan p assigned finished (plan_said (encoding_of p assigned finished) model)
 
 -- a user has some step of a group in a plan
 abbrev pub has_some : List Bool → List ℕ → ℕ → Bool

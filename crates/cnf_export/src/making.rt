@@ -4,7 +4,7 @@ ghost use Rattle.wf_names.specs.UserSets.{has_user};
 ghost use Rattle.wf_names.specs.declared.limits.TheConstants.{USER_LIMIT};
 ghost use Rattle.policy_book.specs.Policies.{flow_at, problem_of};
 ghost use Rattle.policy_book.specs.Plans.{IsWithin};
-ghost use Rattle.constraint_forms.specs.Assigned.{user_at};
+ghost use Rattle.constraint_forms.specs.Assign.{user_at};
 ghost use Rattle.cnf_export.specs.Encodings.{encoding_of, may_be};
 ghost use Rattle.cnf_export.specs.Terms.{AreDomains, encoding_in};
 

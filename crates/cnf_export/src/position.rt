@@ -1,7 +1,7 @@
 //! How far an encoder has come.
 ghost use Rattle.std.specs.Prelude.{◌≡◌, ◌≤◌, ◌<◌, ◌^◌, suc, List, length, false, true, Bool, OnOk};
 ghost use Rattle.std.specs.Prelude.{OnErr, IfOk};
-ghost use Rattle.cnf_export.specs.Positions.{clause_at, left_at, IsReady, HasGiven};
+ghost use Rattle.cnf_export.specs.Positions.{clause_at, left_at, StandsReady, HasGiven};
 ghost use Rattle.cnf_export.specs.Terms.{encoding_in};
 ghost use Rattle.std.specs.List.{flat_map};
 ghost use Rattle.cnf_export.specs.Encodings.{Encoding, group_clauses};
@@ -61,7 +61,7 @@ fn write_item(terms: &Terms, at: &Position, into: &mut Literals) -> Result<(), A
 fn skip(terms: &Terms, groups: &[Group], at: &mut Position) -> Result<(), AllocError>
     ensures left { left_at (encoding_in terms.now) groups.now at.new
         ≡ left_at (encoding_in terms.now) groups.now at.old }
-    ensures ready { OnOk result (IsReady groups.now at.new) }
+    ensures ready { OnOk result (StandsReady groups.now at.new) }
 {
     'skipping: while at.item >= at.items.len() {
         if at.part < at.parts {

@@ -6,12 +6,12 @@ use Rattle.basics.proofs.Booleans.{bool_cases, differ, eq_back, eq_is}
 use Rattle.wf_names.specs.UserSets.{count_below}
 use Rattle.constraint_forms.specs.declared.rule.Rule.{Rule}
 use Rattle.constraint_forms.specs.declared.rule.Rule.TheVariants as rule
-use Rattle.constraint_forms.specs.Assigned.{planned}
+use Rattle.constraint_forms.specs.Assign.{planned}
 use Rattle.policy_book.specs.Plans.{Problem}
 use Rattle.cnf_export.specs.Encodings.{Encoding, blocks, counts, encoding_of, has, has_by, height, numbers, step_blocks, takes}
 use Rattle.cnf_export.proofs.Listing.{numbers_at}
-use Rattle.cnf_export.specs.Models.{SaysCount, SaysPlan, SaysRule, SaysRules, has_some, last_below, plan_in}
-use Rattle.cnf_models.specs.Flags.{count_flags, flags_of, grid, has_variable, rule_flags, rules_flags}
+use Rattle.cnf_export.specs.Models.{SaysCount, SaysPlan, SaysRule, SaysRules, has_some, last_below, plan_said}
+use Rattle.cnf_models.specs.Saying.{count_flags, flags_of, grid, has_variable, rule_flags, rules_flags}
 
 -- ---- places
 
@@ -222,7 +222,7 @@ map_planned (u ∷ plan) f k each =
 
 pub said_back : (p : Problem) (plan : List ℕ) (assigned : List (Option ℕ)) (finished : List Bool) → length plan ≡ p.steps →
     ((s : ℕ) → s < p.steps → planned plan s < p.users) →
-    plan_in (encoding_of p assigned finished) (has_variable (flags_of p plan)) ≡ plan
+    plan_said (encoding_of p assigned finished) (has_variable (flags_of p plan)) ≡ plan
 said_back p plan assigned finished whole known =
     let e = encoding_of p assigned finished in
     let says = says_plan p plan assigned finished in

@@ -1,4 +1,4 @@
-pub mod Flags
+pub mod Saying
 pub mod Readings
 pub mod Laws
 pub mod Texts

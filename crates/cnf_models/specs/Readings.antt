@@ -4,7 +4,7 @@ use Rattle.std.specs.Prelude.{if◌then◌else◌}
 use Rattle.policy_book.specs.Plans.{Problem, AreAssigned, IsValidPlan}
 use Rattle.cnf_export.specs.Clauses.{IsModelOf, satisfies}
 use Rattle.cnf_export.specs.Encodings.{clauses_of, encoding_of}
-use Rattle.cnf_export.specs.Models.{plan_in}
+use Rattle.cnf_export.specs.Models.{plan_said}
 use Rattle.cnf_models.specs.declared.reading.Reading.{Reading as AnyReading}
 use Rattle.cnf_models.specs.declared.reading.Reading.TheVariants.{Plan, Clause}
 
@@ -20,7 +20,7 @@ IsReading p assigned finished model (Clause i) =
     first_false 0 model (clauses_of p assigned finished) ≡ Some i
 IsReading p assigned finished model (Plan plan) =
     (first_false 0 model (clauses_of p assigned finished) ≡ None)
-    × ((plan ≡ plan_in (encoding_of p assigned finished) model)
+    × ((plan ≡ plan_said (encoding_of p assigned finished) model)
     × IsValidPlan p assigned finished plan)
 
 -- a model satisfies the clauses of each case for which a plan is valid
@@ -33,4 +33,4 @@ SatisfiesWherever p plan model =
 abbrev pub ReadsBack : Problem → List ℕ → (ℕ → Bool) → Type 0
 ReadsBack p plan model =
     (assigned : List (Option ℕ)) (finished : List Bool) →
-    IsValidPlan p assigned finished plan → plan_in (encoding_of p assigned finished) model ≡ plan
+    IsValidPlan p assigned finished plan → plan_said (encoding_of p assigned finished) model ≡ plan

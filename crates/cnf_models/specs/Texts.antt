@@ -4,7 +4,7 @@ use Rattle.std.specs.Prelude.{nat_lt, List, [], ◌∷◌, length, drop, replica
 use Rattle.std.specs.Prelude.{slice_index_or, slice_set, Option, None, Some, option_and_then}
 use Rattle.std.specs.Prelude.{Result, Ok, Err, if◌then◌else◌}
 use Rattle.std.specs.List.{slice_split}
-use Rattle.first_fault.specs.Reading.{◌>>=◌, each}
+use Rattle.basics.specs.Reading.{◌>>=◌, each}
 use Rattle.cnf_models.specs.declared.text.ModelFault.{ModelFault}
 use Rattle.cnf_models.specs.declared.text.ModelFault.TheVariants.{NoMemory, Word}
 
@@ -95,9 +95,9 @@ count_of None = 0
 count_of (Some k) = k
 
 -- the word that a fault is; want of memory is none
-abbrev pub word_of : ModelFault → Option ℕ
-word_of (Word k) = Some k
-word_of NoMemory = None
+abbrev pub fault_word : ModelFault → Option ℕ
+fault_word (Word k) = Some k
+fault_word NoMemory = None
 
 -- a text has no more words than bytes
 abbrev pub IsWordOf : List ℕ → ModelFault → Type 0

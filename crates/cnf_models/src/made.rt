@@ -1,7 +1,7 @@
 //! The model that says a plan.
 ghost use Rattle.std.specs.Prelude.{◌≡◌, ◌<◌, length, IfOk};
 ghost use Rattle.policy_book.specs.Policies.{problem_of};
-ghost use Rattle.cnf_models.specs.Flags.{flags_of, has_variable};
+ghost use Rattle.cnf_models.specs.Saying.{flags_of, has_variable};
 ghost use Rattle.cnf_models.specs.Readings.{ReadsBack, SatisfiesWherever};
 
 use crate::Model;

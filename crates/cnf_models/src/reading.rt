@@ -6,7 +6,7 @@ ghost use Rattle.cnf_export.specs.Encodings.{clauses_of, literals, numbers};
 ghost use Rattle.cnf_export.specs.Models.{last_below};
 ghost use Rattle.cnf_export.specs.declared.fault.CnfFault.TheVariants.{TooLarge};
 ghost use Rattle.cnf_export.specs.declared.tally.TheConstants.{LITERAL_LIMIT};
-ghost use Rattle.cnf_models.specs.Flags.{has_variable};
+ghost use Rattle.cnf_models.specs.Saying.{has_variable};
 ghost use Rattle.cnf_models.specs.Readings.{first_false, IsReading};
 
 use crate::Model;

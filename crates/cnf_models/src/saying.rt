@@ -2,10 +2,10 @@
 ghost use Rattle.std.specs.Prelude.{◌≡◌, ◌≤◌, ◌<◌, ◌==◌, ◌+◌, ◌++◌, ℕ, suc, cond, nat_le, nat_lt};
 ghost use Rattle.std.specs.Prelude.{map, OnOk, IfOk};
 ghost use Rattle.wf_names.specs.UserSets.{count_below};
-ghost use Rattle.constraint_forms.specs.Assigned.{planned};
+ghost use Rattle.constraint_forms.specs.Assign.{planned};
 ghost use Rattle.cnf_export.specs.Encodings.{height, numbers};
 ghost use Rattle.cnf_export.specs.Models.{has_some};
-ghost use Rattle.cnf_models.specs.Flags.{count_flags, grid, rule_flags, rules_flags};
+ghost use Rattle.cnf_models.specs.Saying.{count_flags, grid, rule_flags, rules_flags};
 
 use crate::Model;
 use constraint_forms::{Rule, Rules, StepSet};

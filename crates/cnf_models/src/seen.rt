@@ -2,7 +2,7 @@
 ghost use Rattle.std.specs.Prelude.{◌≡◌, ◌≤◌, ◌<◌, ◌+◌, ◌^◌, ℕ};
 ghost use Rattle.cnf_export.specs.Clauses.{is_true, satisfies};
 ghost use Rattle.cnf_export.specs.Models.{last_below};
-ghost use Rattle.cnf_models.specs.Flags.{has_variable};
+ghost use Rattle.cnf_models.specs.Saying.{has_variable};
 
 use crate::Model;
 use cnf_export::Literals;

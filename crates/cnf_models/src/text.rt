@@ -4,10 +4,10 @@ ghost use Rattle.std.specs.Prelude.{IfOk};
 ghost use Rattle.std.specs.Option.{option_map_or};
 ghost use Rattle.std.specs.List.{slice_split};
 ghost use Rattle.memchr.specs.Find.{IsFirstByte};
-ghost use Rattle.first_fault.specs.Reading.{each, Gives};
+ghost use Rattle.basics.specs.Reading.{each, Gives};
 ghost use Rattle.cnf_models.specs.declared.text.ModelFault.TheVariants.{NoMemory};
 ghost use Rattle.cnf_models.specs.Texts.{count_of, is_blank, is_lf, is_passed_over, model_of_text};
-ghost use Rattle.cnf_models.specs.Texts.{next_line, next_part, without_v, word_of, IsWordOf};
+ghost use Rattle.cnf_models.specs.Texts.{next_line, next_part, without_v, fault_word, IsWordOf};
 
 use crate::Model;
 use crate::word::read_part;
@@ -33,7 +33,7 @@ impl From<AllocError> for ModelFault {
 
 /// The model of so many variables that a text says.
 pub fn read_model(alloc: Global, text: &[u8], variables: u32) -> Result<Model, ModelFault>
-    ensures model { Gives word_of (λ m. m) result (model_of_text variables text.now) }
+    ensures model { Gives fault_word (λ m. m) result (model_of_text variables text.now) }
     ensures word { IfErr result (IsWordOf text.now) }
 {
     let mut flags = vec![in alloc; false; variables as usize]?;

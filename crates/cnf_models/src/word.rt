@@ -1,6 +1,6 @@
 //! The words of a model's text.
 ghost use Rattle.std.specs.Prelude.{◌≡◌, ◌≤◌, ◌<◌, ◌+◌, ◌^◌, length, Some, IfErr, IfOk, IfSome};
-ghost use Rattle.first_fault.specs.Reading.{Gives};
+ghost use Rattle.basics.specs.Reading.{Gives};
 ghost use Rattle.cnf_models.specs.Texts.{count_of, is_digit, next_part, number_of, take_no};
 ghost use Rattle.cnf_models.specs.Texts.{take_yes, with_digit};
 

@@ -7,7 +7,7 @@ use Rattle.wf_outside.specs.Outside.{HasPart, with_bytes}
 use Rattle.wf_outside.proofs.OutsideLaws.{more_put, nothing_put, part_all, part_first, part_second}
 use Rattle.cnf_export.specs.Encoders.{EncoderShape}
 use Rattle.cnf_export.specs.Positions.{HasGiven}
-use Rattle.cnf_text.specs.Dimacs.{clause_line, dimacs_text, header_line}
+use Rattle.cnf_text.specs.Text.{clause_line, dimacs_text, header_line}
 use Rattle.cnf_text.specs.Writing.{HasPut}
 
 -- nothing is put yet

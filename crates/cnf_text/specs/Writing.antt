@@ -5,10 +5,10 @@ use Rattle.cnf_text.specs.declared.writing.WriteFault.{WriteFault}
 use Rattle.cnf_text.specs.declared.writing.WriteFault.TheVariants.{Failed, NoMemory}
 
 -- the count of faults is as it was, unless the answer is a fault
-abbrev pub StaysUnlessFailed : {A : Type 0} → Result A WriteFault → ℕ → ℕ → Type 0
-StaysUnlessFailed (Ok a) before after = after ≡ before
-StaysUnlessFailed (Err Failed) before after = Unit {0}
-StaysUnlessFailed (Err NoMemory) before after = after ≡ before
+abbrev pub StaysUnlessUnwritten : {A : Type 0} → Result A WriteFault → ℕ → ℕ → Type 0
+StaysUnlessUnwritten (Ok a) before after = after ≡ before
+StaysUnlessUnwritten (Err Failed) before after = Unit {0}
+StaysUnlessUnwritten (Err NoMemory) before after = after ≡ before
 
 -- inside: all of a text was put but the rest
 pub record HasPut (before after : Option (List ℕ)) (text rest : List ℕ) : Type 0 where

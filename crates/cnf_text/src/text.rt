@@ -1,6 +1,6 @@
 //! Clauses as text.
 ghost use Rattle.std.specs.Prelude.{◌≡◌, ◌++◌, OnOk};
-ghost use Rattle.cnf_text.specs.Dimacs.{clause_line, header_line, literal_text};
+ghost use Rattle.cnf_text.specs.Text.{clause_line, header_line, literal_text};
 
 use cnf_export::Literals;
 use itoa::Buffer;

@@ -1,8 +1,8 @@
 //! Writing the clauses of a case, in pieces.
 ghost use Rattle.std.specs.Prelude.{◌≡◌, [], IsErrOf, OnErr, OnOk};
 ghost use Rattle.wf_outside.specs.Outside.{HasPart, Rose, with_bytes};
-ghost use Rattle.cnf_text.specs.Dimacs.{dimacs_text};
-ghost use Rattle.cnf_text.specs.Writing.{StaysUnlessFailed};
+ghost use Rattle.cnf_text.specs.Text.{dimacs_text};
+ghost use Rattle.cnf_text.specs.Writing.{StaysUnlessUnwritten};
 ghost use Rattle.cnf_text.specs.declared.writing.WriteFault.TheVariants.{NoMemory};
 ghost use Rattle.cnf_text.specs.declared.writing.WriteFault.TheVariants.{Failed as NotWritten};
 
@@ -54,7 +54,7 @@ pub fn write_clauses<K: Sink>(
         (dimacs_text encoder.old.variables encoder.old.all) }
     ensures flushed { OnOk result (K.is_flushed sink.new) }
     ensures rose { IsErrOf result NotWritten → Rose (K.faults sink.old) (K.faults sink.new) }
-    ensures stays { StaysUnlessFailed result (K.faults sink.old) (K.faults sink.new) }
+    ensures stays { StaysUnlessUnwritten result (K.faults sink.old) (K.faults sink.new) }
 {
     let mut out = Vec::new(alloc);
     push_header(&mut out, encoder.variables(), encoder.clauses())?;

@@ -20,7 +20,7 @@ use Rattle.wf_names.specs.declared.limits.TheConstants.{DEFAULT_LANES, DEFAULT_R
 use Rattle.command_words.specs.Words.{AreOptions, Options, command_of, found}
 use Rattle.command_words.specs.Words.{audit, cnf, plan, resilience, resume, serve, show, solve, trial}
 use Rattle.command_words.specs.Words.{audit_form, cnf_form, plan_form, resilience_form, resume_form, serve_form, show_form, solve_form, trial_form}
-use Rattle.command_words.specs.Words.{audit_in, cnf_in, plan_in, resilience_in, resume_in, serve_in, show_in, solve_in, trial_in}
+use Rattle.command_words.specs.Words.{audit_asked, cnf_in, plan_asked, resilience_in, resume_in, serve_in, show_in, solve_in, trial_in}
 use Rattle.command_words.specs.Usage.{IsPlain, option_words, options_with}
 use Rattle.command_words.proofs.Decimals.{decimal_plain, signed_taken, unsigned_taken, value_of, value_without_minus}
 use Rattle.command_words.proofs.Walking.{as_option, as_value, at, end_fault, found_by, none_at_end}
@@ -296,7 +296,7 @@ numbers_are o are =
     ap₂ with_numbers (value_without_minus o.lanes (omega arith)) (value_without_minus o.rounds (omega arith))
 
 pub plan_read : (p f : Text) → IsPlain p → IsPlain f → command_of (codes "plan" ∷ p ∷ f ∷ []) ≡ Some (plan p f)
-plan_read p f plain plain_f = ap (option_and_then plan_in) (plan_found p f plain plain_f)
+plan_read p f plain plain_f = ap (option_and_then plan_asked) (plan_found p f plain plain_f)
 
 pub show_read : (p : Text) → IsPlain p → command_of (codes "show" ∷ p ∷ []) ≡ Some (show p)
 show_read p plain = ap (option_and_then show_in) (show_found p plain)
@@ -311,7 +311,7 @@ serve_rows p (Some lanes) None = refl
 serve_rows p None (Some rounds) = refl
 serve_rows p (Some lanes) (Some rounds) = refl
 
-audit_rows : (p q : Text) (lanes rounds : Option ℕ) → audit_in (audit_files p q ++ option_rows lanes rounds)
+audit_rows : (p q : Text) (lanes rounds : Option ℕ) → audit_asked (audit_files p q ++ option_rows lanes rounds)
     ≡ Some (audit p q (with_numbers (number (options_with lanes rounds).lanes) (number (options_with lanes rounds).rounds)))
 audit_rows p q None None = refl
 audit_rows p q (Some lanes) None = refl
@@ -341,7 +341,7 @@ serve_read p lanes rounds plain are =
 pub audit_read : (p q : Text) (lanes rounds : Option ℕ) → IsPlain p → IsPlain q → AreOptions (options_with lanes rounds)
     → command_of (codes "audit" ∷ p ∷ q ∷ option_words lanes rounds) ≡ Some (audit p q (options_with lanes rounds))
 audit_read p q lanes rounds plain plain_q are =
-    ap (option_and_then audit_in) (audit_found p q plain plain_q lanes rounds are) ∙ audit_rows p q lanes rounds
+    ap (option_and_then audit_asked) (audit_found p q plain plain_q lanes rounds are) ∙ audit_rows p q lanes rounds
     ∙ ap (λ (o : Options). Some (audit p q o)) (numbers_are (options_with lanes rounds) are)
 
 pub resume_read : (p q t : Text) (lanes rounds : Option ℕ) → IsPlain p → IsPlain q → IsPlain t → AreOptions (options_with lanes rounds)

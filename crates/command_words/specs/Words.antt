@@ -109,8 +109,8 @@ command_by form command_in words = option_and_then command_in (found form words)
 abbrev pub plan_form : App
 plan_form = form (codes "plan") (policy_word ∷ wanted (codes "FLOW") ∷ [])
 
-abbrev pub plan_in : List Row → Option Command
-plan_in rows = with_both plan (policy_in rows) (first_of (codes "FLOW") rows)
+abbrev pub plan_asked : List Row → Option Command
+plan_asked rows = with_both plan (policy_in rows) (first_of (codes "FLOW") rows)
 
 abbrev pub show_form : App
 show_form = form (codes "show") (policy_word ∷ [])
@@ -150,8 +150,8 @@ abbrev pub audit_form : App
 audit_form = form (codes "audit")
     (policy_word ∷ wanted (codes "REQUESTS") ∷ lanes_option ∷ rounds_option ∷ [])
 
-abbrev pub audit_in : List Row → Option Command
-audit_in rows = option_and_then (λ policy.
+abbrev pub audit_asked : List Row → Option Command
+audit_asked rows = option_and_then (λ policy.
     with_both (audit policy) (first_of (codes "REQUESTS") rows) (options_of rows)) (policy_in rows)
 
 abbrev pub resume_form : App
@@ -178,13 +178,13 @@ is_word word other = pointwise nat_eq word other
 -- the command of this first word, at all the words
 abbrev pub command_at : Text → List Text → Option Command
 command_at word words =
-    if is_word word (codes "plan") then command_by plan_form plan_in words else
+    if is_word word (codes "plan") then command_by plan_form plan_asked words else
     if is_word word (codes "show") then command_by show_form show_in words else
     if is_word word (codes "solve") then command_by solve_form solve_in words else
     if is_word word (codes "resilience") then command_by resilience_form resilience_in words else
     if is_word word (codes "cnf") then command_by cnf_form cnf_in words else
     if is_word word (codes "serve") then command_by serve_form serve_in words else
-    if is_word word (codes "audit") then command_by audit_form audit_in words else
+    if is_word word (codes "audit") then command_by audit_form audit_asked words else
     if is_word word (codes "resume") then command_by resume_form resume_in words else
     if is_word word (codes "trial") then command_by trial_form trial_in words else
     None

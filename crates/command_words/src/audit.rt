@@ -1,7 +1,7 @@
 //! The words of `audit`.
 ghost use Rattle.std.specs.Prelude.{◌≡◌, IfOk, IfSome, map, option_map, string_bytes};
 ghost use Rattle.clap.specs.Words.{app_of};
-ghost use Rattle.command_words.specs.Words.{audit_form, audit_in, command_by};
+ghost use Rattle.command_words.specs.Words.{audit_form, audit_asked, command_by};
 ghost use Rattle.command_words.specs.Asked.{CanServe, asked};
 ghost use Rattle.command_words.specs.Finding.{HasOptions, rows_in};
 
@@ -17,7 +17,7 @@ pub(crate) fn read<'a>(
     words: &'a [String],
 ) -> Result<Option<Command<'a>>, AllocError>
     ensures command { IfOk result (λ c. option_map asked c
-        ≡ command_by audit_form audit_in (map string_bytes words.now)) }
+        ≡ command_by audit_form audit_asked (map string_bytes words.now)) }
     ensures served { IfOk result (λ c. IfSome c CanServe) }
 {
     match find(form(alloc)?, words)? {
@@ -36,7 +36,7 @@ fn form<'a>(alloc: Global) -> Result<clap::Command<'a>, AllocError>
 // The command, by what was found.
 fn command_in<'a>(matches: &ArgMatches<'a>) -> Option<Command<'a>>
     requires options { HasOptions (rows_in matches.now) }
-    ensures command { option_map asked result ≡ audit_in (rows_in matches.now) }
+    ensures command { option_map asked result ≡ audit_asked (rows_in matches.now) }
     ensures served { IfSome result CanServe }
 {
     let policy = word_in(matches, "POLICY")?;

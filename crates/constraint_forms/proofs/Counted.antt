@@ -3,7 +3,7 @@ use Rattle.std.proofs.Common.{◌≡◌, ◌≢◌, ℕ, zero, suc, ◌+◌, ◌
 use Rattle.std.proofs.Common.{slice_set, get_or-set_same, get_or-set_other, Option, Some, None, is_none, ◌⊎◌, inl, inr, refl, sym, ap, subst}
 use Rattle.std.proofs.Common.{◌∙◌, arith, add-zero, zero-add}
 use Rattle.basics.proofs.Booleans.{bool_cases, eq_back, eq_same, lt_yes, lt_no, not_true}
-use Rattle.constraint_forms.specs.Assigned.{is_member, user_at}
+use Rattle.constraint_forms.specs.Assign.{is_member, user_at}
 use Rattle.constraint_forms.specs.Rules.{different, free_from, is_among, user_onto, users_from}
 use Rattle.constraint_forms.specs.Kept.{too_few_with, too_many_with}
 use Rattle.constraint_forms.proofs.Counting.{AgreeFrom, from_zero, users_from-same, free_from-same}

@@ -3,7 +3,7 @@ use Rattle.std.proofs.Common.{◌≡◌, ◌≢◌, ℕ, zero, suc, ◌+◌, ◌
 use Rattle.std.proofs.Common.{Option, Some, None, is_none, ◌⊎◌, inl, inr, refl, sym, ap, subst, ◌∙◌, arith, add-zero, zero-add}
 use Rattle.std.specs.Bool.{IsTrue}
 use Rattle.basics.proofs.Booleans.{bool_cases, eq_back, eq_same, lt_back, lt_yes, lt_no, not_true, or_cases, or_left, or_right, same_by}
-use Rattle.constraint_forms.specs.Assigned.{is_member}
+use Rattle.constraint_forms.specs.Assign.{is_member}
 use Rattle.constraint_forms.specs.Rules.{different, free_from, is_among, user_onto, users_from}
 
 -- ---- lists of users

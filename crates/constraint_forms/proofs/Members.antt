@@ -1,7 +1,7 @@
 -- Who is in a set of steps.
 use Rattle.std.proofs.Common.{◌≡◌, ℕ, zero, suc, false, replicate, refl}
 use Rattle.wf_names.specs.declared.limits.TheConstants.{STEP_LIMIT}
-use Rattle.constraint_forms.specs.Assigned.{is_member, no_steps}
+use Rattle.constraint_forms.specs.Assign.{is_member, no_steps}
 
 -- no step is in the empty set
 pub none_member : (s : ℕ) → is_member no_steps s ≡ false

@@ -7,7 +7,7 @@ use Rattle.std.proofs.lemmas.Nat.Bits.{bit_at-zero, bit_at_above, bit_at-trailin
 use Rattle.std.proofs.lemmas.Bool.{cases_lt}
 use Rattle.wf_names.specs.declared.limits.TheConstants.{STEP_LIMIT}
 use Rattle.constraint_forms.specs.Flags.{flags_of}
-use Rattle.constraint_forms.specs.Assigned.{IsNextStep}
+use Rattle.constraint_forms.specs.Assign.{IsNextStep}
 use Rattle.constraint_forms.proofs.Bits.{flags_of-at, has_no_flag}
 
 shifted : (w k j : ℕ) → bit_at (w / 2 ^ k) j ≡ bit_at w (k + j)

@@ -4,7 +4,7 @@ use Rattle.std.proofs.Common.{refl, sym, subst, arith, add-zero, zero-add}
 use Rattle.std.specs.Bool.{IsTrue}
 use Rattle.basics.proofs.Booleans.{and_same, eq_same, or_left, or_right}
 use Rattle.constraint_forms.specs.declared.rule.Rule.TheVariants.{Pair, SomeOf, AllOf, SomeTo, AllTo, AtMost, AtLeast}
-use Rattle.constraint_forms.specs.Assigned.{is_member}
+use Rattle.constraint_forms.specs.Assign.{is_member}
 use Rattle.constraint_forms.specs.Rules.{any_from, all_from, are_unrelated, different, free_from, names, turned, users_from, Relating}
 use Rattle.constraint_forms.proofs.Counting.{different-alike, different-le, free_from-same, free_from-total, from_zero, le_not, lt_less, lt_more, reach-le}
 use Rattle.constraint_forms.proofs.Counting.{users_from-more, users_from-same}

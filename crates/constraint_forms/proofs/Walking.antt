@@ -3,7 +3,7 @@ use Rattle.std.proofs.Common.{◌≡◌, ℕ, zero, suc, ◌+◌, ◌-◌, ◌<�
 use Rattle.std.proofs.Common.{is_some, length, drop, refl, sym, ap, ◌∙◌, arith}
 use Rattle.std.proofs.lemmas.List.{drop_all}
 use Rattle.wf_names.specs.declared.limits.TheConstants.{STEP_LIMIT}
-use Rattle.constraint_forms.specs.Assigned.{is_member, IsNextStep}
+use Rattle.constraint_forms.specs.Assign.{is_member, IsNextStep}
 use Rattle.constraint_forms.specs.Kept.{counts_before}
 use Rattle.constraint_forms.specs.Rules.{all_from, any_from, different, free_from, is_among, user_onto, users_from}
 use Rattle.constraint_forms.proofs.Leaving.{next_flag, one_less, one_more}

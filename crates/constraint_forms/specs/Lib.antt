@@ -1,4 +1,4 @@
-pub mod Assigned
+pub mod Assign
 pub mod Flags
 pub mod Rules
 pub mod Kept

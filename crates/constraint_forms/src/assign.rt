@@ -1,7 +1,7 @@
 //! Partial assignments of users to steps.
 ghost use Rattle.std.specs.Prelude.{◌≡◌, ◌<◌, None, Some, ℕ, length, slice_set};
 ghost use Rattle.wf_names.specs.declared.limits.TheConstants.{STEP_LIMIT};
-ghost use Rattle.constraint_forms.specs.Assigned.{no_users, user_at};
+ghost use Rattle.constraint_forms.specs.Assign.{no_users, user_at};
 
 use std::marker::Model;
 use wf_names::{STEP_LIMIT, StepId, UserId};

@@ -2,7 +2,7 @@
 ghost use Rattle.std.specs.Prelude.{◌≡◌, ◌+◌, ◌≤◌, ◌<◌, ◌||◌, ℕ, Some, [], length, drop};
 ghost use Rattle.wf_names.specs.declared.limits.TheConstants.{STEP_LIMIT, USER_LIMIT};
 ghost use Rattle.wf_names.specs.UserSets.{has_user};
-ghost use Rattle.constraint_forms.specs.Assigned.{planned, user_at};
+ghost use Rattle.constraint_forms.specs.Assign.{planned, user_at};
 ghost use Rattle.constraint_forms.specs.Rules.{different, free_from, is_among, user_onto};
 ghost use Rattle.constraint_forms.specs.Rules.{users_from};
 ghost use Rattle.constraint_forms.specs.Kept.{counts_before};

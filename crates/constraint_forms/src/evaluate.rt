@@ -3,7 +3,7 @@ ghost use Rattle.std.specs.Prelude.{◌≡◌, ℕ, ◌<◌, IsTrue, Some, lengt
 ghost use Rattle.constraint_forms.specs.Rules.{all_from, any_from, are_unrelated, different};
 ghost use Rattle.constraint_forms.specs.Rules.{is_falsified, is_satisfied, turned, users_from};
 ghost use Rattle.constraint_forms.specs.Rules.{IsRuleOf};
-ghost use Rattle.constraint_forms.specs.Assigned.{is_member, planned, user_at};
+ghost use Rattle.constraint_forms.specs.Assign.{is_member, planned, user_at};
 
 use crate::count::{assigned_by, count_free, count_users};
 use crate::{Assign, Holds, Plan, Rule, StepSet};

@@ -3,7 +3,7 @@ ghost use Rattle.std.specs.Prelude.{◌≡◌, ◌&&◌, ℕ, ◌<◌, ◌≤◌
 ghost use Rattle.std.specs.Prelude.{length, nat_lt, not, slice_set};
 ghost use Rattle.wf_names.specs.declared.limits.TheConstants.{STEP_LIMIT, USER_LIMIT};
 ghost use Rattle.wf_names.specs.UserSets.{has_user};
-ghost use Rattle.constraint_forms.specs.Assigned.{user_at};
+ghost use Rattle.constraint_forms.specs.Assign.{user_at};
 ghost use Rattle.constraint_forms.specs.Kept.{are_unrelated_with, too_few_with, too_many_with};
 ghost use Rattle.constraint_forms.specs.Kept.{IsBelow};
 ghost use Rattle.constraint_forms.specs.Rules.{all_from, any_from, are_unrelated, is_falsified};

@@ -2,7 +2,7 @@
 ghost use Rattle.std.specs.Prelude.{◌≡◌, ℕ, ◌<◌, ◌≤◌, ◌||◌, false, true, length, slice_set};
 ghost use Rattle.std.specs.Prelude.{MatchOption};
 ghost use Rattle.wf_names.specs.declared.limits.TheConstants.{STEP_LIMIT};
-ghost use Rattle.constraint_forms.specs.Assigned.{is_member, no_steps, IsNextStep};
+ghost use Rattle.constraint_forms.specs.Assign.{is_member, no_steps, IsNextStep};
 ghost use Rattle.constraint_forms.specs.Rules.{count_members};
 
 use std::marker::Model;

@@ -4,13 +4,13 @@ use Rattle.std.specs.Prelude.{option_map, slice_set, if◌then◌else◌}
 use Rattle.std.specs.FinSet as set
 use Rattle.wf_names.specs.States.{user_of}
 use Rattle.constraint_forms.specs.declared.rule.Rule.{Rule}
-use Rattle.constraint_forms.specs.Assigned.{user_at}
+use Rattle.constraint_forms.specs.Assign.{user_at}
 use Rattle.constraint_forms.specs.Rules.{Relating, is_falsified}
 use Rattle.policy_book.specs.Shapes.{PolicyShape}
 use Rattle.policy_book.specs.Policies.{flow_at, is_authorised, problem_of}
 use Rattle.policy_book.specs.Refuting.{passing}
 use Rattle.case_record.specs.Cases.{CaseShape, assigned_of, state_at}
-use Rattle.case_record.specs.Ready.{first_missing}
+use Rattle.case_record.specs.Order.{first_missing}
 use Rattle.wf_talk.specs.declared.reply.Denial.{Denial}
 use Rattle.wf_talk.specs.declared.reply.Denial.TheVariants.{Taken, Order, Role}
 use Rattle.wf_talk.specs.declared.reply.Denial.TheVariants as denial

@@ -1,6 +1,6 @@
 //! The first cause of a denied claim.
 ghost use Rattle.std.specs.Prelude.{◌≡◌, ◌<◌, true, length, is_some, IfOk, OnErr};
-ghost use Rattle.constraint_forms.specs.Assigned.{user_at};
+ghost use Rattle.constraint_forms.specs.Assign.{user_at};
 ghost use Rattle.policy_book.specs.Policies.{flow_at, problem_of};
 ghost use Rattle.denial_reasons.specs.Causes.{assigned_with, first_cause, first_falsified};
 ghost use Rattle.denial_reasons.specs.Causes.{permitted_roles, takes_memory};

@@ -9,7 +9,7 @@ use Rattle.serde_json.specs.Data.{Data}
 use Rattle.serde_json.specs.Written.{compact_text}
 use Rattle.wf_names.specs.declared.limits.TheConstants.{CASE_NUMBER_LIMIT, TRANSCRIPT_LINE_LIMIT}
 use Rattle.refutation_tree.specs.declared.tree.Tree.{Tree}
-use Rattle.refutation_tree.specs.Shapes.{Shape, Kids, holder, rule, node, no_kids, tree_kid, twin_kid, nodes_of}
+use Rattle.refutation_tree.specs.Tree.{Shape, Kids, holder, rule, node, no_kids, tree_kid, twin_kid, nodes_of}
 use Rattle.refutation_tree.specs.Views.{shape_of}
 use Rattle.policy_book.specs.Shapes.{PolicyShape}
 use Rattle.wf_talk.specs.declared.entry.Entry.{Entry}
@@ -25,7 +25,7 @@ use Rattle.wire_json.specs.Trees.{tree_data}
 use Rattle.wire_json.proofs.Lengths.{tree_texts_are_short}
 use Rattle.entry_reader.specs.Lines.{IsEntry}
 use Rattle.entry_reader.specs.Within.{AreKids, IsReply, IsTree}
-use Rattle.entry_laws.specs.Laws.{HasNames, TreesFitLines, is_by_tree}
+use Rattle.entry_laws.specs.Laws.{HasNameForms, TreesFitLines, is_by_tree}
 
 around : (a x b : List ℕ) → length (a ++ (x ++ b)) ≡ length a + (length x + length b)
 around a x b = length-append a (x ++ b) ∙ ap (λ n. length a + n) (length-append x b)
@@ -44,7 +44,7 @@ mutual
   small_rules_of p f (twin_kid u v kids) is = small_rules_of p f kids is.2
 
 -- a tree that is not too large
-tree_long : (p : PolicyShape) (f : ℕ) (tree : Tree) → HasNames p → IsTree p f (shape_of tree) → is_large tree ≡ false →
+tree_long : (p : PolicyShape) (f : ℕ) (tree : Tree) → HasNameForms p → IsTree p f (shape_of tree) → is_large tree ≡ false →
     length (compact_text (tree_data p f (shape_of tree))) ≤ 16200000
 tree_long p f tree names is small =
     let few : nodes_of (shape_of tree) ≤ TREE_LIMIT = lt_back_no TREE_LIMIT (nodes_of (shape_of tree)) small in
@@ -97,7 +97,7 @@ beside_long n d known =
     omega (arith, parts, length-decimal-le 5 n (omega arith) (omega (arith, known)) (omega (arith, known)))
 
 -- a reply that denies by a tree
-reply_long : (p : PolicyShape) (flows : ℕ → Option ℕ) (o : Option ℕ) (given : Reply) → HasNames p → IsReply p flows o given →
+reply_long : (p : PolicyShape) (flows : ℕ → Option ℕ) (o : Option ℕ) (given : Reply) → HasNameForms p → IsReply p flows o given →
     is_by_tree given ≡ true → shows_large given ≡ false →
     length (compact_text (reply_data p given)) ≤ 16200100
 reply_long p flows o (reply.Denied (denial.Unsatisfiable f tree)) names is by_tree small =

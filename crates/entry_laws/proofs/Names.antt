@@ -7,7 +7,7 @@ use Rattle.std.proofs.lemmas.Grind.{common_steps}
 use Rattle.std.proofs.lemmas.List.{length-append}
 use Rattle.std.proofs.lemmas.List.Folds.{position_or_len_push}
 use Rattle.std.proofs.lemmas.List.Sums.{prefix_len-le-length}
-use Rattle.first_fault.specs.Reading.{◌>>=◌, check, or_fault}
+use Rattle.basics.specs.Reading.{◌>>=◌, check, or_fault}
 use Rattle.wf_names.specs.Names.{is_name}
 use Rattle.wf_names.specs.Table.{place_of, AreNames}
 use Rattle.policy_book.specs.Shapes.{PolicyShape}
@@ -35,7 +35,7 @@ use Rattle.admin_edits.proofs.Keeping.{changes_keep_names}
 use Rattle.wf_board.specs.declared.deed.Deed.{Deed}
 use Rattle.wf_board.specs.declared.deed.Deed.TheVariants as deed
 use Rattle.wf_board.specs.States.{Book, State, flow_named, numbered_case, step_named, user_named}
-use Rattle.wf_board.specs.Resolved.{on_edit, on_step, open_case_at, resolve}
+use Rattle.wf_board.specs.Resolve.{on_edit, on_step, open_case_at, resolve}
 use Rattle.wf_board.specs.Decisions.{cause_aside, cause_full, decision_aside, decision_of, unless_denied}
 use Rattle.wf_board.specs.Steps.{state_after_decision, state_after_deed, state_after_step}
 use Rattle.wf_board.proofs.Told.{HoldsOf, IsTold, then_holds, told}

@@ -14,7 +14,7 @@ use Rattle.wf_names.specs.declared.states.StepState.TheVariants.{Free, Held, Fin
 use Rattle.wf_names.specs.declared.states.Phase.{Phase}
 use Rattle.wf_names.specs.declared.states.Phase.TheVariants.{Live, Done, Withdrawn}
 use Rattle.constraint_forms.specs.declared.rule.Rule.{Rule}
-use Rattle.constraint_forms.specs.Assigned.{no_users, planned}
+use Rattle.constraint_forms.specs.Assign.{no_users, planned}
 use Rattle.constraint_forms.specs.Rules.{Relating, is_falsified}
 use Rattle.pair_set.specs.Pairs.{Pairs}
 use Rattle.policy_book.specs.Shapes.{PolicyShape}
@@ -23,8 +23,8 @@ use Rattle.policy_book.specs.Policies.{flow_at, problem_of}
 use Rattle.policy_book.specs.Plans.{IsValidPlan, Problem}
 use Rattle.certificate_check.proofs.Assigned.{none_not_some, same_some}
 use Rattle.case_record.specs.Cases.{CaseShape, assigned_of, state_at}
-use Rattle.case_record.specs.Cells.{all_steps}
-use Rattle.case_record.specs.Ready.{first_missing_from}
+use Rattle.case_record.specs.Steps.{all_steps}
+use Rattle.case_record.specs.Order.{first_missing_from}
 use Rattle.denial_reasons.specs.Causes.{assigned_with, first_falsified, permitted_roles}
 use Rattle.wf_talk.specs.declared.request.Bad.{Bad}
 use Rattle.wf_talk.specs.declared.request.Bad.TheVariants as bad

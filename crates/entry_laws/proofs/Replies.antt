@@ -1,7 +1,7 @@
 -- The reply of a step stands for something in the state before it, and nests little.
 use Rattle.std.proofs.Common.{◌≡◌, ℕ, ◌+◌, ◌<◌, ◌≤◌, ◌^◌, inl, inr, Bool, true, List, length, Option, Some, Result, Ok, Err, sym, subst, arith}
 use Rattle.serde_json.specs.Data.{depth}
-use Rattle.constraint_forms.specs.Assigned.{no_steps, no_users}
+use Rattle.constraint_forms.specs.Assign.{no_steps, no_users}
 use Rattle.refutation_tree.specs.declared.tree.Tree.{Tree}
 use Rattle.refutation_tree.specs.Views.{shape_of}
 use Rattle.policy_book.specs.Shapes.{PolicyShape}
@@ -24,7 +24,7 @@ use Rattle.admin_edits.specs.Edits.{amended}
 use Rattle.wf_board.specs.declared.deed.Deed.{Deed}
 use Rattle.wf_board.specs.declared.deed.Deed.TheVariants as deed
 use Rattle.wf_board.specs.States.{State, open_cases}
-use Rattle.wf_board.specs.Edited.{IsFirstStranded}
+use Rattle.wf_board.specs.Edition.{IsFirstStranded}
 use Rattle.wf_board.specs.Found.{IsAllowed}
 use Rattle.wf_board.specs.Decisions.{decision_of}
 use Rattle.wf_board.specs.Steps.{Answers, IsReplyTo, IsStep, face_of}

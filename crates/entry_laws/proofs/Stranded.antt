@@ -16,7 +16,7 @@ use Rattle.admin_edits.specs.Found as edits
 use Rattle.admin_edits.proofs.Keeping.{changes_keep_names, changes_keep_policies_sound}
 use Rattle.admin_edits.proofs.Unhurt.{unhurt_plans_stay_valid}
 use Rattle.wf_board.specs.States.{Numbered, State, numbered_case, open_cases}
-use Rattle.wf_board.specs.Edited.{CanAllBeCompleted, IsFirstStranded}
+use Rattle.wf_board.specs.Edition.{CanAllBeCompleted, IsFirstStranded}
 use Rattle.wf_board.specs.Found.{IsAllowed}
 use Rattle.wf_board.specs.Kept.{IsSoundState, KeepsCompletable}
 use Rattle.wf_board.proofs.Exact.{stranded_not}

@@ -2,13 +2,13 @@
 use Rattle.std.proofs.Common.{◌≡◌, ℕ, ◌<◌, ◌≤◌, List, length, Option, None, Some, Result, Ok, Err, sym, ap, subst, arith}
 use Rattle.std.specs.Option.{option_map}
 use Rattle.serde_json.specs.Data.{depth}
-use Rattle.first_fault.specs.Reading.{check, or_fault}
+use Rattle.basics.specs.Reading.{check, or_fault}
 use Rattle.wf_names.specs.States.{user_of}
-use Rattle.constraint_forms.specs.Assigned.{user_at}
+use Rattle.constraint_forms.specs.Assign.{user_at}
 use Rattle.policy_book.specs.Shapes.{PolicyShape}
 use Rattle.policy_book.specs.Policies.{flow_at, problem_of}
 use Rattle.case_record.specs.Cases.{CaseShape, is_open, state_at}
-use Rattle.case_record.specs.Ready.{first_missing}
+use Rattle.case_record.specs.Order.{first_missing}
 use Rattle.wf_talk.specs.declared.edit.Missing.{Missing}
 use Rattle.wf_talk.specs.declared.edit.Missing.TheVariants as missing
 use Rattle.wf_talk.specs.declared.request.Request.TheVariants as request
@@ -27,7 +27,7 @@ use Rattle.admin_edits.specs.Edits.{amendment_of, is_admin}
 use Rattle.wf_board.specs.declared.deed.Deed.{Deed}
 use Rattle.wf_board.specs.declared.deed.Deed.TheVariants as deed
 use Rattle.wf_board.specs.States.{State, numbered_case, flow_named, step_named, user_named}
-use Rattle.wf_board.specs.Resolved.{edit_denial, on_edit, on_step, open_case_at, resolve}
+use Rattle.wf_board.specs.Resolve.{edit_denial, on_edit, on_step, open_case_at, resolve}
 use Rattle.wf_board.specs.Decisions.{cause_aside, cause_full, decision_aside, decision_of}
 use Rattle.wf_board.specs.Kept.{IsOfPolicy, IsSoundState}
 use Rattle.wf_board.proofs.Told.{place_within}

@@ -58,7 +58,7 @@ abbrev pub TextsAreLines : Type 0
 TextsAreLines = (p : PolicyShape) (e : Entry) → IsOneLine (entry_text p e)
 
 -- the names of users and steps have a name's form
-pub record HasNames (p : PolicyShape) : Type 0 where
+pub record HasNameForms (p : PolicyShape) : Type 0 where
   pub users : AreNames p.roster.users
   pub steps : (f : ℕ) → AreNames (flow_at p f).flow.steps
 
@@ -73,6 +73,6 @@ is_by_tree given = false
 -- than a line of an audit
 abbrev pub TreesFitLines : Type 0
 TreesFitLines =
-    (p : PolicyShape) (flows : ℕ → Option ℕ) (e : Entry) → HasNames p → IsEntry p flows e →
+    (p : PolicyShape) (flows : ℕ → Option ℕ) (e : Entry) → HasNameForms p → IsEntry p flows e →
     is_by_tree e.reply ≡ true → shows_large e.reply ≡ false →
     length (entry_text p e) ≤ TRANSCRIPT_LINE_LIMIT + 1

@@ -12,7 +12,7 @@ use Rattle.wire_json.specs.Values.{value_of}
 use Rattle.entry_reader.specs.declared.place.Place.{Place}
 use Rattle.entry_reader.specs.Named.{HasNames}
 use Rattle.entry_reader.specs.Places.{number_below, place_in, place_of_line}
-use Rattle.refutation_tree.specs.Shapes.{Shape}
+use Rattle.refutation_tree.specs.Tree.{Shape}
 use Rattle.wire_json.specs.Trees.{tree_data}
 use Rattle.entry_reader.proofs.TreesBack.{tree_is, tree_back}
 use Rattle.entry_reader.specs.Within.{IsTree}

@@ -1,6 +1,6 @@
 -- How deep the texts of trees nest.
 use Rattle.std.proofs.Common.{ℕ, ◌-◌, ◌<◌, arith}
-use Rattle.refutation_tree.specs.Shapes.{Kids, node, no_kids, tree_kid, twin_kid, joined}
+use Rattle.refutation_tree.specs.Tree.{Kids, node, no_kids, tree_kid, twin_kid, joined}
 use Rattle.refutation_tree.specs.Views.{shape_of}
 use Rattle.refutation_tree.specs.declared.tree.Tree.{Tree}
 use Rattle.refutation_tree.specs.declared.tree.Kid.TheVariants as kid

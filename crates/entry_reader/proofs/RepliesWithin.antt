@@ -9,7 +9,7 @@ use Rattle.serde_json.specs.Find.{get, as_str, as_array, as_u64, as_number}
 use Rattle.wf_names.specs.declared.limits.TheConstants.{STEP_LIMIT, CASE_NUMBER_LIMIT}
 use Rattle.wf_names.specs.declared.states.StepState.{StepState}
 use Rattle.wf_names.specs.declared.states.StepState.TheVariants.{Free, Held, Finished}
-use Rattle.refutation_tree.specs.Shapes.{Shape, holder, rule, node}
+use Rattle.refutation_tree.specs.Tree.{Shape, holder, rule, node}
 use Rattle.refutation_tree.specs.Views.{shape_of}
 use Rattle.refutation_tree.specs.declared.tree.Tree.{Tree}
 use Rattle.wf_talk.specs.declared.request.Bad.{Bad}

@@ -3,7 +3,7 @@
 use Rattle.std.specs.Prelude.{ℕ, ◌+◌, ◌*◌, ◌≤◌, Option}
 use Rattle.serde_json.specs.Data.{depth, items_depth}
 use Rattle.serde_json.specs.View.{items_of}
-use Rattle.refutation_tree.specs.Shapes.{Shape, Kids, no_kids}
+use Rattle.refutation_tree.specs.Tree.{Shape, Kids, no_kids}
 use Rattle.refutation_tree.specs.Views.{kid_onto}
 use Rattle.refutation_tree.specs.declared.tree.Kid.{Kid}
 use Rattle.wf_talk.specs.declared.reply.Reply.{Reply}

@@ -1,6 +1,6 @@
 -- Inside: code that reads a value.
 use Rattle.std.specs.Prelude.{◌≡◌, Option, None, Some, Result, Ok, Err, option_map}
-use Rattle.refutation_tree.specs.Shapes.{Kids}
+use Rattle.refutation_tree.specs.Tree.{Kids}
 use Rattle.refutation_tree.specs.Views.{branch_onto}
 use Rattle.refutation_tree.specs.declared.tree.Branch.{Branch}
 use Rattle.entry_reader.specs.declared.fault.TextFault.{TextFault}

@@ -7,7 +7,7 @@ use Rattle.wf_names.specs.declared.limits.TheConstants.{CASE_NUMBER_LIMIT}
 use Rattle.wf_names.specs.declared.states.StepState.{StepState}
 use Rattle.wf_names.specs.declared.states.Phase.{Phase}
 use Rattle.wf_names.specs.declared.states.Phase.TheVariants.{Live, Done, Withdrawn}
-use Rattle.refutation_tree.specs.Shapes.{Shape, holder, rule, node}
+use Rattle.refutation_tree.specs.Tree.{Shape, holder, rule, node}
 use Rattle.refutation_tree.specs.declared.tree.Tree.{Tree}
 use Rattle.refutation_tree.specs.declared.tree.Tree.TheVariants as tree
 use Rattle.wf_talk.specs.declared.edit.Missing.{Missing}

@@ -6,8 +6,8 @@ use Rattle.wf_names.specs.Names.{is_name}
 use Rattle.wf_names.specs.declared.limits.TheConstants.{STEP_LIMIT, CASE_NUMBER_LIMIT}
 use Rattle.wf_names.specs.declared.states.StepState.{StepState}
 use Rattle.wf_names.specs.declared.states.StepState.TheVariants.{Free, Held, Finished}
-use Rattle.refutation_tree.specs.Shapes.{Shape, Kids, holder, rule, node, no_kids, tree_kid}
-use Rattle.refutation_tree.specs.Shapes.{twin_kid}
+use Rattle.refutation_tree.specs.Tree.{Shape, Kids, holder, rule, node, no_kids, tree_kid}
+use Rattle.refutation_tree.specs.Tree.{twin_kid}
 use Rattle.refutation_tree.specs.Views.{shape_of}
 use Rattle.wf_talk.specs.declared.request.Bad.{Bad}
 use Rattle.wf_talk.specs.declared.request.Bad.TheVariants as bad
@@ -27,8 +27,8 @@ IsUser p u = u < length p.roster.users
 abbrev pub IsRole : PolicyShape → ℕ → Type 0
 IsRole p r = r < length p.roster.roles
 
-abbrev pub IsFlow : PolicyShape → ℕ → Type 0
-IsFlow p f = f < length p.flow_names
+abbrev pub IsFlowNumber : PolicyShape → ℕ → Type 0
+IsFlowNumber p f = f < length p.flow_names
 
 abbrev pub IsStepOf : PolicyShape → ℕ → ℕ → Type 0
 IsStepOf p f s = s < length (flow_at p f).flow.steps
@@ -64,7 +64,8 @@ IsState p (Finished u) = IsUser p u
 
 -- what is seen of a case: at most as many states as a workflow may have steps
 abbrev pub IsFace : PolicyShape → Face → Type 0
-IsFace p face = IsFlow p face.flow × (length face.states ≤ STEP_LIMIT) × All (IsState p) face.states
+IsFace p face = IsFlowNumber p face.flow × (length face.states ≤ STEP_LIMIT) ×
+    All (IsState p) face.states
 
 -- why a line is no request: a key has a name's form
 abbrev pub IsBad : Bad → Type 0
@@ -77,7 +78,7 @@ IsBad bad.Extra = Unit {0}
 
 -- the workflow that is concerned, if any, is this one of the policy
 abbrev pub IsConcerned : PolicyShape → Option ℕ → ℕ → Type 0
-IsConcerned p concerned f = (concerned ≡ Some f) × IsFlow p f
+IsConcerned p concerned f = (concerned ≡ Some f) × IsFlowNumber p f
 
 -- a denial: its step and its tree are of the workflow that is concerned; where an edit strands a
 -- case, of the case's

@@ -1,7 +1,7 @@
 //! The tree that a value is.
 ghost use Rattle.std.specs.Prelude.{◌≡◌, ◌≢◌, IfOk, IsErrOf, Option, option_map};
 ghost use Rattle.serde_json.specs.View.{view, items_view};
-ghost use Rattle.refutation_tree.specs.Shapes.{Shape, Kids};
+ghost use Rattle.refutation_tree.specs.Tree.{Shape, Kids};
 ghost use Rattle.refutation_tree.specs.Views.{shape_of, branch_onto};
 ghost use Rattle.wire_json.specs.Trees.{tree_data};
 ghost use Rattle.entry_reader.specs.declared.fault.TextFault.TheVariants.{NotText};

@@ -11,8 +11,8 @@ use Rattle.wf_names.specs.declared.states.Phase.{Phase}
 use Rattle.wf_names.specs.declared.states.Phase.TheVariants.{Live, Done, Withdrawn}
 use Rattle.case_record.specs.Cases.{CaseShape, as_finished, is_open, state_at}
 use Rattle.grant_table.specs.declared.rows.Row.{Row}
-use Rattle.grant_table.specs.Tables.{CasesShape, case_at, case_in, change_row, finished_row, is_open_case, ones, open_count, plan_of, row_at}
-use Rattle.grant_table.specs.Tables.{with_row}
+use Rattle.grant_table.specs.Cases.{CasesShape, case_at, case_in, change_row, finished_row, is_open_case, ones, open_count, plan_of, row_at}
+use Rattle.grant_table.specs.Cases.{with_row}
 use Rattle.grant_table.specs.Kept.{AreNumberedBelow, ArePlannedWhileOpen, AscendFrom, IsSoundTable}
 
 abbrev or_else : Row → Option Row → Row

@@ -4,7 +4,7 @@ use Rattle.std.proofs.Common.{sym, ap, subst, ◌∙◌, arith}
 use Rattle.std.specs.Option.{option_map}
 use Rattle.case_record.specs.Cases.{is_open}
 use Rattle.grant_table.specs.declared.rows.Row.{Row}
-use Rattle.grant_table.specs.Tables.{CasesShape, IsNextOpen, case_in, is_open_case, next_open}
+use Rattle.grant_table.specs.Cases.{CasesShape, IsNextOpen, case_in, is_open_case, next_open}
 use Rattle.grant_table.specs.Kept.{AscendFrom}
 use Rattle.basics.proofs.Booleans.{and_both, bool_cases, differ, eq_above, eq_back, eq_is, le_back, le_yes, second_false}
 use Rattle.grant_table.proofs.Places.{none_below}

@@ -3,7 +3,7 @@ use Rattle.std.proofs.Common.{◌≡◌, ℕ, zero, suc, ◌+◌, ◌<◌, ◌�
 use Rattle.std.proofs.Common.{subst, ◌∙◌, arith}
 use Rattle.std.specs.List.{filter}
 use Rattle.grant_table.specs.declared.rows.Row.{Row}
-use Rattle.grant_table.specs.Tables.{is_open_row, ones, only, open_count, open_rows, row_at}
+use Rattle.grant_table.specs.Cases.{is_open_row, ones, only, open_count, open_rows, row_at}
 use Rattle.grant_table.specs.Kept.{AreNumberedBelow, ArePlannedWhileOpen, AscendFrom, IsSoundTable, rows_of}
 use Rattle.basics.proofs.Booleans.{bool_cases, eq_above, eq_back}
 use Rattle.grant_table.proofs.Counts.{counted}

@@ -4,7 +4,7 @@ use Rattle.std.proofs.Common.{None, Some, IsSomeAnd, get_or, refl, sym, ap, â—Œâ
 use Rattle.basics.proofs.Booleans.{and-false, bool_cases}
 use Rattle.basics.proofs.Lists.{take_next}
 use Rattle.grant_table.specs.declared.rows.Row.{Row}
-use Rattle.grant_table.specs.Tables.{change_row, is_open_row, next_open, ones, open_count, open_rows, replanned, replanned_row, row_at}
+use Rattle.grant_table.specs.Cases.{change_row, is_open_row, next_open, ones, open_count, open_rows, replanned, replanned_row, row_at}
 use Rattle.grant_table.specs.Kept.{ArePassed, AscendFrom, IsKeptTable, IsSoundTable}
 use Rattle.grant_table.proofs.Counts.{counted}
 use Rattle.grant_table.proofs.Keeping.{count_added}

@@ -6,7 +6,7 @@ use Rattle.std.specs.List.Sorted.{IsPartitionedBy}
 use Rattle.std.proofs.Math.Seq.{drop-cons}
 use Rattle.wf_names.specs.States.{is_live}
 use Rattle.grant_table.specs.declared.rows.Row.{Row}
-use Rattle.grant_table.specs.Tables.{row_at, change_row, next_open}
+use Rattle.grant_table.specs.Cases.{row_at, change_row, next_open}
 use Rattle.grant_table.specs.Kept.{AscendFrom, IsRowPlace}
 use Rattle.basics.proofs.Booleans.{eq_above, eq_below, eq_is, lt_back, lt_back_no}
 

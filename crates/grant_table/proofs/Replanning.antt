@@ -6,7 +6,7 @@ use Rattle.std.proofs.Math.Seq.{drop-cons}
 use Rattle.basics.proofs.Booleans.{bool_cases}
 use Rattle.basics.proofs.Lists.{take_next}
 use Rattle.grant_table.specs.declared.rows.Row.{Row}
-use Rattle.grant_table.specs.Tables.{is_open_row, open_count, replanned, replanned_row}
+use Rattle.grant_table.specs.Cases.{is_open_row, open_count, replanned, replanned_row}
 use Rattle.grant_table.specs.Kept.{AreNumberedBelow, ArePlannedWhileOpen, AscendFrom, IsSoundTable}
 use Rattle.grant_table.proofs.Counts.{counted}
 use Rattle.grant_table.proofs.Places.{taken_off}

@@ -4,7 +4,7 @@ use Rattle.std.specs.Prelude.{length, take, drop, slice_get, Option, None, Some,
 use Rattle.wf_names.specs.declared.limits.TheConstants.{OPEN_CASE_LIMIT, CASE_LIMIT}
 use Rattle.case_record.specs.Cases.{is_open}
 use Rattle.grant_table.specs.declared.rows.Row.{Row}
-use Rattle.grant_table.specs.Tables.{open_count, row_at}
+use Rattle.grant_table.specs.Cases.{open_count, row_at}
 
 -- the numbers of the rows ascend, and none is below low
 abbrev pub AscendFrom : ℕ → List Row → Type 0

@@ -1,3 +1,3 @@
 pub mod Lookup
-pub mod Tables
+pub mod Cases
 pub mod Kept

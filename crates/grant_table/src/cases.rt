@@ -7,10 +7,10 @@ ghost use Rattle.wf_names.specs.declared.limits.TheConstants.{STEP_LIMIT};
 ghost use Rattle.wf_names.specs.States.{is_done};
 ghost use Rattle.case_record.specs.Cases.{is_open};
 ghost use Rattle.grant_table.specs.Kept.{IsOpenPart, IsSoundTable};
-ghost use Rattle.grant_table.specs.Tables.{case_at, finished_row, freed_row, held_row};
-ghost use Rattle.grant_table.specs.Tables.{is_open_case, next_open, only, open_count, open_rows};
-ghost use Rattle.grant_table.specs.Tables.{ones, plan_at, replanned, row_at, with_case, with_row};
-ghost use Rattle.grant_table.specs.Tables.{withdrawn_row, IsNextOpen, HasFreeStep, HasHeldStep};
+ghost use Rattle.grant_table.specs.Cases.{case_at, finished_row, freed_row, held_row};
+ghost use Rattle.grant_table.specs.Cases.{is_open_case, next_open, only, open_count, open_rows};
+ghost use Rattle.grant_table.specs.Cases.{ones, plan_at, replanned, row_at, with_case, with_row};
+ghost use Rattle.grant_table.specs.Cases.{withdrawn_row, IsNextOpen, HasFreeStep, HasHeldStep};
 
 use crate::changes::{finished, freed, held, withdrawn};
 use crate::recent::Recent;
@@ -41,7 +41,7 @@ pub struct Cases {
 impl Model for Cases {
     ghost use Rattle.std.specs.Prelude.{◌-◌};
     ghost use Rattle.std.specs.Vec.{vec_capacity, vec_len};
-    ghost use Rattle.grant_table.specs.Tables.{CasesShape};
+    ghost use Rattle.grant_table.specs.Cases.{CasesShape};
     ghost use Rattle.grant_table.specs.Kept.{IsKeptTable};
 
     ghost Value = { CasesShape };

@@ -1,8 +1,8 @@
 //! How a row changes with its case.
 ghost use Rattle.std.specs.Prelude.{◌≡◌, true};
 ghost use Rattle.case_record.specs.Cases.{is_open};
-ghost use Rattle.grant_table.specs.Tables.{finished_row, freed_row, held_row, plan_while};
-ghost use Rattle.grant_table.specs.Tables.{replanned_row, withdrawn_row, HasFreeStep, HasHeldStep};
+ghost use Rattle.grant_table.specs.Cases.{finished_row, freed_row, held_row, plan_while};
+ghost use Rattle.grant_table.specs.Cases.{replanned_row, withdrawn_row, HasFreeStep, HasHeldStep};
 
 use crate::rows::Row;
 use constraint_forms::Plan;

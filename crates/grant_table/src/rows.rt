@@ -3,8 +3,8 @@ ghost use Rattle.std.specs.Prelude.{◌≡◌, ℕ, ◌+◌, ◌<◌, ◌≤◌,
 ghost use Rattle.std.specs.Prelude.{is_some, None, Some, slice_get, slice_set, IfOk, MatchOption};
 ghost use Rattle.std.specs.List.{prefix_len};
 ghost use Rattle.std.specs.Vec.{vec_capacity, vec_len};
-ghost use Rattle.grant_table.specs.Tables.{case_in, change_row, next_open, only, open_count};
-ghost use Rattle.grant_table.specs.Tables.{open_rows, plan_of, replanned, row_at};
+ghost use Rattle.grant_table.specs.Cases.{case_in, change_row, next_open, only, open_count};
+ghost use Rattle.grant_table.specs.Cases.{open_rows, plan_of, replanned, row_at};
 ghost use Rattle.grant_table.specs.Kept.{ArePassed, AscendFrom, IsRowFound, rows_of};
 
 use crate::changes::replanned;

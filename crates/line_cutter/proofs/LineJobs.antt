@@ -5,7 +5,7 @@ use Rattle.std.proofs.lemmas.Grind.{common_steps}
 use Rattle.std.proofs.lemmas.List.{append_assoc, append-nil, length-append}
 use Rattle.std.proofs.Math.Seq.{take-append_seam}
 use Rattle.wf_names.specs.declared.limits.TheConstants.{LINE_LIMIT, SESSION_LINE_LIMIT}
-use Rattle.line_reader.specs.Lines.{before_lines, has_end, line_length, lines_of}
+use Rattle.line_reader.specs.Reader.{before_lines, has_end, line_length, lines_of}
 use Rattle.line_cutter.specs.declared.stop.Stop.{Stop}
 use Rattle.line_cutter.specs.declared.stop.Stop.TheVariants.{LineTooLong, TooManyLines}
 use Rattle.line_cutter.specs.Jobs.{Cut, start_at, without_cr, end_batch, end_full_batch, end_line, step, cut_all, flush, jobs_from}

@@ -10,14 +10,14 @@ use Rattle.wire_json.proofs.RequestLaws.{lane_below}
 use Rattle.line_cutter.specs.Jobs.{Cut, start, without_cr, job_of, end_batch, end_full_batch, next_line, with_job, end_line, step, cut_all, flush, jobs_from}
 use Rattle.line_cutter.specs.Jobs.{last_or, next_input}
 use Rattle.line_cutter.proofs.CutLaws.{finished_stop}
-use Rattle.line_cutter.specs.Laws.{AreLinesBelow, AscendFrom, LeadTo, AreInOrder, GoesOn, InputsGoOn, JobsAreInOrder}
+use Rattle.line_cutter.specs.Laws.{AreLinesBelow, LinesAscend, LeadTo, AreInOrder, GoesOn, InputsGoOn, JobsAreInOrder}
 
 -- the line after the last of the jobs
 abbrev after_lines : ℕ → List Job → ℕ
 after_lines number [] = number
 after_lines number (job ∷ jobs) = after_lines (job.line + 1) jobs
 
-ascend_push : (number : ℕ) (jobs : List Job) (job : Job) → AscendFrom number jobs → after_lines number jobs ≤ job.line → AscendFrom number (jobs ++ job ∷ [])
+ascend_push : (number : ℕ) (jobs : List Job) (job : Job) → LinesAscend number jobs → after_lines number jobs ≤ job.line → LinesAscend number (jobs ++ job ∷ [])
 ascend_push number [] job ascend below = (below, tt)
 ascend_push number (j ∷ js) job ascend below = (ascend.0, ascend_push (j.line + 1) js job ascend.1 below)
 
@@ -25,12 +25,12 @@ after_push : (number : ℕ) (jobs : List Job) (job : Job) → after_lines number
 after_push number [] job = refl
 after_push number (j ∷ js) job = after_push (j.line + 1) js job
 
-after_above : (number : ℕ) (jobs : List Job) → AscendFrom number jobs → number ≤ after_lines number jobs
+after_above : (number : ℕ) (jobs : List Job) → LinesAscend number jobs → number ≤ after_lines number jobs
 after_above number [] ascend = omega arith
 after_above number (j ∷ js) ascend = let later = after_above (j.line + 1) js ascend.1 in omega (arith, later, ascend.0)
 
 -- no line is at or behind the one after the last
-lines_below : (limit number : ℕ) (jobs : List Job) → AscendFrom number jobs → after_lines number jobs ≤ limit → AreLinesBelow limit jobs
+lines_below : (limit number : ℕ) (jobs : List Job) → LinesAscend number jobs → after_lines number jobs ≤ limit → AreLinesBelow limit jobs
 lines_below limit number [] ascend within = tt
 lines_below limit number (j ∷ js) ascend within =
     let later = after_above (j.line + 1) js ascend.1 in
@@ -51,7 +51,7 @@ pub record Keeps (lanes spare : ℕ) (c : Cut) : Type 0 where
   pub number : c.number ≤ SESSION_LINE_LIMIT
   pub within : 0 < length c.line → c.number < SESSION_LINE_LIMIT
   pub few : length c.jobs ≤ c.number
-  pub lines : AscendFrom 0 c.jobs
+  pub lines : LinesAscend 0 c.jobs
   pub next : after_lines 0 c.jobs ≤ c.number
   pub of_lanes : AreOfLanes lanes c.jobs
   pub ends : LeadTo 0 c.ends c.from
@@ -211,7 +211,7 @@ keeps_start lanes = record {
 -- what is kept to the end, where the last line may have a job too
 record IsDone (lanes : ℕ) (c : Cut) : Type 0 where
   pub few : length c.jobs ≤ SESSION_LINE_LIMIT
-  pub lines : AscendFrom 0 c.jobs
+  pub lines : LinesAscend 0 c.jobs
   pub below : AreLinesBelow SESSION_LINE_LIMIT c.jobs
   pub of_lanes : AreOfLanes lanes c.jobs
   pub ends : LeadTo 0 c.ends c.from

@@ -14,9 +14,9 @@ use Rattle.line_cutter.specs.Jobs.{Cut, jobs_from, jobs_of_input, last_or, next_
 use Rattle.line_cutter.specs.Cutter.{after_handing}
 
 -- the lines of the jobs ascend strictly, from this number on
-abbrev pub AscendFrom : ℕ → List Job → Type 0
-AscendFrom number [] = Unit {0}
-AscendFrom number (job ∷ jobs) = (number ≤ job.line) × AscendFrom (job.line + 1) jobs
+abbrev pub LinesAscend : ℕ → List Job → Type 0
+LinesAscend number [] = Unit {0}
+LinesAscend number (job ∷ jobs) = (number ≤ job.line) × LinesAscend (job.line + 1) jobs
 
 -- the line of each of these jobs has a number below this
 abbrev pub AreLinesBelow : ℕ → List Job → Type 0
@@ -33,7 +33,7 @@ LeadTo before (end ∷ ends) total = (before < end) × (end ≤ before + BATCH_L
 -- jobs and ends of batches as those of an input are
 pub record AreInOrder (lanes : ℕ) (jobs : List Job) (batch_ends : List ℕ) : Type 0 where
   pub few : length jobs ≤ SESSION_LINE_LIMIT
-  pub lines : AscendFrom 0 jobs
+  pub lines : LinesAscend 0 jobs
   pub below : AreLinesBelow SESSION_LINE_LIMIT jobs
   pub of_lanes : AreOfLanes lanes jobs
   pub ends : LeadTo 0 batch_ends (length jobs)

@@ -3,7 +3,7 @@ use Rattle.std.specs.Prelude.{◌≡◌, ℕ, suc, ◌+◌, ◌-◌, ◌==◌, �
 use Rattle.std.specs.Prelude.{◌++◌, length, take, drop, Option, None, Some, is_some, if◌then◌else◌}
 use Rattle.wf_names.specs.declared.limits.TheConstants.{LINE_LIMIT, SESSION_LINE_LIMIT}
 use Rattle.wf_talk.specs.declared.job.Job.{Job}
-use Rattle.line_reader.specs.Lines.{lines_of, has_end, line_length}
+use Rattle.line_reader.specs.Reader.{lines_of, has_end, line_length}
 use Rattle.line_cutter.specs.declared.stop.Stop.{Stop}
 use Rattle.line_cutter.specs.declared.stop.Stop.TheVariants.{LineTooLong, TooManyLines}
 use Rattle.line_cutter.specs.Jobs.{Cut, without_cr, job_of, start_at, jobs_from}

@@ -3,7 +3,7 @@ use Rattle.std.proofs.Common.{refl, ap, ◌∙◌, arith}
 use Rattle.std.specs.Prelude.{◌≡◌, ℕ, suc, zero, ◌+◌, ◌==◌, ◌<◌, ◌≤◌, Bool, true, false, List, [], ◌∷◌, ◌++◌, length, Option, None, Some}
 use Rattle.std.proofs.lemmas.List.{length-append}
 use Rattle.memchr.specs.Find.{IsFirstByte, Passes, is_byte}
-use Rattle.line_reader.specs.Lines.{first_line, behind_line, has_end, line_length, lines_of, before_lines}
+use Rattle.line_reader.specs.Reader.{first_line, behind_line, has_end, line_length, lines_of, before_lines}
 use Rattle.line_reader.specs.Steps.{HasEndAt, FindsEnd}
 
 -- the first LF stands where no LF stands before it

@@ -6,8 +6,8 @@ use Rattle.wf_outside.specs.Outside.{HasTaken, IsAtEnd}
 use Rattle.wf_outside.proofs.OutsideLaws.{nothing_taken, more_taken}
 use Rattle.line_reader.specs.declared.read.Read.{Read}
 use Rattle.line_reader.specs.declared.read.Read.TheVariants.{Line, End, Failed, TooLong, NoMemory}
-use Rattle.line_reader.specs.Lines.{ReaderShape, pending, HasSeen, HasReadLine, HasStopped, HasPassed, ReadsTo, has_end, line_length}
-use Rattle.line_reader.specs.Steps.{HasGoneOn, HasEndAt, StepsTo, CountsStep, steps_left}
+use Rattle.line_reader.specs.Reader.{ReaderShape, pending, HasSeen, HasReadLine, HasStopped, HasPassed, ReadsTo, has_end, line_length}
+use Rattle.line_reader.specs.Steps.{HasReadMore, HasEndAt, StepsTo, CountsStep, steps_left}
 use Rattle.line_reader.proofs.FirstLines.{open_line, goes_on}
 
 open_pending : (r : ReaderShape) → r.handed ≡ false → pending r ≡ r.line ++ r.ahead
@@ -75,7 +75,7 @@ line_ends left r s n kept going short less h fits is =
 
 -- the line goes on behind what is there
 pub line_grows : (left : Option (List ℕ)) (r s : ReaderShape) → r.handed ≡ false → 0 < length r.ahead → length r.line + length r.ahead ≤ r.limit
-    → s ≡ record r { line = r.line ++ r.ahead; ahead = [] } → HasGoneOn left left r s × (steps_left s < steps_left r)
+    → s ≡ record r { line = r.line ++ r.ahead; ahead = [] } → HasReadMore left left r s × (steps_left s < steps_left r)
 line_grows left r s kept some fits is =
     rw is (
       record {

@@ -2,11 +2,12 @@
 use Rattle.std.specs.Prelude.{◌≡◌, ℕ, suc, ◌+◌, ◌-◌, ◌*◌, ◌<◌, true, false, List, length, take}
 use Rattle.std.specs.Prelude.{drop, Option, None, Some}
 use Rattle.line_reader.specs.declared.read.Read.{Read}
-use Rattle.line_reader.specs.Lines.{ReaderShape, HasSeen, pending, first_line, behind_line, has_end}
-use Rattle.line_reader.specs.Lines.{line_length, ReadsTo, CountsAs}
+use Rattle.line_reader.specs.Reader.{ReaderShape, HasSeen, pending, first_line, behind_line}
+use Rattle.line_reader.specs.Reader.{has_end}
+use Rattle.line_reader.specs.Reader.{line_length, ReadsTo, CountsAs}
 
 -- the line has not ended yet, and some of it is read
-pub record HasGoneOn (before after : Option (List ℕ)) (r s : ReaderShape) : Type 0 where
+pub record HasReadMore (before after : Option (List ℕ)) (r s : ReaderShape) : Type 0 where
   pub seen : HasSeen before after r (pending s)
   pub kept : s.handed ≡ false
   pub limit : s.limit ≡ r.limit
@@ -20,7 +21,7 @@ steps_left r = 2 * (r.limit - length r.line) + (1 - length r.ahead)
 -- one step goes on, or ends reading
 abbrev pub StepsTo : Option (List ℕ) → Option (List ℕ) → ReaderShape → ReaderShape →
     Option Read → Type 0
-StepsTo before after r s None = HasGoneOn before after r s × (steps_left s < steps_left r)
+StepsTo before after r s None = HasReadMore before after r s × (steps_left s < steps_left r)
 StepsTo before after r s (Some read) = ReadsTo before after r s read
 
 -- the count of faults of the source over one step

@@ -2,7 +2,7 @@
 ghost use Rattle.std.specs.Prelude.{◌≡◌, ◌≤◌, ◌<◌, ◌+◌, ◌++◌, ℕ, List, [], length, take, drop};
 ghost use Rattle.std.specs.Prelude.{Option, None, Some, true, false, Ok, IfOk, OnOk, OnErr};
 ghost use Rattle.wf_outside.specs.Outside.{Rose, HasTaken, IsAtEnd};
-ghost use Rattle.line_reader.specs.Lines.{has_end, pending, ReadsTo, CountsAs};
+ghost use Rattle.line_reader.specs.Reader.{has_end, pending, ReadsTo, CountsAs};
 ghost use Rattle.line_reader.specs.Steps.{StepsTo, CountsStep, FindsEnd};
 
 use crate::Read;
@@ -28,7 +28,7 @@ pub struct LineReader {
 
 impl Model for LineReader {
     ghost use Rattle.std.specs.Prelude.{◌≡◌, ◌≤◌, ◌<◌, false, length, take, drop};
-    ghost use Rattle.line_reader.specs.Lines.{ReaderShape, has_end};
+    ghost use Rattle.line_reader.specs.Reader.{ReaderShape, has_end};
 
     ghost Value = { ReaderShape };
 

@@ -7,7 +7,7 @@ ghost use Rattle.std.specs.FinSet as set;
 ghost use Rattle.pair_set.specs.Pairs.{Pairs, pairs_code, pair_cmp, IsAscending};
 ghost use Rattle.pair_set.specs.Places.{IsPlaceOf, IsGapFor};
 
-use shared_part::Copied;
+use basics::Copied;
 use std::alloc::{AllocError, Global};
 use std::marker::Model;
 

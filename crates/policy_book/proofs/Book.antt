@@ -6,7 +6,7 @@ use Rattle.wf_names.specs.Table.{Table}
 use Rattle.rbac_state.specs.Rosters.{RosterShape}
 use Rattle.user_relations.specs.Relations.{RelationShape}
 use Rattle.policy_book.specs.Shapes.{WorkflowShape}
-use Rattle.policy_book.specs.Stored.{IsStored}
+use Rattle.policy_book.specs.Stored.{IsStoredPolicy}
 use Rattle.policy_book.specs.Duties.{AreSettled, DutyShape, IsBook}
 use Rattle.policy_book.proofs.Rows.{DiffersAt, kept_settled}
 
@@ -16,8 +16,8 @@ whole n xs ys long = ap (λ k. take k (xs ++ ys)) (sym long) ∙ take-append_sea
 
 -- other memberships
 stored_with_members : (roster : RosterShape) (m : Pairs) (rs : List RelationShape) (names : Table) (flows : List WorkflowShape) (admin : ℕ) →
-    IsStored roster rs names flows admin
-    → IsStored (record roster { members = m }) rs names flows admin
+    IsStoredPolicy roster rs names flows admin
+    → IsStoredPolicy (record roster { members = m }) rs names flows admin
 stored_with_members roster m rs names flows admin old = record {
   limit = old.limit;
   sound = record {

@@ -16,7 +16,7 @@ use Rattle.rbac_state.specs.Rosters.{RosterShape}
 use Rattle.policy_book.specs.Shapes.{WorkflowShape}
 use Rattle.policy_book.specs.Policies.{no_workflow}
 use Rattle.policy_book.specs.Facts.{AreOfUsers, IsSoundWorkflow}
-use Rattle.policy_book.specs.Stored.{IsStored}
+use Rattle.policy_book.specs.Stored.{IsStoredPolicy}
 
 abbrev kind_at : List RelationShape → ℕ → Option RelationKind
 kind_at rs n = kind_of rs (suc (suc n))
@@ -96,9 +96,10 @@ pub of_more_users : (n m : ℕ) (rs : List RelationShape) → n ≤ m → AreOfU
 of_more_users n m rs le old sigma pairs e =
     record { each = λ a b here. let h : (a < n) × (b < n) = (old sigma pairs e).each a b here in (omega (arith, h.0), omega (arith, h.1)) }
 
-module _ (r : RosterShape) (rs : List RelationShape) (names : Table) (flows : List WorkflowShape) (admin : ℕ) (old : IsStored r rs names flows admin) where
+module _ (r : RosterShape) (rs : List RelationShape) (names : Table) (flows : List WorkflowShape) (admin : ℕ)
+    (old : IsStoredPolicy r rs names flows admin) where
   -- another user
-  pub stored_with_user : (name : List ℕ) → length r.users < USER_LIMIT → IsStored (record r { users = r.users ++ name ∷ [] }) rs names flows admin
+  pub stored_with_user : (name : List ℕ) → length r.users < USER_LIMIT → IsStoredPolicy (record r { users = r.users ++ name ∷ [] }) rs names flows admin
   stored_with_user name room =
       let longer : length (r.users ++ name ∷ []) ≡ length r.users + 1 = length-append r.users (name ∷ []) in
       record {
@@ -116,7 +117,7 @@ module _ (r : RosterShape) (rs : List RelationShape) (names : Table) (flows : Li
 
   -- other pairs in one relation
   pub stored_with_pairs : (rho : ℕ) (pairs : Pairs) → AllPairs (λ u v. (u < length r.users) × (v < length r.users)) pairs →
-      IsStored r (with_kind rs rho (listed pairs)) names flows admin
+      IsStoredPolicy r (with_kind rs rho (listed pairs)) names flows admin
   stored_with_pairs rho pairs new =
       let same : length (with_kind rs rho (listed pairs)) ≡ length rs = length-with_kind rs rho (listed pairs) in
       record {
@@ -139,7 +140,7 @@ module _ (r : RosterShape) (rs : List RelationShape) (names : Table) (flows : Li
 
   -- another workflow at a number
   pub stored_with_flow : (f : ℕ) (w : WorkflowShape) → f < length flows → IsSoundWorkflow (length r.roles) (length rs) w →
-      IsStored r rs names (slice_set flows f w) admin
+      IsStoredPolicy r rs names (slice_set flows f w) admin
   stored_with_flow f w h new =
       let same : length (slice_set flows f w) ≡ length flows = length-set flows f w in
       record {
@@ -162,7 +163,7 @@ module _ (r : RosterShape) (rs : List RelationShape) (names : Table) (flows : Li
 
   -- one more workflow
   pub stored_with_more : (name : List ℕ) (w : WorkflowShape) → length names.names < FLOW_LIMIT → IsSoundWorkflow (length r.roles) (length rs) w →
-      IsStored r rs (record names { names = names.names ++ name ∷ [] }) (flows ++ w ∷ []) admin
+      IsStoredPolicy r rs (record names { names = names.names ++ name ∷ [] }) (flows ++ w ∷ []) admin
   stored_with_more name w room new =
       let longer : length (flows ++ w ∷ []) ≡ length flows + 1 = length-append flows (w ∷ []) in
       let named : length (names.names ++ name ∷ []) ≡ length names.names + 1 = length-append names.names (name ∷ []) in

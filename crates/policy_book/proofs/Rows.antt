@@ -13,7 +13,7 @@ use Rattle.wf_names.specs.declared.limits.TheConstants.{STEP_LIMIT}
 use Rattle.wf_names.specs.UserSets.{has_user}
 use Rattle.rbac_state.specs.Rosters.{RosterShape}
 use Rattle.workflow_schema.specs.Flows.{FlowShape, IsFlow}
-use Rattle.constraint_forms.specs.Assigned.{is_member, no_steps}
+use Rattle.constraint_forms.specs.Assign.{is_member, no_steps}
 use Rattle.constraint_forms.proofs.Members.{none_member}
 use Rattle.policy_book.specs.Shapes.{WorkflowShape}
 use Rattle.policy_book.specs.Policies.{any_below, no_workflow}

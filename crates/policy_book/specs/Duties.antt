@@ -8,11 +8,11 @@ use Rattle.wf_names.specs.UserSets.{has_user}
 use Rattle.rbac_state.specs.Rosters.{RosterShape, has_role}
 use Rattle.user_relations.specs.Relations.{RelationShape}
 use Rattle.workflow_schema.specs.Flows.{FlowShape}
-use Rattle.constraint_forms.specs.Assigned.{no_steps}
+use Rattle.constraint_forms.specs.Assign.{no_steps}
 use Rattle.policy_book.specs.Shapes.{WorkflowShape}
 use Rattle.policy_book.specs.Policies.{any_below, no_workflow}
 use Rattle.policy_book.specs.Plans.{Problem}
-use Rattle.policy_book.specs.Stored.{IsStored}
+use Rattle.policy_book.specs.Stored.{IsStoredPolicy}
 
 -- the steps below n that pass a test
 abbrev pub steps_below : ℕ → (ℕ → Bool) → List Bool
@@ -80,7 +80,7 @@ pub record AreKept (roster : RosterShape) (flows : List WorkflowShape)
 -- the parts are those of a policy, and so is what is kept beside
 pub record IsBook (roster : RosterShape) (relations : List RelationShape) (names : Table)
     (flows : List WorkflowShape) (admin : ℕ) (duties : List DutyShape) : Type 0 where
-  pub stored : IsStored roster relations names flows admin
+  pub stored : IsStoredPolicy roster relations names flows admin
   pub kept : AreKept roster flows duties
 
 -- a user's bits are right again in the rows of the steps that a role is permitted for, and else

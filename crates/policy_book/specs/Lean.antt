@@ -1,7 +1,7 @@
 -- Lean trees: refuting trees without a branch that is not needed.
 use Rattle.std.specs.Prelude.{ℕ, Bool, true, not, ◌&&◌, List, [], ◌∷◌, Option, Some, slice_set}
-use Rattle.refutation_tree.specs.Shapes.{Shape, Kids, holder, rule, node, no_kids, tree_kid}
-use Rattle.refutation_tree.specs.Shapes.{twin_kid}
+use Rattle.refutation_tree.specs.Tree.{Shape, Kids, holder, rule, node, no_kids, tree_kid}
+use Rattle.refutation_tree.specs.Tree.{twin_kid}
 use Rattle.policy_book.specs.Plans.{Problem}
 use Rattle.policy_book.specs.Refuting.{mentions}
 use Rattle.policy_book.specs.Twins.{has_twin}

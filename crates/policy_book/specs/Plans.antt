@@ -2,7 +2,7 @@
 use Rattle.std.specs.Prelude.{◌≡◌, ℕ, ◌<◌, Bool, false, List, length, Option, Some, slice_get}
 use Rattle.std.specs.Prelude.{IsTrue}
 use Rattle.constraint_forms.specs.declared.rule.Rule.{Rule}
-use Rattle.constraint_forms.specs.Assigned.{user_at, planned, is_member}
+use Rattle.constraint_forms.specs.Assign.{user_at, planned, is_member}
 use Rattle.constraint_forms.specs.Rules.{Relating, is_satisfied, IsRuleOf}
 use Rattle.constraint_forms.specs.Laws.{IsExtension}
 

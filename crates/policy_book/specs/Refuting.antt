@@ -3,10 +3,10 @@ use Rattle.std.specs.Prelude.{ℕ, zero, suc, ◌+◌, Bool, true, false, not, �
 use Rattle.std.specs.Prelude.{List, [], ◌∷◌, Option, None, Some, is_some, if◌then◌else◌, slice_get}
 use Rattle.std.specs.Prelude.{slice_set}
 use Rattle.constraint_forms.specs.declared.rule.Rule.{Rule}
-use Rattle.constraint_forms.specs.Assigned.{user_at, is_member}
+use Rattle.constraint_forms.specs.Assign.{user_at, is_member}
 use Rattle.constraint_forms.specs.Rules.{is_falsified, names}
-use Rattle.refutation_tree.specs.Shapes.{Shape, Kids, holder, rule, node, no_kids, tree_kid}
-use Rattle.refutation_tree.specs.Shapes.{twin_kid}
+use Rattle.refutation_tree.specs.Tree.{Shape, Kids, holder, rule, node, no_kids, tree_kid}
+use Rattle.refutation_tree.specs.Tree.{twin_kid}
 use Rattle.policy_book.specs.Plans.{Problem}
 use Rattle.policy_book.specs.Twins.{are_twins, is_one_of}
 

@@ -21,7 +21,7 @@ shape_of roster relations names flows admin =
     }
 
 -- the parts are those of a policy
-pub record IsStored (roster : RosterShape) (relations : List RelationShape) (names : Table)
+pub record IsStoredPolicy (roster : RosterShape) (relations : List RelationShape) (names : Table)
     (flows : List WorkflowShape) (admin : ℕ) : Type 0 where
   pub limit : names.limit ≡ FLOW_LIMIT
   pub sound : IsSoundPolicy (shape_of roster relations names flows admin)

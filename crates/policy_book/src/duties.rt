@@ -4,7 +4,7 @@ ghost use Rattle.std.specs.Prelude.{slice_index_or, slice_set, IfOk, OnOk, OnErr
 ghost use Rattle.std.specs.FinSet as set;
 ghost use Rattle.wf_names.specs.declared.limits.TheConstants.{STEP_LIMIT, USER_LIMIT};
 ghost use Rattle.wf_names.specs.UserSets.{has_user};
-ghost use Rattle.constraint_forms.specs.Assigned.{is_member};
+ghost use Rattle.constraint_forms.specs.Assign.{is_member};
 ghost use Rattle.policy_book.specs.Duties.{AreDuties, AreGathered, IsSettled, may_do, row_has};
 ghost use Rattle.policy_book.specs.Duties.{set_at, steps_below, steps_in};
 

@@ -1,8 +1,8 @@
 //! A workflow of a policy.
 ghost use Rattle.std.specs.Prelude.{◌≡◌, IfOk, false};
 
+use basics::Shared;
 use constraint_forms::Rules;
-use shared_part::Shared;
 use std::alloc::{AllocError, Global};
 use std::marker::Model;
 use workflow_schema::Flow;

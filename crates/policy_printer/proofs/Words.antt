@@ -14,7 +14,7 @@ pub use Rattle.std.specs.FinMap.{slice_cmp-IsAntisymmetric, nat_cmp-IsAntisymmet
 pub use Rattle.std.specs.List.{IsDistinct}
 pub use Rattle.std.specs.Ordering.{is_eq, match_ordering, nat_cmp, ordering_then}
 pub use Rattle.basics.proofs.Booleans.{and_same, and_swap, and-false, or-false, eq_back, lt_yes, lt_no, eq_above, lt_back, and_both, and_from, le_yes, le_back}
-pub use Rattle.constraint_forms.specs.Assigned.{is_member}
+pub use Rattle.constraint_forms.specs.Assign.{is_member}
 pub use Rattle.constraint_forms.specs.declared.rule.Rule.{Rule}
 pub use Rattle.pair_set.specs.PairLaws.{ascending_none}
 pub use Rattle.policy_book.specs.Facts.{IsSoundWorkflow}
@@ -39,8 +39,8 @@ pub use Rattle.toml.specs.Data.{members_have_valid_dates}
 pub use Rattle.toml.specs.View.{items_of}
 pub use Rattle.user_relations.specs.Relations.{RelationShape, RelationKind, listed, complement, kind_of, known_names, has_list, is_listed, complemented}
 pub use Rattle.user_relations.specs.Relations.{complement_of, listed_pairs, pairs_of}
-pub use Rattle.user_relations.specs.Soundness.{AreSound}
+pub use Rattle.user_relations.specs.Soundness.{AreSoundRelations}
 pub use Rattle.wf_names.specs.Names.{is_name}
 pub use Rattle.wf_names.specs.Table.{AreNames, place_of}
 pub use Rattle.wf_names.specs.declared.limits.TheConstants.{PAIR_LIMIT, RULE_LIMIT, FLOW_LIMIT, RELATION_LIMIT, USER_LIMIT, ROLE_LIMIT, STEP_LIMIT}
-pub use Rattle.workflow_schema.specs.Laws.{IsDecided}
+pub use Rattle.workflow_schema.specs.Laws.{OrderIsDecided}

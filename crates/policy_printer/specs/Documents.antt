@@ -11,7 +11,7 @@ use Rattle.pair_set.specs.Pairs.{Pairs}
 use Rattle.rbac_state.specs.Rosters.{RosterShape, has_role}
 use Rattle.user_relations.specs.Relations.{RelationShape, complement_of, pairs_of, known_names}
 use Rattle.workflow_schema.specs.Flows.{FlowShape}
-use Rattle.constraint_forms.specs.Assigned.{is_member}
+use Rattle.constraint_forms.specs.Assign.{is_member}
 use Rattle.constraint_forms.specs.declared.rule.Rule.{Rule}
 use Rattle.constraint_forms.specs.declared.rule.Rule.TheVariants as rule
 use Rattle.policy_book.specs.Shapes.{PolicyShape, WorkflowShape}

@@ -4,7 +4,7 @@ use Rattle.wf_names.specs.Table.{AreNames}
 use Rattle.wf_names.specs.declared.limits.TheConstants.{STEP_LIMIT}
 use Rattle.rbac_state.specs.Rosters.{IsSoundRoster}
 use Rattle.user_relations.specs.Relations.{known_names}
-use Rattle.user_relations.specs.Soundness.{AreSound}
+use Rattle.user_relations.specs.Soundness.{AreSoundRelations}
 use Rattle.workflow_schema.specs.Flows.{IsFlow}
 use Rattle.constraint_forms.specs.declared.rule.Rule.{Rule}
 use Rattle.constraint_forms.specs.declared.rule.Rule.TheVariants.{Pair, SomeOf, AllOf, SomeTo}
@@ -36,7 +36,7 @@ pub record IsNamedPolicy (p : PolicyShape) : Type 0 where
   pub roster : IsSoundRoster p.roster
   pub roles : AreNames p.roster.roles
   pub users : AreNames p.roster.users
-  pub relations : AreSound p.relations
+  pub relations : AreSoundRelations p.relations
   pub related : AreNames (known_names p.relations)
   pub flow_names : AreNames p.flow_names
   pub flows : (f : ℕ) → f < length p.flows → IsNamedWorkflow (flow_at p f)

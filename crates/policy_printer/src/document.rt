@@ -3,7 +3,7 @@ ghost use Rattle.std.specs.Prelude.{◌≡◌, ◌<◌, ◌≤◌, ◌+◌, List
 ghost use Rattle.std.specs.Prelude.{string_bytes};
 ghost use Rattle.toml.specs.Data.{no_members, string};
 ghost use Rattle.user_relations.specs.Relations.{known_names};
-ghost use Rattle.user_relations.specs.Soundness.{AreSound};
+ghost use Rattle.user_relations.specs.Soundness.{AreSoundRelations};
 ghost use Rattle.policy_book.specs.Facts.{IsSoundPolicy};
 ghost use Rattle.policy_book.specs.Policies.{flow_at};
 ghost use Rattle.toml.specs.View.{table_view};
@@ -39,7 +39,7 @@ fn put_relations(alloc: Global, table: &mut Table, policy: &Policy) -> Result<()
         ≡ spec.with_member (codes "relations")
         (spec.relations_data policy.now.roster.users policy.now.relations) (table_view table.old)) }
     ensures named { OnOk result (AreNames (known_names policy.now.relations)) }
-    ensures sound { AreSound policy.now.relations }
+    ensures sound { AreSoundRelations policy.now.relations }
 {
     let relations = relations_value(alloc, policy.roster().users(), policy.relations())?;
     put(alloc, table, "relations", relations)

@@ -5,7 +5,7 @@ ghost use Rattle.std.specs.FinSet as set;
 ghost use Rattle.policy_book.specs.Facts.{AreSoundRules, IsSoundRule};
 ghost use Rattle.policy_book.specs.Policies.{flow_at};
 ghost use Rattle.wf_names.specs.declared.limits.TheConstants.{ROLE_LIMIT, STEP_LIMIT};
-ghost use Rattle.constraint_forms.specs.Assigned.{is_member};
+ghost use Rattle.constraint_forms.specs.Assign.{is_member};
 ghost use Rattle.toml.specs.Data.{no_members};
 ghost use Rattle.toml.specs.View.{view, table_view};
 ghost use Rattle.wf_names.specs.Table.{AreNames};

@@ -4,7 +4,7 @@ ghost use Rattle.rbac_state.specs.Rosters.{has_role};
 ghost use Rattle.policy_book.specs.Facts.{AreOfUsers};
 ghost use Rattle.user_relations.specs.Relations.{complement_of, known_names, pairs_of};
 ghost use Rattle.toml.specs.Data.{string};
-ghost use Rattle.user_relations.specs.Soundness.{AreSound};
+ghost use Rattle.user_relations.specs.Soundness.{AreSoundRelations};
 ghost use Rattle.toml.specs.View.{view, table_view};
 ghost use Rattle.wf_names.specs.Names.{is_name};
 ghost use Rattle.wf_names.specs.Table.{AreNames};
@@ -145,7 +145,7 @@ fn kind_table(
     rho: RelId,
 ) -> Result<Table, AllocError>
     requires users { AreOfUsers (length users.now.names) relations.now }
-    requires sound { AreSound relations.now }
+    requires sound { AreSoundRelations relations.now }
     ensures { IfOk result (λ t. table_view t
         ≡ spec.kind_members users.now.names relations.now rho (complement_of relations.now rho)) }
 {
@@ -163,7 +163,7 @@ fn put_relation(
     rho: RelId,
 ) -> Result<(), AllocError>
     requires users { AreOfUsers (length users.now.names) relations.now }
-    requires sound { AreSound relations.now }
+    requires sound { AreSoundRelations relations.now }
     requires within { rho < length relations.now + 2 }
     ensures form { OnOk result (is_name (spec.name_at (known_names relations.now) rho) ≡ true) }
     ensures put { OnOk result (table_view table.new
@@ -185,7 +185,7 @@ pub(crate) fn relations_value(
     requires { AreOfUsers (length users.now.names) relations.now }
     ensures value { IfOk result (λ v. view v ≡ spec.relations_data users.now.names relations.now) }
     ensures named { IfOk result (λ _. AreNames (known_names relations.now)) }
-    ensures sound { AreSound relations.now }
+    ensures sound { AreSoundRelations relations.now }
 {
     let mut table = Table::new(alloc);
     'relations: for n in 0..relations.count() {

@@ -5,7 +5,7 @@ use Rattle.basics.proofs.Booleans.{bool_cases, le_back, le_yes}
 use Rattle.wf_names.specs.declared.limits.TheConstants.{FLOW_LIMIT}
 use Rattle.toml.specs.Data.{Members, as_integer}
 use Rattle.policy_book.specs.Shapes.{PolicyShape}
-use Rattle.first_fault.specs.Reading.{◌>>=◌, check, each, or_fault}
+use Rattle.basics.specs.Reading.{◌>>=◌, check, each, or_fault}
 use Rattle.policy_reader.specs.declared.fault.PolicyFault.{PolicyFault}
 use Rattle.policy_reader.specs.declared.fault.PolicyPart.{PolicyPart}
 use Rattle.policy_reader.specs.declared.fault.PolicyPart.TheVariants.{File, Flows, Users}

@@ -11,13 +11,13 @@ use Rattle.wf_names.specs.Table.{place_of}
 use Rattle.pair_set.specs.Pairs.{Pairs}
 use Rattle.pair_set.specs.PairLaws.{all_insert}
 use Rattle.toml.specs.Data.{Data, Members}
-use Rattle.first_fault.specs.Reading.{◌>>=◌, check, each, or_fault}
+use Rattle.basics.specs.Reading.{◌>>=◌, check, each, or_fault}
 use Rattle.policy_reader.specs.declared.fault.PolicyFault.{PolicyFault}
 use Rattle.policy_reader.specs.declared.fault.PolicyPart.{PolicyPart}
 use Rattle.policy_reader.specs.declared.fault.PolicyKind.TheVariants as kind
 use Rattle.policy_reader.specs.Bounds.{AreBelow}
 use Rattle.policy_reader.specs.Faults.{Reading, fault, fault_about}
-use Rattle.policy_reader.specs.FilePolicies.{AreOfForm}
+use Rattle.policy_reader.specs.File.{AreOfForm}
 use Rattle.policy_reader.specs.Parts.{array_at, at_least_one, at_most, count_in, entries, entries_at, first_said, items, items_at, name_in, named_in}
 use Rattle.policy_reader.specs.Parts.{named_pair_in, next_name, next_pair, number_in, numbers_in, once, table_at, text_in, text_name_in, two_texts}
 

@@ -8,7 +8,7 @@ use Rattle.wf_names.specs.Names.{is_name}
 use Rattle.toml.specs.Data.{Data, Members}
 use Rattle.rbac_state.specs.Rosters.{RosterShape}
 use Rattle.policy_book.specs.Shapes.{PolicyShape}
-use Rattle.first_fault.specs.Reading.{check}
+use Rattle.basics.specs.Reading.{check}
 use Rattle.policy_reader.specs.declared.fault.PolicyKind.TheVariants as kind
 use Rattle.policy_reader.specs.declared.fault.PolicyPart.TheVariants.{File, Roles, Users}
 use Rattle.policy_reader.specs.declared.format.Format.{Format}

@@ -15,14 +15,14 @@ use Rattle.workflow_schema.specs.Flows.{FlowShape}
 use Rattle.policy_book.specs.Shapes.{PolicyShape, WorkflowShape}
 use Rattle.policy_book.specs.Policies.{flow_at, no_workflow}
 use Rattle.policy_book.specs.Facts.{AreOfUsers, AreSoundRules, IsSoundWorkflow, PermitsRolesBelow}
-use Rattle.first_fault.specs.Reading.{check, each, or_fault}
+use Rattle.basics.specs.Reading.{check, each, or_fault}
 use Rattle.policy_reader.specs.declared.fault.PolicyKind.TheVariants as kind
 use Rattle.policy_reader.specs.declared.fault.PolicyPart.TheVariants.{Flows, Relations}
 use Rattle.policy_reader.specs.declared.format.Format.{Format}
 use Rattle.policy_reader.specs.Bounds.{AreBelow}
 use Rattle.policy_reader.specs.Faults.{Reading, fault, fault_about}
 use Rattle.policy_reader.specs.Grammars.{today}
-use Rattle.policy_reader.specs.FilePolicies.{AreOfForm}
+use Rattle.policy_reader.specs.File.{AreOfForm}
 use Rattle.policy_reader.specs.Parts.{array_in, at_most, entries, entries_at, items, items_at, name_in, named_in, next_name, next_pair, no_others, number_in}
 use Rattle.policy_reader.specs.Parts.{once, said, table_at, table_in, text_in}
 use Rattle.policy_reader.specs.Relations.{complement_in, entry_of, first_declared, free_name_in, has_one, is_built_in, kind_at, kind_in, listed_in, names_of}

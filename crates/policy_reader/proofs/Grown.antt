@@ -1,6 +1,6 @@
 -- Policies with more workflows.
 use Rattle.std.proofs.Common.{◌≡◌, ℕ, ◌<◌, false, List, [], ◌∷◌, ◌++◌, length, refl, sym, ◌∙◌, subst}
-use Rattle.policy_reader.proofs.Words.{AllByRecursion, IsGrown, names_of, some_user_has, Ascend, IsBegun, IsPrintable}
+use Rattle.policy_reader.proofs.Words.{AllByRecursion, IsGrown, names_of, some_user_has, Ascend, IsFreshPolicy, IsPrintable}
 use Rattle.policy_book.specs.Shapes.{PolicyShape, WorkflowShape}
 
 pub push_all : {X : Type 0} (P : X → Type 0) (xs : List X) (y : X) → AllByRecursion P xs → P y → AllByRecursion P (xs ++ y ∷ [])
@@ -18,7 +18,7 @@ pub grown_more : (p q r : PolicyShape) → IsGrown p q → IsGrown q r → IsGro
 grown_more p q r a b =
     record { roster = b.roster ∙ a.roster; relations = b.relations ∙ a.relations; admin = b.admin ∙ a.admin; active = λ h. b.active (a.active h) }
 
-pub printable : (p q : PolicyShape) → IsBegun p → p.flows ≡ [] → IsGrown p q → Ascend q.flow_names → 0 < length q.flow_names → IsPrintable q
+pub printable : (p q : PolicyShape) → IsFreshPolicy p → p.flows ≡ [] → IsGrown p q → Ascend q.flow_names → 0 < length q.flow_names → IsPrintable q
 printable p q begun none grown ascend some = record {
   begun = record {
     users = subst (λ x. Ascend x.users) (sym grown.roster) begun.users;

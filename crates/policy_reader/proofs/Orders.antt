@@ -9,7 +9,7 @@ use Rattle.policy_reader.proofs.Words.{pair_cmp, IsAscending, pair_cmp_total, pa
 use Rattle.policy_reader.proofs.Words.{is_before, IsLeastCycle, has_twice, AreBelow, least_below, found_or, cycle_at, Fails, Flows, fault_of, fault_about}
 use Rattle.policy_reader.proofs.Words.{IsCycleOrMemory}
 use Rattle.std.proofs.lemmas.List.Elements.{All-from_recursion}
-use Rattle.workflow_schema.specs.Laws.{IsDecided}
+use Rattle.workflow_schema.specs.Laws.{OrderIsDecided}
 use Rattle.policy_reader.specs.Flows.{no_cycle}
 use Rattle.workflow_schema.specs.declared.fault.FlowFault.{FlowFault}
 use Rattle.workflow_schema.specs.declared.fault.FlowFault.TheVariants.{TooMany, Twice, Cycle, NoMemory}
@@ -70,27 +70,28 @@ first_below n order s t within (next pair) = (within.each s _ pair).0
 first_below n order s t within (through pair more) = (within.each s _ pair).0
 
 -- the least step before itself is the one that the search finds
-pub cycle_found : IsDecided → (n : ℕ) (order : Pairs) (s : ℕ) → n ≤ STEP_LIMIT → AreBelow n order → IsLeastCycle order s →
+pub cycle_found : OrderIsDecided → (n : ℕ) (order : Pairs) (s : ℕ) → n ≤ STEP_LIMIT → AreBelow n order → IsLeastCycle order s →
     least_below n (λ t. is_before order t t) ≡ Some s
 cycle_found decided n order s few within h =
     least_is n (λ t. is_before order t t) s (first_below n order s s within h.cycle)
     ((decided order s s (λ a b pair. omega (arith, few, (within.each a b pair).1))).1 h.cycle)
     (λ t lt. not_true (is_before order t t) (λ e. h.least t lt ((decided order t t (λ a b pair. omega (arith, few, (within.each a b pair).1))).0 e)))
 
-least_cycle : IsDecided → (n : ℕ) (order : Pairs) (s : ℕ) → n ≤ STEP_LIMIT → AreBelow n order → IsLeast n (λ t. is_before order t t) s → IsLeastCycle order s
+least_cycle : OrderIsDecided → (n : ℕ) (order : Pairs) (s : ℕ) → n ≤ STEP_LIMIT → AreBelow n order → IsLeast n (λ t. is_before order t t) s →
+    IsLeastCycle order s
 least_cycle decided n order s few within h = record {
   cycle = (decided order s s (λ a b pair. omega (arith, few, (within.each a b pair).1))).0 h.here;
   least = λ t lt chain. let yes : is_before order t t ≡ true = (decided order t t (λ a b pair. omega (arith, few, (within.each a b pair).1))).1 chain in
       let no = h.before t lt in cc;
 }
 
-none_found : IsDecided → (n : ℕ) (order : Pairs) (o : Option ℕ) → n ≤ STEP_LIMIT → AreBelow n order → ((s : ℕ) → IsLeastCycle order s → ⊥) →
+none_found : OrderIsDecided → (n : ℕ) (order : Pairs) (o : Option ℕ) → n ≤ STEP_LIMIT → AreBelow n order → ((s : ℕ) → IsLeastCycle order s → ⊥) →
     Tells n (λ t. is_before order t t) o → o ≡ None
 none_found decided n order None few within free h = refl
 none_found decided n order (Some s) few within free h = absurd (free s (least_cycle decided n order s few within h))
 
 -- where no step is the least before itself, the search finds none
-pub no_cycle_found : IsDecided → (n : ℕ) (order : Pairs) → n ≤ STEP_LIMIT → AreBelow n order → ((s : ℕ) → IsLeastCycle order s → ⊥) →
+pub no_cycle_found : OrderIsDecided → (n : ℕ) (order : Pairs) → n ≤ STEP_LIMIT → AreBelow n order → ((s : ℕ) → IsLeastCycle order s → ⊥) →
     least_below n (λ t. is_before order t t) ≡ None
 no_cycle_found decided n order few within free = none_found decided n order _ few within free (least_tells n (λ t. is_before order t t))
 

@@ -8,7 +8,7 @@ use Rattle.policy_reader.proofs.Words.{entry_of, is_complement, is_complement_ta
 use Rattle.policy_reader.proofs.Words.{IsReadKind, AreReadRelations}
 use Rattle.std.specs.List.{IsDistinct}
 use Rattle.user_relations.specs.Relations.{RelationShape, RelationKind, listed, complement, kind_of, has_list, known_names}
-use Rattle.user_relations.specs.Soundness.{AreSound}
+use Rattle.user_relations.specs.Soundness.{AreSoundRelations}
 use Rattle.policy_reader.specs.declared.fault.PolicyPart.{PolicyPart}
 use Rattle.policy_reader.specs.Parts.{table_in}
 use Rattle.std.specs.List.Sorted.{IsStrictlySortedBy}
@@ -102,7 +102,7 @@ is_list users all marked (Some (complement m)) other some kept = let no : true �
 
 -- all relations of a table were read
 pub sound_of : (users : ℕ) (all : List (List ℕ × Data)) (rs : List RelationShape) → AreReadRelations users all rs → users ≤ USER_LIMIT →
-    length rs ≡ length all → length all ≤ RELATION_LIMIT → AreSound rs
+    length rs ≡ length all → length all ≤ RELATION_LIMIT → AreSoundRelations rs
 sound_of users all rs h le same few = record {
   count = omega (arith, same, few);
   names = h.names;

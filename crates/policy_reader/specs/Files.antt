@@ -6,7 +6,7 @@ use Rattle.toml.specs.Parse.{parse_document}
 use Rattle.rbac_state.specs.Rosters.{RosterShape}
 use Rattle.user_relations.specs.Relations.{RelationShape}
 use Rattle.policy_book.specs.Shapes.{PolicyShape}
-use Rattle.first_fault.specs.Reading.{◌>>=◌, or_fault, check}
+use Rattle.basics.specs.Reading.{◌>>=◌, or_fault, check}
 use Rattle.policy_reader.specs.declared.fault.PolicyPart.TheVariants.{File, Users}
 use Rattle.policy_reader.specs.declared.fault.PolicyKind.TheVariants as kind
 use Rattle.policy_reader.specs.Faults.{Reading, fault}

@@ -8,7 +8,7 @@ use Rattle.policy_reader.specs.Grammars.{Grammar}
 use Rattle.pair_set.specs.Pairs.{Pairs}
 use Rattle.workflow_schema.specs.Flows.{FlowShape, is_before}
 use Rattle.policy_book.specs.Shapes.{PolicyShape, WorkflowShape}
-use Rattle.first_fault.specs.Reading.{◌>>=◌, each}
+use Rattle.basics.specs.Reading.{◌>>=◌, each}
 use Rattle.policy_reader.specs.declared.fault.PolicyPart.TheVariants.{Flows}
 use Rattle.policy_reader.specs.declared.fault.PolicyKind.TheVariants as kind
 use Rattle.policy_reader.specs.declared.format.Format.{Format}

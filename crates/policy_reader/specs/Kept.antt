@@ -5,8 +5,8 @@ use Rattle.policy_book.specs.Shapes.{PolicyShape}
 use Rattle.workflow_schema.specs.declared.fault.FlowFault.{FlowFault}
 use Rattle.workflow_schema.specs.declared.fault.FlowFault.TheVariants.{TooMany, Twice, Cycle}
 use Rattle.workflow_schema.specs.declared.fault.FlowFault.TheVariants.{NoMemory}
-use Rattle.constraint_forms.specs.Assigned.{is_member}
-use Rattle.policy_reader.specs.Printable.{IsBegun}
+use Rattle.constraint_forms.specs.Assign.{is_member}
+use Rattle.policy_reader.specs.Printable.{IsFreshPolicy}
 
 -- a group has only steps below n
 abbrev pub HasStepsBelow : ℕ → List Bool → Type 0
@@ -21,7 +21,7 @@ IsCycleOrMemory NoMemory = Unit {0}
 
 -- a policy before its workflows are read
 pub record IsBare (p : PolicyShape) : Type 0 where
-  pub begun : IsBegun p
+  pub begun : IsFreshPolicy p
   pub names : p.flow_names ≡ []
   pub flows : p.flows ≡ []
 

@@ -1,7 +1,7 @@
 -- What is true of the readings of policy files.
 use Rattle.std.specs.Prelude.{◌≡◌, ℕ, List, Ok}
 use Rattle.policy_book.specs.Shapes.{PolicyShape}
-use Rattle.policy_reader.specs.FilePolicies.{IsFilePolicy}
+use Rattle.policy_reader.specs.File.{IsFilePolicy}
 use Rattle.policy_reader.specs.Grammars.{earlier, today}
 use Rattle.policy_reader.specs.Files.{policy_by, policy_of_file}
 

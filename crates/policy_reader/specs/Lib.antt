@@ -1,12 +1,12 @@
 pub mod Faults
-pub mod Words
+pub mod Fault
 pub mod Parts
 pub mod Bounds
 pub mod Kept
 pub mod Rosters
 pub mod Relations
 pub mod Kinds
-pub mod FilePolicies
+pub mod File
 pub mod Laws
 pub mod Printable
 pub mod Formats

@@ -14,14 +14,14 @@ abbrev pub Ascend : List (List ℕ) → Type 0
 Ascend names = IsStrictlySortedBy (slice_cmp nat_cmp) names
 
 -- users and relations are numbered in the order of their names, and some user holds the admin role
-pub record IsBegun (p : PolicyShape) : Type 0 where
+pub record IsFreshPolicy (p : PolicyShape) : Type 0 where
   pub users : Ascend p.roster.users
   pub relations : Ascend (map (λ r. r.name) p.relations)
   pub admin : some_user_has p.roster p.admin ≡ true
 
 -- so are the workflows: there is one at least, and none is retired
 pub record IsPrintable (p : PolicyShape) : Type 0 where
-  pub begun : IsBegun p
+  pub begun : IsFreshPolicy p
   pub flows : Ascend p.flow_names
   pub some : 0 < length p.flow_names
   pub active : AllByRecursion (λ w. w.retired ≡ false) p.flows

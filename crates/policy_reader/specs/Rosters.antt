@@ -6,7 +6,7 @@ use Rattle.wf_names.specs.declared.limits.TheConstants.{ROLE_LIMIT}
 use Rattle.policy_reader.specs.Grammars.{Grammar}
 use Rattle.rbac_state.specs.Rosters.{RosterShape}
 use Rattle.policy_book.specs.Policies.{any_below}
-use Rattle.first_fault.specs.Reading.{◌>>=◌, each}
+use Rattle.basics.specs.Reading.{◌>>=◌, each}
 use Rattle.policy_reader.specs.declared.fault.PolicyPart.TheVariants.{Roles, Users}
 use Rattle.policy_reader.specs.Faults.{Reading}
 use Rattle.policy_reader.specs.Parts.{items, entries, array_in, items_at, entries_at, name_in}

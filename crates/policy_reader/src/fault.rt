@@ -1,6 +1,6 @@
 //! What is wrong with a policy file.
 ghost use Rattle.std.specs.Prelude.{◌≡◌, Some};
-ghost use Rattle.policy_reader.specs.Words.{kind_word, part_word, fault_text};
+ghost use Rattle.policy_reader.specs.Fault.{kind_word, part_word, fault_text};
 ghost use Rattle.policy_reader.specs.declared.fault.ReadFault.TheVariants.{Policy, NoMemory};
 ghost use Rattle.policy_reader.specs.Faults.{fault, fault_about};
 

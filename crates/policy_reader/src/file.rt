@@ -10,11 +10,11 @@ ghost use Rattle.policy_reader.specs.Grammars.{today};
 ghost use Rattle.policy_reader.specs.Kept.{IsBare};
 ghost use Rattle.policy_reader.specs.Printable.{Ascend, IsPrintable};
 ghost use Rattle.policy_book.specs.Facts.{AreOfUsers, IsSoundPolicy};
-ghost use Rattle.policy_reader.specs.FilePolicies.{IsFilePolicy};
+ghost use Rattle.policy_reader.specs.File.{IsFilePolicy};
 ghost use Rattle.policy_reader.specs.Relations.{names_of};
 ghost use Rattle.policy_reader.specs.Rosters.{some_user_has};
 ghost use Rattle.wf_names.specs.declared.limits.TheConstants.{ROLE_LIMIT};
-ghost use Rattle.first_fault.specs.Reading.{Gives};
+ghost use Rattle.basics.specs.Reading.{Gives};
 
 use crate::fault::{PolicyKind, PolicyPart, ReadFault, refuse};
 use crate::flows::read_flows;

@@ -14,7 +14,7 @@ ghost use Rattle.policy_reader.specs.Parts.{entries};
 ghost use Rattle.policy_reader.specs.Flows as spec;
 ghost use Rattle.policy_reader.specs.Grammars.{today};
 ghost use Rattle.policy_reader.specs.declared.fault.ReadFault.TheVariants.{NoMemory};
-ghost use Rattle.first_fault.specs.Reading.{Gives, each};
+ghost use Rattle.basics.specs.Reading.{Gives, each};
 
 use crate::fault::{PolicyPart, ReadFault};
 use crate::format::Format;

@@ -12,7 +12,7 @@ ghost use Rattle.policy_book.specs.Facts.{AreOfUsers};
 ghost use Rattle.policy_reader.specs.Bounds.{AreBelow};
 ghost use Rattle.policy_reader.specs.Kinds.{is_marked, IsTarget, IsReadKind, AreReadRelations};
 ghost use Rattle.policy_reader.specs.Printable.{Ascend};
-ghost use Rattle.user_relations.specs.Soundness.{AreSound};
+ghost use Rattle.user_relations.specs.Soundness.{AreSoundRelations};
 ghost use Rattle.user_relations.specs.View.{kind_view, shapes};
 ghost use Rattle.policy_reader.specs.Faults.{fault_of};
 ghost use Rattle.policy_reader.specs.Parts as parts;
@@ -20,7 +20,7 @@ ghost use Rattle.policy_reader.specs.Parts.{entries};
 ghost use Rattle.policy_reader.specs.Relations as spec;
 ghost use Rattle.policy_reader.specs.Relations.{first_declared, names_of};
 ghost use Rattle.policy_reader.specs.declared.fault.ReadFault.TheVariants.{NoMemory};
-ghost use Rattle.first_fault.specs.Reading.{Gives, each};
+ghost use Rattle.basics.specs.Reading.{Gives, each};
 
 use crate::fault::{PolicyKind, PolicyPart, ReadFault, refuse, refuse_text};
 use crate::pairs::read_user_pairs;
@@ -242,7 +242,7 @@ fn all_relations(
     ensures read { Gives fault_of (λ _. shapes relations.new.items) result
         (each (spec.next_relation users.now.names (table_view all.now)) []
         (entries (table_view all.now))) }
-    ensures sound { OnOk result (AreSound (shapes relations.new.items)) }
+    ensures sound { OnOk result (AreSoundRelations (shapes relations.new.items)) }
     ensures related { OnOk result (AreOfUsers (length users.now.names)
         (shapes relations.new.items)) }
     ensures ascend { OnOk result (Ascend (names_of (shapes relations.new.items))) }

@@ -12,7 +12,7 @@ ghost use Rattle.policy_reader.specs.Parts.{items as part_items, entries};
 ghost use Rattle.policy_reader.specs.Printable.{Ascend};
 ghost use Rattle.policy_reader.specs.Rosters as rosters;
 ghost use Rattle.policy_reader.specs.Grammars.{today};
-ghost use Rattle.first_fault.specs.Reading.{Gives, each};
+ghost use Rattle.basics.specs.Reading.{Gives, each};
 
 use crate::fault::{PolicyPart, ReadFault};
 use crate::parts::{array_of, entries_at, items_at, name_of, named_of, next_name, twice};

@@ -18,7 +18,7 @@ ghost use Rattle.policy_reader.specs.Parts.{items as part_items, entries};
 ghost use Rattle.policy_reader.specs.declared.fault.PolicyPart.TheVariants.{Flows};
 ghost use Rattle.policy_reader.specs.Flows as spec;
 ghost use Rattle.policy_reader.specs.Grammars.{today};
-ghost use Rattle.first_fault.specs.Reading.{Gives, each};
+ghost use Rattle.basics.specs.Reading.{Gives, each};
 
 use crate::fault::{PolicyKind, PolicyPart, ReadFault, refuse_text};
 use crate::parts::{

@@ -12,7 +12,7 @@ ghost use Rattle.rbac_state.specs.Rosters.{RosterShape, has_role, IsSoundRoster}
 mod members;
 
 use crate::members::Members;
-use shared_part::Shared;
+use basics::Shared;
 use std::alloc::{AllocError, Global};
 use std::marker::Model;
 use wf_names::{Name, NameFault, NameTable, ROLE_LIMIT, RoleId, USER_LIMIT, UserId, UserSet};

@@ -5,7 +5,7 @@ ghost use Rattle.wf_names.specs.declared.limits.TheConstants.{ROLE_LIMIT, USER_L
 ghost use Rattle.wf_names.specs.UserSets.{has_user};
 ghost use Rattle.rbac_state.specs.Rows.{row_has};
 
-use shared_part::Copied;
+use basics::Copied;
 use std::alloc::AllocError;
 use std::marker::Model;
 use wf_names::{ROLE_LIMIT, RoleId, UserId, UserSet};

@@ -1,7 +1,7 @@
 -- The branches of a tree are smaller than the tree, by which a walk over them ends.
 use denote.Param.Weighed.{most}
 use Rattle.std.proofs.Common.{◌≡◌, ℕ, ◌<◌, ◌≤◌, ◌+◌, ◌*◌, List, [], ◌∷◌, sym, subst, arith}
-use Rattle.refutation_tree.specs.Shapes.{Kids, size_of_kids}
+use Rattle.refutation_tree.specs.Tree.{Kids, size_of_kids}
 use Rattle.refutation_tree.specs.Views.{kids_of_items}
 use Rattle.refutation_tree.specs.Falls.{falls}
 use Rattle.refutation_tree.specs.declared.tree.Branch.{Branch}

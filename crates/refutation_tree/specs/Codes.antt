@@ -1,8 +1,8 @@
 -- Inside: trees as data that can stand in values.
 use base.Stored.{Coded, Gv, gnil, gnum, gcons}
 use Rattle.std.proofs.Common.{◌≡◌, refl, sym, ap, ◌∙◌, zero, suc}
-use Rattle.refutation_tree.specs.Shapes.{Shape, Kids, holder, rule, node, no_kids, tree_kid}
-use Rattle.refutation_tree.specs.Shapes.{twin_kid}
+use Rattle.refutation_tree.specs.Tree.{Shape, Kids, holder, rule, node, no_kids, tree_kid}
+use Rattle.refutation_tree.specs.Tree.{twin_kid}
 
 abbrev mutual
   pub code_tree : Shape → Gv

@@ -1,7 +1,7 @@
 -- Inside: what stands in branches is smaller than the branches.
 use denote.Param.Weighed.{most}
 use Rattle.std.proofs.Common.{ℕ, ◌≤◌, max, List, [], ◌∷◌, arith}
-use Rattle.refutation_tree.specs.Shapes.{Kids, size_of_kids}
+use Rattle.refutation_tree.specs.Tree.{Kids, size_of_kids}
 use Rattle.refutation_tree.specs.Views.{kid_onto, kids_of_items}
 use Rattle.refutation_tree.specs.declared.tree.Tree.TheVariants.{Holder, Rule, Step}
 use Rattle.refutation_tree.specs.declared.tree.Branch.{Branch}

@@ -1,7 +1,7 @@
 //! Trees whose leaves name what is broken and whose nodes try each user of a step.
 ghost use Rattle.std.specs.Prelude.{◌≡◌, ◌≤◌, ◌+◌, IfOk, OnOk, OnErr, MatchOption};
-ghost use Rattle.refutation_tree.specs.Shapes.{no_kids, capped, joined, kid_count, kids_from};
-ghost use Rattle.refutation_tree.specs.Shapes.{nodes_of, nodes_of_kids};
+ghost use Rattle.refutation_tree.specs.Tree.{no_kids, capped, joined, kid_count, kids_from};
+ghost use Rattle.refutation_tree.specs.Tree.{nodes_of, nodes_of_kids};
 ghost use Rattle.refutation_tree.specs.Views.{branch_onto, kids_of_items, shape_of};
 
 use std::alloc::{AllocError, Global};
@@ -46,7 +46,7 @@ pub struct Branches {
 }
 
 impl Model for Branches {
-    ghost use Rattle.refutation_tree.specs.Shapes.{Kids, size_of_kids};
+    ghost use Rattle.refutation_tree.specs.Tree.{Kids, size_of_kids};
     ghost use Rattle.refutation_tree.specs.Codes.{kids_code};
 
     ghost Value = { Kids };

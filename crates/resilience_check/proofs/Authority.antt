@@ -7,14 +7,14 @@ use Rattle.std.specs.FinSet as set
 use Rattle.pair_set.specs.Pairs.{Pairs}
 use Rattle.pair_set.specs.PairLaws.{pair_cmp-IsAntisymmetric}
 use Rattle.basics.proofs.Booleans.{differ, not_true, not_yes, or_cases}
-use Rattle.constraint_forms.specs.Assigned.{is_member, planned, no_steps, no_users}
+use Rattle.constraint_forms.specs.Assign.{is_member, planned, no_steps, no_users}
 use Rattle.policy_book.specs.Shapes.{PolicyShape}
 use Rattle.policy_book.specs.Policies.{any_below, flow_at, is_authorised, problem_of}
 use Rattle.policy_book.specs.Plans.{IsValidPlan}
 use Rattle.policy_book.specs.Twins.{is_one_of}
 use Rattle.certificate_check.proofs.Below.{all_pass, each_passes}
-use Rattle.resilience_check.specs.Absences.{CanDoWithout, policy_without, problem_without}
-use Rattle.resilience_check.specs.Families.{AreValidPlans, is_whole, leaves_some}
+use Rattle.resilience_check.specs.Left.{CanDoWithout, policy_without, problem_without}
+use Rattle.resilience_check.specs.Covering.{AreValidPlans, is_whole, leaves_some}
 
 -- what is kept of a set
 pub contains_kept : (p : (ℕ × ℕ) → Bool) (s : Pairs) (q : ℕ × ℕ) → set.contains (set.retain s p) q ≡ (set.contains s q && p q)

@@ -5,26 +5,26 @@ use Rattle.std.proofs.lemmas.Bool.{false≢true, eqb-true}
 use Rattle.std.proofs.lemmas.Bool.Decides.{eqb_tells}
 use Rattle.std.proofs.lemmas.List.Elements.{All-head, All-tail}
 use Rattle.basics.proofs.Booleans.{or_cases, or_left, or_right}
-use Rattle.constraint_forms.specs.Assigned.{planned, no_steps, no_users}
+use Rattle.constraint_forms.specs.Assign.{planned, no_steps, no_users}
 use Rattle.policy_book.specs.Plans.{IsValidPlan, Problem}
 use Rattle.policy_book.specs.Refuting.{passing}
 use Rattle.policy_book.specs.Twins.{is_one_of}
 use Rattle.certificate_check.proofs.Refuted.{passing-has}
-use Rattle.resilience_check.specs.Absences.{AreAscending, AreUsers}
+use Rattle.resilience_check.specs.Left.{AreUsersInOrder, AreUsers}
 use Rattle.resilience_check.specs.Lists.{AreFrom}
-use Rattle.resilience_check.specs.Families.{AreValidPlans, CoversAbsences, is_whole, leaves_some}
+use Rattle.resilience_check.specs.Covering.{AreValidPlans, CoversAbsences, is_whole, leaves_some}
 use Rattle.resilience_check.proofs.Leaving.{whole_fewer}
 
-pub ascends_lower : (k n : ℕ) (us : List ℕ) → AreAscending (k + 1) n us → AreAscending k n us
+pub ascends_lower : (k n : ℕ) (us : List ℕ) → AreUsersInOrder (k + 1) n us → AreUsersInOrder k n us
 ascends_lower k n [] h = tt
 ascends_lower k n (u ∷ us) h = (omega (arith, h.0), h.1, h.2)
 
-pub passing_ascends : (test : ℕ → Bool) (k n m : ℕ) → k + n ≡ m → AreAscending k m (passing test k n)
+pub passing_ascends : (test : ℕ → Bool) (k n m : ℕ) → k + n ≡ m → AreUsersInOrder k m (passing test k n)
 passing_ascends test k zero m e = tt
 passing_ascends test k (suc n) m e = at (test k) (passing_ascends test (k + 1) n m (omega (arith, e)))
   where
-    at : (b : Bool) → AreAscending (k + 1) m (passing test (k + 1) n)
-        → AreAscending k m (cond b (k ∷ passing test (k + 1) n) (passing test (k + 1) n))
+    at : (b : Bool) → AreUsersInOrder (k + 1) m (passing test (k + 1) n)
+        → AreUsersInOrder k m (cond b (k ∷ passing test (k + 1) n) (passing test (k + 1) n))
     at true rest = (omega arith, omega (arith, e), rest)
     at false rest = ascends_lower k m (passing test (k + 1) n) rest
 
@@ -98,7 +98,7 @@ leaves_known p (plan ∷ plans) a b valid fewer h = elim (or_cases (is_whole b p
 ]
 
 pub covers_by : (p : Problem) (plans : List (List ℕ)) (t : ℕ) → AreValidPlans p plans
-    → ((other : List ℕ) → AreAscending 0 p.users other → length other ≤ t → leaves_some plans other ≡ true) → CoversAbsences plans t
+    → ((other : List ℕ) → AreUsersInOrder 0 p.users other → length other ≤ t → leaves_some plans other ≡ true) → CoversAbsences plans t
 covers_by p plans t valid each absent few =
     let other = passing (is_one_of absent) 0 p.users in
     let short = passing_few absent 0 p.users in
@@ -106,7 +106,7 @@ covers_by p plans t valid each absent few =
     (each other (passing_ascends (is_one_of absent) 0 p.users p.users (omega arith)) (omega (arith, short, few)))
 
 -- users who ascend from a number on are numbered from it on
-pub ascends_from : (k n : ℕ) (us : List ℕ) → AreAscending k n us → AreFrom k us
+pub ascends_from : (k n : ℕ) (us : List ℕ) → AreUsersInOrder k n us → AreFrom k us
 ascends_from k n [] h w one = absurd (false≢true one)
 ascends_from k n (u ∷ us) h w one = elim (or_cases (u == w) (is_one_of us w) one) [
   | inl same ↦ let is = eqb-true u w same in let low = h.0 in omega (arith, is, low)
@@ -114,7 +114,7 @@ ascends_from k n (u ∷ us) h w one = elim (or_cases (u == w) (is_one_of us w) o
 ]
 
 -- and below the other number
-pub ascends_below : (k n : ℕ) (us : List ℕ) → AreAscending k n us → AreUsers n us
+pub ascends_below : (k n : ℕ) (us : List ℕ) → AreUsersInOrder k n us → AreUsers n us
 ascends_below k n [] h w one = absurd (false≢true one)
 ascends_below k n (u ∷ us) h w one = elim (or_cases (u == w) (is_one_of us w) one) [
   | inl same ↦ subst (λ x. x < n) (eqb-true u w same) h.1

@@ -3,10 +3,10 @@ use Rattle.std.proofs.Common.{◌≡◌, refl, sym, ap, ◌∙◌, ℕ, zero, su
 use Rattle.std.proofs.Common.{length, ◌⊎◌, inl, inr, arith, subst}
 use Rattle.std.proofs.lemmas.Bool.{false≢true, eqb-true}
 use Rattle.basics.proofs.Booleans.{or_cases, or_left, or_right, not_true, not_yes, not_false, differ, bool_cases, or-false}
-use Rattle.constraint_forms.specs.Assigned.{planned}
+use Rattle.constraint_forms.specs.Assign.{planned}
 use Rattle.policy_book.specs.Twins.{all_below, is_one_of}
 use Rattle.certificate_check.proofs.Below.{all_pass, each_passes}
-use Rattle.resilience_check.specs.Families.{is_whole, leaves_some}
+use Rattle.resilience_check.specs.Covering.{is_whole, leaves_some}
 use Rattle.resilience_check.specs.Lists.{CanBreak, IsWholeIn, Withstands}
 use Rattle.resilience_check.proofs.Ones.{either_of_three, one_append, one_beside, one_here, removed, length-removed, stays_one, was_one}
 

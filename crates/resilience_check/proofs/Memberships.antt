@@ -12,7 +12,7 @@ use Rattle.pair_set.specs.PairLaws.{pair_cmp_total, pair_cmp-IsAntisymmetric}
 use Rattle.basics.proofs.Booleans.{and_same, lt_yes}
 use Rattle.rbac_state.specs.Rosters.{RosterShape, IsSoundRoster}
 use Rattle.policy_book.specs.Twins.{is_one_of}
-use Rattle.resilience_check.specs.Absences.{members_without}
+use Rattle.resilience_check.specs.Left.{members_without}
 use Rattle.resilience_check.specs.Searches.{members_below}
 use Rattle.resilience_check.proofs.Ones.{one_append}
 use Rattle.resilience_check.proofs.Authority.{contains_kept}

@@ -4,15 +4,15 @@ use Rattle.std.specs.Prelude.{[], ◌∷◌, ◌++◌, length, Option, None, Som
 use Rattle.std.specs.List.{All}
 use Rattle.std.specs.FinSet as set
 use Rattle.pair_set.specs.Pairs.{Pairs}
-use Rattle.constraint_forms.specs.Assigned.{no_users, no_steps}
+use Rattle.constraint_forms.specs.Assign.{no_users, no_steps}
 use Rattle.refutation_tree.specs.Views.{shape_of}
 use Rattle.refutation_tree.specs.declared.tree.Tree.{Tree}
 use Rattle.policy_book.specs.Shapes.{PolicyShape}
 use Rattle.policy_book.specs.Policies.{problem_of, with_roster}
 use Rattle.policy_book.specs.Plans.{IsValidPlan}
 use Rattle.policy_book.specs.Refuting.{refutes}
-use Rattle.resilience_check.specs.Absences.{AreAscending, is_less, problem_without}
-use Rattle.resilience_check.specs.Families.{AreValidPlans, leaves_some}
+use Rattle.resilience_check.specs.Left.{AreUsersInOrder, is_less, problem_without}
+use Rattle.resilience_check.specs.Covering.{AreValidPlans, leaves_some}
 
 -- what one family has a whole plan for the other has one for too
 abbrev pub Grows : List (List ℕ) → List (List ℕ) → Type 0
@@ -20,60 +20,61 @@ Grows before after =
     (absent : List ℕ) → leaves_some before absent ≡ true → leaves_some after absent ≡ true
 
 -- a tree refutes what is left without some users
-abbrev pub IsRefuted : PolicyShape → ℕ → List ℕ → Tree → Type 0
-IsRefuted p f absent tree =
+abbrev pub RefutesAbsence : PolicyShape → ℕ → List ℕ → Tree → Type 0
+RefutesAbsence p f absent tree =
     IsTrue (refutes (problem_without p f absent) no_users no_steps (shape_of tree))
 
 -- the family has a whole plan for each absence of `left` more users, numbered from k on
 pub record HasNone (n : ℕ) (absent : List ℕ) (k left : ℕ) (plans : List (List ℕ))
     (now : List ℕ) : Type 0 where
   pub same : now ≡ absent
-  pub each : (other : List ℕ) → AreAscending k n other → length other ≡ left
+  pub each : (other : List ℕ) → AreUsersInOrder k n other → length other ≡ left
       → leaves_some plans (absent ++ other) ≡ true
 
 -- `left` more users, numbered from k on, were found who leave no valid plan; the family has a whole
 -- plan for each lesser list of as many
-pub record HasFound (p : PolicyShape) (f : ℕ) (absent : List ℕ) (k left : ℕ)
+pub record HasFoundLeast (p : PolicyShape) (f : ℕ) (absent : List ℕ) (k left : ℕ)
     (plans : List (List ℕ)) (now : List ℕ) (tree : Tree) : Type 0 where
   pub more : List ℕ
   pub is : now ≡ absent ++ more
-  pub ascending : AreAscending k (length p.roster.users) more
+  pub ascending : AreUsersInOrder k (length p.roster.users) more
   pub count : length more ≡ left
-  pub refuted : IsRefuted p f now tree
-  pub least : (other : List ℕ) → AreAscending k (length p.roster.users) other
+  pub refuted : RefutesAbsence p f now tree
+  pub least : (other : List ℕ) → AreUsersInOrder k (length p.roster.users) other
       → length other ≡ left → is_less other more ≡ true → leaves_some plans (absent ++ other) ≡ true
 
 abbrev pub Found : PolicyShape → ℕ → List ℕ → ℕ → ℕ → List (List ℕ) → List ℕ → Option Tree
     → Type 0
 Found p f absent k left plans now None = HasNone (length p.roster.users) absent k left plans now
-Found p f absent k left plans now (Some tree) = HasFound p f absent k left plans now tree
+Found p f absent k left plans now (Some tree) = HasFoundLeast p f absent k left plans now tree
 
 -- the family is still one of valid plans, and has no fewer
-pub record HasGrown (p : PolicyShape) (f : ℕ) (before after : List (List ℕ)) : Type 0 where
+pub record FamilyGrows (p : PolicyShape) (f : ℕ) (before after : List (List ℕ)) : Type 0 where
   pub valid : AreValidPlans (problem_of p f) after
   pub grows : Grows before after
 
 -- absences of `left` more users, numbered from k on, were tried
-abbrev pub HasTried : PolicyShape → ℕ → List (List ℕ) → List ℕ → ℕ → ℕ → List (List ℕ) → List ℕ
+abbrev pub HasTriedAbsences : PolicyShape → ℕ → List (List ℕ) → List ℕ → ℕ → ℕ → List (List ℕ) →
+    List ℕ
     → Option Tree → Type 0
-HasTried p f before absent k left after now found =
-    HasGrown p f before after × Found p f absent k left after now found
+HasTriedAbsences p f before absent k left after now found =
+    FamilyGrows p f before after × Found p f absent k left after now found
 
 -- the family has a whole plan for each absence of u and `left` more users behind u
 pub record HasNoneWith (n : ℕ) (absent : List ℕ) (u left : ℕ) (plans : List (List ℕ))
     (now : List ℕ) : Type 0 where
   pub same : now ≡ absent
-  pub each : (other : List ℕ) → AreAscending (u + 1) n other → length other ≡ left
+  pub each : (other : List ℕ) → AreUsersInOrder (u + 1) n other → length other ≡ left
       → leaves_some plans (absent ++ (u ∷ other)) ≡ true
 
 pub record HasFoundWith (p : PolicyShape) (f : ℕ) (absent : List ℕ) (u left : ℕ)
     (plans : List (List ℕ)) (now : List ℕ) (tree : Tree) : Type 0 where
   pub more : List ℕ
   pub is : now ≡ absent ++ (u ∷ more)
-  pub ascending : AreAscending (u + 1) (length p.roster.users) more
+  pub ascending : AreUsersInOrder (u + 1) (length p.roster.users) more
   pub count : length more ≡ left
-  pub refuted : IsRefuted p f now tree
-  pub least : (other : List ℕ) → AreAscending (u + 1) (length p.roster.users) other
+  pub refuted : RefutesAbsence p f now tree
+  pub least : (other : List ℕ) → AreUsersInOrder (u + 1) (length p.roster.users) other
       → length other ≡ left → is_less other more ≡ true
       → leaves_some plans (absent ++ (u ∷ other)) ≡ true
 
@@ -87,17 +88,17 @@ FoundWith p f absent u left plans now (Some tree) = HasFoundWith p f absent u le
 abbrev pub HasTriedWith : PolicyShape → ℕ → List (List ℕ) → List ℕ → ℕ → ℕ → List (List ℕ)
     → List ℕ → Option Tree → Type 0
 HasTriedWith p f before absent u left after now found =
-    HasGrown p f before after × FoundWith p f absent u left after now found
+    FamilyGrows p f before after × FoundWith p f absent u left after now found
 
 -- one absence was tried: a tree refutes, or the family has a plan for it
 abbrev pub FoundOne : PolicyShape → ℕ → List ℕ → List (List ℕ) → Option Tree → Type 0
 FoundOne p f absent plans None = leaves_some plans absent ≡ true
-FoundOne p f absent plans (Some tree) = IsRefuted p f absent tree
+FoundOne p f absent plans (Some tree) = RefutesAbsence p f absent tree
 
 abbrev pub HasTriedOne : PolicyShape → ℕ → List (List ℕ) → List ℕ → List (List ℕ) → Option Tree
     → Type 0
 HasTriedOne p f before absent after found =
-    HasGrown p f before after × FoundOne p f absent after found
+    FamilyGrows p f before after × FoundOne p f absent after found
 
 -- a policy with other memberships
 abbrev pub with_members : PolicyShape → Pairs → PolicyShape

@@ -1,8 +1,8 @@
 //! Whether a family of plans has a whole one left, whoever is absent.
 ghost use Rattle.std.specs.Prelude.{◌≡◌, ℕ, ◌+◌, ◌<◌, ◌≤◌, ◌↔◌, ◌∷◌, true, false, length, IsTrue};
 ghost use Rattle.std.specs.Prelude.{MatchOption};
-ghost use Rattle.constraint_forms.specs.Assigned.{planned};
-ghost use Rattle.resilience_check.specs.Families.{is_whole, leaves_some, CoversAbsences};
+ghost use Rattle.constraint_forms.specs.Assign.{planned};
+ghost use Rattle.resilience_check.specs.Covering.{is_whole, leaves_some, CoversAbsences};
 ghost use Rattle.resilience_check.specs.Lists.{users_away, AreFrom, CanBreak, IsWholeIn};
 ghost use Rattle.resilience_check.specs.Lists.{Withstands};
 

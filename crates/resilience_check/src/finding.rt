@@ -1,10 +1,10 @@
 //! The search for the least absence that leaves no valid plan.
 ghost use Rattle.std.specs.Prelude.{◌≡◌, ◌+◌, ◌<◌, ◌≤◌, ◌^◌, ◌∷◌, ◌++◌, [], ℕ, true, false, length};
 ghost use Rattle.std.specs.Prelude.{None, Some, IfOk, OnOk};
-ghost use Rattle.resilience_check.specs.Absences.{AreUsers};
+ghost use Rattle.resilience_check.specs.Left.{AreUsers};
 ghost use Rattle.policy_book.specs.Policies.{problem_of};
-ghost use Rattle.resilience_check.specs.Families.{AreValidPlans};
-ghost use Rattle.resilience_check.specs.Searches.{HasTried, HasTriedOne, HasTriedWith};
+ghost use Rattle.resilience_check.specs.Covering.{AreValidPlans};
+ghost use Rattle.resilience_check.specs.Searches.{HasTriedAbsences, HasTriedOne, HasTriedWith};
 
 use crate::away::Away;
 use crate::covering::can_break;
@@ -32,7 +32,8 @@ pub(crate) fn first_breaking(
     requires flow { f < length p.now.flows }
     requires users { AreUsers (length p.now.roster.users) absent.old }
     requires family { AreValidPlans (problem_of p.now f) family.old }
-    ensures { IfOk result (HasTried p.now f family.old absent.old from left family.new absent.new) }
+    ensures { IfOk result
+        (HasTriedAbsences p.now f family.old absent.old from left family.new absent.new) }
 {
     if !can_break(
         family.as_slice(),

@@ -1,7 +1,7 @@
 //! Whether a workflow can be done whoever is absent.
 ghost use Rattle.std.specs.Prelude.{◌≡◌, ◌<◌, ◌↔◌, true, length, IfOk};
-ghost use Rattle.resilience_check.specs.Absences.{IsResilient};
-ghost use Rattle.resilience_check.specs.Families.{holds, AnswersAbsence};
+ghost use Rattle.resilience_check.specs.Left.{IsResilient};
+ghost use Rattle.resilience_check.specs.Covering.{holds, AnswersAbsence};
 
 use crate::finding::first_breaking;
 use basics::List;

@@ -3,30 +3,30 @@ use Rattle.std.proofs.Common.{◌≡◌, ℕ, true, List, Option, None, Some, Ok
 use Rattle.wf_names.specs.declared.limits.TheConstants.{REQUESTS_FILE_LIMIT}
 use Rattle.wf_outside.specs.Outside.{Filed, told, missing, untold}
 use Rattle.policy_book.specs.Shapes.{PolicyShape}
-use Rattle.policy_reader.specs.FilePolicies.{IsFilePolicy}
+use Rattle.policy_reader.specs.File.{IsFilePolicy}
 use Rattle.line_cutter.specs.declared.stop.Stop.{Stop}
 use Rattle.line_cutter.specs.declared.whole.CutText.{CutText}
 use Rattle.line_cutter.specs.Jobs.{Cut, jobs_of_input}
-use Rattle.line_reader.specs.Lines.{lines_of}
+use Rattle.line_reader.specs.Reader.{lines_of}
 use Rattle.run_record.specs.declared.fault.RunFault.{RunFault}
 use Rattle.run_record.specs.declared.fault.RunFault.TheVariants.{Load, LineTooLong}
 use Rattle.run_record.specs.Fault.{refused, how_of, CountsLoads, LoadsSo}
 use Rattle.wf_commands.specs.Load.{GivesBytes, GivesPolicy}
 use Rattle.transcript_resume.specs.Resumed.{first_long, whole_lines}
 use Rattle.resume_command.specs.declared.start.TheConstants.{TRANSCRIPT_FILE_LIMIT}
-use Rattle.resume_command.specs.Loading.{GivesCut, IsCutOf, Names, OverBoth, OverFiled, OverFiles, OverLong, OverPolicy, OverRequests, OverStop, OverText}
-use Rattle.resume_command.specs.Loading.{OverTranscript, OverTranscriptFile, ending_at}
+use Rattle.resume_command.specs.Load.{GivesCut, IsCutOf, Names, OverBoth, OverFiled, OverFiles, OverLong, GoesOverPolicy, OverRequests, OverStop, GoesOverText}
+use Rattle.resume_command.specs.Load.{OverTranscript, OverTranscriptFile, ending_at}
 
 -- ---- the policy file
 
 pub policy_fails : (Stops : RunFault → Type 0) (Goes : PolicyShape → Type 0) (filed : Filed) (fault : RunFault) → GivesPolicy filed (Err fault) →
-    Stops fault → OverFiled Stops (OverPolicy Stops Goes) filed
+    Stops fault → OverFiled Stops (GoesOverPolicy Stops Goes) filed
 policy_fails Stops Goes untold fault gives stops = (gives.0, inl (fault, (gives.1, stops)))
 policy_fails Stops Goes missing fault gives stops = let is : fault ≡ Load = cc in subst Stops is stops
 policy_fails Stops Goes (told file) fault gives stops = inl (fault, (gives, stops))
 
 pub policy_there : (Stops : RunFault → Type 0) (Goes : PolicyShape → Type 0) (filed : Filed) (p : PolicyShape) → GivesPolicy filed (Ok p) → IsFilePolicy p →
-    Goes p → OverFiled Stops (OverPolicy Stops Goes) filed
+    Goes p → OverFiled Stops (GoesOverPolicy Stops Goes) filed
 policy_there Stops Goes untold p gives sound goes = (gives.0, inr (p, (gives.1, (sound, goes))))
 policy_there Stops Goes missing p gives sound goes = cc
 policy_there Stops Goes (told file) p gives sound goes = inr (p, (gives, (sound, goes)))
@@ -35,14 +35,14 @@ policy_there Stops Goes (told file) p gives sound goes = inr (p, (gives, (sound,
 
 pub text_fails : (limit : ℕ) (Stops : RunFault → Type 0) (Goes : List ℕ → Type 0) (filed : Filed) (fault : RunFault) → GivesBytes limit filed (Err fault) →
     Stops fault
-    → OverFiled Stops (OverText limit Stops Goes) filed
+    → OverFiled Stops (GoesOverText limit Stops Goes) filed
 text_fails limit Stops Goes untold fault gives stops = (gives.0, inl (fault, (gives.1, stops)))
 text_fails limit Stops Goes missing fault gives stops = let is : fault ≡ Load = cc in subst Stops is stops
 text_fails limit Stops Goes (told file) fault gives stops = inl (fault, (gives, stops))
 
 pub text_there : (limit : ℕ) (Stops : RunFault → Type 0) (Goes : List ℕ → Type 0) (filed : Filed) (bytes : List ℕ) → GivesBytes limit filed (Ok bytes) →
     Goes bytes
-    → OverFiled Stops (OverText limit Stops Goes) filed
+    → OverFiled Stops (GoesOverText limit Stops Goes) filed
 text_there limit Stops Goes untold bytes gives goes = (gives.0, inr (gives.1.0, subst Goes gives.1.1 goes))
 text_there limit Stops Goes missing bytes gives goes = cc
 text_there limit Stops Goes (told file) bytes gives goes = inr (gives.0, subst Goes gives.1 goes)
@@ -51,14 +51,14 @@ text_there limit Stops Goes (told file) bytes gives goes = inr (gives.0, subst G
 
 pub requests_fail : (lanes : ℕ) (Stops : RunFault → Type 0) (Goes : Cut → Type 0) (filed : Filed) (fault : RunFault) → GivesCut filed lanes (Err fault) →
     Stops fault
-    → OverFiled Stops (OverText REQUESTS_FILE_LIMIT Stops (OverRequests lanes Stops Goes)) filed
+    → OverFiled Stops (GoesOverText REQUESTS_FILE_LIMIT Stops (OverRequests lanes Stops Goes)) filed
 requests_fail lanes Stops Goes untold fault gives stops = (gives.0, inl (fault, (gives.1, stops)))
 requests_fail lanes Stops Goes missing fault gives stops = let is : fault ≡ Load = cc in subst Stops is stops
 requests_fail lanes Stops Goes (told file) fault gives stops = inl (fault, (gives, stops))
 
 pub requests_there : (lanes : ℕ) (Stops : RunFault → Type 0) (Goes : Cut → Type 0) (filed : Filed) (text : CutText) → GivesCut filed lanes (Ok text)
     → ((requests : List ℕ) → IsCutOf requests lanes text → OverRequests lanes Stops Goes requests)
-    → OverFiled Stops (OverText REQUESTS_FILE_LIMIT Stops (OverRequests lanes Stops Goes)) filed
+    → OverFiled Stops (GoesOverText REQUESTS_FILE_LIMIT Stops (OverRequests lanes Stops Goes)) filed
 requests_there lanes Stops Goes untold text gives goes = (gives.0, inr (gives.1.0, goes gives.0 gives.1.1))
 requests_there lanes Stops Goes missing text gives goes = cc
 requests_there lanes Stops Goes (told file) text gives goes = inr (gives.0, goes file gives.1)
@@ -105,13 +105,13 @@ filed_map S T O P missing stops over at = stops Load at
 filed_map S T O P (told file) stops over at = over file at
 
 policy_map : (S T : RunFault → Type 0) (G H : PolicyShape → Type 0) (file : List ℕ) → ((x : RunFault) → S x → T x) →
-    ((p : PolicyShape) → IsFilePolicy p → G p → H p) → OverPolicy S G file
-    → OverPolicy T H file
+    ((p : PolicyShape) → IsFilePolicy p → G p → H p) → GoesOverPolicy S G file
+    → GoesOverPolicy T H file
 policy_map S T G H file stops goes (inl ends) = inl (ends.0, (ends.1.0, stops ends.0 ends.1.1))
 policy_map S T G H file stops goes (inr there) = inr (there.0, (there.1.0, (there.1.1.0, goes there.0 there.1.1.0 there.1.1.1)))
 
 text_map : (limit : ℕ) (S T : RunFault → Type 0) (G H : List ℕ → Type 0) (file : List ℕ) → ((x : RunFault) → S x → T x) → ((x : List ℕ) → G x → H x) →
-    OverText limit S G file → OverText limit T H file
+    GoesOverText limit S G file → GoesOverText limit T H file
 text_map limit S T G H file stops goes (inl ends) = inl (ends.0, (ends.1.0, stops ends.0 ends.1.1))
 text_map limit S T G H file stops goes (inr there) = inr (there.0, goes file there.1)
 
@@ -126,7 +126,7 @@ long_map S T G H (Some line) stops goes at = stops (LineTooLong line) at
 transcript_map : (S T : RunFault → Type 0) (G H : List ℕ → Type 0) (filed : Filed) → ((x : RunFault) → S x → T x) → ((x : List ℕ) → G x → H x)
     → OverTranscriptFile S G filed → OverTranscriptFile T H filed
 transcript_map S T G H filed stops goes at =
-    filed_map S T (OverText TRANSCRIPT_FILE_LIMIT S (OverTranscript S G)) (OverText TRANSCRIPT_FILE_LIMIT T (OverTranscript T H)) filed stops
+    filed_map S T (GoesOverText TRANSCRIPT_FILE_LIMIT S (OverTranscript S G)) (GoesOverText TRANSCRIPT_FILE_LIMIT T (OverTranscript T H)) filed stops
     (λ file. text_map TRANSCRIPT_FILE_LIMIT S T (OverTranscript S G) (OverTranscript T H) file stops
     (λ text. long_map S T (G text) (H text) (first_long 0 (lines_of (whole_lines text))) stops (goes text))) at
 
@@ -136,7 +136,7 @@ both_map : (lanes : ℕ) (S T : RunFault → Type 0) (G H : Cut → List ℕ →
 both_map lanes S T G H requests transcript stops goes at =
     let O = OverRequests lanes S (λ cut. OverTranscriptFile S (G cut) transcript) in
     let P = OverRequests lanes T (λ cut. OverTranscriptFile T (H cut) transcript) in
-    filed_map S T (OverText REQUESTS_FILE_LIMIT S O) (OverText REQUESTS_FILE_LIMIT T P) requests stops
+    filed_map S T (GoesOverText REQUESTS_FILE_LIMIT S O) (GoesOverText REQUESTS_FILE_LIMIT T P) requests stops
     (λ file. text_map REQUESTS_FILE_LIMIT S T O P file stops
     (λ text. let cut = jobs_of_input text true lanes in
     stop_map S T (OverTranscriptFile S (G cut) transcript) (OverTranscriptFile T (H cut) transcript) cut.stop stops
@@ -152,7 +152,7 @@ files_map files names lanes S T G H stops goes at =
     let transcript = files names.transcript in
     let O = λ (p : PolicyShape). OverBoth lanes S (G p) requests transcript in
     let P = λ (p : PolicyShape). OverBoth lanes T (H p) requests transcript in
-    filed_map S T (OverPolicy S O) (OverPolicy T P) (files names.policy) stops
+    filed_map S T (GoesOverPolicy S O) (GoesOverPolicy T P) (files names.policy) stops
     (λ file. policy_map S T O P file stops (λ p sound. both_map lanes S T (G p) (H p) requests transcript stops (λ text x. goes p text x sound))) at
 
 -- ---- what comes of files over which a run does not stop
@@ -164,12 +164,12 @@ filed_goal S O missing T stops over at = stops Load at
 filed_goal S O (told file) T stops over at = over file at
 
 policy_goal : (S : RunFault → Type 0) (G : PolicyShape → Type 0) (file : List ℕ) (T : Type 0) → ((x : RunFault) → S x → T) → ((p : PolicyShape) → G p → T) →
-    OverPolicy S G file → T
+    GoesOverPolicy S G file → T
 policy_goal S G file T stops goes (inl ends) = stops ends.0 ends.1.1
 policy_goal S G file T stops goes (inr there) = goes there.0 there.1.1.1
 
 text_goal : (limit : ℕ) (S : RunFault → Type 0) (G : List ℕ → Type 0) (file : List ℕ) (T : Type 0) → ((x : RunFault) → S x → T) → ((x : List ℕ) → G x → T) →
-    OverText limit S G file → T
+    GoesOverText limit S G file → T
 text_goal limit S G file T stops goes (inl ends) = stops ends.0 ends.1.1
 text_goal limit S G file T stops goes (inr there) = goes file there.1
 
@@ -184,7 +184,7 @@ long_goal S G (Some line) T stops goes at = stops (LineTooLong line) at
 transcript_goal : (S : RunFault → Type 0) (G : List ℕ → Type 0) (filed : Filed) (T : Type 0) → ((x : RunFault) → S x → T) → ((x : List ℕ) → G x → T) →
     OverTranscriptFile S G filed → T
 transcript_goal S G filed T stops goes at =
-    filed_goal S (OverText TRANSCRIPT_FILE_LIMIT S (OverTranscript S G)) filed T stops
+    filed_goal S (GoesOverText TRANSCRIPT_FILE_LIMIT S (OverTranscript S G)) filed T stops
     (λ file. text_goal TRANSCRIPT_FILE_LIMIT S (OverTranscript S G) file T stops
     (λ text. long_goal S (G text) (first_long 0 (lines_of (whole_lines text))) T stops (goes text))) at
 
@@ -193,7 +193,7 @@ both_goal : (lanes : ℕ) (S : RunFault → Type 0) (G : Cut → List ℕ → Ty
     → OverBoth lanes S G requests transcript → T
 both_goal lanes S G requests transcript T stops goes at =
     let O = OverRequests lanes S (λ cut. OverTranscriptFile S (G cut) transcript) in
-    filed_goal S (OverText REQUESTS_FILE_LIMIT S O) requests T stops
+    filed_goal S (GoesOverText REQUESTS_FILE_LIMIT S O) requests T stops
     (λ file. text_goal REQUESTS_FILE_LIMIT S O file T stops
     (λ text. let cut = jobs_of_input text true lanes in
     stop_goal S (OverTranscriptFile S (G cut) transcript) cut.stop T stops (transcript_goal S (G cut) transcript T stops (goes cut)))) at
@@ -203,5 +203,5 @@ pub files_goal : (files : List ℕ → Filed) (names : Names) (lanes : ℕ) (S :
     → ((p : PolicyShape) (c : Cut) (x : List ℕ) → G p c x → T) → OverFiles files names lanes S G → T
 files_goal files names lanes S G T stops goes at =
     let O = λ (p : PolicyShape). OverBoth lanes S (G p) (files names.requests) (files names.transcript) in
-    filed_goal S (OverPolicy S O) (files names.policy) T stops
+    filed_goal S (GoesOverPolicy S O) (files names.policy) T stops
     (λ file. policy_goal S O file T stops (λ p. both_goal lanes S (G p) (files names.requests) (files names.transcript) T stops (goes p))) at

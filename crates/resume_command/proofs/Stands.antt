@@ -15,7 +15,7 @@ use Rattle.wf_desk.specs.Parts.{FillsPart}
 use Rattle.line_cutter.specs.Cutter.{ends_after}
 use Rattle.line_cutter.specs.Laws.{LeadTo}
 use Rattle.transcript_audit.proofs.Batches.{first_ends, part_length, start_first as front_start, start_rises}
-use Rattle.transcript_resume.specs.Places.{end_at, jobs_between, start_at}
+use Rattle.transcript_resume.specs.Unserved.{end_at, jobs_between, start_at}
 use Rattle.transcript_resume.specs.Resumed.{GoesOnAt, Session}
 use Rattle.transcript_resume.proofs.Rests.{answers_part, bounds_order, bounds_within, lanes_between}
 use Rattle.resume_command.specs.Begun.{StandsAt, ends_to}

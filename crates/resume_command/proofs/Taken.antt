@@ -8,7 +8,7 @@ use Rattle.line_cutter.specs.Jobs.{Cut, jobs_of_input, next_input, start_at}
 use Rattle.line_cutter.specs.Laws.{AreInOrder, GoesOn, InputsGoOn}
 use Rattle.wf_board.specs.Histories.{batch_start}
 use Rattle.wf_desk.specs.Desks.{DeskShape}
-use Rattle.batch_reader.specs.Reading.{ReaderShape}
+use Rattle.batch_reader.specs.Reader.{BatchReaderShape}
 use Rattle.run_record.specs.declared.fault.RunFault.{RunFault}
 use Rattle.run_record.specs.declared.fault.RunFault.TheVariants as run
 use Rattle.transcript_audit.specs.declared.fault.AuditFault.{AuditFault}
@@ -19,12 +19,12 @@ use Rattle.resume_command.specs.declared.start.TheConstants.{PIECE}
 use Rattle.resume_command.specs.declared.refusal.Refusal.{Refusal}
 use Rattle.resume_command.specs.declared.refusal.Refusal.TheVariants.{Ends}
 use Rattle.resume_command.specs.Begun.{BeginsBy, HasBegun, StandsAt, StopsBy, ends_to, session_of}
-use Rattle.resume_command.specs.Loading.{IsCutOf}
-use Rattle.resume_command.specs.Refusing.{refused_by}
+use Rattle.resume_command.specs.Load.{IsCutOf}
+use Rattle.resume_command.specs.Refusal.{refused_by}
 use Rattle.resume_command.proofs.Stands.{desk_lanes, reaches, stands}
 
 -- what was made of the jobs of a file
-pub record IsMadeOf (s : Session) (next : ℕ) (r : ReaderShape) (b : Beginning) : Type 0 where
+pub record IsMadeOf (s : Session) (next : ℕ) (r : BatchReaderShape) (b : Beginning) : Type 0 where
   pub file_jobs : b.file.jobs ≡ s.jobs
   pub file_ends : b.file.ends ≡ s.batch_ends
   pub count : b.count ≡ ends_to next s.batch_ends
@@ -32,7 +32,7 @@ pub record IsMadeOf (s : Session) (next : ℕ) (r : ReaderShape) (b : Beginning)
   pub ends : b.ends ≡ take b.count s.batch_ends
   pub reader : b.reader ≡ r
 
-begun_at : (s : Session) (cut : Cut) (transcript : List ℕ) (next : ℕ) (r : ReaderShape) (b : Beginning) → IsSoundPolicy s.policy →
+begun_at : (s : Session) (cut : Cut) (transcript : List ℕ) (next : ℕ) (r : BatchReaderShape) (b : Beginning) → IsSoundPolicy s.policy →
     AreInOrder s.lanes s.jobs s.batch_ends
     → s.jobs ≡ cut.jobs → s.batch_ends ≡ cut.ends → GoesOn s.lanes cut → HasResumed s transcript next b.desk → IsMadeOf s next r b
     → r ≡ record { cut = start_at s.lanes (next_input cut).number; pending = []; room = PIECE } → HasBegun s cut transcript b
@@ -65,7 +65,7 @@ begun_at s cut transcript next r b sound order jobs ends goes resumed made reads
     }
 
 -- a session that was taken up behind the requests of a file
-pub has_begun : (p : PolicyShape) (lanes rounds : ℕ) (requests transcript : List ℕ) (text : CutText) (next : ℕ) (r : ReaderShape) (b : Beginning) →
+pub has_begun : (p : PolicyShape) (lanes rounds : ℕ) (requests transcript : List ℕ) (text : CutText) (next : ℕ) (r : BatchReaderShape) (b : Beginning) →
     IsSoundPolicy p
     → AreInOrder lanes text.batch.jobs text.batch.ends → InputsGoOn lanes → IsCutOf requests lanes text → text.stop ≡ None
     → HasResumed (record { policy = p; lanes = lanes; rounds = rounds; jobs = text.batch.jobs; batch_ends = text.batch.ends }) transcript next b.desk

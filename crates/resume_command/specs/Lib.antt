@@ -1,4 +1,4 @@
-pub mod Refusing
-pub mod Loading
+pub mod Refusal
+pub mod Load
 pub mod Begun
 pub mod Start

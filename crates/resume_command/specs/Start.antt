@@ -4,7 +4,7 @@ use Rattle.wf_names.specs.declared.limits.TheConstants.{SESSION_LINE_LIMIT}
 use Rattle.line_cutter.specs.declared.whole.CutText.{CutText}
 use Rattle.line_cutter.specs.Laws.{AreInOrder, AreNamedJobs}
 use Rattle.resume_command.specs.declared.start.Earlier.{Earlier}
-use Rattle.resume_command.specs.Loading.{Names}
+use Rattle.resume_command.specs.Load.{Names}
 
 -- the names of its files
 abbrev pub names_in : Earlier → Names

@@ -5,7 +5,7 @@ ghost use Rattle.wf_names.specs.declared.limits.TheConstants.{SESSION_LINE_LIMIT
 ghost use Rattle.line_cutter.specs.Laws.{AreInOrder, AreNamedJobs};
 ghost use Rattle.run_record.specs.Fault.{fault_in, CountsLoads};
 ghost use Rattle.wf_commands.specs.Load.{IsLoadEnding};
-ghost use Rattle.resume_command.specs.Loading.{GivesCut};
+ghost use Rattle.resume_command.specs.Load.{GivesCut};
 
 use line_cutter::{CutText, cut_text};
 use run_record::RunFault;

@@ -2,7 +2,7 @@
 ghost use Rattle.std.specs.Prelude.{◌≡◌};
 ghost use Rattle.run_record.specs.declared.fault.RunFault.TheVariants.{NoMemory};
 ghost use Rattle.resume_command.specs.declared.refusal.Refusal.TheVariants.{Ends};
-ghost use Rattle.resume_command.specs.Refusing.{refused_by};
+ghost use Rattle.resume_command.specs.Refusal.{refused_by};
 
 use run_record::RunFault;
 use std::alloc::AllocError;

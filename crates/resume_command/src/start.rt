@@ -4,8 +4,8 @@ ghost use Rattle.line_cutter.specs.Jobs.{jobs_of_input};
 ghost use Rattle.run_record.specs.Fault.{how_of, refused, CountsLoads};
 ghost use Rattle.transcript_resume.specs.Sessions.{AreServedWithin};
 ghost use Rattle.resume_command.specs.Start.{AreWhole, names_in};
-ghost use Rattle.resume_command.specs.Loading.{IsCutOf, ending_at, OverBoth, OverFiles};
-ghost use Rattle.resume_command.specs.Loading.{OverTranscript, OverTranscriptFile};
+ghost use Rattle.resume_command.specs.Load.{IsCutOf, ending_at, OverBoth, OverFiles};
+ghost use Rattle.resume_command.specs.Load.{OverTranscript, OverTranscriptFile};
 ghost use Rattle.resume_command.specs.Begun.{BeginsBy, EndsBeginning, EndsLoaded, StopsBy, ends_to};
 ghost use Rattle.resume_command.specs.Begun.{fault_by, session_of};
 

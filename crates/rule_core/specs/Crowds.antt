@@ -4,7 +4,7 @@ use Rattle.std.specs.Prelude.{List, [], ◌∷◌, length, Option, None, Some, i
 use Rattle.constraint_forms.specs.declared.rule.Rule.{Rule}
 use Rattle.constraint_forms.specs.declared.rule.Rule.TheVariants.{Pair, SomeOf, AllOf, SomeTo}
 use Rattle.constraint_forms.specs.declared.rule.Rule.TheVariants.{AllTo, AtMost, AtLeast}
-use Rattle.constraint_forms.specs.Assigned.{user_at, is_member}
+use Rattle.constraint_forms.specs.Assign.{user_at, is_member}
 use Rattle.constraint_forms.specs.Rules.{any_read}
 use Rattle.policy_book.specs.Plans.{Problem, AreAssigned, IsCompletable}
 use Rattle.policy_book.specs.Policies.{any_below}

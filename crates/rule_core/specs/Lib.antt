@@ -1,4 +1,4 @@
-pub mod Cores
+pub mod Search
 pub mod Leaves
 pub mod Trials
 pub mod Crowds

@@ -1,7 +1,7 @@
 -- Why a case can or cannot be completed.
 use Rattle.std.specs.Prelude.{ℕ, Bool, List, Option}
 use Rattle.policy_book.specs.Plans.{Problem, IsCompletable, IsValidPlan}
-use Rattle.rule_core.specs.Cores.{IsCore}
+use Rattle.rule_core.specs.Search.{IsCore}
 use Rattle.rule_core.specs.Crowds.{IsCrowd}
 use Rattle.rule_core.specs.declared.search.Why.{Why}
 use Rattle.rule_core.specs.declared.search.Why.TheVariants.{Plan, Crowd, Clash}

@@ -1,6 +1,6 @@
 //! Steps that want different users, of whom there are too few.
 ghost use Rattle.std.specs.Prelude.{◌≡◌, ℕ, ◌<◌, ◌&&◌, ◌||◌, length, Some, true, nat_lt};
-ghost use Rattle.constraint_forms.specs.Assigned.{user_at};
+ghost use Rattle.constraint_forms.specs.Assign.{user_at};
 ghost use Rattle.constraint_forms.specs.Rules.{any_read};
 ghost use Rattle.policy_book.specs.Policies.{problem_of};
 ghost use Rattle.policy_book.specs.Twins.{is_one_of};

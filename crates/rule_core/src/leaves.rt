@@ -1,6 +1,6 @@
 //! The rules at the leaves of a tree.
 ghost use Rattle.std.specs.Prelude.{◌≡◌, ◌==◌};
-ghost use Rattle.refutation_tree.specs.Shapes.{no_kids};
+ghost use Rattle.refutation_tree.specs.Tree.{no_kids};
 ghost use Rattle.refutation_tree.specs.Views.{branch_onto, kids_of_items, shape_of};
 ghost use Rattle.rule_core.specs.Leaves.{any_uses, uses_rule};
 

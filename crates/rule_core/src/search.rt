@@ -2,7 +2,7 @@
 ghost use Rattle.std.specs.Prelude.{◌≡◌, ◌<◌, length, IfOk};
 ghost use Rattle.policy_book.specs.Plans.{AreAssigned, IsWithin};
 ghost use Rattle.policy_book.specs.Policies.{problem_of};
-ghost use Rattle.rule_core.specs.Cores.{AreAscending, IsCore, IsBlocked};
+ghost use Rattle.rule_core.specs.Search.{AreAscending, IsCore, IsBlocked};
 ghost use Rattle.rule_core.specs.Trials.{HasTried, HasStarted};
 ghost use Rattle.rule_core.specs.Whys.{IsWhy};
 

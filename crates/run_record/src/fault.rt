@@ -1,7 +1,7 @@
 //! How a run ends, with its status and its text.
 ghost use Rattle.std.specs.Prelude.{◌≡◌, Some};
 ghost use Rattle.run_record.specs.Fault.{status_of, reading_ended};
-ghost use Rattle.run_record.specs.Texts.{text_of};
+ghost use Rattle.run_record.specs.Texts.{fault_said};
 ghost use Rattle.run_record.specs.declared.fault.RunFault.TheVariants.{NoMemory};
 
 use policy_reader::{PolicyFault, ReadFault};
@@ -58,7 +58,7 @@ pub enum RunFault {
 }
 
 impl fmt::Display for RunFault {
-    ghost output = { λ fault. Some (text_of fault) };
+    ghost output = { λ fault. Some (fault_said fault) };
 
     fn fmt<W: fmt::Write>(&self, f: &mut fmt::Formatter<W>) -> fmt::Result {
         match self {

@@ -1,7 +1,7 @@
 //! Which case an entry is about, and what a request names.
 ghost use Rattle.std.specs.Prelude.{◌≡◌};
 ghost use Rattle.wf_board.specs.Counting.{case_of_ask, case_of_request};
-ghost use Rattle.story_words.specs.Subjects.{subject_of, subject_of_denial};
+ghost use Rattle.story_words.specs.About.{subject_of, subject_of_denial};
 
 use wf_names::{CaseId, Name};
 use wf_talk::{Ask, Denial, Edit, Reply, Request};

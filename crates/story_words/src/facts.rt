@@ -1,6 +1,6 @@
 //! Who breaks a rule, and how.
 ghost use Rattle.std.specs.Prelude.{◌≡◌, ◌<◌, length, true, IfSome};
-ghost use Rattle.constraint_forms.specs.Assigned.{user_at};
+ghost use Rattle.constraint_forms.specs.Assign.{user_at};
 ghost use Rattle.constraint_forms.specs.Rules.{are_unrelated, turned};
 ghost use Rattle.user_relations.specs.Relations.{is_related};
 

@@ -1,6 +1,6 @@
 //! Who would have which steps of a case.
 ghost use Rattle.std.specs.Prelude.{◌≡◌, ℕ, ◌<◌, Some, true, length, IfSome, IsTrue};
-ghost use Rattle.constraint_forms.specs.Assigned.{is_member, user_at};
+ghost use Rattle.constraint_forms.specs.Assign.{is_member, user_at};
 ghost use Rattle.policy_book.specs.Plans.{AreAssigned, IsWithin};
 ghost use Rattle.policy_book.specs.Policies.{problem_of};
 

@@ -1,4 +1,4 @@
 pub mod Why
 pub mod Policy
-pub mod Asked
+pub mod Words
 pub mod Runs

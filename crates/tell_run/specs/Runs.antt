@@ -8,10 +8,10 @@ use Rattle.run_record.specs.Fault.{CountsLoads, CountsWrites}
 use Rattle.run_record.specs.Report.{nothing_told}
 use Rattle.run_record.specs.Run.{Run, Streams}
 use Rattle.wf_commands.specs.Once.{Ends, RunsOnce}
-use Rattle.case_story.specs.Running.{Tells, TellsRun}
+use Rattle.case_story.specs.Run.{Tells, TellsRun}
 use Rattle.tell_run.specs.declared.words.Asked.{Asked}
 use Rattle.tell_run.specs.declared.words.Asked.TheVariants as asked
-use Rattle.tell_run.specs.Asked.{CanTell}
+use Rattle.tell_run.specs.Words.{CanTell}
 use Rattle.tell_run.specs.Policy.{JudgesFiled}
 use Rattle.tell_run.specs.Why.{TellsWhy}
 
@@ -28,17 +28,17 @@ run_to files loads loads_after before after fault = record {
 }
 
 -- nothing is read, and each fault of the outside is counted
-pub record IsCounted (r : Run) : Type 0 where
+pub record CountsFaults (r : Run) : Type 0 where
   pub unread : r.after.input ≡ r.before.input
   pub loads : CountsLoads r.fault r.load_faults r.load_faults_after
   pub writes : CountsWrites r.fault r.before.write_faults r.after.write_faults
 
 -- by what is asked: how the run ends, and what it writes
 abbrev pub RunsAsked : Asked → Run → Type 0
-RunsAsked (asked.Policy policy) r = IsCounted r ×
+RunsAsked (asked.Policy policy) r = CountsFaults r ×
     JudgesFiled policy.now r.files r.before.output r.after.output r.fault
 RunsAsked (asked.Why policy flow) r = RunsOnce None policy.now (λ told p. TellsWhy p flow.now) r
-RunsAsked (asked.Told what s) r = IsCounted r × TellsRun r.files
+RunsAsked (asked.Told what s) r = CountsFaults r × TellsRun r.files
     (record { policy = s.policy.now; requests = s.requests.now; transcript = s.transcript.now })
     s.lanes s.rounds (Tells what) r.before.output r.after.output r.fault
 
@@ -47,6 +47,6 @@ RunsAsked (asked.Told what s) r = IsCounted r × TellsRun r.files
 abbrev pub RunsAlone : Run → Type 0
 RunsAlone r =
     ((a : Asked) × (CanTell a × RunsAsked a r))
-    ⊎ (IsCounted r × (((help : List ℕ) × Ends (λ fault text. (fault ≡ Nothing) × (text ≡ help))
+    ⊎ (CountsFaults r × (((help : List ℕ) × Ends (λ fault text. (fault ≡ Nothing) × (text ≡ help))
     r.before.output r.after.output r.fault)
     ⊎ (((r.fault ≡ Usage) ⊎ (r.fault ≡ NoMemory)) × (r.after.output ≡ r.before.output))))

@@ -1,6 +1,6 @@
 -- The command `why`: whether a workflow has a valid plan.
 use Rattle.std.specs.Prelude.{◌≡◌, ◌↔◌, ℕ, List, MatchOption}
-use Rattle.constraint_forms.specs.Assigned.{no_users, no_steps}
+use Rattle.constraint_forms.specs.Assign.{no_users, no_steps}
 use Rattle.policy_book.specs.Shapes.{PolicyShape}
 use Rattle.policy_book.specs.Policies.{problem_of}
 use Rattle.policy_book.specs.Plans.{IsCompletable}

@@ -3,7 +3,7 @@ ghost use Rattle.std.specs.Prelude.{◌≡◌, None};
 ghost use Rattle.run_record.specs.Run.{run_of, streams_of};
 ghost use Rattle.run_record.specs.Fault.{CountsLoads, CountsWrites};
 ghost use Rattle.wf_commands.specs.Once.{RunsOnce};
-ghost use Rattle.tell_run.specs.Asked.{CanTell};
+ghost use Rattle.tell_run.specs.Words.{CanTell};
 ghost use Rattle.tell_run.specs.Runs.{RunsAlone, RunsAsked, run_to};
 ghost use Rattle.tell_run.specs.Why.{TellsWhy};
 

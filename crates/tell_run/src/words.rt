@@ -1,7 +1,7 @@
 //! The words of the command line.
 ghost use Rattle.std.specs.Prelude.{◌<◌, ◌≤◌, IfSome, IfOk};
 ghost use Rattle.wf_names.specs.declared.limits.TheConstants.{LANE_LIMIT};
-ghost use Rattle.tell_run.specs.Asked.{CanTell};
+ghost use Rattle.tell_run.specs.Words.{CanTell};
 
 use case_story::{Files, What};
 use clap::error::ErrorKind;

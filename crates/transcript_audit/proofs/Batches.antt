@@ -10,7 +10,7 @@ use Rattle.wf_talk.specs.Jobs.{AreOfLanes}
 use Rattle.line_cutter.specs.Laws.{LeadTo}
 use Rattle.wf_desk.specs.BatchLaws.{EndAt}
 use Rattle.wf_desk.proofs.DocketLaws.{first_of_lanes, none_of_lanes}
-use Rattle.transcript_audit.specs.Audits.{end_at, start_at}
+use Rattle.transcript_audit.specs.Auditor.{end_at, start_at}
 use Rattle.transcript_audit.specs.Keeping.{IsBatchOf, end_of, part}
 
 -- where the batch with a number begins, of those from a place on

@@ -13,12 +13,12 @@ use Rattle.wf_board.specs.Histories.{batch_start, job_of_entry, lane_jobs}
 use Rattle.line_cutter.specs.Laws.{AreInOrder}
 use Rattle.wf_desk.specs.Desks.{served_jobs}
 use Rattle.wf_desk.specs.Keeping.{IsLanePlace}
-use Rattle.wf_desk.specs.Places.{IsNextPlace}
+use Rattle.wf_desk.specs.Docket.{IsNextPlace}
 use Rattle.wf_desk.proofs.DocketLaws.{lane_both, lane_own, next_at, served_other, served_own}
 use Rattle.wf_desk.proofs.DeskLaws.{differs}
 use Rattle.transcript_audit.specs.declared.cursor.Cursor.{Cursor}
-use Rattle.transcript_audit.specs.Audits.{AuditShape, ComesNext, audit_of, next_job, present_jobs, present_start, with_entry}
-use Rattle.transcript_audit.specs.Keeping.{HasGoneOn, IsAtFirst, IsPlaceIn, IsRecord, IsSoundAudit, end_of, jobs_in, part}
+use Rattle.transcript_audit.specs.Auditor.{AuditShape, ComesNext, audit_of, next_job, present_jobs, present_start, with_entry}
+use Rattle.transcript_audit.specs.Keeping.{HasMovedOn, IsAtFirst, IsPlaceIn, IsRecord, IsSoundAudit, end_of, jobs_in, part}
 use Rattle.transcript_audit.proofs.Batches.{ends_within, next_start, part_none, start_before_end}
 use Rattle.transcript_audit.proofs.Sound.{desk_of, end_now, next_is, next_open, next_short, none_served, sound_past, sound_start, sound_within, start_now}
 
@@ -194,7 +194,7 @@ record_start p rounds jobs ends c order first = record_first (audit_of p rounds 
 
 -- with one more entry
 pub record_more : (a : AuditShape) (c : Cursor) (e : Entry) (n : ℕ) (d : Cursor) → IsRecord a c → ComesNext a e → n ≡ length a.entries + 1 →
-    HasGoneOn a.jobs a.batch_ends e.lane n c d → IsRecord (with_entry a e) d
+    HasMovedOn a.jobs a.batch_ends e.lane n c d → IsRecord (with_entry a e) d
 record_more a c e n d is next count gone = elim (bool_cases (nat_eq n c.end)) [
   | inl full ↦
       let k = c.batch in
@@ -237,7 +237,7 @@ next_ends a c lane j is next =
 -- the record once its entry is added
 pub added_record : (a : AuditShape) (c d : Cursor) (e : Entry) (entries : List Entry) (n : ℕ) → IsRecord a c → ComesNext a e →
     entries ≡ a.entries ++ e ∷ [] → n ≡ length entries →
-    HasGoneOn a.jobs a.batch_ends e.lane n c d → IsRecord (record a { entries = entries }) d
+    HasMovedOn a.jobs a.batch_ends e.lane n c d → IsRecord (record a { entries = entries }) d
 added_record a c d e entries n is next added count gone =
     let size : n ≡ length a.entries + 1 = count ∙ ap length added ∙ length-append a.entries (e ∷ []) in
     subst (λ es. IsRecord (record a { entries = es }) d) (sym added) (record_more a c e n d is next size gone)

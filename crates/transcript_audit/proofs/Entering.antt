@@ -7,7 +7,7 @@ use Rattle.basics.proofs.Booleans.{and_both, and_from, eq_back, eq_is, same_by}
 use Rattle.wf_names.specs.declared.limits.TheConstants.{SESSION_LINE_LIMIT}
 use Rattle.policy_book.specs.Shapes.{PolicyShape}
 use Rattle.case_record.specs.Cases.{CaseShape}
-use Rattle.grant_table.specs.Tables.{CasesShape}
+use Rattle.grant_table.specs.Cases.{CasesShape}
 use Rattle.wf_talk.specs.declared.entry.Entry.{Entry}
 use Rattle.wf_talk.specs.declared.job.Job.{Job}
 use Rattle.wf_talk.specs.declared.reply.Reply.{Reply}
@@ -28,8 +28,8 @@ use Rattle.entry_laws.proofs.Entries.{text_stays}
 use Rattle.transcript_audit.specs.declared.fault.AuditKind.TheVariants as kinds
 use Rattle.transcript_audit.specs.declared.flaw.Flaw.{Flaw}
 use Rattle.transcript_audit.specs.declared.flaw.Flaw.TheVariants as flaw
-use Rattle.transcript_audit.specs.Audits.{AuditShape, ComesNext, HasFault, IsNextLine, flows_now, next_job, present_jobs, present_start, state_now, with_entry}
-use Rattle.transcript_audit.specs.Keeping.{HasEntered, HasRead, HasTried, entry_next, rests_on}
+use Rattle.transcript_audit.specs.Auditor.{AuditShape, ComesNext, HasFault, IsNextLine, flows_now, next_job, present_jobs, present_start, state_now, with_entry}
+use Rattle.transcript_audit.specs.Keeping.{HasEntered, TellsReply, TriesLine, entry_next, rests_on}
 use Rattle.transcript_audit.proofs.Excludes.{one_place, told_named}
 
 -- ---- steps
@@ -170,17 +170,17 @@ some_count what entries n found rounds is enough some =
 -- ---- the line
 
 -- the entry at the place that a line tells is that of the job
-pub entry_there : (a : AuditShape) (line : List ℕ) (j : Job) (r : Reply) → (read : HasRead a line j r) → entry_at read.place j.ask r ≡ entry_next a j r
+pub entry_there : (a : AuditShape) (line : List ℕ) (j : Job) (r : Reply) → (read : TellsReply a line j r) → entry_at read.place j.ask r ≡ entry_next a j r
 entry_there a line j r read =
     let lane : read.place.lane ≡ j.lane = sym (next_lane read.place.lane _ (present_jobs a) j read.due.next) in
     let line_same : read.place.line ≡ j.line = sym read.due.line in
     (λ i. record { at = read.stands.here i; lane = lane i; line = line_same i; ask = j.ask; reply = r })
 
-read_named : (a : AuditShape) (line : List ℕ) (j : Job) (r : Reply) → (read : HasRead a line j r) → read.reply.place ≡ read.place
+read_named : (a : AuditShape) (line : List ℕ) (j : Job) (r : Reply) → (read : TellsReply a line j r) → read.reply.place ≡ read.place
 read_named a line j r read = one_place read.reply.place read.place (sym read.reply.named ∙ told_named line read.place read.stands.told)
 
 -- a line whose reply comes next is the text of that entry
-pub read_next : (a : AuditShape) (line : List ℕ) (j : Job) (r : Reply) → HasRead a line j r → ComesNext a (entry_next a j r) →
+pub read_next : (a : AuditShape) (line : List ℕ) (j : Job) (r : Reply) → TellsReply a line j r → ComesNext a (entry_next a j r) →
     IsNextLine a line (entry_next a j r)
 read_next a line j r read next =
     let e = entry_next a j r in
@@ -191,21 +191,21 @@ read_next a line j r read next =
     }
 
 -- a line whose reply does not come next has that fault
-pub read_wrong : (a : AuditShape) (line : List ℕ) (j : Job) (r : Reply) → HasRead a line j r → ¬ ComesNext a (entry_next a j r) → HasFault a line kinds.Reply
+pub read_wrong : (a : AuditShape) (line : List ℕ) (j : Job) (r : Reply) → TellsReply a line j r → ¬ ComesNext a (entry_next a j r) → HasFault a line kinds.Reply
 read_wrong a line j r read wrong =
     (read.place, (j, (r, (read.stands, (read.due, (read.reply, λ next. wrong (subst (ComesNext a) (entry_there a line j r read) next)))))))
 
 -- what becomes of a line whose reply was taken or refused
-pub tried_of : (before after : AuditShape) (line : List ℕ) (j : Job) (r : Reply) (result : Result (Unit {0}) Flaw) → HasRead before line j r →
+pub tried_of : (before after : AuditShape) (line : List ℕ) (j : Job) (r : Reply) (result : Result (Unit {0}) Flaw) → TellsReply before line j r →
     HasEntered before after j r result →
-    HasTried before after line result
+    TriesLine before after line result
 tried_of before after line j r (Ok done) read entered = (entry_next before j r, (read_next before line j r read entered.0, entered.1))
 tried_of before after line j r (Err (flaw.Kind kind)) read entered =
     (subst (HasFault before line) (sym entered.0) (read_wrong before line j r read entered.1.0), entered.1.1)
 tried_of before after line j r (Err flaw.NoMemory) read entered = entered
 
 -- the job that a line answers is its lane's next one
-pub read_due : (a : AuditShape) (line : List ℕ) (j : Job) (r : Reply) → HasRead a line j r → next_job a j.lane ≡ Some j
+pub read_due : (a : AuditShape) (line : List ℕ) (j : Job) (r : Reply) → TellsReply a line j r → next_job a j.lane ≡ Some j
 read_due a line j r read =
     let lane : j.lane ≡ read.place.lane = next_lane read.place.lane _ (present_jobs a) j read.due.next in
     ap (next_job a) lane ∙ read.due.next

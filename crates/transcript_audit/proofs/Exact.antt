@@ -16,8 +16,9 @@ use Rattle.line_cutter.specs.Laws.{AreInOrder}
 use Rattle.wf_desk.proofs.DocketLaws.{lane_both, lane_own}
 use Rattle.wf_desk.specs.Parts.{FillsPart, lane_answered, lane_asked}
 use Rattle.entry_laws.specs.Transcripts.{texts_of}
-use Rattle.transcript_audit.specs.Audits.{AreNext, AuditShape, ComesNext, IsNextLine, IsTranscript, IsTranscriptPart, audit_of, end_at, next_job, present_start}
-use Rattle.transcript_audit.specs.Audits.{state_now, with_entry}
+use Rattle.transcript_audit.specs.Auditor.{AreNext, AuditShape, ComesNext, IsNextLine, IsTranscript, IsTranscriptPart, audit_of, end_at, next_job}
+use Rattle.transcript_audit.specs.Auditor.{present_start}
+use Rattle.transcript_audit.specs.Auditor.{state_now, with_entry}
 use Rattle.transcript_audit.specs.Laws.{AuditIsExact, PartIsExact}
 use Rattle.transcript_audit.specs.Keeping.{IsBatchOf, IsSoundAudit}
 use Rattle.transcript_audit.proofs.Batches.{batch_there, end_is, end_read, start_is}

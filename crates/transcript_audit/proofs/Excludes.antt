@@ -25,8 +25,8 @@ use Rattle.entry_reader.proofs.LinesBack.{line_placed, line_reply}
 use Rattle.entry_laws.specs.Laws.{EntriesAreLines, IsLastOf, IsOneLine, TextsAreLines}
 use Rattle.transcript_audit.specs.declared.fault.AuditKind.{AuditKind}
 use Rattle.transcript_audit.specs.declared.fault.AuditKind.TheVariants.{Text, At, Job as WrongJob, Reply as WrongReply, Missing}
-use Rattle.transcript_audit.specs.Audits.{AreNext, AuditShape, ComesNext, HasFault, IsDue, IsNextLine, audit_of, end_at, flows_now, next_job, place_told}
-use Rattle.transcript_audit.specs.Audits.{present_jobs, present_start, state_now, with_entry}
+use Rattle.transcript_audit.specs.Auditor.{AreNext, AuditShape, ComesNext, HasFault, IsDue, IsNextLine, audit_of, end_at, flows_now, next_job, place_told}
+use Rattle.transcript_audit.specs.Auditor.{present_jobs, present_start, state_now, with_entry}
 use Rattle.transcript_audit.specs.Laws.{AreOfSession, FaultsExclude, NextIsOne}
 use Rattle.transcript_audit.specs.Keeping.{IsSoundAudit}
 use Rattle.transcript_audit.proofs.Batches.{part_none}

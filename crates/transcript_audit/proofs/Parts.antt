@@ -10,7 +10,7 @@ use Rattle.wf_board.specs.Histories.{BatchRests, EachAfter, RestsFrom, batch_end
 use Rattle.line_cutter.specs.Laws.{LeadTo}
 use Rattle.wf_desk.specs.Desks.{served_jobs}
 use Rattle.wf_desk.specs.Parts.{FillsPart, lane_answered, lane_asked}
-use Rattle.transcript_audit.specs.Audits.{AuditShape}
+use Rattle.transcript_audit.specs.Auditor.{AuditShape}
 use Rattle.transcript_audit.specs.Keeping.{IsSoundAudit, end_of, jobs_in}
 use Rattle.transcript_audit.proofs.Batches.{end_read, ends_within, next_start, start_first, start_rises, start_within}
 use Rattle.transcript_audit.proofs.Sound.{within_end, within_jobs}

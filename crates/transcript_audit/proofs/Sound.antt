@@ -18,7 +18,7 @@ use Rattle.wf_desk.specs.Desks as desk
 use Rattle.wf_desk.specs.BatchLaws.{EndAt}
 use Rattle.wf_desk.proofs.BatchLaws.{batch_fills}
 use Rattle.wf_desk.proofs.DocketLaws.{all_done, batch_short, front_more, no_more, served_other, served_own}
-use Rattle.transcript_audit.specs.Audits.{AuditShape, ComesNext, audit_of, end_at, next_job, present_start, with_entry}
+use Rattle.transcript_audit.specs.Auditor.{AuditShape, ComesNext, audit_of, end_at, next_job, present_start, with_entry}
 use Rattle.transcript_audit.specs.Outcomes.{IsWhole}
 use Rattle.transcript_audit.specs.Keeping.{IsSoundAudit, end_of, jobs_in}
 use Rattle.transcript_audit.proofs.Batches.{end_is, end_read, ends_within, first_ends, last_start, next_start, part_length, read_behind, start_ahead}

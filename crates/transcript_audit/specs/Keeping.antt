@@ -15,7 +15,7 @@ use Rattle.wf_board.specs.Histories.{EachAfter, FillsJobs, IsLegal, RestsFrom, b
 use Rattle.wf_board.specs.Histories.{lane_jobs}
 use Rattle.wf_board.specs.States.{opening_state}
 use Rattle.wf_desk.specs.Desks.{served_jobs}
-use Rattle.wf_desk.specs.Places.{IsNextPlace, entry_for}
+use Rattle.wf_desk.specs.Docket.{IsNextPlace, entry_for}
 use Rattle.line_cutter.specs.Laws.{AreInOrder}
 use Rattle.entry_reader.specs.declared.place.Place.{Place}
 use Rattle.entry_reader.specs.declared.fault.TextFault.{TextFault}
@@ -27,8 +27,8 @@ use Rattle.transcript_audit.specs.declared.cursor.Cursor.{Cursor}
 use Rattle.transcript_audit.specs.declared.fault.AuditKind.TheVariants as kinds
 use Rattle.transcript_audit.specs.declared.flaw.Flaw.{Flaw}
 use Rattle.transcript_audit.specs.declared.flaw.Flaw.TheVariants as flaw
-use Rattle.transcript_audit.specs.Audits.{AuditShape, ComesNext, HasFault, IsDue, IsNextLine}
-use Rattle.transcript_audit.specs.Audits.{StandsAt, flows_now, state_now, with_entry}
+use Rattle.transcript_audit.specs.Auditor.{AuditShape, ComesNext, HasFault, IsDue, IsNextLine}
+use Rattle.transcript_audit.specs.Auditor.{StandsAtPlace, flows_now, state_now, with_entry}
 
 -- an audit, with the room that is left for more entries
 pub record RecordShape : Type 0 where
@@ -103,7 +103,7 @@ pub record HasMoved (jobs : List Job) (lane : ℕ) (before after : Cursor) : Typ
 
 -- a cursor went on after an entry of a lane, with so many entries there: to the lane's next job, or
 -- to the next batch
-pub record HasGoneOn (jobs : List Job) (ends : List ℕ) (lane n : ℕ) (before after : Cursor) :
+pub record HasMovedOn (jobs : List Job) (ends : List ℕ) (lane n : ℕ) (before after : Cursor) :
     Type 0 where
   pub within : n ≢ before.end → HasMoved jobs lane before after
   pub past : n ≡ before.end → IsAtFirst jobs ends (before.batch + 1) before.end after
@@ -142,17 +142,17 @@ IsDueIf a place None = (j : Job) → ¬ IsDue a place j
 IsDueIf a place (Some j) = IsDue a place j
 
 -- a line tells the reply to a job that is due
-pub record HasRead (a : AuditShape) (line : List ℕ) (j : Job) (r : Reply) : Type 0 where
+pub record TellsReply (a : AuditShape) (line : List ℕ) (j : Job) (r : Reply) : Type 0 where
   pub place : Place
-  pub stands : StandsAt a line place
+  pub stands : StandsAtPlace a line place
   pub due : IsDue a place j
   pub reply : HasReply (state_now a).book.policy (flows_now a) j.ask line r
 
 -- what came of reading a line
-abbrev pub IsReading : AuditShape → List ℕ → Result (Job × Reply) Flaw → Type 0
-IsReading a line (Ok found) = HasRead a line found.0 found.1
-IsReading a line (Err (flaw.Kind kind)) = HasFault a line kind
-IsReading a line (Err flaw.NoMemory) = Unit {0}
+abbrev pub ReadsLineTo : AuditShape → List ℕ → Result (Job × Reply) Flaw → Type 0
+ReadsLineTo a line (Ok found) = TellsReply a line found.0 found.1
+ReadsLineTo a line (Err (flaw.Kind kind)) = HasFault a line kind
+ReadsLineTo a line (Err flaw.NoMemory) = Unit {0}
 
 -- the entry of a job that comes next
 abbrev pub entry_next : AuditShape → Job → Reply → Entry
@@ -167,8 +167,8 @@ HasEntered before after j r (Err (flaw.Kind kind)) = (kind ≡ kinds.Reply) ×
 HasEntered before after j r (Err flaw.NoMemory) = after ≡ before
 
 -- what came of a line, where there was no fault before
-abbrev pub HasTried : AuditShape → AuditShape → List ℕ → Result (Unit {0}) Flaw → Type 0
-HasTried before after line (Ok done) = (e : Entry) ×
+abbrev pub TriesLine : AuditShape → AuditShape → List ℕ → Result (Unit {0}) Flaw → Type 0
+TriesLine before after line (Ok done) = (e : Entry) ×
     (IsNextLine before line e × (after ≡ with_entry before e))
-HasTried before after line (Err (flaw.Kind kind)) = HasFault before line kind × (after ≡ before)
-HasTried before after line (Err flaw.NoMemory) = after ≡ before
+TriesLine before after line (Err (flaw.Kind kind)) = HasFault before line kind × (after ≡ before)
+TriesLine before after line (Err flaw.NoMemory) = after ≡ before

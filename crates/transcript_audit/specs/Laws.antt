@@ -9,8 +9,8 @@ use Rattle.line_cutter.specs.Laws.{AreInOrder, AreNamedJobs}
 use Rattle.entry_reader.specs.Named.{HasNames}
 use Rattle.entry_laws.specs.Laws.{HasFewSteps}
 use Rattle.transcript_audit.specs.declared.fault.AuditKind.{AuditKind}
-use Rattle.transcript_audit.specs.Audits.{AreNext, HasFault, IsNextLine, IsTranscript}
-use Rattle.transcript_audit.specs.Audits.{IsTranscriptPart, audit_of}
+use Rattle.transcript_audit.specs.Auditor.{AreNext, HasFault, IsNextLine, IsTranscript}
+use Rattle.transcript_audit.specs.Auditor.{IsTranscriptPart, audit_of}
 
 -- a policy, jobs and rounds as those of a session are
 pub record AreOfSession (p : PolicyShape) (rounds : ℕ) (jobs : List Job) (batch_ends : List ℕ) :

@@ -1,4 +1,4 @@
-pub mod Audits
+pub mod Auditor
 pub mod Outcomes
 pub mod Laws
 pub mod Keeping

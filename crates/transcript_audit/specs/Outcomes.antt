@@ -7,7 +7,7 @@ use Rattle.transcript_audit.specs.declared.fault.AuditFault.{AuditFault}
 use Rattle.transcript_audit.specs.declared.fault.AuditFault.TheVariants.{At, NoMemory}
 use Rattle.transcript_audit.specs.declared.fault.AuditKind.{AuditKind}
 use Rattle.transcript_audit.specs.declared.fault.AuditKind.TheVariants.{Missing}
-use Rattle.transcript_audit.specs.Audits.{AuditShape, HasFault, IsNextLine, with_entry}
+use Rattle.transcript_audit.specs.Auditor.{AuditShape, HasFault, IsNextLine, with_entry}
 
 -- the kind of the first fault: the one that there was before, or the one that this line has
 abbrev pub IsFirstFault : Option AuditKind → AuditShape → List ℕ → AuditKind → Type 0
@@ -36,7 +36,7 @@ IsLastFault None a kind = (kind ≡ Missing) × (length a.entries < length a.job
 IsLastFault (Some first) a kind = kind ≡ first
 
 -- what the end comes to: no line had a fault and each job has its entry; or the fault that there is
-abbrev pub HasEnded : AuditShape → Result (Unit {0}) AuditFault → Type 0
-HasEnded a (Ok done) = (a.fault ≡ None) × ((length a.entries ≡ length a.jobs) × IsWhole a)
-HasEnded a (Err (At n kind)) = (n ≡ length a.entries) × IsLastFault a.fault a kind
-HasEnded a (Err NoMemory) = ⊥
+abbrev pub EndsAudit : AuditShape → Result (Unit {0}) AuditFault → Type 0
+EndsAudit a (Ok done) = (a.fault ≡ None) × ((length a.entries ≡ length a.jobs) × IsWhole a)
+EndsAudit a (Err (At n kind)) = (n ≡ length a.entries) × IsLastFault a.fault a kind
+EndsAudit a (Err NoMemory) = ⊥

@@ -11,10 +11,11 @@ ghost use Rattle.entry_reader.specs.declared.fault.TextFault.TheVariants.{NotTex
 ghost use Rattle.entry_reader.specs.Lines.{HasNoReply, HasReply};
 ghost use Rattle.entry_reader.specs.Places.{place_of_line};
 ghost use Rattle.wf_talk.specs.declared.reply.Reply.TheVariants as reply;
-ghost use Rattle.transcript_audit.specs.Audits.{ComesNext, audit_of, flows_now, next_job};
-ghost use Rattle.transcript_audit.specs.Audits.{place_told, state_now};
-ghost use Rattle.transcript_audit.specs.Outcomes.{HasEnded, HasTakenLine};
-ghost use Rattle.transcript_audit.specs.Keeping.{HasEntered, HasRead, HasTried, IsDueIf, IsReading};
+ghost use Rattle.transcript_audit.specs.Auditor.{ComesNext, audit_of, flows_now, next_job};
+ghost use Rattle.transcript_audit.specs.Auditor.{place_told, state_now};
+ghost use Rattle.transcript_audit.specs.Outcomes.{EndsAudit, HasTakenLine};
+ghost use Rattle.transcript_audit.specs.Keeping.{HasEntered, TellsReply, TriesLine, IsDueIf};
+ghost use Rattle.transcript_audit.specs.Keeping.{ReadsLineTo};
 ghost use Rattle.transcript_audit.specs.Keeping.{again_in, entry_next};
 
 use crate::again::again_in;
@@ -45,7 +46,7 @@ impl Model for Auditor {
     ghost use Rattle.policy_book.specs.Shapes.{policy_code};
     ghost use Rattle.refutation_tree.specs.Codes.{kids_code};
     ghost use Rattle.wf_board.specs.Boards.{state_on};
-    ghost use Rattle.transcript_audit.specs.Audits.{AuditShape, state_now};
+    ghost use Rattle.transcript_audit.specs.Auditor.{AuditShape, state_now};
 
     ghost Value = { AuditShape };
 
@@ -107,7 +108,7 @@ impl Auditor {
 
     /// Whether the transcript ends well: no line was wrong, and each job has its entry.
     pub fn end(&self) -> Result<(), AuditFault>
-        ensures { HasEnded self.now result }
+        ensures { EndsAudit self.now result }
     {
         match self.record.fault() {
             Some(kind) => Err(AuditFault::At(self.record.number(), kind)),
@@ -153,7 +154,7 @@ impl Auditor {
     // Takes one line, where none before was wrong.
     fn take<V: Decider>(&mut self, alloc: Global, decider: &V, line: &[u8]) -> Result<(), Flaw>
         requires ready { V.ready decider.now }
-        ensures { HasTried self.old self.new line.now result }
+        ensures { TriesLine self.old self.new line.now result }
     {
         let (job, reply) = self.read(alloc, line)?;
         self.enter(alloc, decider, &job, reply)
@@ -161,7 +162,7 @@ impl Auditor {
 
     // The job that a line answers, and the reply.
     fn read(&self, alloc: Global, line: &[u8]) -> Result<(Job, Reply), Flaw>
-        ensures { IsReading self.now line.now result }
+        ensures { ReadsLineTo self.now line.now result }
     {
         match self.read_quickly(alloc, line)? {
             Some(found) => Ok(found),
@@ -171,7 +172,8 @@ impl Auditor {
 
     // The same of a line as most are; None says nothing.
     fn read_quickly(&self, alloc: Global, line: &[u8]) -> Result<Option<(Job, Reply)>, AllocError>
-        ensures { IfOk result (λ o. IfSome o (λ found. HasRead self.now line.now found.0 found.1)) }
+        ensures { IfOk result
+            (λ o. IfSome o (λ found. TellsReply self.now line.now found.0 found.1)) }
     {
         let Some(place) = guess_place(line) else {
             return Ok(None);
@@ -190,7 +192,7 @@ impl Auditor {
 
     // The same of any line.
     fn read_fully(&self, alloc: Global, line: &[u8]) -> Result<(Job, Reply), Flaw>
-        ensures { IsReading self.now line.now result }
+        ensures { ReadsLineTo self.now line.now result }
     {
         let place = told_place(alloc, line)?;
         if place.at != self.record.number() {

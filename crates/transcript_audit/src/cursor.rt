@@ -1,7 +1,7 @@
 //! Where the next job of each lane stands.
 ghost use Rattle.std.specs.Prelude.{◌≡◌, ◌≢◌, ◌≤◌, ◌<◌, ◌+◌, length, slice_index_or};
 ghost use Rattle.wf_names.specs.declared.limits.TheConstants.{LANE_LIMIT};
-ghost use Rattle.transcript_audit.specs.Keeping.{HasGoneOn, HasMoved, IsAtFirst, part};
+ghost use Rattle.transcript_audit.specs.Keeping.{HasMovedOn, HasMoved, IsAtFirst, part};
 
 use wf_desk::docket::{first_places, go_on};
 use wf_names::LANE_LIMIT;
@@ -69,7 +69,7 @@ pub(crate) fn advance(cursor: &mut Cursor, jobs: &[Job], ends: &[u32], lane: u8,
     requires next { slice_index_or ends.now (cursor.old.batch + 1) cursor.old.end
         ≤ length jobs.now }
     requires small { cursor.old.batch ≤ length ends.now }
-    ensures { HasGoneOn jobs.now ends.now lane count cursor.old cursor.new }
+    ensures { HasMovedOn jobs.now ends.now lane count cursor.old cursor.new }
 {
     if count == cursor.end as usize {
         *cursor = first(jobs, ends, cursor.batch + 1, cursor.end);

@@ -6,8 +6,8 @@ ghost use Rattle.line_cutter.specs.Laws.{AreInOrder};
 ghost use Rattle.wf_board.specs.Histories.{IsLegal};
 ghost use Rattle.wf_board.specs.States.{opening_state};
 ghost use Rattle.wf_desk.specs.Parts.{FillsPart};
-ghost use Rattle.transcript_audit.specs.Audits.{ComesNext, audit_of, next_job, present_jobs};
-ghost use Rattle.transcript_audit.specs.Audits.{present_start, with_entry};
+ghost use Rattle.transcript_audit.specs.Auditor.{ComesNext, audit_of, next_job, present_jobs};
+ghost use Rattle.transcript_audit.specs.Auditor.{present_start, with_entry};
 ghost use Rattle.transcript_audit.specs.Keeping.{entry_next, rests_on};
 ghost use Rattle.transcript_audit.specs.Outcomes.{IsWhole};
 

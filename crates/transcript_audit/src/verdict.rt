@@ -1,6 +1,6 @@
 //! The verdict that is needed to take a reply.
 ghost use Rattle.std.specs.Prelude.{◌≡◌, ◌≢◌, false, true};
-ghost use Rattle.wf_board.specs.Admitting.{HasVerdict};
+ghost use Rattle.wf_board.specs.Admit.{HasVerdict};
 ghost use Rattle.wf_board.specs.Boards.{state_on};
 ghost use Rattle.wf_board.specs.Decisions.{decision_of, needs_verdict};
 ghost use Rattle.wf_board.specs.Verdicts.{is_want, IsRight};

@@ -3,12 +3,12 @@ use Rattle.std.proofs.Common.{◌≡◌, ℕ, ◌+◌, ◌-◌, ◌<◌, ◌≤�
 use Rattle.std.specs.Prelude.{IfErr, IsErrAnd}
 use Rattle.std.proofs.lemmas.List.{length-drop, take_all}
 use Rattle.wf_talk.specs.declared.entry.Entry.{Entry}
-use Rattle.line_reader.specs.Lines.{behind_line, first_line, lines_of}
+use Rattle.line_reader.specs.Reader.{behind_line, first_line, lines_of}
 use Rattle.line_reader.proofs.FirstLines.{lines_first}
 use Rattle.transcript_audit.specs.declared.fault.AuditFault.{AuditFault}
 use Rattle.transcript_audit.specs.declared.fault.AuditFault.TheVariants.{At, NoMemory}
 use Rattle.transcript_audit.specs.declared.fault.AuditKind.{AuditKind}
-use Rattle.transcript_audit.specs.Audits.{AuditShape, AreNext, HasFault, audit_of}
+use Rattle.transcript_audit.specs.Auditor.{AuditShape, AreNext, HasFault, audit_of}
 use Rattle.transcript_audit.proofs.Exact.{next_pushed}
 use Rattle.transcript_audit.specs.Laws.{AreOfSession, FaultsExclude, NextIsOne, PartIsExact}
 use Rattle.transcript_audit.specs.Outcomes.{HasTakenLine, IsFirstFault}

@@ -5,7 +5,7 @@ use Rattle.std.proofs.lemmas.Bool.{le-ltb, lt-ltb}
 use Rattle.std.proofs.lemmas.List.{drop-drop, length-drop}
 use Rattle.wf_names.specs.declared.limits.TheConstants.{TRANSCRIPT_LINE_LIMIT}
 use Rattle.memchr.specs.Find.{IsFirstByte, is_byte}
-use Rattle.line_reader.specs.Lines.{behind_line, first_line, has_end, line_length, lines_of}
+use Rattle.line_reader.specs.Reader.{behind_line, first_line, has_end, line_length, lines_of}
 use Rattle.line_reader.specs.Steps.{FindsEnd}
 use Rattle.line_reader.proofs.FirstLines.{finds_end, lines_first, open_line}
 use Rattle.transcript_resume.specs.Resumed.{first_long, whole_lines}

@@ -14,7 +14,7 @@ use Rattle.wf_desk.proofs.DocketLaws.{first_of_lanes}
 use Rattle.wf_desk.specs.Parts.{FillsPart, lane_answered}
 use Rattle.transcript_audit.specs.Keeping.{IsBatchOf, end_of}
 use Rattle.transcript_audit.proofs.Batches.{batch_there, end_is, end_read, ends_within, last_start, read_behind, start_before_end, start_is}
-use Rattle.transcript_resume.specs.Places.{end_at, jobs_between, start_at}
+use Rattle.transcript_resume.specs.Unserved.{end_at, jobs_between, start_at}
 
 -- there is a batch in which a place stands, or it stands behind the last
 pub place_batch : (ends : List ℕ) (total n : ℕ) → LeadTo 0 ends total → n ≤ total → (k : ℕ) × IsBatchOf ends n k

@@ -4,7 +4,7 @@ use Rattle.std.proofs.Common.{Some, refl, sym, ap, subst, ◌∙◌, arith}
 use Rattle.std.proofs.lemmas.Grind.{common_steps}
 use Rattle.std.proofs.lemmas.List.{drop_all, take_all}
 use Rattle.memchr.specs.Find.{IsFirstByte, is_byte}
-use Rattle.line_reader.specs.Lines.{behind_line, first_line, has_end}
+use Rattle.line_reader.specs.Reader.{behind_line, first_line, has_end}
 use Rattle.line_reader.specs.Steps.{FindsEnd}
 use Rattle.line_reader.proofs.FirstLines.{finds_end, open_line}
 use Rattle.transcript_resume.specs.Resumed.{whole_lines}

@@ -1,10 +1,10 @@
 -- Inside: how the lines of a text are audited.
 use Rattle.std.specs.Prelude.{◌≡◌, ℕ, List, ◌∷◌, ◌++◌}
 use Rattle.wf_talk.specs.declared.entry.Entry.{Entry}
-use Rattle.line_reader.specs.Lines.{lines_of}
+use Rattle.line_reader.specs.Reader.{lines_of}
 use Rattle.transcript_audit.specs.declared.fault.AuditFault.{AuditFault}
 use Rattle.transcript_audit.specs.declared.fault.AuditFault.TheVariants.{At, NoMemory}
-use Rattle.transcript_audit.specs.Audits.{AuditShape, AreNext, IsNextLine, with_entry}
+use Rattle.transcript_audit.specs.Auditor.{AuditShape, AreNext, IsNextLine, with_entry}
 use Rattle.transcript_resume.specs.Resumed.{FailsAt}
 
 -- all of the lines are the texts of entries that come next, and these are taken

@@ -1,4 +1,4 @@
-pub mod Places
+pub mod Unserved
 pub mod Resumed
 pub mod Auditing
 pub mod Sessions

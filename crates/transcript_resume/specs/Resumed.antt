@@ -7,14 +7,14 @@ use Rattle.wf_names.specs.declared.limits.TheConstants.{TRANSCRIPT_LINE_LIMIT}
 use Rattle.policy_book.specs.Shapes.{PolicyShape}
 use Rattle.wf_talk.specs.declared.entry.Entry.{Entry}
 use Rattle.wf_talk.specs.declared.job.Job.{Job}
-use Rattle.line_reader.specs.Lines.{has_end, line_length, lines_of}
+use Rattle.line_reader.specs.Reader.{has_end, line_length, lines_of}
 use Rattle.wf_desk.specs.Desks.{DeskShape}
 use Rattle.transcript_audit.specs.declared.fault.AuditFault.{AuditFault}
 use Rattle.transcript_audit.specs.declared.fault.AuditFault.TheVariants.{At, NoMemory}
 use Rattle.transcript_audit.specs.declared.fault.AuditKind.{AuditKind}
-use Rattle.transcript_audit.specs.Audits.{AuditShape, AreNext, HasFault, IsNextLine}
-use Rattle.transcript_audit.specs.Audits.{IsTranscriptPart, audit_of, with_entry}
-use Rattle.transcript_resume.specs.Places.{end_at, jobs_between, start_at}
+use Rattle.transcript_audit.specs.Auditor.{AuditShape, AreNext, HasFault, IsNextLine}
+use Rattle.transcript_audit.specs.Auditor.{IsTranscriptPart, audit_of, with_entry}
+use Rattle.transcript_resume.specs.Unserved.{end_at, jobs_between, start_at}
 
 -- a session: the policy at its beginning, how many lanes there are, after how many lost rounds a
 -- request is answered again, and the jobs of its requests with the ends of their batches

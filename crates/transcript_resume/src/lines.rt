@@ -1,6 +1,6 @@
 //! The lines of a transcript.
 ghost use Rattle.std.specs.Prelude.{◌≡◌, ◌≢◌, ◌<◌, ◌≤◌, ◌-◌, ℕ, length, slice_index, take, drop};
-ghost use Rattle.line_reader.specs.Lines.{behind_line, first_line, line_length, lines_of};
+ghost use Rattle.line_reader.specs.Reader.{behind_line, first_line, line_length, lines_of};
 ghost use Rattle.transcript_resume.specs.Resumed.{first_long, whole_lines};
 
 use memchr::{memchr, memrchr};

@@ -1,6 +1,6 @@
 //! Auditing the lines of a transcript.
 ghost use Rattle.std.specs.Prelude.{◌≡◌, ◌<◌, ◌≤◌, length, drop, None, IfErr, IfOk, OnOk};
-ghost use Rattle.line_reader.specs.Lines.{lines_of};
+ghost use Rattle.line_reader.specs.Reader.{lines_of};
 ghost use Rattle.transcript_resume.specs.Auditing.{FailsIn, HasTakenAll, HasTakenFirst};
 
 use crate::lines::first_len;

@@ -4,7 +4,7 @@ ghost use Rattle.wf_names.specs.declared.limits.TheConstants.{BATCH_LINE_LIMIT, 
 ghost use Rattle.line_cutter.specs.Laws.{LeadTo};
 ghost use Rattle.wf_desk.specs.Desks.{AnswersPart};
 ghost use Rattle.wf_desk.specs.Parts.{FillsPart};
-ghost use Rattle.transcript_resume.specs.Places.{end_at, jobs_between, start_at};
+ghost use Rattle.transcript_resume.specs.Unserved.{end_at, jobs_between, start_at};
 
 use line_cutter::Batch;
 use std::alloc::{AllocError, Global};

@@ -15,8 +15,8 @@ use Rattle.wf_desk.specs.Desks.{AreOfLanes, DeskShape, IsDone, IsSoundDesk, with
 use Rattle.wf_desk.proofs.DocketLaws.{batch_done}
 use Rattle.wf_desk.proofs.Ends.{end_more}
 use Rattle.wf_lanes.specs.Turns.{AreByTurns, HasServedByTurns}
-use Rattle.trial_maker.specs.TrialLaws.{AreBatches}
-use Rattle.trial_command.specs.Running.{AreBatchesByTurns, batch_entries}
+use Rattle.trial_maker.specs.TrialLaws.{AreEndsOf}
+use Rattle.trial_command.specs.Run.{AreBatchesByTurns, batch_entries}
 use Rattle.trial_command.specs.Serving.{HasServedAll, HasServedBatch}
 
 -- a batch that was loaded and served by turns
@@ -45,7 +45,7 @@ batch_served old loaded d batch spare cases is by_turns done sound = at (subst (
 
 -- ---- ends
 
-start_within : (count m k : ℕ) (ends : List ℕ) → AreBatches count ends → k + m ≡ length ends → batch_start ends k ≤ count
+start_within : (count m k : ℕ) (ends : List ℕ) → AreEndsOf count ends → k + m ≡ length ends → batch_start ends k ≤ count
 start_within count zero k ends are all =
     let last : batch_start ends k ≡ count = ap (batch_start ends) (omega (arith, all)) ∙ are.closed in
     omega (arith, last)
@@ -55,7 +55,7 @@ start_within count (suc m) k ends are all =
     omega (arith, below, next)
 
 -- each end is within the jobs
-pub end_within_jobs : (count k : ℕ) (ends : List ℕ) → AreBatches count ends → k < length ends → batch_end ends k ≤ count
+pub end_within_jobs : (count k : ℕ) (ends : List ℕ) → AreEndsOf count ends → k < length ends → batch_end ends k ≤ count
 end_within_jobs count k ends are lt = start_within count (length ends - suc k) (suc k) ends are (omega (arith, lt))
 
 -- ---- jobs
@@ -142,7 +142,7 @@ first_more (suc start) (suc stop) (j ∷ jobs) le =
     ap (λ n. j ∷ (take start jobs ++ take n (drop start jobs))) same ∙ ap (λ js. j ∷ js) (first_more start stop jobs (omega (arith, le)))
 
 -- and so for the batches
-pub served_next : (first d e : DeskShape) (jobs : List Job) (ends : List ℕ) (k start stop : ℕ) → AreBatches (length jobs) ends → k < length ends
+pub served_next : (first d e : DeskShape) (jobs : List Job) (ends : List ℕ) (k start stop : ℕ) → AreEndsOf (length jobs) ends → k < length ends
     → stop ≡ batch_end ends k → start ≡ batch_start ends k → start ≤ length jobs
     → HasServedAll first d (take start jobs) (take k ends) → HasServedBatch d e (take (stop - start) (drop start jobs))
     → HasServedAll first e (take stop jobs) (take (k + 1) ends)

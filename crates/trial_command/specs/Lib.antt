@@ -1,3 +1,3 @@
-pub mod Counting
-pub mod Running
+pub mod Counts
+pub mod Run
 pub mod Serving

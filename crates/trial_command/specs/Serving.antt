@@ -7,11 +7,11 @@ use Rattle.wf_board.specs.Histories.{AreAnsweredOnce, FillsJobs}
 use Rattle.wf_desk.specs.BatchLaws.{AnswersBatch, EndAt}
 use Rattle.wf_desk.specs.Desks.{DeskShape, IsDone}
 use Rattle.wf_lanes.specs.Turns.{AreByTurns}
-use Rattle.trial_maker.specs.TrialLaws.{AreBatches}
+use Rattle.trial_maker.specs.TrialLaws.{AreEndsOf}
 use Rattle.run_record.specs.Report.{Told}
 use Rattle.trial_command.specs.declared.session.Served.{Served}
 use Rattle.trial_command.specs.declared.session.TheConstants.{LANES}
-use Rattle.trial_command.specs.Running.{AreBatchesByTurns}
+use Rattle.trial_command.specs.Run.{AreBatchesByTurns}
 
 -- what a session tells
 abbrev pub told_of : Served → Told
@@ -48,4 +48,4 @@ pub record HasServedAll (before after : DeskShape) (jobs : List Job) (batch_ends
 pub record AreForTrial (jobs : List Job) (batch_ends : List ℕ) : Type 0 where
   pub few : length jobs < 4294967296
   pub lanes : All (λ j. j.lane < LANES) jobs
-  pub batches : AreBatches (length jobs) batch_ends
+  pub batches : AreEndsOf (length jobs) batch_ends

@@ -1,6 +1,6 @@
 //! Counting replies.
 ghost use Rattle.std.specs.Prelude.{◌≡◌};
-ghost use Rattle.trial_command.specs.Counting.{counts_of};
+ghost use Rattle.trial_command.specs.Counts.{counts_of};
 
 use wf_talk::{Entry, Reply};
 

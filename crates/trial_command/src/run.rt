@@ -2,7 +2,7 @@
 ghost use Rattle.std.specs.Prelude.{◌≡◌, false};
 ghost use Rattle.run_record.specs.Fault.{is_before_input, status_of};
 ghost use Rattle.run_record.specs.Report.{told_by};
-ghost use Rattle.trial_command.specs.Running.{RunsTrial};
+ghost use Rattle.trial_command.specs.Run.{RunsTrial};
 ghost use Rattle.trial_command.specs.Serving.{told_of};
 
 use crate::session::{Served, serve_trial};

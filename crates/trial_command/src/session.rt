@@ -2,7 +2,7 @@
 ghost use Rattle.std.specs.Prelude.{◌≡◌, ◌<◌, ◌≤◌, ◌+◌, [], length, IfOk, OnOk};
 ghost use Rattle.wf_names.specs.declared.limits.TheConstants.{BATCH_LINE_LIMIT};
 ghost use Rattle.wf_desk.specs.Desks.{AreOfLanes, IsDone, IsSoundDesk};
-ghost use Rattle.trial_command.specs.Running.{IsServedTrial};
+ghost use Rattle.trial_command.specs.Run.{IsServedTrial};
 ghost use Rattle.trial_command.specs.Serving.{AreForTrial, HasServedAll, HasServedBatch, told_of};
 
 use std::alloc::{AllocError, Global};

@@ -1,6 +1,6 @@
 //! The summary of a session.
 ghost use Rattle.std.specs.Prelude.{◌≡◌, ◌++◌, IfOk, OnOk, decimal, string_bytes};
-ghost use Rattle.trial_command.specs.Running.{summary, summary_line};
+ghost use Rattle.trial_command.specs.Run.{summary, summary_line};
 ghost use Rattle.trial_command.specs.Serving.{told_of};
 
 use crate::counts::{Counts, count_replies};

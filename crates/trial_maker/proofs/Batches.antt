@@ -12,8 +12,8 @@ use Rattle.wf_talk.specs.declared.job.Job.{Job}
 use Rattle.wf_talk.specs.declared.request.Ask.TheVariants as ask
 use Rattle.wf_talk.specs.declared.request.Request.{Request}
 use Rattle.trial_maker.specs.Draws.{after}
-use Rattle.trial_maker.specs.TrialLaws.{AreBatches, AreTrialJobs, AreTrials}
-use Rattle.trial_maker.specs.Trials.{Made, batch_ends, is_edited, job_count, openings, rounds, trial_jobs, turn, turns, with_edit, with_job, with_round}
+use Rattle.trial_maker.specs.TrialLaws.{AreEndsOf, AreTrialJobs, AreTrials}
+use Rattle.trial_maker.specs.Jobs.{Made, batch_ends, is_edited, job_count, openings, rounds, trial_jobs, turn, turns, with_edit, with_job, with_round}
 use Rattle.trial_maker.proofs.Growing.{job_more, jobs_count}
 
 lines_more : (n : ℕ) → range_with_len 0 (n + 1) ≡ range_with_len 0 n ++ n ∷ []
@@ -124,7 +124,7 @@ module _ (first count : ℕ) where
       let size : length ends ≡ suc (suc full) = omega (arith, ends_length) in
       ap (λ n. slice_index_or (0 ∷ ends) n 0) size ∙ at_end full refl
 
-are_batches : (first count : ℕ) → 1 ≤ first → first ≤ BATCH_LINE_LIMIT → first < count → AreBatches count (batch_ends first count)
+are_batches : (first count : ℕ) → 1 ≤ first → first ≤ BATCH_LINE_LIMIT → first < count → AreEndsOf count (batch_ends first count)
 are_batches first count some few more = record {
   ascend = ascends first count some more;
   short = is_short first count few more;

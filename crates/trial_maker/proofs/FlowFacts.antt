@@ -10,13 +10,13 @@ use Rattle.pair_set.specs.Pairs.{Pairs, pair_cmp}
 use Rattle.pair_set.specs.PairLaws.{either_inserted, pair_cmp_total, pair_cmp-IsAntisymmetric}
 use Rattle.workflow_schema.specs.Flows.{IsLeastCycle, Precedes, has_twice, next, through}
 use Rattle.basics.proofs.Booleans.{eq_back, or_cases}
-use Rattle.constraint_forms.specs.Assigned.{is_member, no_steps}
+use Rattle.constraint_forms.specs.Assign.{is_member, no_steps}
 use Rattle.constraint_forms.specs.declared.rule.Rule.{Rule}
 use Rattle.constraint_forms.specs.declared.rule.Rule.TheVariants.{Pair, SomeOf, AllOf}
 use Rattle.wf_names.specs.declared.limits.TheConstants.{STEP_LIMIT}
 use Rattle.policy_book.specs.Facts.{AreSoundRules, IsSoundRule, PermitsRolesBelow}
-use Rattle.trial_maker.specs.TrialNames.{step_name}
-use Rattle.trial_maker.specs.TrialPolicy.{both, trial_flow, trial_rules}
+use Rattle.trial_maker.specs.Named.{step_name}
+use Rattle.trial_maker.specs.Policy.{both, trial_flow, trial_rules}
 
 abbrev pub pair_up : ℕ → ℕ × ℕ
 pair_up k = (k, k + 1)

@@ -13,9 +13,9 @@ use Rattle.wf_talk.specs.declared.request.Request.{Request}
 use Rattle.wf_talk.specs.declared.request.Request.TheVariants as request
 use Rattle.trial_maker.specs.Draws.{after, next_state}
 use Rattle.trial_maker.specs.Draws as draws
-use Rattle.trial_maker.specs.TrialNames.{flow_name, step_name, user_name}
-use Rattle.trial_maker.specs.TrialPolicy.{drawn_members}
-use Rattle.trial_maker.specs.Trials.{Made, is_edited, job_count, openings, rounds, step_of, trial_jobs, turn, turn_user, turns, with_edit, with_job, with_round}
+use Rattle.trial_maker.specs.Named.{flow_name, step_name, user_name}
+use Rattle.trial_maker.specs.Policy.{drawn_members}
+use Rattle.trial_maker.specs.Jobs.{Made, is_edited, job_count, openings, rounds, step_of, trial_jobs, turn, turn_user, turns, with_edit, with_job, with_round}
 
 pub after_none : (s : ℕ) → after 0 s ≡ s
 unfolding after

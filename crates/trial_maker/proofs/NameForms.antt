@@ -7,7 +7,7 @@ use Rattle.std.proofs.lemmas.Bool.Decides.{nat_tests}
 use Rattle.std.proofs.lemmas.List.FromFn.{length-map-range_with_len, map-range_with_len_more}
 use Rattle.wf_names.specs.Names.{is_letter, is_name, is_name_byte}
 use Rattle.wf_names.specs.Table.{place_of}
-use Rattle.trial_maker.specs.TrialNames.{admin_name, digit, two_digits, user_name, step_name, role_name}
+use Rattle.trial_maker.specs.Named.{admin_name, digit, two_digits, user_name, step_name, role_name}
 
 digit_byte : (n : ℕ) → n < 10 → is_name_byte (48 + n) ≡ true
 digit_byte n h = grind (arith, nat_tests)

@@ -9,7 +9,7 @@ use Rattle.pair_set.specs.Pairs.{AllPairs, Pairs, pair_cmp}
 use Rattle.pair_set.specs.PairLaws.{all_empty, all_insert, pair_cmp_total, pair_cmp-IsAntisymmetric}
 use Rattle.user_relations.specs.Relations.{kind_of, listed, listed_pairs}
 use Rattle.policy_book.specs.Facts.{AreOfUsers}
-use Rattle.trial_maker.specs.TrialPolicy.{are_peers, peers, trial_relations, trial_roster, user_pairs}
+use Rattle.trial_maker.specs.Policy.{are_peers, peers, trial_relations, trial_roster, user_pairs}
 use Rattle.trial_maker.proofs.NameForms.{users_count}
 
 abbrev pair_at : ℕ → ℕ × ℕ

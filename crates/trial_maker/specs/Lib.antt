@@ -1,5 +1,5 @@
 pub mod Draws
-pub mod TrialNames
-pub mod TrialPolicy
-pub mod Trials
+pub mod Named
+pub mod Policy
+pub mod Jobs
 pub mod TrialLaws

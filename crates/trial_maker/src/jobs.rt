@@ -1,8 +1,8 @@
 //! The jobs of a trial, and the ends of their batches.
 ghost use Rattle.std.specs.Prelude.{◌≡◌, ◌≤◌, ◌<◌, ◌+◌, ◌*◌, ◌^◌, length, IfOk, OnOk};
 ghost use Rattle.trial_maker.specs.Draws.{next_state};
-ghost use Rattle.trial_maker.specs.Trials.{batch_ends, openings, rounds, turn, turn_user, turns};
-ghost use Rattle.trial_maker.specs.Trials.{with_edit, with_job, with_round, with_turn};
+ghost use Rattle.trial_maker.specs.Jobs.{batch_ends, openings, rounds, turn, turn_user, turns};
+ghost use Rattle.trial_maker.specs.Jobs.{with_edit, with_job, with_round, with_turn};
 
 use crate::draws::Generator;
 use crate::named::{named, role_name, step_name, user_name};
@@ -26,7 +26,7 @@ struct Maker {
 }
 
 impl Model for Maker {
-    ghost use Rattle.trial_maker.specs.Trials.{Made};
+    ghost use Rattle.trial_maker.specs.Jobs.{Made};
 
     ghost Value = { Made };
 
@@ -92,7 +92,7 @@ fn add_job(jobs: &mut Jobs, lane: u8, request: Request) -> Result<(), AllocError
 
 impl Maker {
     // Adds a round's turns of so many cases, and the edit before them if there is one.
-    #[tactic(auto, using(crate::proofs::Growing::turns_none, crate::proofs::Growing::turns_more, crate::proofs::Growing::turns_count, crate::proofs::Growing::edit_count), unfolding(crate::specs::Trials::with_round))]
+    #[tactic(auto, using(crate::proofs::Growing::turns_none, crate::proofs::Growing::turns_more, crate::proofs::Growing::turns_count, crate::proofs::Growing::edit_count), unfolding(crate::specs::Jobs::with_round))]
     fn add_round(&mut self, round: u8, cases: u16) -> Result<(), AllocError>
         requires few { length self.old.jobs + 2 * cases + 1 ≤ 2 ^ 32 }
         requires round { round < 24 }
@@ -108,7 +108,7 @@ impl Maker {
     }
 
     // Adds an edit: the administrator takes a role from a user.
-    #[tactic(auto, unfolding(crate::specs::Trials::with_edit))]
+    #[tactic(auto, unfolding(crate::specs::Jobs::with_edit))]
     fn add_edit(&mut self) -> Result<(), AllocError>
         requires { length self.old.jobs < 2 ^ 32 }
         ensures { OnOk result (self.new ≡ with_edit self.old) }
@@ -123,7 +123,7 @@ impl Maker {
     }
 
     // Adds the turn of a case: the claim of the round's step, and the report that it is done.
-    #[tactic(auto, unfolding(crate::specs::Trials::turn))]
+    #[tactic(auto, unfolding(crate::specs::Jobs::turn))]
     fn add_turn(&mut self, round: u8, case: CaseId) -> Result<(), AllocError>
         requires few { length self.old.jobs + 2 ≤ 2 ^ 32 }
         requires round { round < 24 }
@@ -134,7 +134,7 @@ impl Maker {
     }
 
     // The user of a turn. Where the round is even it is one with the step's role.
-    #[tactic(auto, unfolding(crate::specs::Trials::turn_user))]
+    #[tactic(auto, unfolding(crate::specs::Jobs::turn_user))]
     fn draw_user(&mut self, round: u8) -> UserId
         requires { round < 24 }
         ensures user { result ≡ turn_user round self.old.state }
@@ -169,7 +169,7 @@ fn add_claim_and_finish(
 }
 
 /// The ends of batches, of which the first has so many of the jobs, and the others up to the limit.
-#[tactic(auto, using(crate::proofs::Growing::ends_more), unfolding(crate::specs::Trials::batch_ends))]
+#[tactic(auto, using(crate::proofs::Growing::ends_more), unfolding(crate::specs::Jobs::batch_ends))]
 pub(crate) fn batch_ends(alloc: Global, first: u32, count: u32) -> Result<Ends, AllocError>
     requires { first < count }
     ensures { IfOk result (λ ends. ends ≡ batch_ends first count) }

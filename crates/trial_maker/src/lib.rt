@@ -2,8 +2,8 @@
 #![tactic(auto)]
 
 ghost use Rattle.std.specs.Prelude.{◌≡◌, ◌≤◌, IfOk};
-ghost use Rattle.trial_maker.specs.TrialPolicy.{trial_policy};
-ghost use Rattle.trial_maker.specs.Trials.{trial_ends, trial_jobs};
+ghost use Rattle.trial_maker.specs.Policy.{trial_policy};
+ghost use Rattle.trial_maker.specs.Jobs.{trial_ends, trial_jobs};
 
 mod draws;
 mod jobs;
@@ -28,7 +28,7 @@ pub struct Trial {
 }
 
 /// The trial of a seed, for so many cases.
-#[tactic(auto, using(crate::proofs::Growing::made_count, crate::proofs::Growing::jobs_count), unfolding(crate::specs::Trials::trial_jobs))]
+#[tactic(auto, using(crate::proofs::Growing::made_count, crate::proofs::Growing::jobs_count), unfolding(crate::specs::Jobs::trial_jobs))]
 pub fn make(alloc: Global, seed: u64, cases: u16) -> Result<Trial, AllocError>
     requires some { 1 ≤ cases }
     requires few { cases ≤ 40 }

@@ -3,7 +3,7 @@ ghost use Rattle.std.specs.Prelude.{◌≡◌, ◌<◌, ◌∷◌, [], ◌++◌,
 ghost use Rattle.std.specs.Prelude.{OnOk};
 ghost use Rattle.wf_names.specs.Names.{is_letter, is_name};
 ghost use Rattle.wf_names.specs.Table.{place_of};
-ghost use Rattle.trial_maker.specs.TrialNames.{role_name, step_name, two_digits, user_name};
+ghost use Rattle.trial_maker.specs.Named.{role_name, step_name, two_digits, user_name};
 
 use std::alloc::AllocError;
 use std::str;
@@ -43,7 +43,7 @@ fn with_two_digits(letter: u8, n: u16) -> Name
 }
 
 /// The name of a user.
-#[tactic(auto, unfolding(crate::specs::TrialNames::user_name))]
+#[tactic(auto, unfolding(crate::specs::Named::user_name))]
 pub(crate) fn user_name(u: UserId) -> Name
     requires { u < 100 }
     ensures { result ≡ user_name u }
@@ -52,7 +52,7 @@ pub(crate) fn user_name(u: UserId) -> Name
 }
 
 /// The name of a step.
-#[tactic(auto, unfolding(crate::specs::TrialNames::step_name))]
+#[tactic(auto, unfolding(crate::specs::Named::step_name))]
 pub(crate) fn step_name(s: StepId) -> Name
     requires { s < 100 }
     ensures { result ≡ step_name s }
@@ -61,7 +61,7 @@ pub(crate) fn step_name(s: StepId) -> Name
 }
 
 /// The name of a role other than that of the administrators.
-#[tactic(auto, using(crate::proofs::NameForms::role_form), unfolding(crate::specs::TrialNames::role_name))]
+#[tactic(auto, using(crate::proofs::NameForms::role_form), unfolding(crate::specs::Named::role_name))]
 pub(crate) fn role_name(r: RoleId) -> Name
     requires { r < 10 }
     ensures { result ≡ role_name r }

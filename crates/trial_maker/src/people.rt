@@ -3,8 +3,8 @@ ghost use Rattle.std.specs.Prelude.{◌≡◌, ◌<◌, ◌+◌, ◌∷◌, [], 
 ghost use Rattle.std.specs.List.{range_with_len};
 ghost use Rattle.std.specs.FinSet as set;
 ghost use Rattle.trial_maker.specs.Draws.{after};
-ghost use Rattle.trial_maker.specs.TrialNames.{admin_name, role_name, user_name};
-ghost use Rattle.trial_maker.specs.TrialPolicy.{drawn_members, trial_roster};
+ghost use Rattle.trial_maker.specs.Named.{admin_name, role_name, user_name};
+ghost use Rattle.trial_maker.specs.Policy.{drawn_members, trial_roster};
 
 use crate::draws::Generator;
 use crate::named;
@@ -20,7 +20,7 @@ pub(crate) const ROLES: u8 = 5;
 pub(crate) const ADMIN: RoleId = RoleId(ROLES);
 
 /// The roster, whose roles are drawn.
-#[tactic(auto, unfolding(crate::specs::TrialPolicy::trial_roster))]
+#[tactic(auto, unfolding(crate::specs::Policy::trial_roster))]
 pub(crate) fn roster_of(alloc: Global, draws: &mut Generator) -> Result<Roster, AllocError>
     ensures roster { IfOk result (λ r. r ≡ trial_roster draws.old) }
     ensures drawn { OnOk result (draws.new ≡ after 60 draws.old) }

@@ -1,9 +1,9 @@
 //! The policy of a trial.
 ghost use Rattle.std.specs.Prelude.{◌≡◌, ◌∷◌, [], false, length, IfOk, OnOk};
 ghost use Rattle.trial_maker.specs.Draws.{after};
-ghost use Rattle.trial_maker.specs.TrialPolicy.{trial_flow, trial_policy, trial_relations};
-ghost use Rattle.trial_maker.specs.TrialPolicy.{trial_roster, trial_rules};
-ghost use Rattle.trial_maker.specs.TrialNames.{flow_name};
+ghost use Rattle.trial_maker.specs.Policy.{trial_flow, trial_policy, trial_relations};
+ghost use Rattle.trial_maker.specs.Policy.{trial_roster, trial_rules};
+ghost use Rattle.trial_maker.specs.Named.{flow_name};
 
 use crate::draws::Generator;
 use crate::named::named;
@@ -17,7 +17,7 @@ use wf_names::NameFault;
 use workflow_schema::Flow;
 
 /// The policy, whose roles are drawn.
-#[tactic(auto, using(crate::proofs::Peers::roster_roles, crate::proofs::Peers::relation_count), unfolding(crate::specs::TrialPolicy::trial_policy))]
+#[tactic(auto, using(crate::proofs::Peers::roster_roles, crate::proofs::Peers::relation_count), unfolding(crate::specs::Policy::trial_policy))]
 pub(crate) fn policy_of(alloc: Global, draws: &mut Generator) -> Result<Policy, AllocError>
     ensures policy { IfOk result (λ p. p ≡ trial_policy draws.old) }
     ensures drawn { OnOk result (draws.new ≡ after 60 draws.old) }
@@ -28,7 +28,7 @@ pub(crate) fn policy_of(alloc: Global, draws: &mut Generator) -> Result<Policy, 
 }
 
 // The policy before its workflow.
-#[tactic(auto, using(crate::proofs::Peers::related_users, crate::proofs::Peers::roster_roles), unfolding(crate::specs::TrialPolicy::trial_policy))]
+#[tactic(auto, using(crate::proofs::Peers::related_users, crate::proofs::Peers::roster_roles), unfolding(crate::specs::Policy::trial_policy))]
 fn started(alloc: Global, draws: &mut Generator) -> Result<Policy, AllocError>
     ensures policy { IfOk result (λ p. p
         ≡ record (trial_policy draws.old) { flow_names = []; flows = [] }) }

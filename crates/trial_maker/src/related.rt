@@ -7,7 +7,7 @@ ghost use Rattle.wf_names.specs.declared.limits.TheConstants.{USER_LIMIT};
 ghost use Rattle.wf_names.specs.Table.{place_of};
 ghost use Rattle.pair_set.specs.Pairs.{AllPairs};
 ghost use Rattle.user_relations.specs.Relations.{known_names, listed};
-ghost use Rattle.trial_maker.specs.TrialPolicy.{are_peers, peers, trial_relations};
+ghost use Rattle.trial_maker.specs.Policy.{are_peers, peers, trial_relations};
 
 use crate::named::named;
 use crate::people::USERS;
@@ -23,7 +23,7 @@ pub(crate) const PEER: RelId = RelId(3);
 const TEAM: u16 = 6;
 
 /// The relations.
-#[tactic(auto, using(crate::proofs::NameForms::apart_form, crate::proofs::NameForms::peer_form, crate::proofs::Peers::peers_few, crate::proofs::Peers::peers_users, crate::proofs::Peers::none_few, crate::proofs::Peers::none_users), unfolding(crate::specs::TrialPolicy::trial_relations))]
+#[tactic(auto, using(crate::proofs::NameForms::apart_form, crate::proofs::NameForms::peer_form, crate::proofs::Peers::peers_few, crate::proofs::Peers::peers_users, crate::proofs::Peers::none_few, crate::proofs::Peers::none_users), unfolding(crate::specs::Policy::trial_relations))]
 pub(crate) fn relations_of(alloc: Global) -> Result<Relations, AllocError>
     ensures { IfOk result (λ r. r ≡ trial_relations) }
 {

@@ -3,8 +3,8 @@ ghost use Rattle.std.specs.Prelude.{◌≡◌, ◌<◌, ◌+◌, ◌%◌, map, I
 ghost use Rattle.wf_names.specs.declared.limits.TheConstants.{STEP_LIMIT};
 ghost use Rattle.constraint_forms.specs.declared.rule.Rule.TheVariants.{Pair};
 ghost use Rattle.std.specs.List.{range_with_len};
-ghost use Rattle.trial_maker.specs.TrialNames.{step_name};
-ghost use Rattle.trial_maker.specs.TrialPolicy.{both, trial_flow, trial_rules};
+ghost use Rattle.trial_maker.specs.Named.{step_name};
+ghost use Rattle.trial_maker.specs.Policy.{both, trial_flow, trial_rules};
 
 use crate::named;
 use crate::people::ROLES;
@@ -84,7 +84,7 @@ fn permits(alloc: Global) -> Result<Vec<(RoleId, StepId)>, AllocError>
 }
 
 /// The rules.
-#[tactic(auto, using(crate::proofs::FlowFacts::pairs_more, crate::proofs::FlowFacts::four_more), unfolding(crate::specs::TrialPolicy::trial_rules))]
+#[tactic(auto, using(crate::proofs::FlowFacts::pairs_more, crate::proofs::FlowFacts::four_more), unfolding(crate::specs::Policy::trial_rules))]
 pub(crate) fn rules_of(alloc: Global) -> Result<Rules, AllocError>
     ensures { IfOk result (λ r. r ≡ trial_rules) }
 {

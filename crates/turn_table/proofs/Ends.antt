@@ -11,7 +11,7 @@ use lib.ListN.{get_elem?}
 use Rattle.atomic_table.specs.Table.{opening, Final, Seen}
 use Rattle.turn_table.specs.declared.view.View.{View}
 use Rattle.turn_table.specs.declared.view.Hold.TheVariants.{Free}
-use Rattle.turn_table.specs.Turns.{word_of, starting, Fits, Kept, TurnRule}
+use Rattle.turn_table.specs.Plays.{hold_word, starting, Fits, Kept, TurnRule}
 use Rattle.turn_table.proofs.Lists.{quiet_self, quiet_parts, no_pairs}
 use Rattle.turn_table.proofs.Numbers.{contains_none}
 
@@ -75,7 +75,7 @@ module _ {D G I : Type 0} (fixed_part : D → G) (list : D → List (ℕ × I)) 
         let where_is : (o : Option ℕ) → u.number ≡ o → k.holder ≡ id =
         elim [ None ↦ λ e. (f.unnumbered e).0 ∙ sym (p.unnumbered first).0 | Some n ↦ λ e. let h = f.numbers n (inl e) in sym h.1 ∙ here n h.0 ] in
         let same : u ≡ v = some-injective u v (sym t.1 ∙ (ap (get_elem? views) (where_is u.number refl) ∙ at)) in
-        busy (sym t.3 ∙ (ap (λ (y : View G I). word_of y.hold) same ∙ ap word_of idle))
+        busy (sym t.3 ∙ (ap (λ (y : View G I). hold_word y.hold) same ∙ ap hold_word idle))
 
     -- what lies past the list that the first seat has seen is of no lane
     nothing_past : k.now ≡ v.seen

@@ -12,8 +12,8 @@ use Rattle.atomic_table.specs.Table.{State, Me, step, keeps, takes, gives, stepp
 use Rattle.atomic_table.proofs.Lists.{set_here, set_again}
 use Rattle.turn_table.specs.declared.view.View.{View}
 use Rattle.turn_table.specs.declared.view.Hold.TheVariants.{Held, Noted}
-use Rattle.turn_table.specs.Lists.{pairs_under, Quiet, OwnPast, GrowsByOne}
-use Rattle.turn_table.specs.Turns.{word_of, StandsIn, entering, noting, leaving, Fits, Kept, TurnRule, locked, noted, unlocked, compared}
+use Rattle.turn_table.specs.Table.{pairs_under, Quiet, OwnPast, GrowsByOne}
+use Rattle.turn_table.specs.Plays.{hold_word, StandsIn, entering, noting, leaving, Fits, Kept, TurnRule, locked, noted, unlocked, compared}
 use Rattle.turn_table.proofs.Lists.{begins_trans, two_fronts, quiet_self, quiet_more, own_more, own_quiet, grown}
 use Rattle.turn_table.proofs.Views.{there_below, seats, still}
 
@@ -41,7 +41,8 @@ module _ {D G I : Type 0} (fixed_part : D → G) (list : D → List (ℕ × I)) 
   module _ (now : List (ℕ × I)) (made first : ℕ) (owner : ℕ → ℕ) where
     -- a seat's fact where the lock changes hands
     reheld : (word word' holder holder' seat : ℕ) (v : View G I) → Fits g opening now lanes made word first holder owner seat v
-        → (word_of v.hold ≢ 0 → (word_of v.hold ≡ word') × (seat ≡ holder') × (v.seen ≡ now)) → Fits g opening now lanes made word' first holder' owner seat v
+        → (hold_word v.hold ≢ 0 → (hold_word v.hold ≡ word') × (seat ≡ holder') × (v.seen ≡ now)) →
+        Fits g opening now lanes made word' first holder' owner seat v
     reheld word word' holder holder' seat v p h = record {
       fixed = p.fixed;
       opens = p.opens;
@@ -133,7 +134,7 @@ module _ {D G I : Type 0} (fixed_part : D → G) (list : D → List (ℕ × I)) 
     written_down =
         let w = noting v xs in
         let p = k.each_seat id v at live in
-        let one : word_of v.hold ≢ 0 = subst (λ h. word_of h ≢ 0) (sym holds) (λ e. omega arith) in
+        let one : hold_word v.hold ≢ 0 = subst (λ h. hold_word h ≢ 0) (sym holds) (λ e. omega arith) in
         let whole : v.seen ≡ k.now = (p.holds one).2 in
         let here : id ≡ k.holder = (p.holds one).1 in
         let n_here = p.numbers n (inl numbered) in
@@ -195,7 +196,7 @@ module _ {D G I : Type 0} (fixed_part : D → G) (list : D → List (ℕ × I)) 
   notes slots id me y n live holds numbered grows s r _ at _ =
       let word = slice_index s.words 0 in
       let p = r.1.each_seat id me.0 at live in
-      let one : word_of me.0.hold ≡ 1 = ap word_of holds in
+      let one : hold_word me.0.hold ≡ 1 = ap hold_word holds in
       let is : word ≡ 1 = sym (p.holds (λ e. omega (arith, one, e))).0 ∙ one in
       let k = subst (λ (b : ℕ). Keeps b s.homes s.views) is r.1 in
       let w = noting me.0 (list y) in (
@@ -216,7 +217,7 @@ module _ {D G I : Type 0} (fixed_part : D → G) (list : D → List (ℕ × I)) 
     given_back =
         let w = leaving v in
         let p = k.each_seat id v at live in
-        let two : word_of v.hold ≢ 0 = subst (λ h. word_of h ≢ 0) (sym holds) (λ e. omega arith) in
+        let two : hold_word v.hold ≢ 0 = subst (λ h. hold_word h ≢ 0) (sym holds) (λ e. omega arith) in
         let h = p.holds two in
         let first_still = still (λ u. (u.live ≡ true) × (u.number ≡ None)) views id v w at (λ h. h) k.first
         (k.has_first.0, k.has_first.1, (k.has_first.2, k.has_first.3)) in record {
@@ -257,7 +258,7 @@ module _ {D G I : Type 0} (fixed_part : D → G) (list : D → List (ℕ × I)) 
       subst (λ m. Allows Rule slots id m 0 (λ _. 0) (unlocked (step slots 0 0 0 none) m)) (sym is) (λ s r wide at _.
       let word = slice_index s.words 0 in
       let p = r.1.each_seat id v at live in
-      let two : word_of v.hold ≡ 2 = ap word_of holds in
+      let two : hold_word v.hold ≡ 2 = ap hold_word holds in
       let here : word ≡ 2 = sym (p.holds (λ e. omega (arith, two, e))).0 ∙ two in
       let k = subst (λ (b : ℕ). Keeps b s.homes s.views) here r.1 in
       let known : fixed_part y ≡ g = (let e : Some (fixed_part y) ≡ Some g = fixed ∙ p.fixed in cc) in (

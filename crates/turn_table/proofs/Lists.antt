@@ -5,7 +5,7 @@ use Rattle.std.proofs.lemmas.List.{append-nil, append_cancel_left}
 use Rattle.std.proofs.lemmas.List.Elements.{filter-append}
 use Rattle.std.proofs.lemmas.Bool.Decides.{nat_tests}
 use Rattle.std.proofs.Math.Seq.{drop-append_seam}
-use Rattle.turn_table.specs.Lists.{StartsWith, pairs_under, Quiet, OwnPast, GrowsByOne, longer, shorter}
+use Rattle.turn_table.specs.Table.{StartsWith, pairs_under, Quiet, OwnPast, GrowsByOne, longer, shorter}
 
 module _ {A : Type 0} where
   left_nil : (xs ys : List A) → xs ++ ys ≡ [] → xs ≡ []

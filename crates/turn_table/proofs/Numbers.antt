@@ -3,7 +3,7 @@ use Rattle.std.proofs.Common.{◌≡◌, ◌≢◌, ◌⊎◌, ℕ, zero, suc, e
 use Rattle.std.proofs.Common.{None, IsSome, IfSome, Bool, true, false, subst}
 use Rattle.std.specs.List.{Contains}
 use Rattle.std.proofs.lemmas.List.Elements.{Contains-append_left, Contains-append_right, Contains-append_cases}
-use Rattle.turn_table.specs.Lists.{brought}
+use Rattle.turn_table.specs.Table.{brought}
 
 -- the seat at which a number stands, once those at the seat from stand at the seat to
 abbrev pub moved : ℕ → ℕ → ℕ → ℕ

@@ -12,8 +12,8 @@ use Rattle.atomic_table.specs.Table.{State, Splits, Joins}
 use Rattle.atomic_table.proofs.Lists.{set_here, set_else, at_longer, at_last}
 use Rattle.turn_table.specs.declared.view.View.{View}
 use Rattle.turn_table.specs.declared.view.Hold.TheVariants.{Free}
-use Rattle.turn_table.specs.Lists.{pairs_under, longer, brought}
-use Rattle.turn_table.specs.Turns.{word_of, StandsIn, parent, newcomer, united, spent, Fits, Kept, TurnRule}
+use Rattle.turn_table.specs.Table.{pairs_under, longer, brought}
+use Rattle.turn_table.specs.Plays.{hold_word, StandsIn, parent, newcomer, united, spent, Fits, Kept, TurnRule}
 use Rattle.turn_table.proofs.Lists.{begins_trans, longest, quiet_fewer, quiet_parts, own_quiet}
 use Rattle.turn_table.proofs.Views.{there_below, at_one_more, seats, still}
 use Rattle.turn_table.proofs.Numbers.{moved, moved_hit, moved_miss, placed, placed_hit, placed_miss, brought_has, brought_from, contains_none}
@@ -111,7 +111,7 @@ module _ {D G I : Type 0} (fixed_part : D → G) (list : D → List (ℕ × I)) 
           holder = k.holder;
           owner = owner;
           free = k.free;
-          held = λ h. let t = k.held h in let r = still (λ u. (u.live ≡ true) × (word_of u.hold ≡ word)) views id v w at (λ h. h) k.holder
+          held = λ h. let t = k.held h in let r = still (λ u. (u.live ≡ true) × (hold_word u.hold ≡ word)) views id v w at (λ h. h) k.holder
               (t.0, t.1, (t.2, t.3)) in (r.0, at_longer after (new ∷ []) k.holder r.0 r.1, r.2.0, r.2.1);
           unmade = quiet_fewer (λ n. k.made ≤ n) (λ n. k.made + 1 ≤ n) k.now opening k.unmade (λ n le. omega arith);
           enough = let m = (p.unnumbered first).1 in let l = p.limit in omega arith;
@@ -192,7 +192,7 @@ module _ {D G I : Type 0} (fixed_part : D → G) (list : D → List (ℕ × I)) 
           opens = p.opens;
           limit = p.limit;
           begins = begins_trans full v.seen opening from_v p.begins;
-          holds = λ h. let free : word_of v.hold ≡ 0 = ap word_of idle in absurd (h free);
+          holds = λ h. let free : hold_word v.hold ≡ 0 = ap hold_word idle in absurd (h free);
           quiet = (past.0, past.1, λ n h. ⊎_elim (λ e. (split_v n (h.0, e)).1) (λ e. (split_w n (h.0, e)).1) (gathers n h.1));
           told = l.3;
           own = λ n mine. let o = p.own n mine in let none = (split_v n (p.numbers n (inl mine))).0 in
@@ -208,9 +208,9 @@ module _ {D G I : Type 0} (fixed_part : D → G) (list : D → List (ℕ × I)) 
         }
 
     -- a view that holds the lock is at neither seat
-    not_holding : (j : ℕ) (x u : View G I) → get_elem? views j ≡ some x → x.hold ≡ Free → get_elem? views j ≡ some u → word_of u.hold ≡ word → word ≢ 0 → ⊥
+    not_holding : (j : ℕ) (x u : View G I) → get_elem? views j ≡ some x → x.hold ≡ Free → get_elem? views j ≡ some u → hold_word u.hold ≡ word → word ≢ 0 → ⊥
     not_holding j x u e free f is ne = let same : x ≡ u = some-injective x u (sym e ∙ f) in
-        ne (sym is ∙ (ap (λ (y : View G I). word_of y.hold) (sym same) ∙ ap word_of free))
+        ne (sym is ∙ (ap (λ (y : View G I). hold_word y.hold) (sym same) ∙ ap hold_word free))
 
     joined : Keeps word homes gathered
     joined =

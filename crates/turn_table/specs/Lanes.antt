@@ -2,7 +2,7 @@
 use Rattle.std.specs.Prelude.{◌≡◌, ℕ, Bool, true, false, List, [], ◌∷◌, ◌++◌, Option, Some, None}
 use Rattle.std.specs.Prelude.{IsSome}
 pub use Rattle.atomic_table.specs.Seated.{TableId}
-use Rattle.turn_table.specs.Lists.{longer, brought}
+use Rattle.turn_table.specs.Table.{longer, brought}
 use Rattle.turn_table.specs.declared.view.View.{View}
 use Rattle.turn_table.specs.declared.view.Hold.{Hold}
 use Rattle.turn_table.specs.declared.view.Hold.TheVariants.{Free, Held}

@@ -1,3 +1,3 @@
-pub mod Lists
+pub mod Table
 pub mod Lanes
-pub mod Turns
+pub mod Plays

@@ -40,7 +40,7 @@ pub struct Turns<D> {
 
 impl<D: Tabled> TableRule<Option<D>, View<D::Ground, D::Item>, Told<D>> for Turns<D> {
     ghost use Rattle.std.specs.Prelude.{Some};
-    ghost use Rattle.turn_table.specs.Turns.{TurnRule, starting};
+    ghost use Rattle.turn_table.specs.Plays.{TurnRule, starting};
 
     ghost holds = { λ key. TurnRule D.fixed_part D.list (D.fixed_part key.value.value)
         (D.list key.value.value) key.lanes };
@@ -55,7 +55,7 @@ pub struct Lock<D> {
 }
 
 impl<D: Tabled> Play<Option<D>, View<D::Ground, D::Item>> for Lock<D> {
-    ghost use Rattle.turn_table.specs.Turns.{locked};
+    ghost use Rattle.turn_table.specs.Plays.{locked};
 
     ghost then = { locked D.fixed_part D.list };
 }
@@ -66,7 +66,7 @@ pub struct Note<D> {
 }
 
 impl<D: Tabled> Play<Option<D>, View<D::Ground, D::Item>> for Note<D> {
-    ghost use Rattle.turn_table.specs.Turns.{noted};
+    ghost use Rattle.turn_table.specs.Plays.{noted};
 
     ghost then = { noted D.list };
 }
@@ -75,7 +75,7 @@ impl<D: Tabled> Play<Option<D>, View<D::Ground, D::Item>> for Note<D> {
 pub struct Unlock;
 
 impl<D, G, I> Play<Option<D>, View<G, I>> for Unlock {
-    ghost use Rattle.turn_table.specs.Turns.{unlocked};
+    ghost use Rattle.turn_table.specs.Plays.{unlocked};
 
     ghost then = { unlocked };
 }
@@ -84,7 +84,7 @@ impl<D, G, I> Play<Option<D>, View<G, I>> for Unlock {
 pub struct Compare;
 
 impl<D, G, I> Play<Option<D>, View<G, I>> for Compare {
-    ghost use Rattle.turn_table.specs.Turns.{compared};
+    ghost use Rattle.turn_table.specs.Plays.{compared};
 
     ghost then = { compared };
 }
@@ -93,7 +93,7 @@ impl<D, G, I> Play<Option<D>, View<G, I>> for Compare {
 pub struct Part;
 
 impl<G, I> Split<View<G, I>> for Part {
-    ghost use Rattle.turn_table.specs.Turns.{parent, newcomer};
+    ghost use Rattle.turn_table.specs.Plays.{parent, newcomer};
 
     ghost left = { parent };
 
@@ -104,7 +104,7 @@ impl<G, I> Split<View<G, I>> for Part {
 pub struct Unite;
 
 impl<G, I> Join<View<G, I>> for Unite {
-    ghost use Rattle.turn_table.specs.Turns.{united, spent};
+    ghost use Rattle.turn_table.specs.Plays.{united, spent};
 
     ghost both = { united };
 

@@ -2,7 +2,7 @@
 ghost use Rattle.std.specs.Prelude.{◌≡◌, ◌⊎◌, ℕ, ◌+◌, ◌<◌, ◌≤◌, true, false, ◌++◌, length, drop};
 ghost use Rattle.std.specs.Prelude.{[], ◌∷◌, IsSome, IfSome, IfOk, IfErr};
 ghost use Rattle.std.specs.List.{Contains};
-ghost use Rattle.turn_table.specs.Lists.{StartsWith, Quiet, OwnPast, GrowsByOne};
+ghost use Rattle.turn_table.specs.Table.{StartsWith, Quiet, OwnPast, GrowsByOne};
 ghost use Rattle.turn_table.specs.Lanes.{first_lane, next_lane, joined_lane};
 
 use crate::lane::Lane;

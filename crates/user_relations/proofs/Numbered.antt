@@ -8,7 +8,7 @@ use Rattle.user_relations.specs.declared.kinds.Kind.{Kind}
 use Rattle.user_relations.specs.declared.kinds.Relation.{Relation}
 use Rattle.user_relations.specs.declared.RelationFault.{RelationFault}
 use Rattle.user_relations.specs.Relations.{RelationShape, RelationKind, listed, kind_of, listed_pairs, pairs_of, with_kind, change_kind}
-use Rattle.user_relations.specs.Faults.{AnswersFault}
+use Rattle.user_relations.specs.Kinds.{AnswersFault}
 use Rattle.user_relations.specs.Places.{IsPlace}
 use Rattle.user_relations.specs.View.{kind_view, relation_view, shapes}
 

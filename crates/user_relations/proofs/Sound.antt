@@ -17,8 +17,8 @@ use Rattle.user_relations.specs.declared.RelationFault.{RelationFault}
 use Rattle.user_relations.specs.declared.RelationFault.TheVariants.{Already, Full}
 use Rattle.user_relations.specs.Relations.{RelationShape, RelationKind, listed, complement, kind_of, has_list, is_listed, complemented, complement_of}
 use Rattle.user_relations.specs.Relations.{listed_pairs, pairs_of, known_names, change_kind, with_kind}
-use Rattle.user_relations.specs.Faults.{AnswersFault, put_fault, take_fault, relate_fault, unrelate_fault}
-use Rattle.user_relations.specs.Soundness.{AreSound}
+use Rattle.user_relations.specs.Kinds.{AnswersFault, put_fault, take_fault, relate_fault, unrelate_fault}
+use Rattle.user_relations.specs.Soundness.{AreSoundRelations}
 use Rattle.std.specs.declared.alloc.AllocError.{AllocError}
 use Rattle.user_relations.specs.declared.kinds.Relation.{Relation}
 use Rattle.user_relations.specs.View.{shapes}
@@ -85,11 +85,11 @@ kind_is rs rho m k0 k k1 was same e =
     let here : Some k ≡ Some k1 = sym (kind_here rs rho k0 k was) ∙ sym (ap (kind_of (with_kind rs rho k)) same) ∙ e in
     cc
 
-sound_change : (rs : List RelationShape) (rho : ℕ) (k0 k : RelationKind) → AreSound rs → kind_of rs rho ≡ Some k0
+sound_change : (rs : List RelationShape) (rho : ℕ) (k0 k : RelationKind) → AreSoundRelations rs → kind_of rs rho ≡ Some k0
     → ((pairs : Pairs) → k ≡ listed pairs → (set.len pairs ≤ PAIR_LIMIT) × AllPairs AreUsers pairs)
     → ((n : ℕ) → k ≡ complement n → is_listed (with_kind rs rho k) n ≡ true)
     → ((m : ℕ) → kind_of rs m ≡ Some (complement rho) → has_list (Some k) ≡ true)
-    → AreSound (with_kind rs rho k)
+    → AreSoundRelations (with_kind rs rho k)
 sound_change rs rho k0 k s was lists points kept = record {
   count = subst (λ n. n ≤ RELATION_LIMIT) (sym (count_kept rs rho k)) s.count;
   names = subst (IsDistinct (pointwise nat_eq)) (sym (known_names_kept rs rho k)) s.names;
@@ -113,8 +113,8 @@ sound_change rs rho k0 k s was lists points kept = record {
   ];
 }
 
-sound_list : (rs : List RelationShape) (rho : ℕ) (old new : Pairs) → AreSound rs → kind_of rs rho ≡ Some (listed old) → set.len new ≤ PAIR_LIMIT →
-    AllPairs AreUsers new → AreSound (with_kind rs rho (listed new))
+sound_list : (rs : List RelationShape) (rho : ℕ) (old new : Pairs) → AreSoundRelations rs → kind_of rs rho ≡ Some (listed old) → set.len new ≤ PAIR_LIMIT →
+    AllPairs AreUsers new → AreSoundRelations (with_kind rs rho (listed new))
 sound_list rs rho old new s was few users =
     sound_change rs rho (listed old) (listed new) s was
     (λ pairs e. let same : new ≡ pairs = cc in (subst (λ p. set.len p ≤ PAIR_LIMIT) same few, subst (AllPairs AreUsers) same users))
@@ -141,13 +141,13 @@ room pairs u v x f =
       )
     ] f
 
-pub sound_relate : (rs new : List RelationShape) (rho u v : ℕ) (r : Result (Unit {0}) RelationFault) → AreSound rs → u < USER_LIMIT → v < USER_LIMIT
+pub sound_relate : (rs new : List RelationShape) (rho u v : ℕ) (r : Result (Unit {0}) RelationFault) → AreSoundRelations rs → u < USER_LIMIT → v < USER_LIMIT
     → OnOk r (new ≡ with_kind rs rho (listed (set.insert (pairs_of rs rho) (u, v)))) → AnswersFault (relate_fault rs rho u v) r → OnErr r (new ≡ rs) →
-    AreSound new
-sound_relate rs new rho u v (Err e) s first second related fault same = subst AreSound (sym same) s
+    AreSoundRelations new
+sound_relate rs new rho u v (Err e) s first second related fault same = subst AreSoundRelations (sym same) s
 sound_relate rs new rho u v (Ok x) s first second related fault same =
     elim (kind_of rs rho) as (λ o. kind_of rs rho ≡ o → AnswersFault (put_fault o u v) (Ok x) →
-    new ≡ with_kind rs rho (listed (set.insert (listed_pairs o) (u, v))) → AreSound new) [
+    new ≡ with_kind rs rho (listed (set.insert (listed_pairs o) (u, v))) → AreSoundRelations new) [
       | None ↦ λ e f is. absurd (no_answer f)
       | Some (complement n) ↦ λ e f is. absurd (no_answer f)
       | Some (listed pairs) ↦ λ e f is.
@@ -155,7 +155,7 @@ sound_relate rs new rho u v (Ok x) s first second related fault same =
           let grown : set.len (set.insert pairs (u, v)) ≡ set.len pairs + 1 = set.len-insert pair_cmp_total pairs (u, v) ∙
           ap (λ b. cond b (set.len pairs) (set.len pairs + 1)) parts.0 in
           let below : set.len pairs < PAIR_LIMIT = parts.1 in
-          subst AreSound (sym is)
+          subst AreSoundRelations (sym is)
           (sound_list rs rho pairs (set.insert pairs (u, v)) s e (omega arith) (all_insert AreUsers pairs u v (first, second) (s.users rho pairs e)))
     ] refl fault related
 
@@ -164,25 +164,25 @@ less_by_one pairs u v few =
     subst (λ n. n ≤ PAIR_LIMIT) (sym (set.len-remove pair_cmp_total pairs (u, v)))
     (elim (set.contains pairs (u, v)) as (λ b. cond b (set.len pairs - 1) (set.len pairs) ≤ PAIR_LIMIT) [ true ↦ omega arith | false ↦ few ])
 
-pub sound_unrelate : (rs new : List RelationShape) (rho u v : ℕ) (r : Result (Unit {0}) RelationFault) → AreSound rs
+pub sound_unrelate : (rs new : List RelationShape) (rho u v : ℕ) (r : Result (Unit {0}) RelationFault) → AreSoundRelations rs
     → OnOk r (new ≡ with_kind rs rho (listed (set.remove (pairs_of rs rho) (u, v)))) → AnswersFault (unrelate_fault rs rho u v) r → OnErr r (new ≡ rs) →
-    AreSound new
-sound_unrelate rs new rho u v (Err e) s unrelated fault same = subst AreSound (sym same) s
+    AreSoundRelations new
+sound_unrelate rs new rho u v (Err e) s unrelated fault same = subst AreSoundRelations (sym same) s
 sound_unrelate rs new rho u v (Ok x) s unrelated fault same =
     elim (kind_of rs rho) as (λ o. kind_of rs rho ≡ o → AnswersFault (take_fault o u v) (Ok x) →
-    new ≡ with_kind rs rho (listed (set.remove (listed_pairs o) (u, v))) → AreSound new) [
+    new ≡ with_kind rs rho (listed (set.remove (listed_pairs o) (u, v))) → AreSoundRelations new) [
       | None ↦ λ e f is. absurd (no_answer f)
       | Some (complement n) ↦ λ e f is. absurd (no_answer f)
       | Some (listed pairs) ↦ λ e f is.
-          subst AreSound (sym is) (sound_list rs rho pairs (set.remove pairs (u, v)) s e (less_by_one pairs u v (s.few rho pairs e))
+          subst AreSoundRelations (sym is) (sound_list rs rho pairs (set.remove pairs (u, v)) s e (less_by_one pairs u v (s.few rho pairs e))
           (all_remove AreUsers pairs u v (s.users rho pairs e)))
     ] refl fault unrelated
 
-pub sound_complement : (rs new : List RelationShape) (rho of_number : ℕ) → AreSound rs → kind_of rs rho ≡ Some (listed set.empty) →
+pub sound_complement : (rs new : List RelationShape) (rho of_number : ℕ) → AreSoundRelations rs → kind_of rs rho ≡ Some (listed set.empty) →
     is_listed rs of_number ≡ true → (rho ≡ of_number → ⊥)
-    → ((n : ℕ) → complement_of rs n ≡ Some rho → ⊥) → new ≡ with_kind rs rho (complement of_number) → AreSound new
+    → ((n : ℕ) → complement_of rs n ≡ Some rho → ⊥) → new ≡ with_kind rs rho (complement of_number) → AreSoundRelations new
 sound_complement rs new rho of_number s bare is_list differ free is =
-    subst AreSound (sym is) (sound_change rs rho (listed set.empty) (complement of_number) s bare
+    subst AreSoundRelations (sym is) (sound_change rs rho (listed set.empty) (complement of_number) s bare
     (λ pairs e. cc)
     (λ n e.
     let same : of_number ≡ n = cc in
@@ -218,7 +218,7 @@ none_declared zero = refl
 none_declared (suc zero) = refl
 none_declared (suc (suc n)) = refl
 
-pub sound_none : AreSound []
+pub sound_none : AreSoundRelations []
 unfolding IsDistinct
 sound_none = record {
   count = omega arith;
@@ -229,9 +229,9 @@ sound_none = record {
 }
 
 -- a relation with its pairs at the end
-sound_add_pairs : (rs : List RelationShape) (name : List ℕ) (own : Pairs) → AreSound rs → length rs < RELATION_LIMIT →
+sound_add_pairs : (rs : List RelationShape) (name : List ℕ) (own : Pairs) → AreSoundRelations rs → length rs < RELATION_LIMIT →
     is_some (place_of (known_names rs) name) ≡ false
-    → set.len own ≤ PAIR_LIMIT → AllPairs AreUsers own → AreSound (rs ++ (record { name = name; kind = listed own }) ∷ [])
+    → set.len own ≤ PAIR_LIMIT → AllPairs AreUsers own → AreSoundRelations (rs ++ (record { name = name; kind = listed own }) ∷ [])
 sound_add_pairs rs name own s below fresh little users =
     let r : RelationShape = record { name = name; kind = listed own } in
     let longer : length (rs ++ r ∷ []) ≡ length rs + 1 = length-append rs (r ∷ []) in
@@ -257,8 +257,8 @@ sound_add_pairs rs name own s below fresh little users =
 -- the list that a push leaves
 pub sound_push_pairs : (ds new : List Relation) (name : List ℕ) (own : Pairs) (r : Result (Unit {0}) AllocError)
     → OnOk r (shapes new ≡ shapes ds ++ (record { name = name; kind = listed own }) ∷ []) → OnErr r (new ≡ ds)
-    → AreSound (shapes ds) → length (shapes ds) < RELATION_LIMIT → is_some (place_of (known_names (shapes ds)) name) ≡ false
-    → set.len own ≤ PAIR_LIMIT → AllPairs AreUsers own → AreSound (shapes new)
+    → AreSoundRelations (shapes ds) → length (shapes ds) < RELATION_LIMIT → is_some (place_of (known_names (shapes ds)) name) ≡ false
+    → set.len own ≤ PAIR_LIMIT → AllPairs AreUsers own → AreSoundRelations (shapes new)
 sound_push_pairs ds new name own (Ok x) pushed same s below fresh little users =
-    subst AreSound (sym pushed) (sound_add_pairs (shapes ds) name own s below fresh little users)
-sound_push_pairs ds new name own (Err e) pushed same s below fresh little users = subst (λ (es : List Relation). AreSound (shapes es)) (sym same) s
+    subst AreSoundRelations (sym pushed) (sound_add_pairs (shapes ds) name own s below fresh little users)
+sound_push_pairs ds new name own (Err e) pushed same s below fresh little users = subst (λ (es : List Relation). AreSoundRelations (shapes es)) (sym same) s

@@ -10,7 +10,7 @@ use Rattle.user_relations.specs.Relations.{known_names}
 
 -- not too many relations, whose names are distinct and none of them `same` or `other`; not too many
 -- pairs in each, all of them of user numbers; and each complement is that of a listed relation
-pub record AreSound (relations : List RelationShape) : Type 0 where
+pub record AreSoundRelations (relations : List RelationShape) : Type 0 where
   pub count : length relations ≤ RELATION_LIMIT
   pub names : IsDistinct (pointwise nat_eq) (known_names relations)
   pub few : (rho : ℕ) (pairs : Pairs) → kind_of relations rho ≡ Some (listed pairs) →

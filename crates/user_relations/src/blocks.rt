@@ -9,7 +9,7 @@ ghost use Rattle.wf_names.specs.UserSets.{has_user};
 ghost use Rattle.user_relations.specs.declared.blocks.TheConstants.{BLOCKS, BLOCK_ROWS};
 ghost use Rattle.user_relations.specs.Rows.{block_bit, row_bit, written, pairs_in, AreListedTo};
 
-use shared_part::{Copied, Shared};
+use basics::{Copied, Shared};
 use std::alloc::{AllocError, Global};
 use wf_names::{USER_LIMIT, UserId, UserSet};
 

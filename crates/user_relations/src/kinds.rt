@@ -12,14 +12,14 @@ ghost use Rattle.wf_names.specs.UserSets.{has_user};
 ghost use Rattle.user_relations.specs.Relations.{listed, complement, kind_of, kind_holds};
 ghost use Rattle.user_relations.specs.Relations.{listed_pairs, pairs_of, complement_of};
 ghost use Rattle.user_relations.specs.Relations.{known_names, with_kind, has_list};
-ghost use Rattle.user_relations.specs.Faults.{relate_fault, unrelate_fault, put_fault, take_fault};
-ghost use Rattle.user_relations.specs.Faults.{AnswersFault};
+ghost use Rattle.user_relations.specs.Kinds.{relate_fault, unrelate_fault, put_fault, take_fault};
+ghost use Rattle.user_relations.specs.Kinds.{AnswersFault};
 ghost use Rattle.user_relations.specs.Places.{IsPlace};
 ghost use Rattle.user_relations.specs.View.{kind_view, relation_view, shapes};
 
 use crate::user_pairs::UserPairs;
 use crate::{RelationFault, masks};
-use shared_part::Shared;
+use basics::Shared;
 use std::alloc::{AllocError, Global};
 use wf_names::{Name, PAIR_LIMIT, RELATION_LIMIT, RelId, USER_LIMIT, UserId, UserSet};
 

@@ -14,9 +14,9 @@ ghost use Rattle.wf_names.specs.UserSets.{has_user};
 ghost use Rattle.user_relations.specs.Relations.{RelationShape, listed, complement, kind_of};
 ghost use Rattle.user_relations.specs.Relations.{pairs_of, is_listed, complement_of, is_related};
 ghost use Rattle.user_relations.specs.Relations.{known_names, with_kind};
-ghost use Rattle.user_relations.specs.Soundness.{AreSound};
+ghost use Rattle.user_relations.specs.Soundness.{AreSoundRelations};
 ghost use Rattle.user_relations.specs.View.{shapes};
-ghost use Rattle.user_relations.specs.Faults.{relate_fault, unrelate_fault, AnswersFault};
+ghost use Rattle.user_relations.specs.Kinds.{relate_fault, unrelate_fault, AnswersFault};
 
 mod blocks;
 mod kinds;
@@ -58,12 +58,12 @@ impl Model for Relations {
 
     ghost coded = { relations_code };
 
-    ghost use Rattle.user_relations.specs.Soundness.{AreSound};
+    ghost use Rattle.user_relations.specs.Soundness.{AreSoundRelations};
     ghost use Rattle.user_relations.specs.View.{shapes};
 
     ghost view = { λ r. shapes r.declared.items };
 
-    ghost invariant = { λ r. AreSound (shapes r.declared.items) };
+    ghost invariant = { λ r. AreSoundRelations (shapes r.declared.items) };
 }
 
 impl Relations {
@@ -79,7 +79,7 @@ impl Relations {
     /// The relations of a list of them, each with what it is. A complement may stand before the
     /// relation whose complement it is.
     pub fn build(declared: Vec<Relation>) -> Result<Relations, AllocError>
-        requires { AreSound (shapes declared.items) }
+        requires { AreSoundRelations (shapes declared.items) }
         ensures { IfOk result (λ relations. relations ≡ shapes declared.items) }
     {
         Ok(Relations { declared })
@@ -264,7 +264,7 @@ impl Relations {
     /// The number of declared relations.
     pub fn count(&self) -> u8
         ensures count { result ≡ length self.now }
-        ensures sound { AreSound self.now }
+        ensures sound { AreSoundRelations self.now }
     {
         self.declared.len() as u8
     }

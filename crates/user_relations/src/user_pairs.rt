@@ -8,7 +8,7 @@ ghost use Rattle.wf_names.specs.UserSets.{has_user};
 
 use crate::blocks::Block;
 use crate::{blocks, masks};
-use shared_part::{Copied, Shared};
+use basics::{Copied, Shared};
 use std::alloc::{AllocError, Global};
 use std::marker::Model;
 use wf_names::{USER_LIMIT, UserId, UserSet};

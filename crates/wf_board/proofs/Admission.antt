@@ -2,9 +2,9 @@
 use Rattle.std.proofs.Common.{◌≡◌, ◌≢◌, ℕ, ◌⊎◌, inr, Bool, true, false, not, List, [], ◌∷◌, Option, None, Some, option_map, Result, Ok, Err, refl, sym, ap}
 use Rattle.std.proofs.Common.{subst, ◌∙◌}
 use Rattle.std.specs.Prelude.{◌↔◌}
-use Rattle.first_fault.specs.Reading.{◌>>=◌, or_fault, check}
+use Rattle.basics.specs.Reading.{◌>>=◌, or_fault, check}
 use Rattle.wf_names.specs.States.{is_done, is_held, user_of}
-use Rattle.constraint_forms.specs.Assigned.{user_at}
+use Rattle.constraint_forms.specs.Assign.{user_at}
 use Rattle.refutation_tree.specs.declared.tree.Tree.{Tree}
 use Rattle.refutation_tree.specs.Views.{shape_of}
 use Rattle.policy_book.specs.Shapes.{PolicyShape}
@@ -12,8 +12,8 @@ use Rattle.policy_book.specs.Facts.{IsSoundPolicy}
 use Rattle.policy_book.specs.Policies.{flow_at, is_authorised, problem_of}
 use Rattle.policy_book.specs.Refuting.{refutes}
 use Rattle.case_record.specs.Cases.{CaseShape, assigned_of, finished_case, finished_of, is_open, state_at}
-use Rattle.case_record.specs.Ready.{first_missing}
-use Rattle.grant_table.specs.Tables.{CasesShape, case_in}
+use Rattle.case_record.specs.Order.{first_missing}
+use Rattle.grant_table.specs.Cases.{CasesShape, case_in}
 use Rattle.grant_table.specs.Kept.{AscendFrom}
 use Rattle.admin_edits.specs.declared.amendment.Amendment.{Amendment}
 use Rattle.admin_edits.specs.declared.fault.EditCause.{EditCause}
@@ -35,9 +35,9 @@ use Rattle.wf_board.specs.declared.verdict.Verdict.TheVariants as verdict
 use Rattle.wf_board.specs.Admission.{has_no_tree, when, HasAdmitted, IsNoAnswer}
 use Rattle.wf_board.specs.Boards.{EditionShape, book_of, state_on}
 use Rattle.wf_board.specs.Decisions.{cause_aside, cause_full, decision_aside, decision_of, is_held_by, unless_denied}
-use Rattle.wf_board.specs.Edited.{ArePlansOf, CanAllBeCompleted, IsFirstStranded, IsTreeOf}
+use Rattle.wf_board.specs.Edition.{ArePlansOf, CanAllBeCompleted, IsFirstStranded, IsTreeOf}
 use Rattle.wf_board.specs.Found.{IsAllowed}
-use Rattle.wf_board.specs.Resolved.{edit_denial, on_edit, on_step, open_case_at, resolve}
+use Rattle.wf_board.specs.Resolve.{edit_denial, on_edit, on_step, open_case_at, resolve}
 use Rattle.wf_board.specs.States.{Book, State, numbered_case, flow_named, is_full, open_cases, step_named, user_named}
 use Rattle.wf_board.specs.Kept.{IsSoundState}
 use Rattle.wf_board.specs.Views.{AreStranded, IsWorkOf, steps_of}

@@ -1,7 +1,7 @@
 -- What a board has taken of a reply that somebody else gave.
 use Rattle.std.proofs.Common.{◌≡◌, ◌≢◌, ℕ, Result, Ok, Err, sym, ap, subst, arith}
 use Rattle.policy_book.specs.Shapes.{PolicyShape}
-use Rattle.grant_table.specs.Tables.{CasesShape}
+use Rattle.grant_table.specs.Cases.{CasesShape}
 use Rattle.wf_talk.specs.declared.request.Ask.{Ask}
 use Rattle.wf_talk.specs.declared.reply.Reply.{Reply}
 use Rattle.wf_talk.specs.declared.reply.Reply.TheVariants as reply

@@ -4,13 +4,13 @@ use Rattle.std.proofs.Common.{if◌then◌else◌, refl, sym, ap, subst, ◌∙�
 use Rattle.std.specs.Option.{option_map}
 use Rattle.std.proofs.lemmas.Bool.Decides.{nat_tests}
 use Rattle.basics.proofs.Booleans.{bool_cases, eq_is}
-use Rattle.first_fault.specs.Reading.{◌>>=◌}
+use Rattle.basics.specs.Reading.{◌>>=◌}
 use Rattle.refutation_tree.specs.declared.tree.Tree.{Tree}
 use Rattle.policy_book.specs.Shapes.{PolicyShape}
 use Rattle.case_record.specs.Cases.{CaseShape, assigned_of, is_open}
 use Rattle.grant_table.specs.declared.rows.Row.{Row}
 use Rattle.grant_table.specs.Lookup.{look_up}
-use Rattle.grant_table.specs.Tables.{CasesShape, case_in, is_open_row, replanned}
+use Rattle.grant_table.specs.Cases.{CasesShape, case_in, is_open_row, replanned}
 use Rattle.grant_table.specs.Kept.{AscendFrom}
 use Rattle.grant_table.specs.Kept as table
 use Rattle.grant_table.proofs.Replanning.{replanned_closed, replanned_none, replanned_open}
@@ -25,7 +25,7 @@ use Rattle.wf_board.specs.declared.deed.Deed.TheVariants as deed
 use Rattle.wf_board.specs.States.{Book, Numbered, numbered_case, open_cases}
 use Rattle.wf_board.specs.Boards.{EditionShape, numbered, state_on}
 use Rattle.wf_board.specs.Decisions.{cause_full, decision_aside, decision_of, unless_denied}
-use Rattle.wf_board.specs.Edited.{ArePlansOf, CanAllBeCompleted, CanBeCompleted, IsFirstStranded, IsTreeOf}
+use Rattle.wf_board.specs.Edition.{ArePlansOf, CanAllBeCompleted, CanBeCompleted, IsFirstStranded, IsTreeOf}
 use Rattle.wf_board.specs.Kept.{EachRow, IsOfPolicy, IsPlanned}
 use Rattle.wf_board.specs.Steps.{with_edited}
 use Rattle.wf_board.specs.Taking.{board_of, IsKept}

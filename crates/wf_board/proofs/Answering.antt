@@ -3,15 +3,15 @@ use Rattle.std.proofs.Common.{◌≡◌, ℕ, ◌+◌, ◌<◌, ◌≤◌, inl, 
 use Rattle.std.proofs.Common.{sym, ap, subst, ◌∙◌, arith}
 use Rattle.std.proofs.lemmas.Bool.Decides.{nat_tests}
 use Rattle.basics.proofs.Booleans.{or_false}
-use Rattle.first_fault.specs.Reading.{◌>>=◌}
-use Rattle.constraint_forms.specs.Assigned.{no_steps, no_users}
+use Rattle.basics.specs.Reading.{◌>>=◌}
+use Rattle.constraint_forms.specs.Assign.{no_steps, no_users}
 use Rattle.refutation_tree.specs.declared.tree.Tree.{Tree}
 use Rattle.policy_book.specs.Shapes.{PolicyShape}
 use Rattle.policy_book.specs.Plans.{IsValidPlan}
 use Rattle.policy_book.specs.Policies.{flow_at, problem_of}
 use Rattle.case_record.specs.Cases.{CaseShape}
 use Rattle.grant_table.specs.declared.rows.Row.{Row}
-use Rattle.grant_table.specs.Tables.{CasesShape, case_in, change_row, open_count, with_case}
+use Rattle.grant_table.specs.Cases.{CasesShape, case_in, change_row, open_count, with_case}
 use Rattle.wf_names.specs.declared.limits.TheConstants.{CASE_LIMIT, OPEN_CASE_LIMIT}
 use Rattle.denial_reasons.specs.Causes.{unless}
 use Rattle.wf_talk.specs.declared.request.Ask.{Ask}
@@ -22,7 +22,7 @@ use Rattle.wf_talk.specs.declared.reply.Denial.TheVariants.{Full, Strands}
 use Rattle.admin_edits.specs.Edits.{amended}
 use Rattle.admin_edits.specs.declared.amendment.Amendment.{Amendment}
 use Rattle.grant_table.specs.Kept.{AscendFrom, IsSoundTable}
-use Rattle.wf_board.specs.Edited.{ArePlansOf, IsFirstStranded}
+use Rattle.wf_board.specs.Edition.{ArePlansOf, IsFirstStranded}
 use Rattle.wf_board.proofs.Amended.{IsChange, change_decided, edited_keeps, edited_state, edition_change, plans_complete, stranded_case, stranding_change}
 use Rattle.wf_board.proofs.Amended.{with_plans}
 use Rattle.admin_edits.proofs.Keeping.{HoldsOf}

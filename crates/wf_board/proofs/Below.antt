@@ -1,7 +1,7 @@
 -- Numbers that are all below a limit.
 use Rattle.std.proofs.Common.{◌≡◌, ℕ, zero, suc, ◌+◌, ◌<◌, ◌≤◌, inl, inr, Bool, true, false, ◌==◌, List, [], ◌∷◌, length, if◌then◌else◌, subst, arith}
 use Rattle.basics.proofs.Booleans.{eq_back, or_cases}
-use Rattle.constraint_forms.specs.Assigned.{planned}
+use Rattle.constraint_forms.specs.Assign.{planned}
 use Rattle.policy_book.specs.Twins.{is_one_of}
 use Rattle.policy_book.specs.Refuting.{passing}
 

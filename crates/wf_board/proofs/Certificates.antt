@@ -1,7 +1,7 @@
 -- A plan or a tree that decides what is asked decides its deed.
 use Rattle.std.proofs.Common.{◌≡◌, ◌↔◌, ℕ, Bool, true, not, List, Option, None, Some, is_some, Result, Ok, Err, refl, subst}
-use Rattle.first_fault.specs.Reading.{◌>>=◌}
-use Rattle.constraint_forms.specs.Assigned.{no_steps, no_users}
+use Rattle.basics.specs.Reading.{◌>>=◌}
+use Rattle.constraint_forms.specs.Assign.{no_steps, no_users}
 use Rattle.policy_book.specs.Shapes.{PolicyShape}
 use Rattle.policy_book.specs.Policies.{problem_of}
 use Rattle.policy_book.specs.Plans.{IsWithin}

@@ -4,7 +4,7 @@ use Rattle.std.proofs.Common.{slice_get, Result, Ok, Err, if◌then◌else◌, a
 use Rattle.std.specs.Option.{option_map}
 use Rattle.std.proofs.lemmas.Bool.Decides.{nat_tests}
 use Rattle.basics.proofs.Booleans.{eq_is}
-use Rattle.constraint_forms.specs.Assigned.{no_steps, no_users}
+use Rattle.constraint_forms.specs.Assign.{no_steps, no_users}
 use Rattle.refutation_tree.specs.declared.tree.Tree.{Tree}
 use Rattle.refutation_tree.specs.Views.{shape_of}
 use Rattle.policy_book.specs.Shapes.{PolicyShape}
@@ -28,8 +28,8 @@ use Rattle.admin_edits.proofs.Keeping.{HoldsOf, changes_keep_policies_sound}
 use Rattle.wf_board.specs.declared.deed.Deed.{Deed}
 use Rattle.wf_board.specs.declared.deed.Deed.TheVariants as deed
 use Rattle.wf_board.specs.States.{Numbered, State, numbered_case, open_cases, opening_state}
-use Rattle.wf_board.specs.Edited.{CanBeCompleted, IsFirstStranded}
-use Rattle.wf_board.specs.Resolved.{on_edit}
+use Rattle.wf_board.specs.Edition.{CanBeCompleted, IsFirstStranded}
+use Rattle.wf_board.specs.Resolve.{on_edit}
 use Rattle.wf_board.specs.Decisions.{decision_of}
 use Rattle.wf_board.specs.Steps.{Answers, IsReplyTo, IsStep, with_edited}
 use Rattle.wf_board.specs.Histories.{EachAfter, IsLegal, IsRetry, IsRightAfter, state_after}

@@ -2,7 +2,7 @@
 use Rattle.std.proofs.Common.{◌≡◌, ℕ, true, List, map, Ok, inr}
 use Rattle.policy_book.specs.Shapes.{PolicyShape}
 use Rattle.grant_table.specs.declared.rows.Row.{Row}
-use Rattle.grant_table.specs.Tables.{open_rows}
+use Rattle.grant_table.specs.Cases.{open_rows}
 use Rattle.wf_board.specs.declared.deed.Deed.{Deed}
 use Rattle.wf_board.specs.declared.deed.Deed.TheVariants as deed
 use Rattle.wf_board.specs.declared.verdict.Verdict.{Verdict}

@@ -24,7 +24,7 @@ use Rattle.wf_board.specs.States.{Numbered, State, open_cases}
 use Rattle.wf_board.specs.Steps.{Answers, IsReplyTo}
 use Rattle.wf_board.specs.Kept.{IsSoundState}
 use Rattle.wf_board.specs.Laws.{ClaimsAreExact, EditsAreExact}
-use Rattle.wf_board.specs.Edited.{CanAllBeCompleted, IsFirstStranded}
+use Rattle.wf_board.specs.Edition.{CanAllBeCompleted, IsFirstStranded}
 use Rattle.admin_edits.specs.declared.amendment.Amendment.{Amendment}
 use Rattle.admin_edits.specs.Edits.{amended}
 use Rattle.admin_edits.proofs.Keeping.{HoldsOf, changes_keep_policies_sound}

@@ -4,7 +4,7 @@ use Rattle.wf_names.specs.States.{is_done}
 use Rattle.refutation_tree.specs.declared.tree.Tree.{Tree}
 use Rattle.refutation_tree.specs.declared.tree.Tree.TheVariants as tree
 use Rattle.refutation_tree.specs.Views.{shape_of}
-use Rattle.constraint_forms.specs.Assigned.{no_steps, no_users}
+use Rattle.constraint_forms.specs.Assign.{no_steps, no_users}
 use Rattle.policy_book.specs.Shapes.{PolicyShape}
 use Rattle.policy_book.specs.Facts.{IsSoundPolicy}
 use Rattle.policy_book.specs.Policies.{problem_of}
@@ -24,7 +24,7 @@ use Rattle.wf_board.specs.declared.deed.Deed.TheVariants as deed
 use Rattle.wf_board.specs.States.{Numbered, State, open_cases}
 use Rattle.wf_board.specs.Decisions.{decision_of}
 use Rattle.wf_board.specs.Views.{steps_of}
-use Rattle.wf_board.specs.Edited.{CanBeCompleted, IsFirstStranded, IsTreeOf}
+use Rattle.wf_board.specs.Edition.{CanBeCompleted, IsFirstStranded, IsTreeOf}
 use Rattle.wf_board.specs.Steps.{Answers, IsReplyTo, face_of, state_after_decision}
 use Rattle.wf_board.specs.Kept.{IsSoundState}
 use Rattle.wf_board.specs.Laws.{OutcomeIsFixed, bare}

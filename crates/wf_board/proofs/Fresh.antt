@@ -3,7 +3,7 @@ use Rattle.std.proofs.Common.{◌≡◌, ℕ, ◌+◌, ◌⊎◌, inl, inr, Bool
 use Rattle.std.proofs.Common.{Err, if◌then◌else◌, refl, sym, ap, subst, ◌∙◌, arith}
 use Rattle.std.specs.Option.{option_map}
 use Rattle.std.proofs.lemmas.List.{take-append-drop}
-use Rattle.first_fault.specs.Reading.{or_fault, check}
+use Rattle.basics.specs.Reading.{or_fault, check}
 use Rattle.basics.proofs.Booleans.{eq_back, eq_is, or_false}
 use Rattle.case_record.specs.Cases.{CaseShape}
 use Rattle.grant_table.specs.Lookup.{look_up}
@@ -22,7 +22,7 @@ use Rattle.wf_board.specs.States.{Book, Numbered, State, numbered_case, flow_nam
 use Rattle.admin_edits.specs.Edits.{amendment_of, is_admin}
 use Rattle.admin_edits.specs.declared.amendment.Amendment.{Amendment}
 use Rattle.admin_edits.specs.declared.fault.EditCause.{EditCause}
-use Rattle.wf_board.specs.Resolved.{on_edit, on_step, open_case_at, resolve}
+use Rattle.wf_board.specs.Resolve.{on_edit, on_step, open_case_at, resolve}
 use Rattle.wf_board.specs.Decisions.{cause_aside, cause_full, decision_aside, decision_of}
 use Rattle.wf_board.specs.Steps.{Answers, IsReplyTo, IsStep, state_after_decision, state_after_deed, state_after_step}
 use Rattle.wf_board.specs.Counting.{IsFresh, case_of_ask, changed_case, changes_any, counted, counts_for, is_edited, is_number}

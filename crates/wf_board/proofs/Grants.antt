@@ -6,15 +6,15 @@ use Rattle.std.specs.List.{list_any}
 use Rattle.std.proofs.lemmas.Bool.{false≢true}
 use Rattle.std.proofs.lemmas.Bool.Decides.{nat_tests}
 use Rattle.basics.proofs.Booleans.{and_both, and_from}
-use Rattle.first_fault.specs.Reading.{◌>>=◌}
+use Rattle.basics.specs.Reading.{◌>>=◌}
 use Rattle.wf_names.specs.States.{user_of}
 use Rattle.wf_names.specs.declared.states.StepState.{StepState}
 use Rattle.wf_names.specs.declared.states.StepState.TheVariants.{Free, Held, Finished}
 use Rattle.constraint_forms.specs.declared.rule.Rule.{Rule}
-use Rattle.constraint_forms.specs.Assigned.{user_at}
+use Rattle.constraint_forms.specs.Assign.{user_at}
 use Rattle.constraint_forms.specs.Rules.{Relating, is_falsified, names}
 use Rattle.constraint_forms.proofs.RuleLaws.{falsified_by_named}
-use Rattle.refutation_tree.specs.Shapes.{rule}
+use Rattle.refutation_tree.specs.Tree.{rule}
 use Rattle.policy_book.specs.Shapes.{PolicyShape}
 use Rattle.policy_book.specs.Facts.{IsSoundPolicy}
 use Rattle.policy_book.specs.Policies.{flow_at, is_authorised, problem_of}
@@ -23,7 +23,7 @@ use Rattle.policy_book.specs.Refuting.{is_broken}
 use Rattle.certificate_check.proofs.Assigned.{given_other}
 use Rattle.certificate_check.proofs.Refuted.{refutes_soundly}
 use Rattle.case_record.specs.Cases.{CaseShape, assigned_of, finished_of, state_at}
-use Rattle.case_record.specs.Ready.{first_missing, is_free, is_ready}
+use Rattle.case_record.specs.Order.{first_missing, is_free, is_ready}
 use Rattle.wf_talk.specs.declared.request.Request.TheVariants as request
 use Rattle.wf_talk.specs.declared.request.Ask.TheVariants as ask
 use Rattle.wf_talk.specs.declared.reply.Reply.{Reply}
@@ -36,7 +36,7 @@ use Rattle.wf_board.specs.States.{Book, State}
 use Rattle.wf_board.specs.Decisions.{cause_full, decision_of, unless_denied}
 use Rattle.wf_board.specs.Steps.{Answers}
 use Rattle.wf_board.specs.Grants.{AreNamed, MayBeGranted}
-use Rattle.wf_board.specs.Edited.{CanBeCompleted}
+use Rattle.wf_board.specs.Edition.{CanBeCompleted}
 use Rattle.wf_board.specs.Laws.{GrantsAreExact}
 use Rattle.wf_board.proofs.Told.{place_within, unless_tells}
 use Rattle.wf_board.proofs.Exact.{claimed_assigned, claims_are_exact, finished_assigned, well_formed}

@@ -5,7 +5,7 @@ use Rattle.std.specs.Option.{option_map}
 use Rattle.wf_names.specs.States.{is_held}
 use Rattle.wf_names.specs.declared.states.StepState.TheVariants.{Free, Held}
 use Rattle.wf_names.specs.declared.states.Phase.TheVariants.{Withdrawn}
-use Rattle.constraint_forms.specs.Assigned.{no_steps, no_users}
+use Rattle.constraint_forms.specs.Assign.{no_steps, no_users}
 use Rattle.policy_book.specs.Shapes.{PolicyShape}
 use Rattle.policy_book.specs.Facts.{IsSoundPolicy}
 use Rattle.policy_book.specs.Policies.{flow_at, problem_of}
@@ -22,7 +22,7 @@ use Rattle.wf_board.specs.declared.deed.Deed.TheVariants as deed
 use Rattle.admin_edits.specs.declared.amendment.Amendment.{Amendment}
 use Rattle.admin_edits.specs.Edits.{amended}
 use Rattle.admin_edits.proofs.Keeping.{HoldsOf, changes_keep_policies_sound}
-use Rattle.wf_board.specs.Edited.{CanAllBeCompleted}
+use Rattle.wf_board.specs.Edition.{CanAllBeCompleted}
 use Rattle.wf_board.specs.States.{Numbered, State, numbered_case, open_cases, opening_state, with_case_changed}
 use Rattle.wf_board.specs.Decisions.{decision_of}
 use Rattle.wf_board.specs.Steps.{Answers, IsReplyTo, IsStep, state_after_decision, state_after_deed, state_after_step, with_changed, with_edited, with_opened}

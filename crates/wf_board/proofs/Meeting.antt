@@ -12,10 +12,10 @@ use Rattle.pair_set.specs.Pairs.{Pairs, pair_cmp}
 use Rattle.pair_set.specs.PairLaws.{pair_cmp_total, pair_cmp-IsAntisymmetric}
 use Rattle.user_relations.specs.Relations.{RelationKind, RelationShape, change_kind, complement, is_related, kind_holds, kind_of, listed, listed_pairs}
 use Rattle.user_relations.specs.Relations.{pairs_of, with_kind}
-use Rattle.user_relations.specs.Faults.{put_fault, take_fault}
+use Rattle.user_relations.specs.Kinds.{put_fault, take_fault}
 use Rattle.constraint_forms.specs.declared.rule.Rule.{Rule}
 use Rattle.constraint_forms.specs.declared.rule.Rule.TheVariants.{Pair, SomeOf, AllOf, SomeTo, AllTo, AtMost, AtLeast}
-use Rattle.constraint_forms.specs.Assigned.{is_member, planned}
+use Rattle.constraint_forms.specs.Assign.{is_member, planned}
 use Rattle.constraint_forms.specs.Rules.{Relating, IsRuleOf, all_from, any_from, is_satisfied}
 use Rattle.policy_book.specs.Policies.{any_below}
 use Rattle.policy_book.proofs.Counting.{any_below-at}

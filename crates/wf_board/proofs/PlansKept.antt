@@ -4,7 +4,7 @@ use Rattle.std.proofs.Common.{subst, ◌∙◌}
 use Rattle.basics.proofs.Booleans.{bool_cases}
 use Rattle.policy_book.specs.Shapes.{PolicyShape}
 use Rattle.grant_table.specs.declared.rows.Row.{Row}
-use Rattle.grant_table.specs.Tables.{CasesShape, is_open_row, open_rows, replanned, replanned_row}
+use Rattle.grant_table.specs.Cases.{CasesShape, is_open_row, open_rows, replanned, replanned_row}
 use Rattle.grant_table.proofs.Replanning.{replanned_closed, replanned_none, replanned_open}
 use Rattle.wf_talk.specs.declared.request.Ask.{Ask}
 use Rattle.wf_talk.specs.declared.reply.Reply.{Reply}
@@ -19,7 +19,7 @@ use Rattle.wf_board.specs.declared.verdict.Answered.TheVariants.{Done, Needs}
 use Rattle.wf_board.specs.States.{open_cases}
 use Rattle.wf_board.specs.Boards.{BoardShape, EditionShape, book_of, numbered}
 use Rattle.wf_board.specs.Decisions.{decision_aside, decision_of}
-use Rattle.wf_board.specs.Edited.{ArePlansOf}
+use Rattle.wf_board.specs.Edition.{ArePlansOf}
 use Rattle.wf_board.specs.KeptPlans.{KeepsPlans, KeepsPlansBy, kept_plans, rows_after}
 use Rattle.wf_board.specs.Taking.{HasRowsAfter, board_of}
 use Rattle.wf_board.specs.Verdicts.{IsEditionFor}

@@ -6,8 +6,8 @@ use Rattle.std.specs.Option.{option_map}
 use Rattle.case_record.specs.Cases.{CaseShape, is_open}
 use Rattle.grant_table.specs.declared.rows.Row.{Row}
 use Rattle.grant_table.specs.Lookup.{look_up}
-use Rattle.grant_table.specs.Tables.{case_in, change_row, only, open_rows, row_at}
-use Rattle.grant_table.specs.Tables as Tables
+use Rattle.grant_table.specs.Cases.{case_in, change_row, only, open_rows, row_at}
+use Rattle.grant_table.specs.Cases as Tables
 use Rattle.basics.proofs.Booleans.{eq_is}
 use Rattle.wf_board.specs.States.{Numbered, numbered_case, with_case_changed}
 use Rattle.wf_board.specs.States as States

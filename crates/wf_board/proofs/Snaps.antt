@@ -2,12 +2,12 @@
 use Rattle.std.proofs.Common.{◌≡◌, ℕ, ◌⊎◌, inl, inr, Bool, true, false, nat_eq, List, [], ◌∷◌, map, Option, None, Some, Result, Ok, Err, if◌then◌else◌, refl}
 use Rattle.std.proofs.Common.{sym, ap, subst, ◌∙◌}
 use Rattle.std.specs.Option.{option_map}
-use Rattle.first_fault.specs.Reading.{◌>>=◌, or_fault, check}
+use Rattle.basics.specs.Reading.{◌>>=◌, or_fault, check}
 use Rattle.policy_book.specs.Shapes.{PolicyShape}
 use Rattle.case_record.specs.Cases.{CaseShape, is_open}
 use Rattle.grant_table.specs.declared.rows.Row.{Row}
 use Rattle.grant_table.specs.Lookup.{look_up}
-use Rattle.grant_table.specs.Tables.{only, open_rows}
+use Rattle.grant_table.specs.Cases.{only, open_rows}
 use Rattle.refutation_tree.specs.declared.tree.Tree.{Tree}
 use Rattle.wf_talk.specs.declared.request.Request.TheVariants as request
 use Rattle.wf_talk.specs.declared.edit.Edit.{Edit}
@@ -24,8 +24,8 @@ use Rattle.wf_board.specs.declared.verdict.View.TheVariants as view
 use Rattle.wf_board.specs.Views.{AreStranded, AreThose, IsGrantable, item_of, steps_of}
 use Rattle.wf_board.specs.States.{Book, Numbered, numbered_case, flow_named, open_cases, step_named, user_named}
 use Rattle.admin_edits.specs.Edits.{is_admin}
-use Rattle.wf_board.specs.Resolved.{on_step, open_case_at, resolve, resolve_request}
-use Rattle.wf_board.specs.Edited.{ArePlansOf, IsFirstStranded}
+use Rattle.wf_board.specs.Resolve.{on_step, open_case_at, resolve, resolve_request}
+use Rattle.wf_board.specs.Edition.{ArePlansOf, IsFirstStranded}
 use Rattle.admin_edits.specs.Edits.{amended}
 use Rattle.wf_board.specs.Decisions.{cause_aside, cause_full, decision_aside, decision_of, needs_plan, needs_verdict, unless_denied}
 use Rattle.wf_board.specs.Boards.{BoardShape, EditionShape, book_on, numbered, state_on}

@@ -3,7 +3,7 @@ use Rattle.std.proofs.Common.{◌≡◌, ℕ, ◌<◌, Bool, true, false, List, 
 use Rattle.std.specs.Prelude.{nat_eq}
 use Rattle.std.specs.Cmp.Lexicographic.{pointwise}
 use Rattle.std.proofs.lemmas.List.Quantifiers.{position-Some}
-use Rattle.first_fault.specs.Reading.{◌>>=◌, or_fault, check}
+use Rattle.basics.specs.Reading.{◌>>=◌, or_fault, check}
 use Rattle.wf_names.specs.States.{is_held, user_of}
 use Rattle.wf_names.specs.Table.{place_of}
 use Rattle.wf_names.specs.declared.states.StepState.{StepState}
@@ -24,7 +24,7 @@ use Rattle.denial_reasons.specs.Causes.{first_cause, first_of, unless}
 use Rattle.wf_board.specs.declared.deed.Deed.{Deed}
 use Rattle.wf_board.specs.declared.deed.Deed.TheVariants as deed
 use Rattle.wf_board.specs.States.{Book, numbered_case, flow_named, step_named, user_named}
-use Rattle.wf_board.specs.Resolved.{on_edit, on_step, open_case_at, resolve}
+use Rattle.wf_board.specs.Resolve.{on_edit, on_step, open_case_at, resolve}
 use Rattle.wf_board.specs.Found as found
 use Rattle.wf_board.specs.Decisions.{cause_aside, cause_full, decision_aside, decision_of, is_held_by, unless_denied}
 use Rattle.admin_edits.proofs.Keeping.{amendment_found}

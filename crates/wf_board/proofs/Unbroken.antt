@@ -11,7 +11,7 @@ use Rattle.wf_names.specs.States.{is_finished}
 use Rattle.rbac_state.specs.Rosters.{has_role}
 use Rattle.user_relations.specs.Relations.{RelationKind, complement_of, is_related, kind_of, listed, listed_pairs, pairs_of, with_kind}
 use Rattle.constraint_forms.specs.declared.rule.Rule.{Rule}
-use Rattle.constraint_forms.specs.Assigned.{is_member, planned}
+use Rattle.constraint_forms.specs.Assign.{is_member, planned}
 use Rattle.constraint_forms.specs.Rules.{is_satisfied, reads, IsRuleOf}
 use Rattle.constraint_forms.proofs.Reading.{none_read}
 use Rattle.policy_book.specs.Shapes.{PolicyShape, WorkflowShape}
@@ -23,7 +23,7 @@ use Rattle.pair_set.specs.Pairs.{Pairs}
 use Rattle.case_record.specs.Cases.{CaseShape, assigned_of, finished_of, state_at}
 use Rattle.case_record.proofs.Laws.{finished_of-at}
 use Rattle.grant_table.specs.declared.rows.Row.{Row}
-use Rattle.grant_table.specs.Tables.{open_count}
+use Rattle.grant_table.specs.Cases.{open_count}
 use Rattle.grant_table.specs.Kept.{ArePlannedWhileOpen, IsOpenPart}
 use Rattle.grant_table.proofs.Passed.{closed_first, closed_rest}
 use Rattle.admin_edits.specs.declared.amendment.Amendment.{Amendment}
@@ -35,7 +35,7 @@ use Rattle.admin_edits.proofs.Keeping.{changes_keep_names}
 use Rattle.admin_edits.proofs.Unhurt.{flow_there, more_below, not_taken, others_keep, problem_with, related_other, satisfied_same, stays}
 use Rattle.admin_edits.proofs.Unhurt.{unhurt_plans_stay_valid}
 use Rattle.wf_board.specs.Breaking.{breaks, breaks_rule, gives, is_barred, is_broken, loses_step, HasPlanFor, NamesStep}
-use Rattle.wf_board.specs.Edited.{IsPlanOf}
+use Rattle.wf_board.specs.Edition.{IsPlanOf}
 use Rattle.wf_board.specs.Found.{IsAllowed}
 use Rattle.wf_board.specs.Kept.{ArePlanned, EachRow, IsOfPolicy, IsPlanned}
 use Rattle.wf_board.proofs.Amended.{closed_planned}

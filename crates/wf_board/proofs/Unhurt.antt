@@ -3,7 +3,7 @@ use Rattle.std.proofs.Common.{◌≡◌, ℕ, ◌+◌, Bool, true, false, List, 
 use Rattle.policy_book.specs.Shapes.{PolicyShape}
 use Rattle.case_record.specs.Cases.{CaseShape, assigned_of, finished_of, is_open}
 use Rattle.grant_table.specs.declared.rows.Row.{Row}
-use Rattle.grant_table.specs.Tables.{CasesShape}
+use Rattle.grant_table.specs.Cases.{CasesShape}
 use Rattle.wf_talk.specs.declared.request.Ask.{Ask}
 use Rattle.wf_talk.specs.declared.reply.Reply.TheVariants as reply
 use Rattle.admin_edits.specs.declared.amendment.Amendment.{Amendment}
@@ -17,7 +17,7 @@ use Rattle.wf_board.specs.declared.verdict.Verdict.TheVariants as verdict
 use Rattle.wf_board.specs.declared.verdict.Answered.TheVariants.{Done}
 use Rattle.wf_board.specs.States.{open_cases}
 use Rattle.wf_board.specs.Boards.{book_of, numbered, state_on}
-use Rattle.wf_board.specs.Edited.{CanAllBeCompleted}
+use Rattle.wf_board.specs.Edition.{CanAllBeCompleted}
 use Rattle.wf_board.specs.Kept.{ArePlanned, EachRow, IsOfPolicy, IsPlanned}
 use Rattle.wf_board.specs.Steps.{Answers, state_after_decision}
 use Rattle.wf_board.specs.Deeds.{IsUndecided, is_harmless}

@@ -2,7 +2,7 @@
 use Rattle.std.proofs.Common.{◌≡◌, ℕ, zero, suc, ◌<◌, Bool, true, false, List, [], ◌∷◌, length, Option, None, Some, slice_set, sym, ap, subst, ◌∙◌}
 use Rattle.wf_names.specs.declared.states.StepState.TheVariants.{Free, Held}
 use Rattle.wf_names.specs.States.{is_held, user_of}
-use Rattle.constraint_forms.specs.Assigned.{is_member, no_steps, no_users, user_at}
+use Rattle.constraint_forms.specs.Assign.{is_member, no_steps, no_users, user_at}
 use Rattle.constraint_forms.proofs.Members.{none_member}
 use Rattle.policy_book.specs.Plans.{IsValidPlan, Problem}
 use Rattle.case_record.specs.Cases.{CaseShape, assigned_of, finished_case, finished_of, fresh_case, state_at, with_state}

@@ -1,7 +1,7 @@
 -- Inside: how a board takes a reply over its policy and its table of cases.
 use Rattle.std.specs.Prelude.{◌≡◌, ℕ, ◌+◌, ◌≤◌, Bool, false, true, Result, Ok, Err}
 use Rattle.policy_book.specs.Shapes.{PolicyShape}
-use Rattle.grant_table.specs.Tables.{CasesShape}
+use Rattle.grant_table.specs.Cases.{CasesShape}
 use Rattle.wf_talk.specs.declared.request.Ask.{Ask}
 use Rattle.wf_talk.specs.declared.reply.Reply.{Reply}
 use Rattle.wf_talk.specs.declared.reply.Denial.{Denial}
@@ -12,7 +12,7 @@ use Rattle.wf_board.specs.declared.deed.Deed.{Deed}
 use Rattle.wf_board.specs.declared.deed.Deed.TheVariants as deed
 use Rattle.wf_board.specs.declared.verdict.Verdict.{Verdict}
 use Rattle.wf_board.specs.declared.verdict.Verdict.TheVariants as verdict
-use Rattle.wf_board.specs.Admitting.{MayLackMemoryFor}
+use Rattle.wf_board.specs.Admit.{MayLackMemoryFor}
 use Rattle.wf_board.specs.States.{Book}
 use Rattle.wf_board.specs.Boards.{BoardShape, state_on}
 use Rattle.wf_board.specs.Decisions.{decision_of}

@@ -2,7 +2,7 @@
 use Rattle.std.specs.Prelude.{ℕ, List, map}
 use Rattle.policy_book.specs.Shapes.{PolicyShape}
 use Rattle.grant_table.specs.declared.rows.Row.{Row}
-use Rattle.grant_table.specs.Tables.{CasesShape}
+use Rattle.grant_table.specs.Cases.{CasesShape}
 use Rattle.wf_board.specs.States.{Book, Numbered, State}
 
 -- the policy, the table of cases, and how many edits were accepted

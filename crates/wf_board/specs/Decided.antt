@@ -2,7 +2,7 @@
 use Rattle.std.specs.Prelude.{◌≡◌, ◌↔◌, ℕ, ◌<◌, Bool, true, List, Option, Some, Result, Ok, Err}
 use Rattle.std.specs.Prelude.{IsTrue, slice_get, take}
 use Rattle.std.proofs.Common.{◌⊎◌}
-use Rattle.constraint_forms.specs.Assigned.{no_steps, no_users}
+use Rattle.constraint_forms.specs.Assign.{no_steps, no_users}
 use Rattle.refutation_tree.specs.declared.tree.Tree.{Tree}
 use Rattle.refutation_tree.specs.Views.{shape_of}
 use Rattle.policy_book.specs.Shapes.{PolicyShape}
@@ -25,7 +25,7 @@ use Rattle.admin_edits.specs.Edits.{amendment_of}
 use Rattle.wf_board.specs.declared.deed.Deed.{Deed}
 use Rattle.wf_board.specs.declared.deed.Deed.TheVariants as deed
 use Rattle.wf_board.specs.States.{Numbered, State, numbered_case, opening_state}
-use Rattle.wf_board.specs.Edited.{CanBeCompleted}
+use Rattle.wf_board.specs.Edition.{CanBeCompleted}
 use Rattle.wf_board.specs.Decisions.{decision_of}
 use Rattle.wf_board.specs.Steps.{with_edited}
 use Rattle.wf_board.specs.Histories.{state_after}

@@ -1,6 +1,6 @@
 -- Why a request is denied, before the last decision: whether its case can be completed.
 use Rattle.std.specs.Prelude.{◌==◌, ℕ, Bool, true, false, not, Option, None, Some, Result, Ok, Err}
-use Rattle.first_fault.specs.Reading.{◌>>=◌}
+use Rattle.basics.specs.Reading.{◌>>=◌}
 use Rattle.wf_names.specs.States.{is_held}
 use Rattle.wf_names.specs.declared.states.StepState.{StepState}
 use Rattle.wf_names.specs.declared.states.StepState.TheVariants.{Free, Held, Finished}
@@ -16,7 +16,7 @@ use Rattle.denial_reasons.specs.Causes.{first_cause, unless}
 use Rattle.wf_board.specs.declared.deed.Deed.{Deed}
 use Rattle.wf_board.specs.declared.deed.Deed.TheVariants as deed
 use Rattle.wf_board.specs.States.{Book, is_full}
-use Rattle.wf_board.specs.Resolved.{resolve}
+use Rattle.wf_board.specs.Resolve.{resolve}
 
 -- a user holds a step that stands so
 abbrev pub is_held_by : ℕ → StepState → Bool

@@ -13,7 +13,7 @@ use Rattle.wf_board.specs.declared.verdict.Answered.TheVariants as answered
 use Rattle.wf_board.specs.declared.verdict.Stepped.{Stepped}
 use Rattle.wf_board.specs.declared.verdict.Stepped.TheVariants.{Done, Undecided}
 use Rattle.policy_book.specs.Shapes.{PolicyShape}
-use Rattle.grant_table.specs.Tables.{CasesShape}
+use Rattle.grant_table.specs.Cases.{CasesShape}
 use Rattle.wf_board.specs.States.{Book}
 use Rattle.wf_board.specs.Boards.{BoardShape, book_of, state_on}
 use Rattle.wf_board.specs.Decisions.{decision_aside, decision_of, needs_plan, needs_verdict}

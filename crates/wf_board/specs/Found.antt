@@ -3,7 +3,7 @@ use Rattle.std.specs.Prelude.{◌≡◌, ℕ, ◌<◌, true, List, length, Some,
 use Rattle.policy_book.specs.Shapes.{PolicyShape}
 use Rattle.case_record.specs.Cases.{CaseShape, is_open}
 use Rattle.grant_table.specs.declared.rows.Row.{Row}
-use Rattle.grant_table.specs.Tables.{case_in}
+use Rattle.grant_table.specs.Cases.{case_in}
 use Rattle.admin_edits.specs.declared.amendment.Amendment.{Amendment}
 use Rattle.admin_edits.specs.Edits.{allowed}
 use Rattle.admin_edits.specs.Found as edits

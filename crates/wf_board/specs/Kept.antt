@@ -7,7 +7,7 @@ use Rattle.policy_book.specs.Policies.{flow_at, problem_of}
 use Rattle.policy_book.specs.Plans.{IsCompletable, IsValidPlan, IsWithin}
 use Rattle.case_record.specs.Cases.{CaseShape, assigned_of, finished_of, is_open}
 use Rattle.grant_table.specs.declared.rows.Row.{Row}
-use Rattle.grant_table.specs.Tables.{case_in}
+use Rattle.grant_table.specs.Cases.{case_in}
 use Rattle.wf_board.specs.States.{Numbered, State, numbered_case}
 
 -- a case is of a workflow of the policy, has its steps, and gives them to users of the policy

@@ -3,8 +3,8 @@ use Rattle.std.specs.Prelude.{◌≡◌, ℕ, false, true, List, length, map, Op
 use Rattle.policy_book.specs.Shapes.{PolicyShape}
 use Rattle.policy_book.specs.Policies.{flow_at}
 use Rattle.grant_table.specs.declared.rows.Row.{Row}
-use Rattle.grant_table.specs.Tables.{CasesShape, change_row, finished_row, freed_row, held_row}
-use Rattle.grant_table.specs.Tables.{open_rows, with_case, withdrawn_row}
+use Rattle.grant_table.specs.Cases.{CasesShape, change_row, finished_row, freed_row, held_row}
+use Rattle.grant_table.specs.Cases.{open_rows, with_case, withdrawn_row}
 use Rattle.wf_talk.specs.declared.request.Ask.{Ask}
 use Rattle.wf_talk.specs.declared.reply.Reply.{Reply}
 use Rattle.wf_talk.specs.declared.reply.Reply.TheVariants as reply

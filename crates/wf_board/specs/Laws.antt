@@ -6,7 +6,7 @@ use Rattle.policy_book.specs.Policies.{flow_at, is_authorised, problem_of}
 use Rattle.policy_book.specs.Plans.{IsCompletable, IsValidPlan}
 use Rattle.case_record.specs.Cases.{CaseShape, assigned_of, finished_case, finished_of, is_open}
 use Rattle.case_record.specs.Cases.{state_at, with_state}
-use Rattle.case_record.specs.Ready.{is_ready}
+use Rattle.case_record.specs.Order.{is_ready}
 use Rattle.wf_names.specs.declared.states.StepState.TheVariants.{Free, Held}
 use Rattle.denial_reasons.specs.Causes.{assigned_with}
 use Rattle.wf_talk.specs.declared.entry.Entry.{Entry}
@@ -23,7 +23,7 @@ use Rattle.admin_edits.specs.declared.amendment.Amendment.{Amendment}
 use Rattle.admin_edits.specs.Edits.{amended}
 use Rattle.wf_board.specs.States.{Book, State, numbered_case, open_cases, opening_state, step_named}
 use Rattle.wf_board.specs.States.{user_named}
-use Rattle.wf_board.specs.Edited.{CanAllBeCompleted}
+use Rattle.wf_board.specs.Edition.{CanAllBeCompleted}
 use Rattle.wf_board.specs.Decisions.{decision_of}
 use Rattle.wf_board.specs.Steps.{IsStep, state_after_step}
 use Rattle.wf_board.specs.Histories.{IsLegal, state_after}

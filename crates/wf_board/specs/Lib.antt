@@ -1,7 +1,7 @@
 pub mod States
-pub mod Edited
+pub mod Edition
 pub mod Views
-pub mod Resolved
+pub mod Resolve
 pub mod Decisions
 pub mod Refusals
 pub mod Steps
@@ -15,7 +15,7 @@ pub mod Trees
 pub mod Verdicts
 pub mod Deeds
 pub mod Breaking
-pub mod Admitting
+pub mod Admit
 pub mod Grants
 pub mod Decided
 pub mod Laws

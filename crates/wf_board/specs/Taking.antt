@@ -1,14 +1,14 @@
 -- Inside: how a board answers over its policy and its table of cases.
 use Rattle.std.specs.Prelude.{◌≡◌, ◌≢◌, ℕ, ◌+◌, ◌≤◌, Bool, false, true, List, Option, Result, Ok}
 use Rattle.std.specs.Prelude.{IsTrue}
-use Rattle.first_fault.specs.Reading.{◌>>=◌}
+use Rattle.basics.specs.Reading.{◌>>=◌}
 use Rattle.refutation_tree.specs.Views.{shape_of}
 use Rattle.policy_book.specs.Shapes.{PolicyShape}
 use Rattle.policy_book.specs.Plans.{IsValidPlan, Problem}
 use Rattle.policy_book.specs.Refuting.{refutes}
 use Rattle.case_record.specs.Cases.{CaseShape}
 use Rattle.grant_table.specs.declared.rows.Row.{Row}
-use Rattle.grant_table.specs.Tables.{CasesShape, change_row}
+use Rattle.grant_table.specs.Cases.{CasesShape, change_row}
 use Rattle.wf_talk.specs.declared.request.Ask.{Ask}
 use Rattle.wf_talk.specs.declared.reply.Reply.{Reply}
 use Rattle.wf_talk.specs.declared.reply.Reply.TheVariants as reply

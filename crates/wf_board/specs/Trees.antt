@@ -1,6 +1,6 @@
 -- Trees that are too large for an entry.
 use Rattle.std.specs.Prelude.{Bool, false, nat_lt}
-use Rattle.refutation_tree.specs.Shapes.{nodes_of}
+use Rattle.refutation_tree.specs.Tree.{nodes_of}
 use Rattle.refutation_tree.specs.Views.{shape_of}
 use Rattle.refutation_tree.specs.declared.tree.Tree.{Tree}
 use Rattle.wf_talk.specs.declared.reply.Reply.{Reply}

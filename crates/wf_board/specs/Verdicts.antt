@@ -1,14 +1,14 @@
 -- Verdicts on whether a case can be completed.
 use Rattle.std.specs.Prelude.{◌≡◌, ◌≢◌, ℕ, Bool, false, true, List, [], Result, Ok, IsTrue}
 use Rattle.std.proofs.Common.{◌⊎◌}
-use Rattle.constraint_forms.specs.Assigned.{no_users, no_steps}
+use Rattle.constraint_forms.specs.Assign.{no_users, no_steps}
 use Rattle.refutation_tree.specs.Views.{shape_of}
 use Rattle.policy_book.specs.Policies.{problem_of}
 use Rattle.policy_book.specs.Plans.{IsValidPlan}
 use Rattle.policy_book.specs.Refuting.{refutes}
 use Rattle.case_record.specs.Cases.{finished_of}
 use Rattle.grant_table.specs.declared.rows.Row.{Row}
-use Rattle.grant_table.specs.Tables.{only, open_rows}
+use Rattle.grant_table.specs.Cases.{only, open_rows}
 use Rattle.wf_talk.specs.declared.request.Request.TheVariants as request
 use Rattle.wf_talk.specs.declared.request.Ask.{Ask}
 use Rattle.wf_talk.specs.declared.request.Ask.TheVariants as ask
@@ -29,7 +29,7 @@ use Rattle.wf_board.specs.declared.verdict.Answered.{Answered}
 use Rattle.wf_board.specs.declared.verdict.Answered.TheVariants.{Done, Needs}
 use Rattle.wf_board.specs.States.{Book, open_cases}
 use Rattle.wf_board.specs.Boards.{BoardShape, EditionShape, SnapShape, state_on}
-use Rattle.wf_board.specs.Edited.{ArePlansOf, IsFirstStranded}
+use Rattle.wf_board.specs.Edition.{ArePlansOf, IsFirstStranded}
 use Rattle.wf_board.specs.Views.{AreStranded, IsWorkOf}
 use Rattle.wf_board.specs.Decisions.{decision_aside, decision_of, needs_verdict, takes_memory}
 use Rattle.wf_board.specs.Steps.{IsStep, room_taken, state_after_step}

@@ -9,7 +9,7 @@ use Rattle.case_record.specs.Cases.{CaseShape, finished_of}
 use Rattle.wf_talk.specs.declared.reply.WorkItem.{WorkItem}
 use Rattle.denial_reasons.specs.Causes.{assigned_with, first_cause}
 use Rattle.wf_board.specs.States.{Book, Numbered, open_cases}
-use Rattle.wf_board.specs.Edited.{CanBeCompleted}
+use Rattle.wf_board.specs.Edition.{CanBeCompleted}
 
 -- a list names those of some values that have the one property, in their order; all others have the
 -- other property

@@ -5,7 +5,7 @@ ghost use Rattle.case_record.specs.Cases.{finished_case, state_at, CaseShape};
 ghost use Rattle.wf_talk.specs.declared.reply.Reply.TheVariants as replies;
 ghost use Rattle.wf_board.specs.declared.deed.Deed.TheVariants as deeds;
 ghost use Rattle.wf_board.specs.Admission.{when, HasAdmitted, IsVerdictFor};
-ghost use Rattle.wf_board.specs.Admitting.{HasVerdict};
+ghost use Rattle.wf_board.specs.Admit.{HasVerdict};
 ghost use Rattle.wf_board.specs.Boards.{book_of, state_on};
 ghost use Rattle.wf_board.specs.Decisions.{cause_aside, decision_of};
 ghost use Rattle.wf_board.specs.Found.{IsFound, IsOpenAt};

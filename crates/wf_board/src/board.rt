@@ -3,7 +3,7 @@ ghost use Rattle.std.specs.Prelude.{◌≡◌, ◌≢◌, ◌<◌, ◌≤◌, �
 ghost use Rattle.std.specs.Prelude.{IsErrOf, Ok, OnErr, OnOk, Some};
 ghost use Rattle.std.specs.Arc.{arc_value};
 ghost use Rattle.wf_board.specs.Admission.{HasAdmittedStep};
-ghost use Rattle.wf_board.specs.Admitting.{HasVerdict, MayLackMemoryFor};
+ghost use Rattle.wf_board.specs.Admit.{HasVerdict, MayLackMemoryFor};
 ghost use Rattle.wf_board.specs.Boards.{book_of, state_on};
 ghost use Rattle.wf_board.specs.Decisions.{decision_aside, decision_of, needs_plan, needs_verdict};
 ghost use Rattle.wf_board.specs.Deeds.{answered_of, is_over_open, FitsDeed, HasStepped};

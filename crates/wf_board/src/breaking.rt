@@ -1,13 +1,13 @@
 //! Which valid plans a change of the policy makes invalid.
 ghost use Rattle.std.specs.Prelude.{◌≡◌, ◌<◌, ◌==◌, ◌&&◌, ℕ, not, length, slice_get, true, false};
 ghost use Rattle.wf_names.specs.States.{is_finished};
-ghost use Rattle.constraint_forms.specs.Assigned.{planned};
+ghost use Rattle.constraint_forms.specs.Assign.{planned};
 ghost use Rattle.policy_book.specs.Policies.{flow_at, is_authorised};
 ghost use Rattle.case_record.specs.Cases.{state_at};
 ghost use Rattle.admin_edits.specs.Edits.{amended};
 ghost use Rattle.wf_board.specs.Breaking.{breaks, breaks_rule, gives, is_barred, is_broken};
 ghost use Rattle.wf_board.specs.Breaking.{loses_step, HasPlanFor, NamesStep};
-ghost use Rattle.wf_board.specs.Edited.{IsPlanOf};
+ghost use Rattle.wf_board.specs.Edition.{IsPlanOf};
 ghost use Rattle.wf_board.specs.Found.{IsAllowed};
 ghost use Rattle.wf_board.specs.Kept.{ArePlanned, EachRow, IsOfPolicy, IsPlanned};
 

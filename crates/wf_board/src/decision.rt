@@ -2,15 +2,15 @@
 ghost use Rattle.std.specs.Prelude.{◌≡◌, ◌<◌, ◌&&◌, length, None, Ok, true, IfErr, IfOk, OnErr};
 ghost use Rattle.std.specs.List.{list_any};
 ghost use Rattle.wf_names.specs.States.{is_held};
-ghost use Rattle.first_fault.specs.Reading.{Gives};
+ghost use Rattle.basics.specs.Reading.{Gives};
 ghost use Rattle.case_record.specs.Cases.{state_at};
 ghost use Rattle.denial_reasons.specs.Causes as causes;
 ghost use Rattle.wf_board.specs.Boards.{book_of};
-ghost use Rattle.constraint_forms.specs.Assigned.{user_at};
+ghost use Rattle.constraint_forms.specs.Assign.{user_at};
 ghost use Rattle.constraint_forms.specs.Rules.{is_falsified, names};
 ghost use Rattle.policy_book.specs.Policies.{flow_at, problem_of};
 ghost use Rattle.denial_reasons.specs.Causes.{assigned_with};
-ghost use Rattle.wf_board.specs.Edited.{CanBeCompleted};
+ghost use Rattle.wf_board.specs.Edition.{CanBeCompleted};
 ghost use Rattle.wf_board.specs.Kept.{ArePlanned, IsOfPolicy};
 ghost use Rattle.wf_board.specs.Found.{IsFound};
 ghost use Rattle.wf_board.specs.Decisions.{cause_aside, cause_full, decision_aside, decision_of};

@@ -1,6 +1,6 @@
 //! Takes the replies to openings and claims that somebody else gave.
 ghost use Rattle.std.specs.Prelude.{◌≡◌, ◌≢◌, ◌<◌, ◌↔◌, None, Ok, length, true};
-ghost use Rattle.constraint_forms.specs.Assigned.{no_steps, no_users};
+ghost use Rattle.constraint_forms.specs.Assign.{no_steps, no_users};
 ghost use Rattle.refutation_tree.specs.Views.{shape_of};
 ghost use Rattle.policy_book.specs.Plans.{IsValidPlan, IsWithin};
 ghost use Rattle.policy_book.specs.Policies.{problem_of};

@@ -3,11 +3,11 @@ ghost use Rattle.std.specs.Prelude.{◌≡◌, ◌≢◌, ◌≤◌, ◌<◌, No
 ghost use Rattle.wf_names.specs.States.{is_held};
 ghost use Rattle.wf_names.specs.declared.states.StepState.TheVariants.{Free as FreeStep};
 ghost use Rattle.wf_names.specs.declared.states.Phase.TheVariants.{Withdrawn as WithdrawnCase};
-ghost use Rattle.constraint_forms.specs.Assigned.{no_steps, no_users};
+ghost use Rattle.constraint_forms.specs.Assign.{no_steps, no_users};
 ghost use Rattle.policy_book.specs.Plans.{IsValidPlan};
 ghost use Rattle.policy_book.specs.Policies.{problem_of};
 ghost use Rattle.case_record.specs.Cases.{finished_of, state_at, with_phase, with_state, CaseShape};
-ghost use Rattle.grant_table.specs.Tables.{freed_row, withdrawn_row};
+ghost use Rattle.grant_table.specs.Cases.{freed_row, withdrawn_row};
 ghost use Rattle.denial_reasons.specs.Causes.{assigned_with};
 ghost use Rattle.wf_board.specs.declared.deed.Deed.TheVariants as deeds;
 ghost use Rattle.wf_board.specs.declared.verdict.Verdict.TheVariants as verdicts;

@@ -13,7 +13,7 @@ use Rattle.run_record.specs.Fault.{CountsLoads, CountsReads, CountsReadsAlone, C
 use Rattle.run_record.specs.Report.{nothing_told}
 use Rattle.run_record.specs.Run.{Run, OverFile}
 use Rattle.wf_commands.specs.declared.answer.Answer.{Answer}
-use Rattle.wf_commands.specs.Once.{Ends, EndsSo, HasText, IsQuiet, OverPolicy, ReadsInput, ReadsUpTo, RunsOnce, WritesSo}
+use Rattle.wf_commands.specs.Once.{Ends, EndsSo, HasText, IsQuiet, OverPolicy, ReadsInput, ReadsUpTo, RunsOnce, WritesBy}
 use Rattle.wf_commands.specs.Answer.{ending_with, AnswersAs, AnswersFile, EndsUnanswered, IsCommandEnding, RefusesSo}
 use Rattle.wf_commands.specs.Load.{EndsLoading, EndsTooLong, IsLoadEnding}
 
@@ -79,7 +79,7 @@ own_reads_so ending.lacking before after counts = omega arith
 pub own_reads : (fault : RunFault) (before after : ℕ) → CountsReadsAlone fault before after → CountsReads fault before after
 own_reads fault before after counts = own_reads_so (how_of fault) before after counts
 
-quiet_so : (how : How) (before after : Option (List ℕ)) → EndsUnanswered how → after ≡ before → WritesSo how before after
+quiet_so : (how : How) (before after : Option (List ℕ)) → EndsUnanswered how → after ≡ before → WritesBy how before after
 quiet_so ending.misfiled before after ends same = same
 quiet_so ending.refused before after ends same = same
 quiet_so ending.unloaded before after ends same = same

@@ -4,8 +4,8 @@ use Rattle.std.specs.Prelude.{Some, if◌then◌else◌, is_some, option_and_the
 use Rattle.std.specs.List.{list_all}
 use Rattle.serde_json.specs.Data.{Data, Items, no_items, item}
 use Rattle.serde_json.specs.Find.{as_str, as_array}
-use Rattle.first_fault.specs.Reading.{◌>>=◌, or_fault, check, each}
-use Rattle.constraint_forms.specs.Assigned.{planned}
+use Rattle.basics.specs.Reading.{◌>>=◌, or_fault, check, each}
+use Rattle.constraint_forms.specs.Assign.{planned}
 use Rattle.wf_names.specs.Names.{is_name}
 use Rattle.wf_names.specs.Table.{place_of}
 use Rattle.policy_book.specs.Shapes.{PolicyShape}
@@ -48,7 +48,7 @@ abbrev pub AreAmong : ℕ → List ℕ → Type 0
 AreAmong n users = (s : ℕ) → s < length users → planned users s < n
 
 -- a plan has one more user, among the first n
-pub record HasOneMore (n : ℕ) (before after : List ℕ) : Type 0 where
+pub record HasOneMoreUser (n : ℕ) (before after : List ℕ) : Type 0 where
   pub user : ℕ
   pub known : user < n
   pub pushed : after ≡ before ++ user ∷ []

@@ -53,13 +53,13 @@ abbrev pub Ends : (RunFault → List ℕ → Type 0) → Option (List ℕ) → O
 Ends Answers before after fault = EndsSo (how_of fault) Answers before after fault
 
 -- a run writes only where its command was done, or where writing failed
-abbrev pub WritesSo : How → Option (List ℕ) → Option (List ℕ) → Type 0
-WritesSo answered before after = Unit {0}
-WritesSo unwritten before after = Unit {0}
-WritesSo how before after = after ≡ before
+abbrev pub WritesBy : How → Option (List ℕ) → Option (List ℕ) → Type 0
+WritesBy answered before after = Unit {0}
+WritesBy unwritten before after = Unit {0}
+WritesBy how before after = after ≡ before
 
 abbrev pub IsQuiet : RunFault → Option (List ℕ) → Option (List ℕ) → Type 0
-IsQuiet fault before after = WritesSo (how_of fault) before after
+IsQuiet fault before after = WritesBy (how_of fault) before after
 
 -- the answer of a run about the policy in a file; one that is told and too long ends it so
 pub record AnswersOnce (policy : List ℕ) (Answers : PolicyShape → RunFault → List ℕ → Type 0)
@@ -72,7 +72,7 @@ pub record AnswersOnce (policy : List ℕ) (Answers : PolicyShape → RunFault �
   pub reads : CountsReadsAlone r.fault r.before.read_faults r.after.read_faults
 
 -- all of the input was read, to its end, and it is within the limit
-pub record HasReadAll (limit : ℕ) (before after : Option (List ℕ)) : Type 0 where
+pub record HasReadInput (limit : ℕ) (before after : Option (List ℕ)) : Type 0 where
   pub bytes : List ℕ
   pub taken : HasTaken before after bytes
   pub within : length bytes ≤ limit
@@ -84,7 +84,7 @@ abbrev pub ReadsUpTo : ℕ → When → Option (List ℕ) → Option (List ℕ) 
 ReadsUpTo limit early before after = after ≡ before
 ReadsUpTo limit midway before after = HasTakenAtMost before after (limit + 1)
 ReadsUpTo limit overlong before after = HasTakenCount before after (limit + 1)
-ReadsUpTo limit late before after = HasReadAll limit before after
+ReadsUpTo limit late before after = HasReadInput limit before after
 
 -- how much of the input is read by a command that reads it up to a limit, or that reads none
 abbrev pub ReadsInput : Option ℕ → RunFault → Option (List ℕ) → Option (List ℕ) → Type 0

@@ -3,13 +3,13 @@ use Rattle.std.specs.Prelude.{◌≡◌, ℕ, List, [], ◌++◌, length, Option
 use Rattle.std.specs.Prelude.{MatchOption, MatchResult, MatchBool, nat_lt, codes, decimal}
 use Rattle.std.specs.Prelude.{slice_index_or}
 use Rattle.wf_names.specs.declared.limits.TheConstants.{LINE_LIMIT}
-use Rattle.constraint_forms.specs.Assigned.{no_users, no_steps}
+use Rattle.constraint_forms.specs.Assign.{no_users, no_steps}
 use Rattle.policy_book.specs.Shapes.{PolicyShape}
 use Rattle.policy_book.specs.Policies.{flow_at, problem_of}
 use Rattle.policy_book.specs.Plans.{IsValidPlan}
 use Rattle.certificate_check.specs.declared.plan.PlanFault.{PlanFault}
 use Rattle.certificate_check.specs.declared.plan.PlanFault.TheVariants.{Moved, Role, Rule}
-use Rattle.certificate_check.specs.Faults.{plan_verdict}
+use Rattle.certificate_check.specs.Plan.{plan_verdict}
 use Rattle.run_record.specs.declared.fault.RunFault.{RunFault}
 use Rattle.run_record.specs.declared.fault.RunFault.TheVariants.{Nothing, Found, LineTooLong}
 use Rattle.run_record.specs.declared.fault.RunFault.TheVariants.{BadInput}

@@ -1,12 +1,12 @@
 -- The command `resilience`: whether a workflow can be done whichever of its users are absent.
 use Rattle.std.specs.Prelude.{◌≡◌, ◌↔◌, ℕ, List, None, IsTrue, MatchOption}
-use Rattle.constraint_forms.specs.Assigned.{no_users, no_steps}
-use Rattle.refutation_tree.specs.Shapes.{Shape}
+use Rattle.constraint_forms.specs.Assign.{no_users, no_steps}
+use Rattle.refutation_tree.specs.Tree.{Shape}
 use Rattle.policy_book.specs.Shapes.{PolicyShape}
 use Rattle.policy_book.specs.Policies.{problem_of}
 use Rattle.policy_book.specs.Refuting.{refutes}
-use Rattle.resilience_check.specs.Absences.{IsLeastAbsence, IsResilient, problem_without}
-use Rattle.resilience_check.specs.Families.{AreValidPlans, CoversAbsences}
+use Rattle.resilience_check.specs.Left.{IsLeastAbsence, IsResilient, problem_without}
+use Rattle.resilience_check.specs.Covering.{AreValidPlans, CoversAbsences}
 use Rattle.wire_json.specs.Absences.{absence_line, family_line}
 use Rattle.run_record.specs.declared.fault.RunFault.{RunFault}
 use Rattle.run_record.specs.declared.fault.RunFault.TheVariants.{Nothing, Found, BadInput}

@@ -1,8 +1,8 @@
 -- The command `solve`: a line is written for each workflow of the policy.
 use Rattle.std.specs.Prelude.{◌≡◌, ℕ, zero, suc, List, [], ◌++◌, length, None, IsTrue}
 use Rattle.std.proofs.Common.{◌⊎◌}
-use Rattle.constraint_forms.specs.Assigned.{no_users, no_steps}
-use Rattle.refutation_tree.specs.Shapes.{Shape}
+use Rattle.constraint_forms.specs.Assign.{no_users, no_steps}
+use Rattle.refutation_tree.specs.Tree.{Shape}
 use Rattle.policy_book.specs.Shapes.{PolicyShape}
 use Rattle.policy_book.specs.Policies.{problem_of}
 use Rattle.policy_book.specs.Plans.{IsValidPlan}

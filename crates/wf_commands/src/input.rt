@@ -4,13 +4,13 @@ ghost use Rattle.std.specs.Prelude.{option_and_then, IfErr, IfOk, IfSome, OnOk};
 ghost use Rattle.std.specs.List.{list_all};
 ghost use Rattle.serde_json.specs.View.{view, items_view};
 ghost use Rattle.serde_json.specs.Find.{as_str};
-ghost use Rattle.first_fault.specs.Reading.{Gives, or_fault, each};
+ghost use Rattle.basics.specs.Reading.{Gives, or_fault, each};
 ghost use Rattle.wf_names.specs.declared.limits.TheConstants.{STEP_LIMIT};
 ghost use Rattle.policy_book.specs.Policies.{flow_at};
 ghost use Rattle.wire_json.specs.Values.{value_of};
 ghost use Rattle.run_record.specs.declared.fault.InputFault.TheVariants.{Syntax};
 ghost use Rattle.wf_commands.specs.Input.{plan_of_input, number_named, next_user, is_text};
-ghost use Rattle.wf_commands.specs.Input.{listed_items, input_fault, AreAmong, HasOneMore};
+ghost use Rattle.wf_commands.specs.Input.{listed_items, input_fault, AreAmong, HasOneMoreUser};
 ghost use Rattle.wf_commands.specs.Input.{IsOfInput};
 
 use policy_book::{Plan, Policy};
@@ -105,7 +105,7 @@ fn read_user(p: &Policy, users: &mut Vec<UserId>, item: &Value) -> Result<(), In
         (next_user p.now users.old.items (view item.now)) }
     ensures fault { IfErr result IsOfInput }
     ensures pushed { OnOk result
-        (HasOneMore (length p.now.roster.users) users.old.items users.new.items) }
+        (HasOneMoreUser (length p.now.roster.users) users.old.items users.new.items) }
 {
     match user_of(p, item) {
         Some(u) => match users.push(u) {

@@ -2,7 +2,7 @@
 ghost use Rattle.std.specs.Prelude.{◌≡◌, ◌<◌, ℕ, [], length, slice_index_or, string_bytes, Some};
 ghost use Rattle.std.specs.Prelude.{IfOk, IfErr};
 ghost use Rattle.wf_names.specs.declared.limits.TheConstants.{LINE_LIMIT};
-ghost use Rattle.constraint_forms.specs.Assigned.{planned};
+ghost use Rattle.constraint_forms.specs.Assign.{planned};
 ghost use Rattle.policy_book.specs.Policies.{flow_at};
 ghost use Rattle.wf_commands.specs.Answer.{ending_with};
 ghost use Rattle.wf_commands.specs.Plan.{Judges, JudgesInput, fault_line};

@@ -31,7 +31,7 @@ use Rattle.wf_desk.specs.Desks.{DeskShape, HasAdded, loss_of, next_job, no_loss,
 use Rattle.wf_desk.specs.Commits.{HasCommittedChecked, IsNext, IsReplyWhere, IsRightFor, IsTask, floor_of, is_fresh, is_fresh_or_change, is_last_round, is_lost}
 use Rattle.wf_desk.specs.Commits.{job_of_task}
 use Rattle.wf_desk.specs.Keeping.{HasCommittedNone, IsDesk, own_start}
-use Rattle.wf_desk.specs.Places.{IsNextPlace, entry_for}
+use Rattle.wf_desk.specs.Docket.{IsNextPlace, entry_for}
 use Rattle.wf_desk.proofs.DeskLaws.{Grows, HasMoved, MayLose, desk_added, desk_lost, with_parts}
 use Rattle.wf_desk.proofs.DocketLaws.{next_lane}
 

@@ -20,7 +20,7 @@ use Rattle.wf_desk.specs.declared.loss.Loss.{Loss}
 use Rattle.wf_desk.specs.Desks.{DeskShape, IsSoundDesk, loss_of, next_job, no_loss, served}
 use Rattle.wf_desk.specs.Commits.{floor_of, with_loss}
 use Rattle.wf_desk.specs.Keeping.{IsDesk, IsLanePlace, LossRests, own_start}
-use Rattle.wf_desk.specs.Places.{IsNextPlace}
+use Rattle.wf_desk.specs.Docket.{IsNextPlace}
 use Rattle.wf_desk.proofs.DocketLaws.{batch_short, batch_within, front_more, lane_both, lane_own, next_at, served_other, served_own}
 
 -- with one more entry, of which the board is this one, and so much room left

@@ -10,7 +10,7 @@ use Rattle.wf_talk.specs.declared.entry.Entry.{Entry}
 use Rattle.wf_talk.specs.declared.job.Job.{Job}
 use Rattle.wf_board.specs.Histories.{job_of_entry, lane_jobs}
 use Rattle.wf_desk.specs.Desks.{AreOfLanes}
-use Rattle.wf_desk.specs.Places.{AnswersFirst, IsNextPlace, IsPlaceBehind, answered_of}
+use Rattle.wf_desk.specs.Docket.{AnswersFirst, IsNextPlace, IsPlaceBehind, answered_of}
 use Rattle.wf_desk.proofs.DocketLaws.{lane_both, lane_own, next_there, none_of_lanes, served_other, served_own}
 use Rattle.wf_desk.proofs.DeskLaws.{differs}
 

@@ -1,9 +1,9 @@
 pub mod Desks
 pub mod Commits
-pub mod Places
+pub mod Docket
 pub mod Keeping
 pub mod BatchLaws
 pub mod Schedules
 pub mod Holding
-pub mod Tabling
+pub mod Tabled
 pub mod Parts

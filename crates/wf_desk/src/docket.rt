@@ -4,7 +4,7 @@ ghost use Rattle.std.specs.Prelude.{slice_set};
 ghost use Rattle.wf_names.specs.declared.limits.TheConstants.{LANE_LIMIT};
 ghost use Rattle.wf_board.specs.Histories.{lane_jobs};
 ghost use Rattle.wf_talk.specs.Jobs.{AreOfLanes};
-ghost use Rattle.wf_desk.specs.Places.{AnswersFirst, IsNextPlace, IsPlaceBehind};
+ghost use Rattle.wf_desk.specs.Docket.{AnswersFirst, IsNextPlace, IsPlaceBehind};
 
 use wf_names::LANE_LIMIT;
 use wf_talk::{Entry, Job};

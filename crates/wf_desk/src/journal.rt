@@ -2,7 +2,7 @@
 ghost use Rattle.std.specs.Prelude.{◌≡◌, ◌≤◌, ◌<◌, ◌+◌, [], ◌∷◌, ◌++◌, nat_eq, nat_lt, length};
 ghost use Rattle.std.specs.Prelude.{drop};
 ghost use Rattle.wf_board.specs.Counting.{count_of, counted, counted_end};
-ghost use Rattle.wf_desk.specs.Places.{entry_for};
+ghost use Rattle.wf_desk.specs.Docket.{entry_for};
 
 use wf_board::counts;
 use wf_talk::{Ask, Entry, Job, Journal, Reply};

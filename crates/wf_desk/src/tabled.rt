@@ -26,7 +26,7 @@ impl Tabled for Desk {
 
     type Item = Entry;
 
-    ghost use Rattle.wf_desk.specs.Tabling.{fixed_of, tagged_of};
+    ghost use Rattle.wf_desk.specs.Tabled.{fixed_of, tagged_of};
 
     ghost fixed_part = { fixed_of };
 

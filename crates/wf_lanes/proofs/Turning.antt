@@ -5,7 +5,7 @@ use Rattle.std.specs.List.{Contains}
 use Rattle.std.proofs.lemmas.List.{map-append}
 use mathlib.Core.Logic.{dite}
 use native.Mathlib.Decide.{ℕ_discrete}
-use Rattle.turn_table.specs.Lists.{GrowsByOne, Quiet, StartsWith}
+use Rattle.turn_table.specs.Table.{GrowsByOne, Quiet, StartsWith}
 use Rattle.turn_table.specs.Lanes.{LaneShape, TableId, first_lane, joined_lane, next_lane}
 use Rattle.wf_talk.specs.declared.entry.Entry.{Entry}
 use Rattle.wf_talk.specs.declared.job.Job.{Job}
@@ -21,12 +21,12 @@ use Rattle.wf_desk.specs.Desks.{DeskShape, HasAdded, next_job, served}
 use Rattle.wf_desk.specs.Commits.{HasCommitted, HasPlanned, HasServed, IsRightFor, IsTask}
 use Rattle.wf_desk.proofs.DocketLaws as docket
 use Rattle.wf_desk.specs.Schedules.{HasGrown}
-use Rattle.wf_desk.specs.Tabling.{fixed_of, tagged, tagged_of}
+use Rattle.wf_desk.specs.Tabled.{fixed_of, tagged, tagged_of}
 use Rattle.wf_desk.proofs.Scheduling.{begun_held, grown_committed, grown_served, held_on}
 use Rattle.wf_lanes.specs.declared.worker.Begun.{Begun}
 use Rattle.wf_lanes.specs.declared.worker.Begun.TheVariants as begun
 use Rattle.wf_lanes.proofs.Ahead.{grown_planned}
-use Rattle.wf_lanes.specs.Workers.{HasBegun, HasBegunAt, HasEnded, HasJoined, HasMadeAll, HasRoom, HasSeen, HasTurned, IsBegun, IsFirst, IsIdle}
+use Rattle.wf_lanes.specs.Workers.{BeginsTurn, HasBegunAt, HasNoJobLeft, HasJoined, HasMadeAll, HasRoom, HasSeenDesk, HasTurned, IsBegun, IsFirst, IsIdle}
 
 -- ---- entries without their lanes
 
@@ -47,7 +47,7 @@ untag xs ys begins = (
 unsome : (x y : Fixed) → Some x ≡ Some y → x ≡ y
 unsome x y h = cc
 
-pub grown_seen : (s : LaneShape Fixed Entry) (d e : DeskShape) → HasSeen s d → Some (fixed_of e) ≡ s.fixed → StartsWith (tagged_of e) s.seen → HasGrown d e
+pub grown_seen : (s : LaneShape Fixed Entry) (d e : DeskShape) → HasSeenDesk s d → Some (fixed_of e) ≡ s.fixed → StartsWith (tagged_of e) s.seen → HasGrown d e
 grown_seen s d e seen fixed later =
     let same : fixed_of e ≡ fixed_of d = unsome _ _ (fixed ∙ sym seen.fixed) in
     let more = untag e.entries d.entries (subst (StartsWith (tagged_of e)) (sym seen.list) later) in
@@ -165,12 +165,12 @@ may_give s t d e n number take grows =
 
 -- ---- turn after turn
 
-pub begun_task : (s u : LaneShape Fixed Entry) (m n : ℕ) (t : Task) → HasBegun s u n (begun.Task t) → m ≡ n → IsBegun u m t
+pub begun_task : (s u : LaneShape Fixed Entry) (m n : ℕ) (t : Task) → BeginsTurn s u n (begun.Task t) → m ≡ n → IsBegun u m t
 begun_task s u m n t (d, (e, (turned, (needed, (task, (sound, same)))))) is =
-    (d, (subst (HasSeen u) same turned.seen, (subst (λ k. IsTask d k t) (sym is) task, sound)))
+    (d, (subst (HasSeenDesk u) same turned.seen, (subst (λ k. IsTask d k t) (sym is) task, sound)))
 
-pub begun_ended : (s u : LaneShape Fixed Entry) (m n : ℕ) → HasBegun s u n begun.Ended → m ≡ n → HasEnded u m
-begun_ended s u m n (d, (e, (turned, (none, same)))) is = (d, (subst (HasSeen u) same turned.seen, subst (λ k. next_job d k ≡ None) (sym is) none))
+pub begun_ended : (s u : LaneShape Fixed Entry) (m n : ℕ) → BeginsTurn s u n begun.Ended → m ≡ n → HasNoJobLeft u m
+begun_ended s u m n (d, (e, (turned, (none, same)))) is = (d, (subst (HasSeenDesk u) same turned.seen, subst (λ k. next_job d k ≡ None) (sym is) none))
 
 -- ---- lanes made and joined
 

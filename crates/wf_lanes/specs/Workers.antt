@@ -1,7 +1,7 @@
 -- Inside: what the turns of a lane's thread do.
 use Rattle.std.specs.Prelude.{◌≡◌, ℕ, ◌+◌, ◌<◌, ◌≤◌, Bool, true, false, Some, None}
 use Rattle.std.specs.List.{Contains}
-use Rattle.turn_table.specs.Lists.{StartsWith}
+use Rattle.turn_table.specs.Table.{StartsWith}
 use Rattle.turn_table.specs.Lanes.{LaneShape, TableId}
 use Rattle.wf_talk.specs.declared.entry.Entry.{Entry}
 use Rattle.wf_board.specs.declared.verdict.Verdict.{Verdict}
@@ -10,7 +10,7 @@ use Rattle.wf_desk.specs.declared.tabled.Fixed.{Fixed}
 use Rattle.wf_desk.specs.declared.task.Task.{Task}
 use Rattle.wf_desk.specs.Desks.{DeskShape, IsSoundDesk, next_job}
 use Rattle.wf_desk.specs.Commits.{HasCommitted, HasPlanned, HasServed, IsTask, next_asks_search}
-use Rattle.wf_desk.specs.Tabling.{fixed_of, tagged_of}
+use Rattle.wf_desk.specs.Tabled.{fixed_of, tagged_of}
 use Rattle.wf_lanes.specs.declared.worker.Begun.{Begun}
 use Rattle.wf_lanes.specs.declared.worker.Begun.TheVariants as begun
 
@@ -21,7 +21,7 @@ pub record IsSameLane (before after : LaneShape Fixed Entry) : Type 0 where
   pub fixed : after.fixed ≡ before.fixed
 
 -- a desk is one that a lane has seen whole: it knows no entry past those of the desk
-pub record HasSeen (s : LaneShape Fixed Entry) (d : DeskShape) : Type 0 where
+pub record HasSeenDesk (s : LaneShape Fixed Entry) (d : DeskShape) : Type 0 where
   pub fixed : Some (fixed_of d) ≡ s.fixed
   pub list : tagged_of d ≡ s.seen
 
@@ -30,7 +30,7 @@ pub record HasTurned (before after : LaneShape Fixed Entry) (d e : DeskShape) : 
   pub same : IsSameLane before after
   pub fixed : Some (fixed_of d) ≡ before.fixed
   pub later : StartsWith (tagged_of d) before.seen
-  pub seen : HasSeen after e
+  pub seen : HasSeenDesk after e
 
 -- a task was begun, which waits for its verdict
 abbrev pub is_task : Begun → Bool
@@ -52,13 +52,13 @@ HasBegunAt d e lane begun.Lacking = (next_asks_search d lane ≡ true) × HasSer
 HasBegunAt d e lane begun.Ended = (next_job d lane ≡ None) × (e ≡ d)
 
 -- and in a turn
-abbrev pub HasBegun : LaneShape Fixed Entry → LaneShape Fixed Entry → ℕ → Begun → Type 0
-HasBegun before after lane result =
+abbrev pub BeginsTurn : LaneShape Fixed Entry → LaneShape Fixed Entry → ℕ → Begun → Type 0
+BeginsTurn before after lane result =
     (d : DeskShape) × ((e : DeskShape) × (HasTurned before after d e × HasBegunAt d e lane result))
 
 -- a task was begun at the desk that its lane has seen last
 abbrev pub IsBegun : LaneShape Fixed Entry → ℕ → Task → Type 0
-IsBegun s lane t = (d : DeskShape) × (HasSeen s d × (IsTask d lane t × IsSoundDesk d))
+IsBegun s lane t = (d : DeskShape) × (HasSeenDesk s d × (IsTask d lane t × IsSoundDesk d))
 
 -- a task was committed in a turn
 abbrev pub HasCommittedTask : LaneShape Fixed Entry → LaneShape Fixed Entry → Task → Verdict →
@@ -67,8 +67,8 @@ HasCommittedTask before after t v result =
     (d : DeskShape) × ((e : DeskShape) × (HasTurned before after d e × HasCommitted d e t v result))
 
 -- a lane has no job left at the desk that it has seen last
-abbrev pub HasEnded : LaneShape Fixed Entry → ℕ → Type 0
-HasEnded s lane = (d : DeskShape) × (HasSeen s d × (next_job d lane ≡ None))
+abbrev pub HasNoJobLeft : LaneShape Fixed Entry → ℕ → Type 0
+HasNoJobLeft s lane = (d : DeskShape) × (HasSeenDesk s d × (next_job d lane ≡ None))
 
 -- at a desk of so many lanes or more
 abbrev pub HasLanes : LaneShape Fixed Entry → ℕ → Type 0

@@ -5,8 +5,9 @@ ghost use Rattle.std.specs.Thread.{IsSync};
 ghost use Rattle.wf_names.specs.declared.limits.TheConstants.{LANE_LIMIT};
 ghost use Rattle.wf_desk.specs.Desks.{AreOfLanes, IsDone};
 ghost use Rattle.wf_desk.specs.Schedules.{HasGrown};
-ghost use Rattle.wf_desk.specs.Tabling.{fixed_of, tagged_of};
-ghost use Rattle.wf_lanes.specs.Workers.{HasEnded, HasJoined, HasMadeAll, HasRoom, IsFirst, IsIdle};
+ghost use Rattle.wf_desk.specs.Tabled.{fixed_of, tagged_of};
+ghost use Rattle.wf_lanes.specs.Workers.{HasNoJobLeft, HasJoined, HasMadeAll, HasRoom, IsFirst};
+ghost use Rattle.wf_lanes.specs.Workers.{IsIdle};
 
 use crate::gate::Gate;
 use crate::table_turns::TableTurns;
@@ -277,7 +278,7 @@ fn serve_lane<R: Wait, V: Decider, G: Gate>(
     requires ready { V.ready decider.now }
     requires idle { IsIdle table.now lane number }
     ensures idle { IsIdle table.now result number }
-    ensures ended { HasEnded result number }
+    ensures ended { HasNoJobLeft result number }
 {
     let mut turns = TableTurns {
         rt,

@@ -6,7 +6,7 @@ ghost use Rattle.wf_board.specs.Verdicts.{Decides};
 ghost use Rattle.wf_talk.specs.declared.entry.Entry.{Entry};
 ghost use Rattle.wf_desk.specs.declared.tabled.Fixed.{Fixed};
 ghost use Rattle.wf_desk.specs.Commits.{HasCommitted, IsRightFor, next_asks_search};
-ghost use Rattle.wf_lanes.specs.Workers.{HasBegun, HasBegunAt, HasCommittedTask, IsBegun, IsIdle};
+ghost use Rattle.wf_lanes.specs.Workers.{BeginsTurn, HasBegunAt, HasCommittedTask, IsBegun, IsIdle};
 
 use crate::worker::{Begun, Turns};
 use std::alloc::Global;

@@ -5,7 +5,8 @@ ghost use Rattle.wf_board.specs.Boards.{book_on};
 ghost use Rattle.wf_board.specs.Verdicts.{Decides};
 ghost use Rattle.wf_talk.specs.declared.entry.Entry.{Entry};
 ghost use Rattle.wf_desk.specs.declared.tabled.Fixed.{Fixed};
-ghost use Rattle.wf_lanes.specs.Workers.{HasBegun, HasCommittedTask, HasEnded, IsBegun, IsSameLane};
+ghost use Rattle.wf_lanes.specs.Workers.{BeginsTurn, HasCommittedTask, HasNoJobLeft, IsBegun};
+ghost use Rattle.wf_lanes.specs.Workers.{IsSameLane};
 ghost use Rattle.wf_lanes.specs.Workers.{is_task};
 
 use crate::gate::{Gate, Gated};
@@ -50,7 +51,7 @@ pub(crate) trait Turns {
         ensures fits { fits self.new }
         ensures lane { lane self.new ≡ lane self.old }
         ensures pending { pending self.new ≡ is_task result }
-        ensures begun { HasBegun (known self.old) (known self.new) (lane self.old) result };
+        ensures begun { BeginsTurn (known self.old) (known self.new) (lane self.old) result };
 
     /// A turn that commits the task which the lane's last turn began.
     fn commit(&mut self, task: &Task, verdict: Verdict) -> Outcome
@@ -82,7 +83,7 @@ pub(crate) fn work<R: Wait, V: Decider, G: Gate, T: Turns>(
     ensures settled { T.pending turns.new ≡ false }
     ensures lane { T.lane turns.new ≡ T.lane turns.old }
     ensures same { IsSameLane (T.known turns.old) (T.known turns.new) }
-    ensures ended { HasEnded (T.known turns.new) (T.lane turns.new) }
+    ensures ended { HasNoJobLeft (T.known turns.new) (T.lane turns.new) }
 {
     'working: for _ in rt.forever() {
         match turns.begin() {

@@ -10,7 +10,7 @@ use Rattle.std.proofs.lemmas.Str.{IsUtf8-from_ascii}
 use Rattle.std.proofs.lemmas.Bool.Decides.{nat_tests}
 use Rattle.wf_names.specs.declared.limits.TheConstants.{NAME_LIMIT}
 use Rattle.wf_names.proofs.PaddedLists.{put_first}
-use Rattle.wf_names.specs.Names.{IsStored, is_name, is_name_byte}
+use Rattle.wf_names.specs.Names.{IsStoredName, is_name, is_name_byte}
 
 byte_below : (b : ℕ) → is_name_byte b ≡ true → b < 128
 byte_below b h = grind (arith, nat_tests)
@@ -31,7 +31,7 @@ unfolding is_name
 name_length bs h = grind (arith, nat_tests)
 
 -- the cells of a name: its bytes, and zeros behind them
-pub cells_stored : (bs cells : List ℕ) → cells ≡ replicate NAME_LIMIT 0 → IsTrue (is_name bs) → IsStored (bs ++ drop (length bs) cells) (length bs)
+pub cells_stored : (bs cells : List ℕ) → cells ≡ replicate NAME_LIMIT 0 → IsTrue (is_name bs) → IsStoredName (bs ++ drop (length bs) cells) (length bs)
 cells_stored bs cells e h = record {
   cells = put_first NAME_LIMIT 0 bs cells e (name_length bs h);
   form = subst (λ (t : List ℕ). IsTrue (is_name t)) (sym (take-append_seam bs (drop (length bs) cells))) h;

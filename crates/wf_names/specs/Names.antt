@@ -23,6 +23,6 @@ unfoldable pub is_name : List ℕ → Bool
 is_name bs = starts_with_letter bs && list_all is_name_byte bs && nat_le (length bs) NAME_LIMIT
 
 -- the first len bytes are a name, and the others are zero
-pub record IsStored (bytes : List ℕ) (len : ℕ) : Type 0 where
+pub record IsStoredName (bytes : List ℕ) (len : ℕ) : Type 0 where
   pub cells : IsPadded NAME_LIMIT 0 bytes len
   pub form : IsTrue (is_name (take len bytes))

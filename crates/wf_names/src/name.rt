@@ -24,14 +24,14 @@ pub struct Name {
 impl Model for Name {
     ghost use Rattle.std.specs.Prelude.{List, ℕ, length, take};
     ghost use Rattle.wf_names.specs.declared.limits.TheConstants.{NAME_LIMIT};
-    ghost use Rattle.wf_names.specs.Names.{IsStored};
+    ghost use Rattle.wf_names.specs.Names.{IsStoredName};
     ghost use Rattle.wf_names.specs.Padded.{padded, padded-take, length-taken};
 
     ghost Value = { List ℕ };
 
     ghost view = { λ n. take n.len n.bytes };
 
-    ghost invariant = { λ n. IsStored n.bytes n.len };
+    ghost invariant = { λ n. IsStoredName n.bytes n.len };
 
     ghost inverse = { λ v. record { bytes = padded NAME_LIMIT 0 v; len = length v } };
 

@@ -4,8 +4,8 @@ ghost use Rattle.std.specs.Prelude.{IfSome, OnOk, OnErr, false, slice_get, Some}
 ghost use Rattle.wf_names.specs.Table.{place_of, AreNames};
 
 use crate::Name;
+use basics::Copied;
 use indexmap::IndexSet;
-use shared_part::Copied;
 use std::alloc::{AllocError, Global};
 use std::marker::Model;
 

@@ -6,7 +6,7 @@ ghost use Rattle.wf_names.specs.Table.{Table, place_of, AreNames};
 
 use crate::Name;
 use crate::stored::StoredNames;
-use shared_part::Shared;
+use basics::Shared;
 use std::alloc::{AllocError, Global};
 use std::marker::Model;
 

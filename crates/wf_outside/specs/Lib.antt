@@ -1,3 +1,3 @@
-pub mod Files
+pub mod MemShelf
 pub mod Memory
 pub mod Outside

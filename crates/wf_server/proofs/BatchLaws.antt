@@ -30,7 +30,7 @@ use Rattle.wf_server.specs.Names.{KeepsTexts}
 use Rattle.wf_server.specs.Ways.{setting_of}
 use Rattle.wf_server.specs.declared.batch.Answered.{Answered}
 use Rattle.wf_server.proofs.Names.{transcript_more}
-use Rattle.wf_server.specs.Batches.{entries_text, told_of, HasAnswered, HasAnsweredPart, HasLoaded, IsAdded, AnswersTo, LoadedTo, IsWriteEnding}
+use Rattle.wf_server.specs.Batches.{entries_text, told_of, HasAnsweredAll, HasAnsweredPart, HasLoaded, IsBatchAdded, AnswersTo, LoadedTo, IsWriteEnding}
 
 text_append : (p : PolicyShape) (xs ys : List Entry) → entries_text p (xs ++ ys) ≡ entries_text p xs ++ entries_text p ys
 text_append p [] ys = refl
@@ -139,7 +139,7 @@ begins_grown b c grown kept = ap (take b.restored) grown.extends ∙ take-append
 -- the jobs at a desk were answered
 pub record HasServedLoaded (held mid : Option (List ℕ)) (l d : DeskShape) (before after : Told) : Type 0 where
   pub loaded : HasLoaded held mid l before
-  pub added : IsAdded before l.jobs after
+  pub added : IsBatchAdded before l.jobs after
   pub same : after.entries ≡ d.entries
   pub grown : HasGrown l d
   pub sound : IsSoundDesk d
@@ -252,7 +252,7 @@ same_told old d before after entries jobs ends = rw (entries, jobs, ends) refl
 
 -- and where there was no room for the batch
 pub answers_none : (held aft : Option (List ℕ)) (old d : DeskShape) (before : Told) (batch : List Job) (after : Told) (result : Result (Unit {0}) RunFault)
-    → HasAnswered held aft old before → setting_of d ≡ setting_of old → after ≡ before → result ≡ Err fault.NoMemory →
+    → HasAnsweredAll held aft old before → setting_of d ≡ setting_of old → after ≡ before → result ≡ Err fault.NoMemory →
     AnswersTo held aft before batch d after result
 answers_none held aft old d before batch after result answered setting same memory =
     rw (memory, same) (
@@ -299,7 +299,7 @@ pub record HasLoadedBatch (old l : DeskShape) (a b : Answered) (batch : List Job
   pub ends : b.batch_ends ≡ ends_after a.batch_ends (length a.jobs) batch
 
 loaded_batch : (held mid : Option (List ℕ)) (old l : DeskShape) (a b : Answered) (batch : List Job) → HasLoadedBatch old l a b batch →
-    HasAnswered held mid old (told_of old a)
+    HasAnsweredAll held mid old (told_of old a)
     → HasLoaded held mid l (told_of old a)
 loaded_batch held mid old l a b batch h answered =
     let kept = answered.kept in
@@ -317,15 +317,15 @@ loaded_batch held mid old l a b batch h answered =
 
 -- and its jobs were answered
 pub batch_answers : (held mid aft : Option (List ℕ)) (old l d : DeskShape) (a b : Answered) (batch : List Job) (result : Result (Unit {0}) RunFault)
-    → HasLoadedBatch old l a b batch → HasAnswered held mid old (told_of old a)
-    → ((before after : Told) → HasLoaded held mid l before → IsAdded before l.jobs after → after.entries ≡ d.entries → LoadedTo held aft d after result)
+    → HasLoadedBatch old l a b batch → HasAnsweredAll held mid old (told_of old a)
+    → ((before after : Told) → HasLoaded held mid l before → IsBatchAdded before l.jobs after → after.entries ≡ d.entries → LoadedTo held aft d after result)
     → IfErr result IsWriteEnding → AnswersTo held aft (told_of old a) batch d (told_of d b) result
 batch_answers held mid aft old l d a b batch result h answered answers ending =
     by_result result (answers (told_of old a) (told_of d b) (loaded_batch held mid old l a b batch h answered)
     (record { jobs = h.jobs ∙ ap (λ js. a.jobs ++ js) (sym h.loads); ends = h.ends ∙ ap (ends_after a.batch_ends (length a.jobs)) (sym h.loads) }) refl)
     ending
   where
-    added : IsAdded (told_of old a) batch (told_of d b)
+    added : IsBatchAdded (told_of old a) batch (told_of d b)
     added = record { jobs = h.jobs; ends = h.ends }
 
     by_result : (r : Result (Unit {0}) RunFault) → LoadedTo held aft d (told_of d b) r → IfErr r IsWriteEnding →

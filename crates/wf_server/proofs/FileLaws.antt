@@ -12,7 +12,7 @@ use Rattle.wf_desk.specs.Desks.{DeskShape}
 use Rattle.line_cutter.specs.Cutter.{ends_after}
 use Rattle.line_cutter.specs.Laws.{AreInOrder}
 use Rattle.transcript_audit.proofs.Batches.{ends_within, next_start, end_read, part_length, start_ahead, start_within}
-use Rattle.transcript_resume.specs.Places.{jobs_between}
+use Rattle.transcript_resume.specs.Unserved.{jobs_between}
 use Rattle.transcript_resume.proofs.Rests.{lanes_between, near_from}
 use Rattle.resume_command.specs.Begun.{StandsAt}
 use Rattle.resume_command.proofs.Stands.{jobs_here}
@@ -22,7 +22,7 @@ use Rattle.run_record.specs.Report.{Told}
 use Rattle.wf_server.specs.Sessions.{text_from}
 use Rattle.wf_server.specs.Ways.{setting_of}
 use Rattle.wf_server.specs.declared.batch.Answered.{Answered}
-use Rattle.wf_server.specs.Batches.{told_of, AnswersTo, HasAnswered, HasAnsweredPart, HasLoaded, IsAdded, IsBatch, IsWriteEnding}
+use Rattle.wf_server.specs.Batches.{told_of, AnswersTo, HasAnsweredAll, HasAnsweredPart, HasLoaded, IsBatchAdded, IsBatch, IsWriteEnding}
 use Rattle.wf_server.specs.Files.{FileTo, IsToldTo, StopsIn}
 
 -- ---- one batch
@@ -75,7 +75,7 @@ file_batch lanes jobs ends count start stop order known next =
 pub told_more : (lanes : ℕ) (jobs : List Job) (ends : List ℕ) (count : ℕ) (before after : Told) (batch : List Job) (start stop : ℕ) →
     AreInOrder lanes jobs ends → count < length ends
     → IsToldTo jobs ends count before → IsNext jobs ends count start stop → start ≡ length before.jobs → batch ≡ jobs_between start stop jobs →
-    IsAdded before batch after
+    IsBatchAdded before batch after
     → IsToldTo jobs ends (count + 1) after
 told_more lanes jobs ends count before after batch start stop order known is next begins same added =
     let above = next.order in
@@ -96,7 +96,7 @@ told_more lanes jobs ends count before after batch start stop order known is nex
     }
 
 -- the jobs so far are some where a batch was told
-told_some : (before after : Told) (batch : List Job) → IsAdded before batch after → 0 < length batch → 0 < length after.jobs
+told_some : (before after : Told) (batch : List Job) → IsBatchAdded before batch after → 0 < length batch → 0 < length after.jobs
 told_some before after batch added some = let size = ap length added.jobs in omega (arith, size, some, length-append before.jobs batch)
 
 -- ---- a fault
@@ -151,7 +151,7 @@ first_loaded held d a stands restored =
     }
 
 pub first_added : (d e : DeskShape) (a : Answered) → (stands : StandsAt d.entries d.start d.jobs a.jobs a.batch_ends) →
-    IsAdded (earlier d a stands) d.jobs (told_of e a)
+    IsBatchAdded (earlier d a stands) d.jobs (told_of e a)
 first_added d e a stands = record { jobs = stands.all_jobs; ends = stands.all_ends }
 
 -- what is told is the same at another desk

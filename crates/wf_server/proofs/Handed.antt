@@ -14,7 +14,7 @@ use Rattle.line_cutter.specs.Laws.{AddsNamed, AreInOrder, AreLinesBelow, AreName
 use Rattle.line_cutter.proofs.CutLaws.{cut_all-append}
 use Rattle.batch_reader.specs.declared.reader.Paused.{Paused}
 use Rattle.batch_reader.specs.declared.reader.Paused.TheVariants as paused
-use Rattle.batch_reader.specs.Reading.{HasPaused, HasReadAll, HasStopped, ReadsTo}
+use Rattle.batch_reader.specs.Reader.{HasPaused, HasReadAll, StopsCutting, ReadsBatch}
 use Rattle.wf_board.specs.Histories.{FillsJobs, batch_end, batch_jobs, batch_start, job_of_entry, lane_jobs}
 use Rattle.wf_desk.specs.BatchLaws.{EndAt}
 use Rattle.run_record.specs.declared.fault.RunFault.{RunFault}
@@ -87,7 +87,7 @@ paused_up lanes first jobs batch_ends front last order same same_ends more =
     (same_ends ∙ ap (λ (x : Cut). x.ends) (sym whole))
 
 paused_to : (lanes : ℕ) (first : Cut) (before after : Option (List ℕ)) (room : ℕ) (told : Told) (how : Paused) → AreInOrderFrom lanes first →
-    ReadsTo before after room (handed_in first told) how → IsUpTo first told.jobs told.batch_ends
+    ReadsBatch before after room (handed_in first told) how → IsUpTo first told.jobs told.batch_ends
 paused_to lanes first before after room told paused.Batch order reads =
     paused_up lanes first told.jobs told.batch_ends reads.front reads.last order reads.jobs reads.ends reads.before_last
 paused_to lanes first before after room told paused.End order reads =

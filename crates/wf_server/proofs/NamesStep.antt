@@ -27,7 +27,7 @@ use Rattle.admin_edits.specs.Keeping.{ChangesKeepNames, KeepsNames}
 use Rattle.wf_board.specs.declared.deed.Deed.{Deed}
 use Rattle.wf_board.specs.declared.deed.Deed.TheVariants as deed
 use Rattle.wf_board.specs.States.{Numbered, State, open_cases}
-use Rattle.wf_board.specs.Edited.{IsFirstStranded}
+use Rattle.wf_board.specs.Edition.{IsFirstStranded}
 use Rattle.wf_board.specs.Steps.{Answers, IsReplyTo, face_of, state_after_decision, state_after_deed}
 use Rattle.wf_board.specs.Kept.{IsOfPolicy}
 use Rattle.wire_json.specs.Entries.{named, phase_data, seen_data, single}

@@ -6,7 +6,7 @@ use Rattle.std.proofs.lemmas.List.{drop_all, take_all}
 use Rattle.wf_outside.specs.Outside.{Filed, HasPart, HasTaken, with_bytes}
 use Rattle.wf_outside.proofs.OutsideLaws.{nothing_taken}
 use Rattle.policy_book.specs.Shapes.{PolicyShape}
-use Rattle.policy_reader.specs.FilePolicies.{IsFilePolicy}
+use Rattle.policy_reader.specs.File.{IsFilePolicy}
 use Rattle.wf_talk.specs.declared.entry.Entry.{Entry}
 use Rattle.wf_talk.specs.declared.job.Job.{Job}
 use Rattle.wf_board.specs.Histories.{AreAnsweredOnce, AreRightful, IsLegal, batch_start, state_after}
@@ -19,29 +19,29 @@ use Rattle.line_cutter.specs.Laws.{AreInOrder, GoesOn}
 use Rattle.line_cutter.specs.Naming.{JobsStayNamed}
 use Rattle.entry_reader.specs.Named.{HasNames}
 use Rattle.entry_laws.specs.Fits.{LinesFit}
-use Rattle.batch_reader.specs.Reading.{Handed, HasRead, IsReadUp, ReaderShape}
+use Rattle.batch_reader.specs.Reader.{Handed, HasRead, IsReadUp, BatchReaderShape}
 use Rattle.run_record.specs.declared.fault.RunFault.{RunFault}
 use Rattle.run_record.specs.declared.fault.RunFault.TheVariants as fault
 use Rattle.run_record.specs.Fault.{how_of, is_before_input, CountsLoads, CountsReads, CountsWrites}
 use Rattle.run_record.specs.Report.{Told, nothing_told}
 use Rattle.run_record.specs.Run.{Run, IsOrderly, IsUntouched, Streams}
 use Rattle.transcript_audit.specs.declared.fault.AuditKind.{AuditKind}
-use Rattle.audit_command.specs.Auditing.{fault_line}
+use Rattle.audit_command.specs.Finding.{fault_line}
 use Rattle.transcript_resume.specs.Resumed.{IsRefused, Session}
 use Rattle.resume_command.specs.declared.start.Beginning.{Beginning}
 use Rattle.resume_command.specs.declared.start.TheConstants.{PIECE}
 use Rattle.resume_command.specs.declared.refusal.Refusal.{Refusal}
 use Rattle.resume_command.specs.declared.refusal.Refusal.TheVariants.{Ends, Line}
 use Rattle.resume_command.specs.Begun.{BeginsBy, EndsBeginning, HasBegun, StopsBy, fault_by, session_of}
-use Rattle.resume_command.specs.Loading.{Names, OverFiles}
+use Rattle.resume_command.specs.Load.{Names, OverFiles}
 use Rattle.resume_command.proofs.Files.{files_goal, files_map}
 use Rattle.command_words.specs.Words.{AreOptions, Command, Options, may_repeat, resume}
-use Rattle.wf_server.specs.Run.{HasRun}
+use Rattle.wf_server.specs.Runs.{HasRun}
 use Rattle.transcript_audit.proofs.Batches.{last_start}
 use Rattle.wf_server.specs.Sessions.{IsWithinFirst, ReadsFor, Served, Setting, handed_in}
 use Rattle.wf_server.specs.Ways.{setting_of}
 use Rattle.wf_server.specs.declared.batch.Answered.{Answered}
-use Rattle.wf_server.specs.Batches.{Serves, told_of, AreInOrderFrom, HasAnswered, HasAnsweredPart, IsServing, IsWriteEnding}
+use Rattle.wf_server.specs.Batches.{Serves, told_of, AreInOrderFrom, HasAnsweredAll, HasAnsweredPart, IsServing, IsWriteEnding}
 use Rattle.wf_server.specs.Files.{FileTo, IsToldTo, StopsIn}
 use Rattle.wf_server.specs.Resuming.{CountsRefusal, EndsBy, RefusesAs, ResumesFrom, ResumesRun, TellsAs, setting_behind}
 use Rattle.wf_server.proofs.SessionLaws.{lanes_of, late_reads, serves_kept}
@@ -104,12 +104,13 @@ whole_told s told order is = (
 )
 
 -- the input is read behind them
-pub serving_on : (s : Session) (cut : Cut) (before after : Streams) (r : ReaderShape) (d : DeskShape) (told : Told) →
+pub serving_on : (s : Session) (cut : Cut) (before after : Streams) (r : BatchReaderShape) (d : DeskShape) (told : Told) →
     AreInOrder s.lanes s.jobs s.batch_ends → GoesOn s.lanes cut
     → s.jobs ≡ cut.jobs → s.batch_ends ≡ cut.ends → d.lanes ≡ s.lanes →
     r ≡ record { cut = start_at s.lanes (next_input cut).number; pending = []; room = PIECE }
     → after.input ≡ before.input → after.read_faults ≡ before.read_faults → after.write_faults ≡ before.write_faults
-    → IsToldTo s.jobs s.batch_ends (length s.batch_ends) told → HasAnswered before.output after.output d told → IsServing (next_input cut) before after r d told
+    → IsToldTo s.jobs s.batch_ends (length s.batch_ends) told → HasAnsweredAll before.output after.output d told →
+    IsServing (next_input cut) before after r d told
 serving_on s cut before after r d told order goes jobs ends lanes reads unread counts writes is answered =
     let whole = whole_told s told order is in
     let all_jobs : told.jobs ≡ cut.jobs = whole.0 ∙ jobs in
@@ -118,9 +119,9 @@ serving_on s cut before after r d told order goes jobs ends lanes reads unread c
       order = subst (λ n. AreInOrderFrom n (next_input cut)) (sym lanes) goes.order;
       read = record {
         bytes = [];
-        taken = subst (λ xs. HasTaken before.input after.input xs) (sym (ap (λ (x : ReaderShape). x.pending) reads))
+        taken = subst (λ xs. HasTaken before.input after.input xs) (sym (ap (λ (x : BatchReaderShape). x.pending) reads))
             (subst (λ x. HasTaken before.input x []) (sym unread) (nothing_taken before.input));
-        cut = (λ i. after_handing (all_jobs i) (all_ends i) ((ap (λ (x : ReaderShape). x.cut) reads) i)) ∙ goes.begins;
+        cut = (λ i. after_handing (all_jobs i) (all_ends i) ((ap (λ (x : BatchReaderShape). x.cut) reads) i)) ∙ goes.begins;
         closed = ap (last_or 0) all_ends ∙ goes.closed ∙ ap length (sym all_jobs);
       };
       answered = answered;

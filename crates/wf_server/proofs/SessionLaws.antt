@@ -13,7 +13,7 @@ use Rattle.line_cutter.specs.Cutter.{after_handing, ends_after}
 use Rattle.line_cutter.specs.Laws.{JobsAreInOrder, LeadTo}
 use Rattle.batch_reader.specs.declared.reader.Paused.{Paused}
 use Rattle.batch_reader.specs.declared.reader.Paused.TheVariants as paused
-use Rattle.batch_reader.specs.Reading.{ReaderShape, Handed, handed_more, HasRead, IsReadUp, ReadsTo, CountsAs}
+use Rattle.batch_reader.specs.Reader.{BatchReaderShape, Handed, handed_more, HasRead, IsReadUp, ReadsBatch, CountsPause}
 use Rattle.wf_board.specs.States.{opening_state}
 use Rattle.wf_board.specs.Histories.{FillsJobs, IsLegal}
 use Rattle.wf_desk.specs.Desks.{AreOfLanes, DeskShape}
@@ -28,12 +28,12 @@ use Rattle.run_record.specs.Run.{Streams}
 use Rattle.wf_server.specs.Sessions.{ReadsFor, Served, Setting, handed_in, text_from}
 use Rattle.wf_server.specs.Ways.{setting_of}
 use Rattle.wf_server.specs.declared.batch.Answered.{Answered}
-use Rattle.wf_server.specs.Batches.{Serves, told_of, AreInOrderFrom, HasAnswered, IsAdded, IsBatch, AnswersTo, IsServing, BatchEnds, IsWriteEnding}
+use Rattle.wf_server.specs.Batches.{Serves, told_of, AreInOrderFrom, HasAnsweredAll, IsBatchAdded, IsBatch, AnswersTo, IsServing, BatchEnds, IsWriteEnding}
 use Rattle.wf_server.specs.Batches.{ending_after}
 use Rattle.wf_server.proofs.BatchLaws.{ends_some, writes_whole}
 
 -- no count of faults falls
-counts_le : (how : Paused) (before after : ℕ) → CountsAs how before after → before ≤ after
+counts_le : (how : Paused) (before after : ℕ) → CountsPause how before after → before ≤ after
 counts_le paused.Batch before after counts = omega (arith, counts)
 counts_le paused.End before after counts = omega (arith, counts)
 counts_le paused.Failed before after counts = counts.0
@@ -78,7 +78,7 @@ next_batch lanes first before after told more order closed up =
     }
 
 -- what is told with one more batch
-added_handed : (first : Cut) (before : Told) (batch : List Job) (after : Told) → IsAdded before batch after →
+added_handed : (first : Cut) (before : Told) (batch : List Job) (after : Told) → IsBatchAdded before batch after →
     handed_more (handed_in first before) batch ≡ handed_in first after
 added_handed first before batch after added = rw (added.jobs, added.ends) refl
 
@@ -86,9 +86,9 @@ pub lanes_of : (d e : DeskShape) → setting_of e ≡ setting_of d → e.lanes �
 lanes_of d e same = ap (λ (s : Setting). s.lanes) same
 
 -- memory was refused while a batch was read
-pub memory_serves : (first : Cut) (room : ℕ) (before mid aft : Streams) (r : ReaderShape) (d : DeskShape) (told : Told) (how : Paused)
+pub memory_serves : (first : Cut) (room : ℕ) (before mid aft : Streams) (r : BatchReaderShape) (d : DeskShape) (told : Told) (how : Paused)
     → IsServing first before mid r d told → IsReadUp before.input aft.input (handed_in first told) → aft.output ≡ mid.output →
-    CountsAs how mid.read_faults aft.read_faults
+    CountsPause how mid.read_faults aft.read_faults
     → aft.write_faults ≡ mid.write_faults → Serves (setting_of d) first room before aft told fault.NoMemory
 memory_serves first room before mid aft r d told how serving up output reads writes = record {
   reads = up;
@@ -99,11 +99,12 @@ memory_serves first room before mid aft r d told how serving up output reads wri
 }
 
 -- the session after a batch that is answered
-pub done_ends : (first : Cut) (before mid aft : Streams) (r t : ReaderShape) (d e : DeskShape) (told after : Told) (batch : List Job) (how : Paused)
-    → IsServing first before mid r d told → setting_of e ≡ setting_of d → ReadsTo before.input aft.input t.room (handed_more (handed_in first told) batch) how
+pub done_ends : (first : Cut) (before mid aft : Streams) (r t : BatchReaderShape) (d e : DeskShape) (told after : Told) (batch : List Job) (how : Paused)
+    → IsServing first before mid r d told → setting_of e ≡ setting_of d →
+    ReadsBatch before.input aft.input t.room (handed_more (handed_in first told) batch) how
     → (how ≡ paused.Batch → HasRead before.input aft.input (handed_more (handed_in first told) batch) t)
-    → IsAdded told batch after → HasAnswered before.output aft.output e after
-    → CountsAs how mid.read_faults aft.read_faults → aft.write_faults ≡ mid.write_faults → BatchEnds first before aft t e after (ending_after how)
+    → IsBatchAdded told batch after → HasAnsweredAll before.output aft.output e after
+    → CountsPause how mid.read_faults aft.read_faults → aft.write_faults ≡ mid.write_faults → BatchEnds first before aft t e after (ending_after how)
 done_ends first before mid aft r t d e told after batch paused.Batch serving same reads goes_on added answered counts writes = record {
   order = subst (λ n. AreInOrderFrom n first) (sym (lanes_of d e same)) serving.order;
   read = subst (λ (h : Handed). HasRead before.input aft.input h t) (added_handed first told batch after added) (goes_on refl);
@@ -112,14 +113,14 @@ done_ends first before mid aft r t d e told after batch paused.Batch serving sam
   write_faults = writes ∙ serving.write_faults;
 }
 done_ends first before mid aft r t d e told after batch paused.End serving same reads goes_on added answered counts writes = record {
-  reads = subst (λ (h : Handed). ReadsTo before.input aft.input t.room h paused.End) (added_handed first told batch after added) reads;
+  reads = subst (λ (h : Handed). ReadsBatch before.input aft.input t.room h paused.End) (added_handed first told batch after added) reads;
   fills = answered.fills;
   writes = answered.written;
   read_faults = counts ∙ serving.read_faults;
   write_faults = writes ∙ serving.write_faults;
 }
 done_ends first before mid aft r t d e told after batch paused.Failed serving same reads goes_on added answered counts writes = record {
-  reads = subst (λ (h : Handed). ReadsTo before.input aft.input t.room h paused.Failed) (added_handed first told batch after added) reads;
+  reads = subst (λ (h : Handed). ReadsBatch before.input aft.input t.room h paused.Failed) (added_handed first told batch after added) reads;
   fills = answered.fills;
   writes = answered.written;
   read_faults = λ small. let rose = counts.1 small in let same_count = serving.read_faults in omega arith;
@@ -127,7 +128,7 @@ done_ends first before mid aft r t d e told after batch paused.Failed serving sa
 }
 done_ends first before mid aft r t d e told after batch (paused.Stopped (stop.LineTooLong line)) serving same reads goes_on added answered counts writes =
     record {
-      reads = subst (λ (h : Handed). ReadsTo before.input aft.input t.room h (paused.Stopped (stop.LineTooLong line)))
+      reads = subst (λ (h : Handed). ReadsBatch before.input aft.input t.room h (paused.Stopped (stop.LineTooLong line)))
           (added_handed first told batch after added) reads;
       fills = answered.fills;
       writes = answered.written;
@@ -135,7 +136,8 @@ done_ends first before mid aft r t d e told after batch (paused.Stopped (stop.Li
       write_faults = writes ∙ serving.write_faults;
     }
 done_ends first before mid aft r t d e told after batch (paused.Stopped stop.TooManyLines) serving same reads goes_on added answered counts writes = record {
-  reads = subst (λ (h : Handed). ReadsTo before.input aft.input t.room h (paused.Stopped stop.TooManyLines)) (added_handed first told batch after added) reads;
+  reads = subst (λ (h : Handed). ReadsBatch before.input aft.input t.room h (paused.Stopped stop.TooManyLines)) (added_handed first told batch after added)
+      reads;
   fills = answered.fills;
   writes = answered.written;
   read_faults = counts ∙ serving.read_faults;
@@ -150,15 +152,15 @@ done_ends first before mid aft r t d e told after batch paused.NoMemory serving 
 }
 
 -- the session after a batch whose answering failed
-pub fault_ends : (first : Cut) (room : ℕ) (before mid aft : Streams) (r : ReaderShape) (d e : DeskShape) (told after : Told) (batch : List Job)
+pub fault_ends : (first : Cut) (room : ℕ) (before mid aft : Streams) (r : BatchReaderShape) (d e : DeskShape) (told after : Told) (batch : List Job)
     (how : Paused) (ending : RunFault)
     → IsServing first before mid r d told → setting_of e ≡ setting_of d →
-    ReadsTo before.input aft.input room (handed_more (handed_in first told) batch) how → how ≢ paused.NoMemory
+    ReadsBatch before.input aft.input room (handed_more (handed_in first told) batch) how → how ≢ paused.NoMemory
     → IsReadUp before.input aft.input (handed_more (handed_in first told) batch) → IsReadUp before.input aft.input (handed_in first told)
-    → AnswersTo before.output aft.output told batch e after (Err ending) → IsWriteEnding ending → CountsAs how mid.read_faults aft.read_faults
+    → AnswersTo before.output aft.output told batch e after (Err ending) → IsWriteEnding ending → CountsPause how mid.read_faults aft.read_faults
     → CountsWrites ending mid.write_faults aft.write_faults → Serves (setting_of e) first room before aft after ending
 fault_ends first room before mid aft r d e told after batch how fault.Write serving same reads memory up up_before answers end counts writes = record {
-  reads = inl (how, memory, subst (λ (h : Handed). ReadsTo before.input aft.input room h how) (added_handed first told batch after answers.0) reads);
+  reads = inl (how, memory, subst (λ (h : Handed). ReadsBatch before.input aft.input room h how) (added_handed first told batch after answers.0) reads);
   fills = answers.1.fills;
   writes = answers.1.written;
   read_faults = let le = counts_le how mid.read_faults aft.read_faults counts in let same_count = serving.read_faults in omega arith;
@@ -183,7 +185,7 @@ none_filled : FillsJobs [] [] []
 none_filled = record { whole = refl; batches = λ k lt lane. absurd (none_ends k lt); rests = λ k lt. absurd (none_ends k lt) }
 
 -- before the first batch
-pub opening_serves : (streams : Streams) (r : ReaderShape) (d : DeskShape) (told : Told) → JobsAreInOrder d.lanes → d.jobs ≡ [] → d.restored ≡ 0 →
+pub opening_serves : (streams : Streams) (r : BatchReaderShape) (d : DeskShape) (told : Told) → JobsAreInOrder d.lanes → d.jobs ≡ [] → d.restored ≡ 0 →
     told ≡ nothing_told → r.cut ≡ start d.lanes → r.pending ≡ []
     → IsServing (start d.lanes) streams streams r d told
 opening_serves streams r d told order jobs none_restored none begun empty = rw none (record {
@@ -206,13 +208,13 @@ opening_serves streams r d told order jobs none_restored none begun empty = rw n
 })
 
 -- so begins a session at a new desk
-pub session_begins : (streams : Streams) (r : ReaderShape) (d : DeskShape) (a : Answered) (lanes room : ℕ) → JobsAreInOrder lanes → d.lanes ≡ lanes →
+pub session_begins : (streams : Streams) (r : BatchReaderShape) (d : DeskShape) (a : Answered) (lanes room : ℕ) → JobsAreInOrder lanes → d.lanes ≡ lanes →
     d.jobs ≡ [] → d.entries ≡ [] →
     d.restored ≡ 0 → a.jobs ≡ [] → a.batch_ends ≡ [] → r ≡ record { cut = start lanes; pending = []; room = room } →
     IsServing (start d.lanes) streams streams r d (told_of d a)
 session_begins streams r d a lanes room order same jobs entries restored none_jobs none_ends is =
     opening_serves streams r d (told_of d a) (subst JobsAreInOrder (sym same) order) jobs restored (rw (entries, none_jobs, none_ends) refl)
-    (ap (λ (x : ReaderShape). x.cut) is ∙ ap start (sym same)) (ap (λ (x : ReaderShape). x.pending) is)
+    (ap (λ (x : BatchReaderShape). x.cut) is ∙ ap start (sym same)) (ap (λ (x : BatchReaderShape). x.pending) is)
 
 -- where there was no memory for a session
 pub bare_serves : (set : Setting) (room : ℕ) (streams : Streams) (told : Told) (ending : RunFault) → set.restored ≡ 0 → told ≡ nothing_told →

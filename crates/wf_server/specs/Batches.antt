@@ -12,7 +12,7 @@ use Rattle.line_cutter.specs.Laws.{AreInOrder}
 use Rattle.line_cutter.specs.declared.stop.Stop.TheVariants as stop
 use Rattle.batch_reader.specs.declared.reader.Paused.{Paused}
 use Rattle.batch_reader.specs.declared.reader.Paused.TheVariants as paused
-use Rattle.batch_reader.specs.Reading.{ReaderShape, HasRead}
+use Rattle.batch_reader.specs.Reader.{BatchReaderShape, HasRead}
 use Rattle.wire_json.specs.Replies.{entry_text}
 use Rattle.policy_book.specs.Shapes.{PolicyShape}
 use Rattle.wf_board.specs.Histories.{FillsJobs}
@@ -54,7 +54,7 @@ pub record IsBatch (lanes before : ℕ) (batch : List Job) : Type 0 where
   pub of_lanes : AreOfLanes lanes batch
 
 -- the jobs so far are answered, and the entries written
-pub record HasAnswered (held held-after : Option (List ℕ)) (d : DeskShape) (told : Told) : Type
+pub record HasAnsweredAll (held held-after : Option (List ℕ)) (d : DeskShape) (told : Told) : Type
     0 where
   pub done : IsDone d
   pub fills : FillsJobs told.entries told.jobs told.batch_ends
@@ -70,7 +70,7 @@ pub record HasAnsweredPart (set : Setting) (held held-after : Option (List ℕ))
       told.entries
 
 -- the jobs of one more batch are told, with its end
-pub record IsAdded (before : Told) (batch : List Job) (after : Told) : Type 0 where
+pub record IsBatchAdded (before : Told) (batch : List Job) (after : Told) : Type 0 where
   pub jobs : after.jobs ≡ before.jobs ++ batch
   pub ends : after.batch_ends ≡ ends_after before.batch_ends (length before.jobs) batch
 
@@ -87,19 +87,19 @@ pub record HasLoaded (held held-after : Option (List ℕ)) (d : DeskShape) (told
 -- what came of answering the jobs at a desk, where all told jobs are answered then
 abbrev pub LoadedTo : Option (List ℕ) → Option (List ℕ) → DeskShape → Told →
     Result (Unit {0}) RunFault → Type 0
-LoadedTo held held-after d after (Ok done) = HasAnswered held held-after d after
+LoadedTo held held-after d after (Ok done) = HasAnsweredAll held held-after d after
 LoadedTo held held-after d after (Err fault) = HasAnsweredPart (setting_of d) held held-after after
 
 -- what came of answering a batch
 abbrev pub AnswersTo : Option (List ℕ) → Option (List ℕ) → Told → List Job → DeskShape → Told →
     Result (Unit {0}) RunFault → Type 0
-AnswersTo held held-after before batch d after (Ok done) = IsAdded before batch after ×
-    HasAnswered held held-after d after
+AnswersTo held held-after before batch d after (Ok done) = IsBatchAdded before batch after ×
+    HasAnsweredAll held held-after d after
 AnswersTo held held-after before batch d after (Err NoMemory) =
-    ((after ≡ before) ⊎ IsAdded before batch after) ×
+    ((after ≡ before) ⊎ IsBatchAdded before batch after) ×
     HasAnsweredPart (setting_of d) held held-after after
 AnswersTo held held-after before batch d after (Err fault) =
-    IsAdded before batch after × HasAnsweredPart (setting_of d) held held-after after
+    IsBatchAdded before batch after × HasAnsweredPart (setting_of d) held held-after after
 
 -- the endings of answering a batch
 abbrev pub IsWriteEnding : RunFault → Type 0
@@ -123,16 +123,16 @@ AreInOrderFrom lanes first =
     AreInOrder lanes (jobs_from first bytes ended).jobs (jobs_from first bytes ended).ends
 
 -- between two batches: all that was handed over is answered and written, and no call has failed
-pub record IsServing (first : Cut) (before after : Streams) (r : ReaderShape) (d : DeskShape)
+pub record IsServing (first : Cut) (before after : Streams) (r : BatchReaderShape) (d : DeskShape)
     (told : Told) : Type 0 where
   pub order : AreInOrderFrom d.lanes first
   pub read : HasRead before.input after.input (handed_in first told) r
-  pub answered : HasAnswered before.output after.output d told
+  pub answered : HasAnsweredAll before.output after.output d told
   pub read_faults : after.read_faults ≡ before.read_faults
   pub write_faults : after.write_faults ≡ before.write_faults
 
 -- after a batch the session goes on, or ends
-abbrev pub BatchEnds : Cut → Streams → Streams → ReaderShape → DeskShape → Told →
+abbrev pub BatchEnds : Cut → Streams → Streams → BatchReaderShape → DeskShape → Told →
     Option RunFault → Type 0
 BatchEnds first before after r d told None = IsServing first before after r d told
 BatchEnds first before after r d told (Some fault) =

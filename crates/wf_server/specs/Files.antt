@@ -9,7 +9,7 @@ use Rattle.run_record.specs.Report.{Told}
 use Rattle.line_cutter.specs.Laws.{AreInOrder}
 use Rattle.resume_command.specs.Begun.{StandsAt}
 use Rattle.wf_server.specs.Batch.{CanBeServed}
-use Rattle.wf_server.specs.Batches.{HasAnswered, HasAnsweredPart}
+use Rattle.wf_server.specs.Batches.{HasAnsweredAll, HasAnsweredPart}
 use Rattle.wf_server.specs.Ways.{setting_of}
 
 -- the jobs of the first `count` batches of a file are told
@@ -43,6 +43,6 @@ pub record StandsBehind (d : DeskShape) (told : Told) : Type 0 where
 abbrev pub FileTo : Option (List ℕ) → Option (List ℕ) → List Job → List ℕ → DeskShape → Told →
     Result (Unit {0}) RunFault → Type 0
 FileTo held held-after jobs batch_ends d told (Ok done) =
-    IsToldTo jobs batch_ends (length batch_ends) told × HasAnswered held held-after d told
+    IsToldTo jobs batch_ends (length batch_ends) told × HasAnsweredAll held held-after d told
 FileTo held held-after jobs batch_ends d told (Err fault) =
     StopsIn jobs batch_ends fault told × HasAnsweredPart (setting_of d) held held-after told

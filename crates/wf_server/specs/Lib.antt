@@ -5,7 +5,7 @@ pub mod Names
 pub mod Serving
 pub mod Files
 pub mod Resuming
-pub mod Run
+pub mod Runs
 pub mod Batch
 pub mod Session
 pub mod GoingOn

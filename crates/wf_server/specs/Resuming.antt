@@ -15,13 +15,13 @@ use Rattle.run_record.specs.Fault.{CountsWrites}
 use Rattle.run_record.specs.Report.{nothing_told}
 use Rattle.run_record.specs.Run.{Run, IsOrderly, IsUntouched}
 use Rattle.transcript_audit.specs.declared.fault.AuditKind.{AuditKind}
-use Rattle.audit_command.specs.Auditing.{fault_line}
+use Rattle.audit_command.specs.Finding.{fault_line}
 use Rattle.transcript_resume.specs.Resumed.{IsRefused, IsTakenUp, Session}
 use Rattle.resume_command.specs.declared.start.TheConstants.{PIECE}
 use Rattle.resume_command.specs.declared.refusal.Refusal.{Refusal}
 use Rattle.resume_command.specs.declared.refusal.Refusal.TheVariants.{Ends, Line}
 use Rattle.resume_command.specs.Begun.{session_of}
-use Rattle.resume_command.specs.Loading.{Names, OverFiles}
+use Rattle.resume_command.specs.Load.{Names, OverFiles}
 use Rattle.command_words.specs.Words.{AreOptions, Options}
 use Rattle.wf_server.specs.Sessions.{Served, Setting}
 

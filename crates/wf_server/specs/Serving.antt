@@ -3,7 +3,7 @@ use Rattle.std.specs.Prelude.{◌≡◌, ℕ, ◌<◌, ◌≤◌, List, length, 
 use Rattle.std.proofs.Common.{◌⊎◌}
 use Rattle.wf_names.specs.declared.limits.TheConstants.{POLICY_FILE_LIMIT}
 use Rattle.policy_book.specs.Shapes.{PolicyShape}
-use Rattle.policy_reader.specs.FilePolicies.{IsFilePolicy}
+use Rattle.policy_reader.specs.File.{IsFilePolicy}
 use Rattle.policy_reader.specs.Files.{policy_of_file}
 use Rattle.run_record.specs.declared.fault.RunFault.{RunFault}
 use Rattle.run_record.specs.declared.fault.RunFault.TheVariants.{Policy, Load, NoMemory}

@@ -8,7 +8,7 @@ use Rattle.line_cutter.specs.declared.stop.Stop.TheVariants as stop
 use Rattle.line_cutter.specs.Jobs.{Cut, UpToAnEnd}
 use Rattle.batch_reader.specs.declared.reader.Paused.{Paused}
 use Rattle.batch_reader.specs.declared.reader.Paused.TheVariants as paused
-use Rattle.batch_reader.specs.Reading.{Handed, HasReadAll, HasStopped, IsReadUp, ReadsTo}
+use Rattle.batch_reader.specs.Reader.{Handed, HasReadAll, StopsCutting, IsReadUp, ReadsBatch}
 use Rattle.policy_book.specs.Shapes.{PolicyShape}
 use Rattle.wf_board.specs.States.{opening_state}
 use Rattle.wf_board.specs.Decided.{AreExact}
@@ -48,11 +48,11 @@ abbrev pub ReadsFor : Option (List ℕ) → Option (List ℕ) → ℕ → Handed
 ReadsFor before after room handed Nothing = HasReadAll before after true handed
 ReadsFor before after room handed Read = HasReadAll before after false handed
 ReadsFor before after room handed (LineTooLong line) =
-    HasStopped before after room (stop.LineTooLong line) handed
+    StopsCutting before after room (stop.LineTooLong line) handed
 ReadsFor before after room handed TooManyLines =
-    HasStopped before after room stop.TooManyLines handed
+    StopsCutting before after room stop.TooManyLines handed
 ReadsFor before after room handed Write =
-    ((how : Paused) × (how ≢ paused.NoMemory) × ReadsTo before after room handed how) ⊎
+    ((how : Paused) × (how ≢ paused.NoMemory) × ReadsBatch before after room handed how) ⊎
     IsWithinFirst before after handed
 ReadsFor before after room handed NoMemory = IsReadUp before after handed
 ReadsFor before after room handed fault = ⊥

@@ -10,7 +10,8 @@ ghost use Rattle.wf_desk.specs.Schedules.{HasGrown};
 ghost use Rattle.wire_json.specs.Replies.{entry_text};
 ghost use Rattle.run_record.specs.Fault.{fault_in, CountsWrites};
 ghost use Rattle.run_record.specs.Report.{Told};
-ghost use Rattle.wf_server.specs.Batches.{entries_text, told_of, HasAnswered, HasLoaded, IsAdded};
+ghost use Rattle.wf_server.specs.Batches.{entries_text, told_of, HasAnsweredAll, HasLoaded};
+ghost use Rattle.wf_server.specs.Batches.{IsBatchAdded};
 ghost use Rattle.wf_server.specs.Batch.{CanBeServed, CanTake, IsServedOn};
 ghost use Rattle.wf_server.specs.Batches.{AnswersTo, LoadedTo, IsWriteEnding};
 ghost use Rattle.wf_server.specs.Ways.{IsWay, ServesOnce, setting_of};
@@ -61,7 +62,7 @@ pub(crate) fn answer_batch<K: Sink, W: Fn(Desk) -> Desk>(
     requires takes { CanTake desk (told_of desk told.old) batch.now }
     ensures on { IsServedOn (W.post way.now) desk result.0 }
     ensures answers { (held : Option (List ℕ)) →
-        HasAnswered held (K.held sink.old) desk (told_of desk told.old) →
+        HasAnsweredAll held (K.held sink.old) desk (told_of desk told.old) →
         AnswersTo held (K.held sink.new) (told_of desk told.old) batch.now result.0
         (told_of result.0 told.new) result.1 }
     ensures ending { IfErr result.1 IsWriteEnding }
@@ -87,7 +88,7 @@ pub(crate) fn answer_loaded<K: Sink, W: Fn(Desk) -> Desk>(
     requires ready { CanBeServed desk }
     ensures on { IsServedOn (W.post way.now) desk result.0 }
     ensures answers { (held : Option (List ℕ)) (before after : Told) →
-        HasLoaded held (K.held sink.old) desk before → IsAdded before desk.jobs after →
+        HasLoaded held (K.held sink.old) desk before → IsBatchAdded before desk.jobs after →
         after.entries ≡ result.0.entries → LoadedTo held (K.held sink.new) result.0 after result.1 }
     ensures some { OnErr result.1 (0 < length result.0.entries) }
     ensures ending { IfErr result.1 IsWriteEnding }
@@ -120,7 +121,7 @@ fn take_batch(
     ensures loaded { OnOk result (desk.new.jobs ≡ batch.now) }
     ensures start { OnOk result (desk.new.start ≡ length desk.old.entries) }
     ensures added { OnOk result
-        (IsAdded (told_of desk.old told.old) batch.now (told_of desk.new told.new)) }
+        (IsBatchAdded (told_of desk.old told.old) batch.now (told_of desk.new told.new)) }
     ensures stay { OnErr result (told.new ≡ told.old) }
 {
     desk.load_batch(alloc, batch)?;

@@ -1,9 +1,9 @@
 //! Answering the jobs of a requests file that have no entry yet.
 ghost use Rattle.std.specs.Prelude.{◌≡◌, ◌≤◌, ◌<◌, ℕ, List, length, Option, IfErr};
-ghost use Rattle.transcript_resume.specs.Places.{jobs_between};
+ghost use Rattle.transcript_resume.specs.Unserved.{jobs_between};
 ghost use Rattle.run_record.specs.Fault.{fault_in, CountsWrites};
 ghost use Rattle.wf_server.specs.Batch.{IsServedOn};
-ghost use Rattle.wf_server.specs.Batches.{told_of, HasAnswered, IsWriteEnding};
+ghost use Rattle.wf_server.specs.Batches.{told_of, HasAnsweredAll, IsWriteEnding};
 ghost use Rattle.wf_server.specs.Files.{FileTo, IsInFile, StandsBehind};
 ghost use Rattle.wf_server.specs.Ways.{IsWay};
 
@@ -57,10 +57,10 @@ fn answer_file<K: Sink, W: Fn(Desk) -> Desk>(
     requires lanes { 0 < desk.lanes }
     requires file { IsInFile desk.lanes file.now.jobs file.now.ends count (told_of desk told.old) }
     requires answered { (held : Option (List ℕ))
-        × HasAnswered held (K.held sink.old) desk (told_of desk told.old) }
+        × HasAnsweredAll held (K.held sink.old) desk (told_of desk told.old) }
     ensures on { IsServedOn (W.post way.now) desk result.0 }
     ensures answers { (held : Option (List ℕ)) →
-        HasAnswered held (K.held sink.old) desk (told_of desk told.old) →
+        HasAnsweredAll held (K.held sink.old) desk (told_of desk told.old) →
         FileTo held (K.held sink.new) file.now.jobs file.now.ends result.0
         (told_of result.0 told.new) result.1 }
     ensures ending { IfErr result.1 IsWriteEnding }

@@ -12,7 +12,7 @@ ghost use Rattle.transcript_resume.specs.Resumed.{Session};
 ghost use Rattle.resume_command.specs.declared.start.TheConstants.{PIECE};
 ghost use Rattle.resume_command.specs.Begun.{HasBegun};
 ghost use Rattle.resume_command.specs.Start.{names_in};
-ghost use Rattle.audit_command.specs.Auditing.{fault_line};
+ghost use Rattle.audit_command.specs.Finding.{fault_line};
 ghost use Rattle.command_words.specs.Words.{AreOptions};
 ghost use Rattle.wf_server.specs.GoingOn.{GoOnBehind, options_by};
 ghost use Rattle.wf_server.specs.Sessions.{Served};

@@ -10,7 +10,7 @@ ghost use Rattle.wf_desk.specs.Schedules.{HasGrown};
 ghost use Rattle.wf_lanes.specs.Turns.{HasServedOn};
 ghost use Rattle.command_words.specs.Asked.{asked, CanServe};
 ghost use Rattle.command_words.specs.Words.{command_of, may_repeat, reads_input};
-ghost use Rattle.wf_server.specs.Run.{Does, HasRun, IsWordsEnding, takes_up};
+ghost use Rattle.wf_server.specs.Runs.{Does, HasRun, IsWordsEnding, takes_up};
 
 use crate::going_on::run_resume;
 use crate::serve::run_serve;

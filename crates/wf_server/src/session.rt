@@ -4,7 +4,7 @@ ghost use Rattle.wf_board.specs.States.{opening_state};
 ghost use Rattle.wf_board.specs.Histories.{AreAnsweredOnce, AreRightful, IsLegal};
 ghost use Rattle.wf_desk.specs.Desks.{IsSoundDesk};
 ghost use Rattle.line_cutter.specs.Jobs.{Cut, start};
-ghost use Rattle.batch_reader.specs.Reading.{IsReady};
+ghost use Rattle.batch_reader.specs.Reader.{CanReadOn};
 ghost use Rattle.run_record.specs.Fault.{status_of};
 ghost use Rattle.run_record.specs.Report.{told_by};
 ghost use Rattle.run_record.specs.Run.{Streams, streams_of};
@@ -78,7 +78,7 @@ pub(crate) fn serve_batches<S: Source, K: Sink, W: Fn(Desk) -> Desk>(
     sink: &mut K,
 ) -> Report
     requires way { IsWay (W.pre way.now) (W.post way.now) }
-    requires ready { IsReady reader.old }
+    requires ready { CanReadOn reader.old }
     requires lanes { 0 < desk.lanes }
     requires serving { (first : Cut) × ((before : Streams) × IsServing first before
         (streams_of S.left S.faults K.held K.faults source.old sink.old)
@@ -112,7 +112,7 @@ fn serve_batch<S: Source, K: Sink, W: Fn(Desk) -> Desk>(
     sink: &mut K,
 ) -> (Desk, Option<RunFault>)
     requires way { IsWay (W.pre way.now) (W.post way.now) }
-    requires ready { IsReady reader.old }
+    requires ready { CanReadOn reader.old }
     requires lanes { 0 < desk.lanes }
     requires serving { (first : Cut) × ((before : Streams) × IsServing first before
         (streams_of S.left S.faults K.held K.faults source.old sink.old)

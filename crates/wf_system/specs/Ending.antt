@@ -1,6 +1,6 @@
 -- Which endings have a text, and what is written of them.
 use Rattle.std.specs.Prelude.{ℕ, Bool, true, false, List, [], ◌∷◌, ◌++◌, if◌then◌else◌}
-use Rattle.run_record.specs.Texts.{text_of}
+use Rattle.run_record.specs.Texts.{fault_said}
 use Rattle.run_record.specs.declared.fault.RunFault.{RunFault}
 use Rattle.run_record.specs.declared.fault.RunFault.TheVariants.{Nothing, Found}
 
@@ -12,4 +12,4 @@ has_text fault = true
 
 -- the text with a line end, where there is one
 abbrev pub told_text : RunFault → List ℕ
-told_text fault = if has_text fault then text_of fault ++ 10 ∷ [] else []
+told_text fault = if has_text fault then fault_said fault ++ 10 ∷ [] else []

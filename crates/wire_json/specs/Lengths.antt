@@ -2,8 +2,8 @@
 use Rattle.std.specs.Prelude.{ℕ, ◌+◌, ◌*◌, ◌<◌, ◌≤◌, ◌^◌, length}
 use Rattle.serde_json.specs.Written.{compact_text}
 use Rattle.wf_names.specs.Table.{AreNames}
-use Rattle.refutation_tree.specs.Shapes.{Shape, Kids, holder, rule, node, no_kids, tree_kid}
-use Rattle.refutation_tree.specs.Shapes.{twin_kid, nodes_of}
+use Rattle.refutation_tree.specs.Tree.{Shape, Kids, holder, rule, node, no_kids, tree_kid}
+use Rattle.refutation_tree.specs.Tree.{twin_kid, nodes_of}
 use Rattle.policy_book.specs.Shapes.{PolicyShape}
 use Rattle.policy_book.specs.Policies.{flow_at}
 use Rattle.wire_json.specs.Trees.{tree_data}

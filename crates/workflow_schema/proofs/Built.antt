@@ -7,7 +7,7 @@ use Rattle.pair_set.specs.Pairs.{Pairs, pair_cmp}
 use Rattle.wf_names.specs.declared.limits.TheConstants.{ROLE_LIMIT, STEP_LIMIT}
 use Rattle.workflow_schema.specs.Tables.{table_has, leads}
 use Rattle.workflow_schema.specs.Flows.{Precedes, is_before, is_count, IsLeastCycle}
-use Rattle.workflow_schema.specs.Stored.{IsStored}
+use Rattle.workflow_schema.specs.Stored.{IsStoredFlow}
 use Rattle.basics.proofs.Booleans.{or_cases, and_both, and_from, eq_back, lt_back, lt_back_no, lt_yes, le_yes}
 use Rattle.workflow_schema.proofs.Chains.{before_is_chain, chain_is_before}
 use Rattle.workflow_schema.proofs.PairLists.{contains-one_more}
@@ -73,7 +73,7 @@ pub built_flow :
     ((s : ℕ) → table_has later s s ≡ false) →
     ((s r : ℕ) → table_has roles s r ≡ set.contains (set.from_list {R = pair_cmp} permits) (r, s)) →
     length roles ≡ STEP_LIMIT →
-    IsStored steps (set.from_list order) later roles
+    IsStoredFlow steps (set.from_list order) later roles
 built_flow steps order permits later roles count orders_in permits_in closed none same whole = record {
   flow = record {
     counted = count;

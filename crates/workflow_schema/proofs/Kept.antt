@@ -6,7 +6,7 @@ use Rattle.pair_set.specs.Pairs.{Pairs}
 use Rattle.wf_names.specs.declared.limits.TheConstants.{ROLE_LIMIT, STEP_LIMIT}
 use Rattle.workflow_schema.specs.Tables.{table_has}
 use Rattle.workflow_schema.specs.Flows.{FlowShape, Precedes, is_before, is_count, IsFlow}
-use Rattle.workflow_schema.specs.Stored.{IsStored}
+use Rattle.workflow_schema.specs.Stored.{IsStoredFlow}
 use Rattle.basics.proofs.Booleans.{or_cases, and_both, eq_back, le_back}
 use Rattle.workflow_schema.proofs.Chains.{before_is_chain, chain_is_before}
 use Rattle.workflow_schema.proofs.Permits.{permitted_by-has}
@@ -24,9 +24,9 @@ tells_chains f s t answer kept is =
     (λ h. before_is_chain f.order s t (sym is ∙ h), λ r. is ∙ chain_is_before f.order s t below r)
 
 pub keeps_permitted :
-    (steps : List (List ℕ)) (order : Pairs) (later old rows : List ℕ) (r s : ℕ) → IsStored steps order later old →
+    (steps : List (List ℕ)) (order : Pairs) (later old rows : List ℕ) (r s : ℕ) → IsStoredFlow steps order later old →
     ((a b : ℕ) → table_has rows a b ≡ ((nat_eq a s && nat_eq b r) || table_has old a b)) →
-    r < ROLE_LIMIT → s < length steps → length rows ≡ length old → IsStored steps order later rows
+    r < ROLE_LIMIT → s < length steps → length rows ≡ length old → IsStoredFlow steps order later rows
 keeps_permitted steps order later old rows r s kept h role step whole = record {
   flow = record {
     counted = kept.flow.counted;
@@ -49,9 +49,9 @@ keeps_permitted steps order later old rows r s kept h role step whole = record {
 }
 
 pub keeps_forbidden :
-    (steps : List (List ℕ)) (order : Pairs) (later old rows : List ℕ) (r s : ℕ) → IsStored steps order later old →
+    (steps : List (List ℕ)) (order : Pairs) (later old rows : List ℕ) (r s : ℕ) → IsStoredFlow steps order later old →
     ((a b : ℕ) → table_has rows a b ≡ (not (nat_eq a s && nat_eq b r) && table_has old a b)) →
-    length rows ≡ length old → IsStored steps order later rows
+    length rows ≡ length old → IsStoredFlow steps order later rows
 keeps_forbidden steps order later old rows r s kept h whole = record {
   flow = record {
     counted = kept.flow.counted;

@@ -17,7 +17,7 @@ IsChained = (f : FlowShape) (s t u : ℕ) → Precedes f.order s t → Precedes 
     Precedes f.order s u
 
 -- the same of any pairs of steps below the limit, be they an order or not
-abbrev pub IsDecided : Type 0
-IsDecided = (pairs : Pairs) (s t : ℕ) →
+abbrev pub OrderIsDecided : Type 0
+OrderIsDecided = (pairs : Pairs) (s t : ℕ) →
     ((a b : ℕ) → set.contains pairs (a, b) ≡ true → b < STEP_LIMIT) →
     IsTrue (is_before pairs s t) ↔ Precedes pairs s t

@@ -6,7 +6,8 @@ use Rattle.workflow_schema.specs.Tables.{table_has, permitted_by}
 use Rattle.workflow_schema.specs.Flows.{IsFlow, is_before}
 
 -- the tables are those of a workflow, and the order's table is closed
-pub record IsStored (steps : List (List ℕ)) (order : Pairs) (later roles : List ℕ) : Type 0 where
+pub record IsStoredFlow (steps : List (List ℕ)) (order : Pairs) (later roles : List ℕ) : Type
+    0 where
   pub flow : IsFlow (record { steps = steps; order = order; permits = permitted_by roles })
   pub closed : (s t : ℕ) → table_has later s t ≡ is_before order s t
   pub rows : length roles ≡ STEP_LIMIT

@@ -10,8 +10,8 @@ ghost use Rattle.workflow_schema.specs.Flows.{Precedes};
 use crate::FlowFault;
 use crate::lists::{order_set, order_table, permit_table};
 use crate::table::{clear_flag, close, first_own_flag, has_flag, set_flag};
+use basics::Shared;
 use pair_set::PairSet;
-use shared_part::Shared;
 use std::alloc::{AllocError, Global};
 use std::marker::Model;
 use wf_names::{NameTable, RoleId, STEP_LIMIT, StepId};
@@ -41,7 +41,7 @@ impl Model for Flow {
     ghost coded = { flow_code };
 
     ghost use Rattle.workflow_schema.specs.Tables.{permitted_by};
-    ghost use Rattle.workflow_schema.specs.Stored.{IsStored};
+    ghost use Rattle.workflow_schema.specs.Stored.{IsStoredFlow};
 
     ghost view = { λ f. record {
       steps = f.frame.steps.names;
@@ -50,7 +50,7 @@ impl Model for Flow {
           permitted_by f.roles;
     } };
 
-    ghost invariant = { λ f. IsStored f.frame.steps.names f.frame.order f.frame.later f.roles };
+    ghost invariant = { λ f. IsStoredFlow f.frame.steps.names f.frame.order f.frame.later f.roles };
 }
 
 impl Flow {

@@ -9,7 +9,7 @@ use Rattle.basics.proofs.Booleans.{and-false, and_both, eq_back, eq_is, lt_back,
 use Rattle.wf_names.specs.declared.limits.TheConstants.{STEP_LIMIT}
 use Rattle.constraint_forms.specs.declared.rule.Rule.{Rule}
 use Rattle.constraint_forms.specs.Flags.{word_of}
-use Rattle.constraint_forms.specs.Assigned.{is_member, no_steps, user_at}
+use Rattle.constraint_forms.specs.Assign.{is_member, no_steps, user_at}
 use Rattle.constraint_forms.specs.Rules.{any_read, reads}
 use Rattle.constraint_forms.proofs.Reading.{all_as_each, each_read, some_read}
 use Rattle.constraint_forms.proofs.Members.{none_member}
@@ -19,7 +19,7 @@ use Rattle.policy_book.specs.Twins.{treats_alike}
 use Rattle.certificate_check.proofs.Below.{all_pass, one_fails, same_agree}
 use Rattle.certificate_check.proofs.TwinLaws.{mean_twins, twins_chain, twins_mean, twins_turned}
 use Rattle.certificate_check.proofs.Assigned.{given}
-use Rattle.wsp_solver.specs.Crews.{AreDuties, AreFirstTwins, IsFirstTwin, duties_below, duties_of, is_told_apart, reads_as, tells_apart}
+use Rattle.wsp_solver.specs.Crews.{AreDutiesBelow, AreFirstTwins, IsFirstTwin, duties_below, duties_of, is_told_apart, reads_as, tells_apart}
 use Rattle.wsp_solver.proofs.Members.{length_set, member_added, passing_more}
 
 -- ---- steps
@@ -64,7 +64,7 @@ duties-same p u v (suc n) same =
     ∙ ap (λ d. if p.authorised n v then slice_set d n true else d) (duties-same p u v n (λ s below. same s (omega (arith, below))))
 
 -- users with different steps are no twins
-pub apart_by_duties : (p : Problem) (duties : List (List Bool)) (u v : ℕ) → u < p.users → v < p.users → AreDuties p duties →
+pub apart_by_duties : (p : Problem) (duties : List (List Bool)) (u v : ℕ) → u < p.users → v < p.users → AreDutiesBelow p duties →
     duties_of duties u ≢ duties_of duties v → are_twins p [] u v ≡ false
 apart_by_duties p duties u v u_in v_in right differ =
     not_true (are_twins p [] u v) (λ twins. differ (right u u_in ∙ duties-same p u v p.steps (twins_mean p [] u v twins).steps ∙ sym (right v v_in)))
@@ -103,7 +103,7 @@ twins_own p u = mean_twins p [] u u (record {
     none_some u e = cc
 
 -- users with the same steps are twins exactly where each relation treats them alike
-pub alike_by_duties : (p : Problem) (duties : List (List Bool)) (u v : ℕ) → u < p.users → v < p.users → p.steps ≤ STEP_LIMIT → AreDuties p duties →
+pub alike_by_duties : (p : Problem) (duties : List (List Bool)) (u v : ℕ) → u < p.users → v < p.users → p.steps ≤ STEP_LIMIT → AreDutiesBelow p duties →
     word_of (duties_of duties u) ≡ word_of (duties_of duties v) → are_twins p [] u v ≡ are_related_alike p u v
 alike_by_duties p duties u v u_in v_in few right one =
     let long : (w : ℕ) → w < p.users → length (duties_of duties w) ≡ STEP_LIMIT = λ w w_in. ap length (right w w_in) ∙

@@ -4,9 +4,9 @@ use Rattle.std.proofs.Common.{[], ◌∷◌, length, slice_set, ◌⊎◌, inl, 
 use Rattle.std.proofs.lemmas.Bool.Decides.{eqb_tells, leb_tells}
 use Rattle.std.proofs.lemmas.List.{get_or-set_same, get_or-set_other, length-set}
 use Rattle.constraint_forms.specs.declared.rule.Rule.{Rule}
-use Rattle.constraint_forms.specs.Assigned.{is_member}
+use Rattle.constraint_forms.specs.Assign.{is_member}
 use Rattle.basics.proofs.Booleans.{and-false, lt_no, lt_yes, or-false}
-use Rattle.refutation_tree.specs.Shapes.{Shape, Kids, no_kids, tree_kid, twin_kid, joined}
+use Rattle.refutation_tree.specs.Tree.{Shape, Kids, no_kids, tree_kid, twin_kid, joined}
 use Rattle.policy_book.specs.Refuting.{mentions, any_mentions}
 use Rattle.wsp_solver.specs.Searches.{AreMentioned, AreMentionedIn}
 

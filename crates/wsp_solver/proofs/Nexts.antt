@@ -3,12 +3,12 @@ use Rattle.std.proofs.Common.{◌≡◌, ℕ, zero, suc, ◌+◌, ◌-◌, ◌<�
 use Rattle.std.proofs.lemmas.Bool.{cases_eq, cases_lt, false≢true}
 use Rattle.basics.proofs.Booleans.{eq_same}
 use Rattle.constraint_forms.specs.Flags.{word_of}
-use Rattle.refutation_tree.specs.Shapes.{Kids, no_kids, tree_kid, twin_kid}
+use Rattle.refutation_tree.specs.Tree.{Kids, no_kids, tree_kid, twin_kid}
 use Rattle.policy_book.specs.Plans.{Problem}
 use Rattle.policy_book.specs.Refuting.{have_users, passing}
 use Rattle.policy_book.specs.Twins.{are_twins}
 use Rattle.certificate_check.specs.Walks.{AreUsersBelow}
-use Rattle.wsp_solver.specs.Crews.{AreDuties, duties_of, has_steps}
+use Rattle.wsp_solver.specs.Crews.{AreDutiesBelow, duties_of, has_steps}
 use Rattle.wsp_solver.specs.Searches.{AreOfUsersBelow}
 use Rattle.wsp_solver.proofs.Crews.{apart_by_duties}
 use Rattle.wsp_solver.proofs.Searching.{users_skip, users_end}
@@ -22,7 +22,7 @@ none_more test k n m before here same w from below = elim (cases_eq w n) [
 ]
 
 -- a user who has other steps is no twin
-pub none_between : (p : Problem) (duties : List (List Bool)) (steps : List Bool) (u from v : ℕ) → AreDuties p duties → u < p.users → v ≤ u →
+pub none_between : (p : Problem) (duties : List (List Bool)) (steps : List Bool) (u from v : ℕ) → AreDutiesBelow p duties → u < p.users → v ≤ u →
     steps ≡ duties_of duties u
     → ((w : ℕ) → 0 ≤ w → w < from → are_twins p [] w u ≡ false) → ((w : ℕ) → from ≤ w → w < v → has_steps duties steps w ≡ false)
     → (w : ℕ) → 0 ≤ w → w < v → are_twins p [] w u ≡ false

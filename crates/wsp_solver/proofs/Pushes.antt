@@ -3,7 +3,7 @@ use Rattle.std.proofs.Common.{◌≡◌, refl, ap, ◌∙◌, ℕ, ◌+◌, ◌-
 use Rattle.std.proofs.Common.{arith}
 use Rattle.std.proofs.lemmas.Bool.{and_from}
 use Rattle.basics.proofs.Booleans.{and_both}
-use Rattle.refutation_tree.specs.Shapes.{Shape, Kids, no_kids, tree_kid, twin_kid, joined, nodes_of, nodes_of_kids}
+use Rattle.refutation_tree.specs.Tree.{Shape, Kids, no_kids, tree_kid, twin_kid, joined, nodes_of, nodes_of_kids}
 use Rattle.refutation_tree.proofs.ShapeLaws.{joined-assoc}
 use Rattle.policy_book.specs.Plans.{Problem}
 use Rattle.policy_book.specs.Twins.{are_twins, has_twin, is_one_of}
@@ -12,7 +12,7 @@ use Rattle.policy_book.specs.Lean.{is_lean, are_lean}
 use Rattle.certificate_check.specs.Walks.{AreUsersBelow}
 use Rattle.policy_book.proofs.Passing.{passing_at}
 use Rattle.wsp_solver.specs.Searches.{AreOfUsersBelow}
-use Rattle.wsp_solver.specs.Trims.{kid_users}
+use Rattle.wsp_solver.specs.Lean.{kid_users}
 
 -- ---- users
 

@@ -7,9 +7,9 @@ use Rattle.std.proofs.lemmas.Option.{slice_get_past}
 use Rattle.basics.proofs.Booleans.{and-false, bool_cases, second_false}
 use Rattle.constraint_forms.specs.declared.rule.Rule.{Rule}
 use Rattle.constraint_forms.specs.Rules.{names}
-use Rattle.constraint_forms.specs.Assigned.{user_at, planned, is_member}
+use Rattle.constraint_forms.specs.Assign.{user_at, planned, is_member}
 use Rattle.constraint_forms.proofs.RuleLaws.{totals_decide, falsified_by_named}
-use Rattle.refutation_tree.specs.Shapes.{Kids, no_kids}
+use Rattle.refutation_tree.specs.Tree.{Kids, no_kids}
 use Rattle.refutation_tree.proofs.ShapeLaws.{joined-none}
 use Rattle.policy_book.specs.Plans.{Problem, IsValidPlan, IsWellFormed, IsWithin}
 use Rattle.policy_book.specs.Refuting.{have_users, passing, is_misheld, is_broken, is_rule_naming}

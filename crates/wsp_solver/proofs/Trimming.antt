@@ -4,8 +4,8 @@ use Rattle.std.proofs.Common.{drop, Option, Some, slice_set, ◌⊎◌, inl, inr
 use Rattle.std.proofs.lemmas.Bool.{and_from}
 use Rattle.std.proofs.lemmas.List.{drop_all}
 use Rattle.basics.proofs.Booleans.{and_both, differ, or_cases, or_left, or_right}
-use Rattle.constraint_forms.specs.Assigned.{is_member}
-use Rattle.refutation_tree.specs.Shapes.{Shape, Kids, holder, rule, node, no_kids, tree_kid, twin_kid, joined, nodes_of, nodes_of_kids}
+use Rattle.constraint_forms.specs.Assign.{is_member}
+use Rattle.refutation_tree.specs.Tree.{Shape, Kids, holder, rule, node, no_kids, tree_kid, twin_kid, joined, nodes_of, nodes_of_kids}
 use Rattle.refutation_tree.specs.Views.{branch_onto, kid_onto, kids_of_items, shape_of}
 use Rattle.refutation_tree.specs.declared.tree.Branch.{Branch}
 use Rattle.refutation_tree.specs.declared.tree.Kid.{Kid}
@@ -19,7 +19,7 @@ use Rattle.policy_book.specs.Lean.{is_lean, are_lean}
 use Rattle.certificate_check.specs.Walks.{AreUsersBelow, tree_users, user_onto}
 use Rattle.certificate_check.proofs.Trees.{one_of_all, one_of_more, passing_below, refutes_at, tree_user_below}
 use Rattle.wsp_solver.specs.Searches.{AreMentioned, AreMentionedIn}
-use Rattle.wsp_solver.specs.Trims.{kid_users}
+use Rattle.wsp_solver.specs.Lean.{kid_users}
 use Rattle.wsp_solver.proofs.Members.{mentioned_push, mentioned_push_twin}
 use Rattle.wsp_solver.proofs.Pushes.{below_push, below_push_twin, lean_push, lean_push_twin, nodes_push, nodes_push_twin, refute_push, refute_push_twin}
 use Rattle.wsp_solver.proofs.Pushes.{tree_users_push, tree_users_push_twin}

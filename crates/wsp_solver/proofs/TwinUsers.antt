@@ -3,7 +3,7 @@ use Rattle.std.proofs.Common.{◌≡◌, refl, sym, ap, subst, ◌∙◌, ℕ, z
 use Rattle.std.proofs.Common.{if◌then◌else◌, ◌⊎◌, inl, inr, arith}
 use Rattle.std.proofs.lemmas.Bool.{false≢true}
 use Rattle.basics.proofs.Booleans.{and_both, eq_back, eq_is, not_true, or-false, or_cases, or_left, or_right}
-use Rattle.refutation_tree.specs.Shapes.{Shape, Kids, no_kids, tree_kid, twin_kid, joined}
+use Rattle.refutation_tree.specs.Tree.{Shape, Kids, no_kids, tree_kid, twin_kid, joined}
 use Rattle.refutation_tree.specs.Views.{kid_onto, kids_of_items}
 use Rattle.refutation_tree.specs.declared.tree.Branch.{Branch}
 use Rattle.refutation_tree.specs.declared.tree.Kid.{Kid}
@@ -16,7 +16,7 @@ use Rattle.certificate_check.proofs.Assigned.{either}
 use Rattle.certificate_check.proofs.TwinLaws.{twins_chain}
 use Rattle.wsp_solver.specs.Crews.{IsFirstTwin}
 use Rattle.wsp_solver.proofs.Crews.{twins_turned_same}
-use Rattle.wsp_solver.specs.Trims.{kid_users}
+use Rattle.wsp_solver.specs.Lean.{kid_users}
 
 -- branches as they are kept, and as pure data
 pub kid_users-items : (bs : List Branch) (users : List ℕ) → kid_users users (kids_of_items bs) ≡ tree_users users bs

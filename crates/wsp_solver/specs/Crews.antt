@@ -3,13 +3,13 @@ use Rattle.std.specs.Prelude.{◌≡◌, ℕ, ◌<◌, ◌≤◌, ◌+◌, Bool,
 use Rattle.std.specs.Prelude.{nat_lt, List, [], length, Option, None, Some, slice_index_or}
 use Rattle.wf_names.specs.declared.limits.TheConstants.{STEP_LIMIT}
 use Rattle.constraint_forms.specs.declared.rule.Rule.{Rule}
-use Rattle.constraint_forms.specs.Assigned.{no_steps}
+use Rattle.constraint_forms.specs.Assign.{no_steps}
 use Rattle.constraint_forms.specs.Flags.{word_of}
 use Rattle.constraint_forms.specs.Rules.{all_read, any_read, reads}
 use Rattle.policy_book.specs.Duties.{steps_below}
 use Rattle.policy_book.specs.Plans.{Problem}
 use Rattle.policy_book.specs.Twins.{are_twins, is_alike_to}
-use Rattle.wsp_solver.specs.Searches.{AreNamed}
+use Rattle.wsp_solver.specs.Searches.{NamesSteps}
 use Rattle.wsp_solver.specs.declared.crew.Crew.{Crew}
 
 -- the steps below n for which a user is authorised
@@ -21,8 +21,8 @@ abbrev pub duties_of : List (List Bool) → ℕ → List Bool
 duties_of duties u = slice_index_or duties u no_steps
 
 -- a table has the steps for which each user is authorised
-abbrev pub AreDuties : Problem → List (List Bool) → Type 0
-AreDuties p duties = (u : ℕ) → u < p.users → duties_of duties u ≡ duties_below p u p.steps
+abbrev pub AreDutiesBelow : Problem → List (List Bool) → Type 0
+AreDutiesBelow p duties = (u : ℕ) → u < p.users → duties_of duties u ≡ duties_below p u p.steps
 
 -- a user has certain steps in a table
 abbrev pub has_steps : List (List Bool) → List Bool → ℕ → Bool
@@ -53,9 +53,9 @@ AreFirstTwins p classes = (u first : ℕ) → class_in classes u ≡ Some first 
 -- what a search knows of each user is right
 pub record IsCrewOf (p : Problem) (crew : Crew) : Type 0 where
   pub few : p.steps ≤ STEP_LIMIT
-  pub duties : AreDuties p crew.duties.items
+  pub duties : AreDutiesBelow p crew.duties.items
   pub classes : AreFirstTwins p crew.classes.items
-  pub named : AreNamed p crew.named.items
+  pub named : NamesSteps p crew.named.items
 
 -- a relation treats two users differently at a third one
 abbrev pub tells_apart : (ℕ → ℕ → Bool) → ℕ → ℕ → ℕ → Bool

@@ -1,3 +1,3 @@
 pub mod Crews
 pub mod Searches
-pub mod Trims
+pub mod Lean

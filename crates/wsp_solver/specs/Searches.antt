@@ -2,8 +2,8 @@
 use Rattle.std.specs.Prelude.{◌≡◌, ℕ, zero, suc, ◌+◌, ◌-◌, ◌<◌, ◌≤◌, Bool, false, List, Option}
 use Rattle.std.specs.Prelude.{Some, is_some, if◌then◌else◌, IsTrue, length, slice_get}
 use Rattle.std.specs.Prelude.{slice_index_or}
-use Rattle.constraint_forms.specs.Assigned.{user_at, planned, is_member, no_steps}
-use Rattle.refutation_tree.specs.Shapes.{Shape, Kids, holder, rule, joined, nodes_of}
+use Rattle.constraint_forms.specs.Assign.{user_at, planned, is_member, no_steps}
+use Rattle.refutation_tree.specs.Tree.{Shape, Kids, holder, rule, joined, nodes_of}
 use Rattle.refutation_tree.specs.Views.{shape_of}
 use Rattle.policy_book.specs.Plans.{Problem, IsValidPlan}
 use Rattle.policy_book.specs.Refuting.{refutes, have_users, is_rule_naming, passing, mentions}
@@ -29,17 +29,17 @@ HasSolved p assigned finished (Plan plan) = IsValidPlan p assigned finished plan
 HasSolved p assigned finished (Refuted tree) = IsLeanRefutation p assigned finished tree
 
 -- a tree has at most so many leaves and nodes
-abbrev pub HasRoom : ℕ → Outcome → Type 0
-HasRoom most (Plan plan) = Unit {0}
-HasRoom most (Refuted tree) = nodes_of (shape_of tree) ≤ most
+abbrev pub FitsRoom : ℕ → Outcome → Type 0
+FitsRoom most (Plan plan) = Unit {0}
+FitsRoom most (Refuted tree) = nodes_of (shape_of tree) ≤ most
 
 -- a set has the steps that a tree mentions, and no other
 abbrev pub AreMentioned : List Rule → Shape → List Bool → Type 0
 AreMentioned rules tree steps = (s : ℕ) → mentions rules s tree ≡ is_member steps s
 
 -- a table has the steps that each rule names
-abbrev pub AreNamed : Problem → List (List Bool) → Type 0
-AreNamed p named = (k : ℕ) → k < length named →
+abbrev pub NamesSteps : Problem → List (List Bool) → Type 0
+NamesSteps p named = (k : ℕ) → k < length named →
     AreMentioned p.rules (rule k) (slice_index_or named k no_steps)
 
 -- a set has the steps that some branch mentions, and no other

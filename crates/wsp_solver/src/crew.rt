@@ -6,10 +6,10 @@ ghost use Rattle.policy_book.specs.Policies.{problem_of};
 ghost use Rattle.constraint_forms.specs.Rules.{all_read, any_read, reads};
 ghost use Rattle.policy_book.specs.Twins.{agree, all_below, are_related_alike, are_twins};
 ghost use Rattle.policy_book.specs.Twins.{is_alike_to, is_rule_alike, treats_alike};
-ghost use Rattle.wsp_solver.specs.Crews.{AreDuties, AreFirstTwins, IsCrewOf, IsFirstTwin};
+ghost use Rattle.wsp_solver.specs.Crews.{AreDutiesBelow, AreFirstTwins, IsCrewOf, IsFirstTwin};
 ghost use Rattle.wsp_solver.specs.Crews.{IsNextWith, class_in, duties_below, duties_of, has_steps};
 ghost use Rattle.wsp_solver.specs.Crews.{is_told_apart, reads_as, tells_apart};
-ghost use Rattle.wsp_solver.specs.Searches.{AreNamed};
+ghost use Rattle.wsp_solver.specs.Searches.{NamesSteps};
 
 use crate::leaf::steps_of_rule;
 use crate::steps::step_count;
@@ -50,7 +50,7 @@ impl Crew {
 
 fn all_named(alloc: Global, p: &Policy, f: FlowId) -> Result<Vec<StepSet>, AllocError>
     requires flow { f < length p.now.flows }
-    ensures { IfOk result (λ named. AreNamed (problem_of p.now f) named.items) }
+    ensures { IfOk result (λ named. NamesSteps (problem_of p.now f) named.items) }
 {
     let mut named = Vec::new(alloc);
     'rules: for k in 0..p.rules(f).len() {
@@ -61,7 +61,7 @@ fn all_named(alloc: Global, p: &Policy, f: FlowId) -> Result<Vec<StepSet>, Alloc
 
 fn all_duties(alloc: Global, p: &Policy, f: FlowId) -> Result<Vec<StepSet>, AllocError>
     requires flow { f < length p.now.flows }
-    ensures { IfOk result (λ rows. AreDuties (problem_of p.now f) rows.items) }
+    ensures { IfOk result (λ rows. AreDutiesBelow (problem_of p.now f) rows.items) }
 {
     let mut rows = Vec::new(alloc);
     'users: for u in 0..p.roster().users().len() {
@@ -133,7 +133,7 @@ fn class_in(classes: &[Option<UserId>], u: UserId) -> Option<UserId>
 fn find_twin(p: &Policy, f: FlowId, finder: &mut Finder, duties: &[StepSet], u: UserId) -> UserId
     requires flow { f < length p.now.flows }
     requires user { u < (problem_of p.now f).users }
-    requires duties { AreDuties (problem_of p.now f) duties.now }
+    requires duties { AreDutiesBelow (problem_of p.now f) duties.now }
     ensures { IsFirstTwin (problem_of p.now f) u result }
 {
     let end = u.0;
@@ -183,7 +183,7 @@ fn are_alike(
     v: UserId,
 ) -> bool
     requires flow { f < length p.now.flows }
-    requires duties { AreDuties (problem_of p.now f) duties.now }
+    requires duties { AreDutiesBelow (problem_of p.now f) duties.now }
     requires first { u < (problem_of p.now f).users }
     requires second { v < (problem_of p.now f).users }
     ensures { result ≡ are_twins (problem_of p.now f) [] u v }

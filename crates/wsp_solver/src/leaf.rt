@@ -3,14 +3,14 @@ ghost use Rattle.std.specs.Prelude.{◌≡◌, ◌<◌, ◌≤◌, ◌&&◌, ℕ
 ghost use Rattle.std.specs.Prelude.{IfSome, IsTrue, MatchOption};
 ghost use Rattle.wf_names.specs.declared.limits.TheConstants.{STEP_LIMIT};
 ghost use Rattle.constraint_forms.specs.declared.rule.Rule.{Rule as AnyRule};
-ghost use Rattle.refutation_tree.specs.Shapes.{holder, rule};
+ghost use Rattle.refutation_tree.specs.Tree.{holder, rule};
 ghost use Rattle.refutation_tree.specs.Views.{shape_of};
 ghost use Rattle.policy_book.specs.Plans.{IsWellFormed, IsWithin};
 ghost use Rattle.policy_book.specs.Policies.{problem_of};
 ghost use Rattle.policy_book.specs.Refuting.{is_rule_naming, refutes};
 ghost use Rattle.policy_book.specs.Lean.{is_lean};
 ghost use Rattle.wsp_solver.specs.Crews.{IsCrewOf};
-ghost use Rattle.wsp_solver.specs.Searches.{AreMentioned, AreNamed, IsRefutation, NoLeafRefutes};
+ghost use Rattle.wsp_solver.specs.Searches.{AreMentioned, NamesSteps, IsRefutation, NoLeafRefutes};
 ghost use Rattle.wsp_solver.specs.Searches.{NoLeafRefutesWithout};
 
 use crate::crew::Crew;
@@ -74,7 +74,7 @@ pub(crate) fn leaf_of_rule(p: &Policy, f: FlowId, crew: &Crew, k: u8) -> Refutat
 // The steps that a rule names, by a table.
 fn named_by(p: &Policy, f: FlowId, named: &[StepSet], k: u8) -> StepSet
     requires flow { f < length p.now.flows }
-    requires named { AreNamed (problem_of p.now f) named.now }
+    requires named { NamesSteps (problem_of p.now f) named.now }
     ensures { AreMentioned (problem_of p.now f).rules (rule k) result }
 {
     match named.get(k as usize) {

@@ -1,14 +1,14 @@
 //! Trees without the branches that are not needed.
 ghost use Rattle.std.specs.Prelude.{◌≡◌, ◌<◌, ◌≤◌, [], length, IfOk, IsTrue};
 ghost use Rattle.wf_names.specs.declared.limits.TheConstants.{STEP_LIMIT};
-ghost use Rattle.refutation_tree.specs.Shapes.{node};
+ghost use Rattle.refutation_tree.specs.Tree.{node};
 ghost use Rattle.refutation_tree.specs.Views.{kids_of_items, shape_of};
 ghost use Rattle.policy_book.specs.Plans.{IsWithin};
 ghost use Rattle.policy_book.specs.Policies.{problem_of};
 ghost use Rattle.policy_book.specs.Refuting.{all_refute, authorised_users, have_users};
 ghost use Rattle.policy_book.specs.Refuting.{is_unassigned, refutes};
 ghost use Rattle.wsp_solver.specs.Crews.{IsCrewOf};
-ghost use Rattle.wsp_solver.specs.Trims.{IsTrimmed, IsTrimming};
+ghost use Rattle.wsp_solver.specs.Lean.{IsTrimmed, IsTrimming};
 
 use crate::crew::{Crew, know_class};
 use crate::leaf::{Refutation, held_wrongly, leaf_of_rule};

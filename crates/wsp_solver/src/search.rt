@@ -5,7 +5,7 @@ ghost use Rattle.policy_book.specs.Plans.{AreAssigned, IsWithin};
 ghost use Rattle.policy_book.specs.Policies.{problem_of};
 ghost use Rattle.policy_book.specs.Refuting.{is_unassigned};
 ghost use Rattle.wsp_solver.specs.Crews.{IsCrewOf};
-ghost use Rattle.wsp_solver.specs.Searches.{HasDecided, HasRoom, HasSolved, HasSearched};
+ghost use Rattle.wsp_solver.specs.Searches.{HasDecided, FitsRoom, HasSolved, HasSearched};
 ghost use Rattle.wsp_solver.specs.Searches.{NoLeafRefutes, NoLeafRefutesWithout};
 
 use crate::crew::{Crew, know_class};
@@ -83,7 +83,7 @@ pub fn solve_within(
     requires within { IsWithin (problem_of p.now f) a.now }
     requires assigned { AreAssigned done.now a.now }
     ensures solved { IfOk result (HasSolved (problem_of p.now f) a.now done.now) }
-    ensures room { IfOk result (HasRoom branches) }
+    ensures room { IfOk result (FitsRoom branches) }
 {
     let searched = match decided(alloc, p, f, a, done, branches, true) {
         Ok(searched) => searched,

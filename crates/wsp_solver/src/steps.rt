@@ -1,7 +1,7 @@
 //! Steps and sets of steps.
 ghost use Rattle.std.specs.Prelude.{◌≡◌, ◌<◌, ◌≤◌, length, ◌||◌, ◌&&◌, ◌==◌, ℕ, nat_lt, true};
 ghost use Rattle.std.specs.Prelude.{slice_set, if◌then◌else◌};
-ghost use Rattle.constraint_forms.specs.Assigned.{is_member};
+ghost use Rattle.constraint_forms.specs.Assign.{is_member};
 ghost use Rattle.constraint_forms.specs.Rules.{names};
 ghost use Rattle.policy_book.specs.Policies.{problem_of};
 ghost use Rattle.wf_names.specs.declared.limits.TheConstants.{STEP_LIMIT};

@@ -1,13 +1,13 @@
 //! Twins among the branches of a node.
 ghost use Rattle.std.specs.Prelude.{◌≡◌, ◌<◌, [], length, true, false, IsTrue, MatchOption};
 ghost use Rattle.wf_names.specs.declared.limits.TheConstants.{STEP_LIMIT};
-ghost use Rattle.constraint_forms.specs.Assigned.{user_at};
+ghost use Rattle.constraint_forms.specs.Assign.{user_at};
 ghost use Rattle.policy_book.specs.Policies.{problem_of};
 ghost use Rattle.policy_book.specs.Twins.{are_twins, has_no_step, has_twin, is_given_to, is_one_of};
 ghost use Rattle.certificate_check.specs.Walks.{AreUsersBelow, user_onto};
 ghost use Rattle.refutation_tree.specs.Views.{kids_of_items};
 ghost use Rattle.wsp_solver.specs.Crews.{IsCrewOf};
-ghost use Rattle.wsp_solver.specs.Trims.{kid_users};
+ghost use Rattle.wsp_solver.specs.Lean.{kid_users};
 
 use crate::crew::{Crew, first_twin};
 use plan_finder::Finder;

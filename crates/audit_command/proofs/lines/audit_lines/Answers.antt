@@ -1,5 +1,5 @@
 use Rattle.std.proofs.Common.{length, Ok, refl, sym, ap, arith}
-use Rattle.line_reader.specs.Lines.{pending}
+use Rattle.line_reader.specs.Reader.{pending}
 use Rattle.audit_command.proofs.Passing.{audit_begins, steps_found, taken_on}
 use Rattle.audit_command.proofs.lines.audit_lines.Goals as goal
 

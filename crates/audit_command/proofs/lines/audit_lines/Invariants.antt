@@ -1,6 +1,6 @@
 use Rattle.std.proofs.Common.{◌≡◌, ◌≤◌, ◌-◌, length}
 use Rattle.wf_names.specs.declared.limits.TheConstants.{SESSION_LINE_LIMIT}
-use Rattle.line_reader.specs.Lines.{pending}
+use Rattle.line_reader.specs.Reader.{pending}
 use Rattle.audit_command.specs.Lines.{IsAtLine, ReadsLines}
 use Rattle.audit_command.specs.Steps.{HasAudited}
 use Rattle.audit_command.proofs.lines.audit_lines.Given as goal

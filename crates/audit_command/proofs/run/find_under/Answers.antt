@@ -2,8 +2,8 @@ use Rattle.std.proofs.Common.{subst}
 use Rattle.std.specs.Prelude.{IfOk}
 use Rattle.run_record.specs.Fault.{fault_in}
 use Rattle.run_record.specs.declared.fault.RunFault.TheVariants.{NoMemory}
-use Rattle.transcript_audit.specs.Audits.{AuditShape}
-use Rattle.audit_command.specs.Auditing.{HasFound}
+use Rattle.transcript_audit.specs.Auditor.{AuditShape}
+use Rattle.audit_command.specs.Finding.{HasFound}
 use Rattle.audit_command.proofs.Endings.{loads_end, reads_end}
 use Rattle.audit_command.proofs.Loaded.{finds_under, jobs_there, no_jobs}
 use Rattle.audit_command.proofs.Runs.{unread_after}

@@ -2,10 +2,10 @@ use Rattle.std.proofs.Common.{sym, ap, ◌∙◌}
 use Rattle.wf_outside.specs.Outside.{with_bytes}
 use Rattle.wf_outside.proofs.OutsideLaws.{nothing_put}
 use Rattle.audit_command.specs.declared.finding.Finding.{Finding}
-use Rattle.audit_command.specs.Auditing.{text_of}
+use Rattle.audit_command.specs.Finding.{finding_text}
 use Rattle.audit_command.proofs.run.tell.Goals as goal
 
 pub returns-in-TooLong-clause-told : goal.returns-in-TooLong-clause-told
 returns-in-TooLong-clause-told g c =
     let held = g.K.Sink.held c.args.sink.now in
-    sym (ap (λ (f : Finding). with_bytes held (text_of f)) c.in-TooLong.is ∙ nothing_put held)
+    sym (ap (λ (f : Finding). with_bytes held (finding_text f)) c.in-TooLong.is ∙ nothing_put held)

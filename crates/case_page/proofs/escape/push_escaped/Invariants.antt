@@ -1,6 +1,6 @@
 use Rattle.std.proofs.Common.{◌≡◌, ◌++◌, flat_map}
 use Rattle.std.specs.Prelude.{string_bytes}
-use Rattle.case_page.specs.Escaping.{escape}
+use Rattle.case_page.specs.Escape.{escape}
 use Rattle.case_page.proofs.escape.push_escaped.Given as goal
 
 abbrev pub invariant-chars : goal.invariant-chars

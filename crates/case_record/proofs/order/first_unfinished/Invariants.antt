@@ -2,7 +2,7 @@ use Rattle.std.proofs.Common.{◌≡◌, ℕ, ◌<◌, IsTrue, drop}
 use Rattle.workflow_schema.specs.Flows.{Precedes}
 use Rattle.wf_names.specs.States.{is_finished}
 use Rattle.case_record.specs.Cases.{state_at}
-use Rattle.case_record.specs.Ready.{first_missing, first_missing_from}
+use Rattle.case_record.specs.Order.{first_missing, first_missing_from}
 use Rattle.case_record.proofs.order.first_unfinished.Given as goal
 
 abbrev pub invariant-steps : goal.invariant-steps

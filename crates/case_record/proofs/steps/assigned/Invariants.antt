@@ -1,5 +1,5 @@
 use Rattle.std.proofs.Common.{◌≡◌, ℕ, ◌++◌, length, map, take, drop, None}
-use Rattle.constraint_forms.specs.Assigned.{user_at}
+use Rattle.constraint_forms.specs.Assign.{user_at}
 use Rattle.wf_names.specs.States.{user_of}
 use Rattle.case_record.proofs.steps.assigned.Given as goal
 

@@ -1,5 +1,5 @@
 use Rattle.std.proofs.Common.{◌≡◌, ℕ, ◌++◌, length, map, take, drop, false}
-use Rattle.constraint_forms.specs.Assigned.{is_member}
+use Rattle.constraint_forms.specs.Assign.{is_member}
 use Rattle.wf_names.specs.States.{is_finished}
 use Rattle.case_record.proofs.steps.finished.Given as goal
 

@@ -1,6 +1,6 @@
 use Rattle.std.proofs.Common.{sym, subst}
 use Rattle.wf_commands.specs.Answer.{ending_with}
-use Rattle.case_story.specs.Telling.{TellsBy}
+use Rattle.case_story.specs.Printed.{TellsBy}
 use Rattle.case_story.proofs.Told.{wrong_told}
 use Rattle.case_story.proofs.answer.tell_by.Goals as goal
 

@@ -1,5 +1,5 @@
 use Rattle.std.proofs.Common.{◌≤◌, ◌-◌, length}
-use Rattle.transcript_audit.specs.Audits.{AuditShape}
+use Rattle.transcript_audit.specs.Auditor.{AuditShape}
 use Rattle.case_story.specs.Followed.{HasFollowed, IsAt}
 use Rattle.case_story.proofs.follow.follow_to.Given as goal
 

@@ -1,7 +1,7 @@
 use Rattle.std.specs.Prelude.{IfSome}
 use Rattle.case_story.specs.Verdicts.{right_lines}
 use Rattle.std.proofs.Common.{◌≡◌, sym, subst, ap, Ok, ◌∙◌, string_bytes}
-use Rattle.case_story.specs.Followed.{HasStopped}
+use Rattle.case_story.specs.Followed.{StopsAudit}
 use Rattle.case_story.specs.Sessions.{audit_in}
 use Rattle.case_story.proofs.Following.{stepped, walked}
 use Rattle.case_story.proofs.Founds.{Laws}
@@ -25,7 +25,7 @@ returns-in-Some-clause-prints c =
     prints c.part_is_exact.ensures c.args.s.now c.follow_to.new.auditor c.follow_to.new.place.number c.policy.result.now
     (string_bytes c.in_ok-printed-in-Some.printed.remarks) c.in_ok-printed-in-Some.printed.is_less
     (string_bytes c.in_ok-printed-in-Some.printed.document) c.in_ok-auditor.ensures.session
-    (subst (λ n. HasStopped (audit_in c.args.s.now) c.follow_to.new.auditor c.args.s.now.transcript n)
+    (subst (λ n. StopsAudit (audit_in c.args.s.now) c.follow_to.new.auditor c.args.s.now.transcript n)
     (subst (λ o. IfSome o (λ v. right_lines v ≡ c.follow_to.new.place.number)) c.in-Some.is c.in_ok-verdict.ensures.number) h)
     (c.policy.ensures.policy ∙ ap (λ st. st.book.policy) c.board.ensures) c.in_ok-printed-in-Some.ensures.remarks c.in_ok-printed-in-Some.ensures.less
     c.in_ok-printed-in-Some.ensures.document

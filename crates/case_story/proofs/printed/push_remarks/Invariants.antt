@@ -1,6 +1,6 @@
 use Rattle.std.proofs.Common.{◌≡◌, ◌≤◌, ◌++◌, length, string_bytes}
 use Rattle.policy_book.specs.Policies.{any_below, flow_at}
-use Rattle.case_story.specs.Telling.{retired_lines}
+use Rattle.case_story.specs.Printed.{retired_lines}
 use Rattle.case_story.proofs.printed.push_remarks.Given as goal
 
 abbrev pub invariant-flows : goal.invariant-flows

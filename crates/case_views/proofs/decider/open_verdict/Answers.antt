@@ -1,4 +1,4 @@
-use Rattle.constraint_forms.specs.Assigned.{no_steps, no_users}
+use Rattle.constraint_forms.specs.Assign.{no_steps, no_users}
 use Rattle.policy_book.specs.Policies.{problem_of}
 use Rattle.case_views.specs.Deciding.{DecidesFor}
 use Rattle.case_views.proofs.Deciding.{unfound_is, verdict_decides}

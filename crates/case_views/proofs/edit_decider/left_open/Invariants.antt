@@ -1,5 +1,5 @@
 use Rattle.std.proofs.Common.{take}
-use Rattle.wf_board.specs.Edited.{ArePlansOf}
+use Rattle.wf_board.specs.Edition.{ArePlansOf}
 use Rattle.case_views.specs.Listing.{open_in}
 use Rattle.case_views.proofs.edit_decider.left_open.Given as goal
 

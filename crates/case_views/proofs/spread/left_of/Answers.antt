@@ -1,5 +1,5 @@
 use Rattle.std.proofs.Common.{sym, subst}
-use Rattle.wf_board.specs.Edited.{IsFirstStranded}
+use Rattle.wf_board.specs.Edition.{IsFirstStranded}
 use Rattle.case_views.specs.Deciding.{IsPartAdded}
 use Rattle.case_views.specs.Listing.{open_in}
 use Rattle.case_views.proofs.Spreading.{left_here, left_more}

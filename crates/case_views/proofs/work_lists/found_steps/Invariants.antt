@@ -1,6 +1,6 @@
 use Rattle.std.proofs.Common.{◌≡◌, ℕ, ◌<◌, ◌≤◌, false}
 use Rattle.std.specs.Prelude.{MatchBool}
-use Rattle.constraint_forms.specs.Assigned.{is_member}
+use Rattle.constraint_forms.specs.Assign.{is_member}
 use Rattle.wf_board.specs.Views.{IsGrantable}
 use Rattle.case_views.proofs.work_lists.found_steps.Given as goal
 

@@ -1,6 +1,6 @@
 use Rattle.std.proofs.Common.{sym, subst}
 use Rattle.case_record.specs.Cases.{CaseShape}
-use Rattle.wf_board.specs.Edited.{IsPlanOf}
+use Rattle.wf_board.specs.Edition.{IsPlanOf}
 use Rattle.case_views.specs.Granting.{TellsSteps}
 use Rattle.case_views.proofs.work_lists.granted_steps.Goals as goal
 

@@ -1,6 +1,6 @@
 use Rattle.std.proofs.Common.{◌∙◌, IfOk, ap, subst}
 use Rattle.policy_book.specs.Shapes.{PolicyShape}
-use Rattle.grant_table.specs.Tables.{CasesShape}
+use Rattle.grant_table.specs.Cases.{CasesShape}
 use Rattle.wf_board.specs.Boards.{book_of}
 use Rattle.wf_board.specs.Views.{IsWorkOf}
 use Rattle.case_views.proofs.work_lists.worklist.Goals as goal

@@ -1,6 +1,6 @@
 use Rattle.std.proofs.Common.{◌≡◌, ◌-◌, length, slice_get}
 use Rattle.policy_book.specs.Policies.{problem_of}
-use Rattle.certificate_check.specs.Faults.{first_failing, is_obeyed}
+use Rattle.certificate_check.specs.Plan.{first_failing, is_obeyed}
 use Rattle.certificate_check.proofs.plan.first_disobeyed.Given as goal
 
 abbrev pub invariant-rules : goal.invariant-rules

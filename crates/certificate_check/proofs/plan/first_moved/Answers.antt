@@ -1,6 +1,6 @@
 use Rattle.std.proofs.Common.{◌-◌, ◌+◌, length, Some, sym, ap, ◌∙◌, arith, if◌then◌else◌}
-use Rattle.constraint_forms.specs.Assigned.{planned, user_at}
-use Rattle.certificate_check.specs.Faults.{first_failing, is_kept}
+use Rattle.constraint_forms.specs.Assign.{planned, user_at}
+use Rattle.certificate_check.specs.Plan.{first_failing, is_kept}
 use Rattle.certificate_check.proofs.Failing.{first_failing_at}
 use Rattle.certificate_check.proofs.plan.first_moved.Goals as goal
 

@@ -1,6 +1,6 @@
 use Rattle.std.proofs.Common.{◌≡◌, ◌-◌, length}
 use Rattle.policy_book.specs.Policies.{problem_of}
-use Rattle.certificate_check.specs.Faults.{first_failing, may_perform}
+use Rattle.certificate_check.specs.Plan.{first_failing, may_perform}
 use Rattle.certificate_check.proofs.plan.first_unauthorised.Given as goal
 
 abbrev pub invariant-steps : goal.invariant-steps

@@ -1,5 +1,5 @@
 use Rattle.std.proofs.Common.{◌<◌, ℕ, length}
-use Rattle.constraint_forms.specs.Assigned.{planned}
+use Rattle.constraint_forms.specs.Assign.{planned}
 use Rattle.certificate_check.proofs.plan.has_known.Given as goal
 
 -- the policy has the users of the steps so far

@@ -1,6 +1,6 @@
 use Rattle.std.proofs.Common.{◌≡◌, drop, length}
 use Rattle.serde_json.specs.View.{items_view}
-use Rattle.first_fault.specs.Reading.{each}
+use Rattle.basics.specs.Reading.{each}
 use Rattle.wf_commands.specs.Input.{listed_items}
 use Rattle.cnf_command.specs.Cases.{next_state, no_case, IsCaseSoFar}
 use Rattle.cnf_command.proofs.case.read_states.Given as goal

@@ -6,7 +6,7 @@ use Rattle.wf_commands.specs.Answer.{AnswersAs}
 use Rattle.wf_commands.proofs.Loading.{answers_file}
 use Rattle.wf_commands.proofs.Runs.{unread_after}
 use Rattle.cnf_command.specs.Answers.{ModelAsked}
-use Rattle.cnf_command.specs.Running.{EndsWithout}
+use Rattle.cnf_command.specs.Model.{EndsWithoutModel}
 use Rattle.cnf_command.proofs.Telling.{answers_no_policy}
 use Rattle.cnf_command.proofs.model.find_reading.Goals as goal
 
@@ -30,4 +30,4 @@ returns-clause-answer g c =
 
 pub returns-clause-without : goal.returns-clause-without
 returns-clause-without g c =
-    subst (λ (x : Filed). EndsWithout x (fault_in c.read_under.result)) (c.in_ok-p.ensures.kept c.args.model.now) c.read_under.ensures.without
+    subst (λ (x : Filed). EndsWithoutModel x (fault_in c.read_under.result)) (c.in_ok-p.ensures.kept c.args.model.now) c.read_under.ensures.without

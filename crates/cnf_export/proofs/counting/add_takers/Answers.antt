@@ -1,6 +1,6 @@
 use Rattle.std.proofs.Common.{◌∙◌, ◌<◌, ◌++◌, ◌∷◌, [], ℕ, length, ap, sym, arith}
 use Rattle.basics.proofs.Booleans.{differ}
-use Rattle.constraint_forms.specs.Assigned.{is_member}
+use Rattle.constraint_forms.specs.Assign.{is_member}
 use Rattle.cnf_export.specs.Clauses.{yes_to}
 use Rattle.cnf_export.specs.Encodings.{has}
 use Rattle.cnf_export.specs.Terms.{encoding_in}

@@ -1,5 +1,5 @@
 use Rattle.std.proofs.Common.{◌≡◌, ◌-◌, ◌++◌, map, length}
-use Rattle.constraint_forms.specs.Assigned.{is_member}
+use Rattle.constraint_forms.specs.Assign.{is_member}
 use Rattle.policy_book.specs.Refuting.{passing}
 use Rattle.cnf_export.specs.Clauses.{yes_to}
 use Rattle.cnf_export.specs.Encodings.{has, members}

@@ -1,6 +1,6 @@
 use Rattle.std.proofs.Common.{◌≡◌, ◌∙◌, ◌<◌, ◌+◌, ◌++◌, ◌∷◌, [], ℕ, suc, length, ap, sym, arith}
 use Rattle.basics.proofs.Booleans.{differ}
-use Rattle.constraint_forms.specs.Assigned.{is_member}
+use Rattle.constraint_forms.specs.Assign.{is_member}
 use Rattle.cnf_export.proofs.Listing.{one_mapped}
 use Rattle.cnf_export.proofs.counting.list_members.Goals as goal
 use Rattle.cnf_export.proofs.counting.list_members.Goals.{then-has+in_ok-push, else-has}

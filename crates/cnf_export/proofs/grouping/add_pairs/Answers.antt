@@ -1,6 +1,6 @@
 use Rattle.std.proofs.Common.{◌∙◌, ◌<◌, ◌++◌, ◌∷◌, [], length, ap, sym, arith}
 use Rattle.basics.proofs.Booleans.{differ}
-use Rattle.constraint_forms.specs.Assigned.{is_member}
+use Rattle.constraint_forms.specs.Assign.{is_member}
 use Rattle.cnf_export.specs.Terms.{pair_group_at}
 use Rattle.cnf_export.proofs.Listing.{one_mapped}
 use Rattle.cnf_export.proofs.grouping.add_pairs.Goals as goal

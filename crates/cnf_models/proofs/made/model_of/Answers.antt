@@ -1,11 +1,11 @@
 use Rattle.std.proofs.Common.{◌≡◌, ◌∙◌, ◌++◌, ◌==◌, nat_le, sym, ap, append_assoc}
 use Rattle.std.proofs.Common.{length, subst}
-use Rattle.constraint_forms.specs.Assigned.{planned}
+use Rattle.constraint_forms.specs.Assign.{planned}
 use Rattle.policy_book.specs.Policies.{problem_of}
 use Rattle.cnf_export.specs.Clauses.{IsModelOf}
 use Rattle.cnf_export.specs.Encodings.{clauses_of, encoding_of}
-use Rattle.cnf_export.specs.Models.{AreSound, plan_in}
-use Rattle.cnf_models.specs.Flags.{flags_of, grid, has_variable, rules_flags}
+use Rattle.cnf_export.specs.Models.{AreSound, plan_said}
+use Rattle.cnf_models.specs.Saying.{flags_of, grid, has_variable, rules_flags}
 use Rattle.cnf_models.proofs.Grids.{said_back, says_plan}
 use Rattle.cnf_models.proofs.made.model_of.Goals as goal
 
@@ -39,5 +39,5 @@ pub returns-clause-back : goal.returns-clause-back
 returns-clause-back c assigned finished valid =
     let problem = problem_of c.args.p.now c.args.f in
     let plan = c.args.plan.now in
-    subst (λ m. plan_in (encoding_of problem assigned finished) (has_variable m) ≡ plan) (sym (returns-clause-flags c))
+    subst (λ m. plan_said (encoding_of problem assigned finished) (has_variable m) ≡ plan) (sym (returns-clause-flags c))
     (said_back problem plan assigned finished valid.whole valid.known)

@@ -1,5 +1,5 @@
 use Rattle.std.proofs.Common.{◌≡◌, ◌+◌, length}
-use Rattle.cnf_models.specs.Flags.{has_variable}
+use Rattle.cnf_models.specs.Saying.{has_variable}
 use Rattle.cnf_models.specs.Readings.{first_false}
 use Rattle.cnf_models.proofs.reading.first_unsatisfied.Given as goal
 

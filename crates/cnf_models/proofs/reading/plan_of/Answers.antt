@@ -3,7 +3,7 @@ use Rattle.policy_book.specs.Plans.{IsValidPlan}
 use Rattle.policy_book.specs.Policies.{problem_of}
 use Rattle.cnf_export.specs.Encodings.{clauses_of}
 use Rattle.cnf_export.specs.Models.{AreSound}
-use Rattle.cnf_models.specs.Flags.{has_variable}
+use Rattle.cnf_models.specs.Saying.{has_variable}
 use Rattle.cnf_models.specs.Readings.{first_false}
 use Rattle.cnf_models.proofs.Firsts.{all_true}
 use Rattle.cnf_models.proofs.reading.plan_of.Goals as goal

@@ -1,7 +1,7 @@
 use Rattle.std.proofs.Common.{◌∙◌, ◌+◌, ◌++◌, ◌∷◌, [], ℕ, ap, arith}
 use Rattle.std.proofs.Common.{◌*◌, length}
 use Rattle.cnf_export.specs.Models.{last_below}
-use Rattle.cnf_models.specs.Flags.{has_variable}
+use Rattle.cnf_models.specs.Saying.{has_variable}
 use Rattle.cnf_models.proofs.Grids.{next_mapped, one_longer}
 use Rattle.cnf_models.proofs.reading.plan_said.Goals as goal
 

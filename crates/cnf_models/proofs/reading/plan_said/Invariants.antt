@@ -1,7 +1,7 @@
 use Rattle.std.proofs.Common.{◌≡◌, ◌+◌, ◌*◌, ◌-◌, ◌++◌, length, map}
 use Rattle.cnf_export.specs.Encodings.{numbers}
 use Rattle.cnf_export.specs.Models.{last_below}
-use Rattle.cnf_models.specs.Flags.{has_variable}
+use Rattle.cnf_models.specs.Saying.{has_variable}
 use Rattle.cnf_models.proofs.reading.plan_said.Given as goal
 
 -- the users of the steps so far, and of those to come

@@ -1,6 +1,6 @@
 use Rattle.std.proofs.Common.{◌∙◌, ◌+◌, ◌++◌, drop, sym, ap, append_assoc}
 use Rattle.cnf_export.proofs.Listing.{drop_some}
-use Rattle.cnf_models.specs.Flags.{rule_flags, rules_flags}
+use Rattle.cnf_models.specs.Saying.{rule_flags, rules_flags}
 use Rattle.cnf_models.proofs.saying.say_rules.Goals as goal
 
 pub rules-preserved : goal.rules-preserved

@@ -1,5 +1,5 @@
 use Rattle.std.proofs.Common.{◌≡◌, ◌++◌, drop}
-use Rattle.cnf_models.specs.Flags.{rules_flags}
+use Rattle.cnf_models.specs.Saying.{rules_flags}
 use Rattle.cnf_models.proofs.saying.say_rules.Given as goal
 
 abbrev pub invariant-rules : goal.invariant-rules

@@ -1,7 +1,7 @@
 use Rattle.std.proofs.Common.{◌≡◌, ◌-◌, ◌++◌, nat_le, map}
 use Rattle.std.specs.List.{flat_map}
 use Rattle.cnf_export.specs.Encodings.{numbers}
-use Rattle.constraint_forms.specs.Assigned.{planned}
+use Rattle.constraint_forms.specs.Assign.{planned}
 use Rattle.cnf_models.proofs.saying.say_until.Given as goal
 
 abbrev pub invariant-steps : goal.invariant-steps

@@ -1,6 +1,6 @@
 use Rattle.std.proofs.Common.{◌∙◌, ◌++◌, ◌==◌, ℕ, map, ap, arith}
 use Rattle.cnf_export.specs.Encodings.{numbers}
-use Rattle.constraint_forms.specs.Assigned.{planned}
+use Rattle.constraint_forms.specs.Assign.{planned}
 use Rattle.cnf_export.proofs.Listing.{next_number}
 use Rattle.cnf_models.proofs.saying.say_users.Goals as goal
 

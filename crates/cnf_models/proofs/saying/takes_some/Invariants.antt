@@ -1,5 +1,5 @@
 use Rattle.std.proofs.Common.{◌≡◌, Some, drop}
-use Rattle.constraint_forms.specs.Assigned.{planned}
+use Rattle.constraint_forms.specs.Assign.{planned}
 use Rattle.constraint_forms.specs.Rules.{is_among, users_from}
 use Rattle.cnf_export.specs.Models.{has_some}
 use Rattle.cnf_models.proofs.saying.takes_some.Given as goal

@@ -1,6 +1,6 @@
 use Rattle.std.proofs.Common.{◌≡◌, ◌+◌}
 use Rattle.cnf_export.specs.Models.{last_below}
-use Rattle.cnf_models.specs.Flags.{has_variable}
+use Rattle.cnf_models.specs.Saying.{has_variable}
 use Rattle.cnf_models.proofs.seen.last_seen.Given as goal
 
 abbrev pub invariant-users : goal.invariant-users

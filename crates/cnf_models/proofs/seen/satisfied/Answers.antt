@@ -1,7 +1,7 @@
 use Rattle.std.proofs.Common.{◌≡◌, ◌∙◌, ◌+◌, ◌||◌, true, false, drop, sym, ap}
 use Rattle.cnf_export.specs.Clauses.{is_true, satisfies}
 use Rattle.cnf_export.proofs.Listing.{drop_some}
-use Rattle.cnf_models.specs.Flags.{has_variable}
+use Rattle.cnf_models.specs.Saying.{has_variable}
 use Rattle.cnf_models.proofs.seen.satisfied.Goals as goal
 
 pub returns-then-is_true : goal.returns-then-is_true

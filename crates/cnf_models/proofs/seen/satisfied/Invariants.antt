@@ -1,6 +1,6 @@
 use Rattle.std.proofs.Common.{◌≡◌, drop}
 use Rattle.cnf_export.specs.Clauses.{satisfies}
-use Rattle.cnf_models.specs.Flags.{has_variable}
+use Rattle.cnf_models.specs.Saying.{has_variable}
 use Rattle.cnf_models.proofs.seen.satisfied.Given as goal
 
 -- a later literal is true

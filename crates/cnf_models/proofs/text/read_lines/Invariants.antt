@@ -1,6 +1,6 @@
 use Rattle.std.proofs.Common.{◌≡◌, ◌≤◌, ◌+◌, Some, length}
 use Rattle.std.specs.List.{slice_split}
-use Rattle.first_fault.specs.Reading.{each}
+use Rattle.basics.specs.Reading.{each}
 use Rattle.cnf_models.specs.Texts.{count_of, is_lf, next_line}
 use Rattle.cnf_models.proofs.text.read_lines.Given as goal
 

@@ -1,6 +1,6 @@
 use Rattle.std.proofs.Common.{◌≡◌, ◌≤◌, ◌+◌, length}
 use Rattle.std.specs.List.{slice_split}
-use Rattle.first_fault.specs.Reading.{each}
+use Rattle.basics.specs.Reading.{each}
 use Rattle.cnf_models.specs.Texts.{count_of, is_blank, next_part}
 use Rattle.cnf_models.proofs.text.read_parts.Given as goal
 

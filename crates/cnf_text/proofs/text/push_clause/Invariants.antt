@@ -1,6 +1,6 @@
 use Rattle.std.proofs.Common.{◌≡◌, ◌++◌, drop}
 use Rattle.std.specs.List.{flat_map}
-use Rattle.cnf_text.specs.Dimacs.{literal_text}
+use Rattle.cnf_text.specs.Text.{literal_text}
 use Rattle.cnf_text.proofs.text.push_clause.Given as goal
 
 -- what is written, with what is left

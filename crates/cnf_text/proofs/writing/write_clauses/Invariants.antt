@@ -1,6 +1,6 @@
 use Rattle.std.proofs.Common.{◌≡◌, ◌++◌, length}
 use Rattle.std.specs.List.{flat_map}
-use Rattle.cnf_text.specs.Dimacs.{clause_line, dimacs_text}
+use Rattle.cnf_text.specs.Text.{clause_line, dimacs_text}
 use Rattle.cnf_text.specs.Writing.{HasPut}
 use Rattle.cnf_text.proofs.writing.write_clauses.Given as goal
 

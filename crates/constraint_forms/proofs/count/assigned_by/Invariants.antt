@@ -1,6 +1,6 @@
 use Rattle.std.proofs.Common.{◌≡◌, ℕ, ◌<◌, Some, length}
 use Rattle.wf_names.specs.declared.limits.TheConstants.{STEP_LIMIT}
-use Rattle.constraint_forms.specs.Assigned.{planned, user_at}
+use Rattle.constraint_forms.specs.Assign.{planned, user_at}
 use Rattle.constraint_forms.proofs.count.assigned_by.Given as goal
 
 abbrev pub invariant-steps : goal.invariant-steps

@@ -1,5 +1,5 @@
 use Rattle.std.proofs.Common.{◌≡◌, ◌+◌, cond, is_none, sym, ap, ◌∙◌, arith}
-use Rattle.constraint_forms.specs.Assigned.{user_at}
+use Rattle.constraint_forms.specs.Assign.{user_at}
 use Rattle.constraint_forms.proofs.Walking.{at_most_one, free_end, free_go, none_of}
 use Rattle.constraint_forms.proofs.count.count_free.Goals as goal
 use Rattle.constraint_forms.proofs.count.count_free.Goals.{then-is_none, else-is_none}

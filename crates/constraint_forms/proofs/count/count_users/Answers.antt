@@ -1,5 +1,5 @@
 use Rattle.std.proofs.Common.{◌≡◌, ◌+◌, cond, sym, ap, ◌∙◌, arith}
-use Rattle.constraint_forms.specs.Assigned.{user_at}
+use Rattle.constraint_forms.specs.Assign.{user_at}
 use Rattle.constraint_forms.specs.Rules.{different}
 use Rattle.constraint_forms.proofs.Walking.{at_most_one, users_end, users_go}
 use Rattle.constraint_forms.proofs.count.count_users.Goals as goal

@@ -1,6 +1,6 @@
 use Rattle.std.proofs.Common.{◌≡◌, ◌+◌, ◌-◌, ◌≤◌, drop}
 use Rattle.wf_names.specs.declared.limits.TheConstants.{STEP_LIMIT}
-use Rattle.constraint_forms.specs.Assigned.{user_at}
+use Rattle.constraint_forms.specs.Assign.{user_at}
 use Rattle.constraint_forms.specs.Rules.{different, users_from}
 use Rattle.constraint_forms.proofs.count.count_users.Given as goal
 

@@ -1,5 +1,5 @@
 use Rattle.std.proofs.Common.{[], sym, ap, ◌∙◌, arith}
-use Rattle.constraint_forms.specs.Assigned.{user_at}
+use Rattle.constraint_forms.specs.Assign.{user_at}
 use Rattle.constraint_forms.specs.Rules.{is_among, user_onto}
 use Rattle.constraint_forms.proofs.Walking.{among_go, among_stop, users_end}
 use Rattle.constraint_forms.proofs.count.is_user_from.Goals as goal

@@ -1,6 +1,6 @@
 use Rattle.std.proofs.Common.{[], ◌||◌, sym, ap, ◌∙◌, arith}
 use Rattle.wf_names.specs.UserSets.{has_user}
-use Rattle.constraint_forms.specs.Assigned.{user_at}
+use Rattle.constraint_forms.specs.Assign.{user_at}
 use Rattle.constraint_forms.specs.Rules.{is_among, user_onto}
 use Rattle.constraint_forms.proofs.Walking.{put_go, users_end}
 use Rattle.constraint_forms.proofs.count.users_of.Goals as goal

@@ -1,6 +1,6 @@
 use Rattle.std.proofs.Common.{◌≡◌, ◌≤◌, ◌-◌, ℕ, drop}
 use Rattle.wf_names.specs.declared.limits.TheConstants.{STEP_LIMIT}
-use Rattle.constraint_forms.specs.Assigned.{planned}
+use Rattle.constraint_forms.specs.Assign.{planned}
 use Rattle.constraint_forms.specs.Rules.{any_from, turned}
 use Rattle.constraint_forms.proofs.evaluate.any_related.Given as goal
 

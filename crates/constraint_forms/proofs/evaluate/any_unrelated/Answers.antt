@@ -1,5 +1,5 @@
 use Rattle.std.proofs.Common.{ℕ, sym, ap, ◌∙◌, arith}
-use Rattle.constraint_forms.specs.Assigned.{user_at}
+use Rattle.constraint_forms.specs.Assign.{user_at}
 use Rattle.constraint_forms.specs.Rules.{are_unrelated, turned}
 use Rattle.constraint_forms.proofs.Walking.{any_end, any_go, any_stop}
 use Rattle.constraint_forms.proofs.evaluate.any_unrelated.Goals as goal

@@ -1,5 +1,5 @@
 use Rattle.std.proofs.Common.{Some, ap, ◌∙◌}
-use Rattle.constraint_forms.specs.Assigned.{planned, user_at}
+use Rattle.constraint_forms.specs.Assign.{planned, user_at}
 use Rattle.constraint_forms.specs.Rules.{different}
 use Rattle.constraint_forms.proofs.Counting.{from_zero, users_from-same}
 use Rattle.constraint_forms.proofs.evaluate.count_planned.Goals as goal

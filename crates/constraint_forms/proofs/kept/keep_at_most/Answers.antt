@@ -1,7 +1,7 @@
 use Rattle.std.proofs.Common.{◌≡◌, ◌<◌, ◌+◌, ℕ, Bool, List, Option, None, length, not, slice_set, sym, ap, subst, ◌∙◌, arith}
 use Rattle.basics.proofs.Booleans.{and_same}
 use Rattle.wf_names.specs.UserSets.{has_user}
-use Rattle.constraint_forms.specs.Assigned.{user_at}
+use Rattle.constraint_forms.specs.Assign.{user_at}
 use Rattle.constraint_forms.specs.Kept.{too_many_with}
 use Rattle.constraint_forms.specs.Rules.{different, free_from, is_among, users_from}
 use Rattle.constraint_forms.proofs.Counted.{all_left, nobody_left, most_full, most_keeps, most_meets, most_out}

@@ -1,5 +1,5 @@
 use Rattle.std.proofs.Common.{sym, ◌∙◌}
-use Rattle.constraint_forms.specs.Assigned.{user_at}
+use Rattle.constraint_forms.specs.Assign.{user_at}
 use Rattle.policy_book.specs.Policies.{problem_of}
 use Rattle.denial_reasons.proofs.Searches.{found_rule, passed_rule}
 use Rattle.denial_reasons.proofs.cause.first_falsified.Goals as goal

@@ -1,5 +1,5 @@
 use Rattle.std.proofs.Common.{◌≡◌, drop}
-use Rattle.constraint_forms.specs.Assigned.{user_at}
+use Rattle.constraint_forms.specs.Assign.{user_at}
 use Rattle.policy_book.specs.Policies.{flow_at, problem_of}
 use Rattle.denial_reasons.specs.Causes.{first_falsified}
 use Rattle.denial_reasons.proofs.cause.first_falsified.Given as goal

@@ -1,5 +1,5 @@
 use Rattle.std.proofs.Common.{sym, subst}
-use Rattle.refutation_tree.specs.Shapes.{no_kids}
+use Rattle.refutation_tree.specs.Tree.{no_kids}
 use Rattle.refutation_tree.specs.Views.{branch_onto}
 use Rattle.entry_reader.specs.Plain.{AreLow}
 use Rattle.entry_reader.proofs.LowTrees.{low_more}

@@ -2,7 +2,7 @@ use Rattle.std.proofs.Common.{◌≡◌, ◌+◌, ◌*◌, drop}
 use Rattle.std.specs.Prelude.{option_map}
 use Rattle.serde_json.specs.Data.{depth, items_depth}
 use Rattle.serde_json.specs.View.{view, items_view}
-use Rattle.refutation_tree.specs.Shapes.{joined}
+use Rattle.refutation_tree.specs.Tree.{joined}
 use Rattle.entry_reader.specs.Values.{kids_in}
 use Rattle.entry_reader.proofs.tree.+read_tree.Given as goal
 

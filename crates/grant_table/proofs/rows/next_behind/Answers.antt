@@ -1,5 +1,5 @@
 use Rattle.std.proofs.Common.{ap, ◌∙◌}
-use Rattle.grant_table.specs.Tables.{next_open}
+use Rattle.grant_table.specs.Cases.{next_open}
 use Rattle.grant_table.proofs.Passed.{ascend_passed, next_open_passed}
 use Rattle.grant_table.proofs.rows.next_behind.Goals as goal
 

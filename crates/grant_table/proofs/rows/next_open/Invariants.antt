@@ -1,5 +1,5 @@
 use Rattle.std.proofs.Common.{◌≡◌, drop}
-use Rattle.grant_table.specs.Tables.{next_open}
+use Rattle.grant_table.specs.Cases.{next_open}
 use Rattle.grant_table.specs.Kept.{AscendFrom}
 use Rattle.grant_table.proofs.rows.next_open.Given as goal
 

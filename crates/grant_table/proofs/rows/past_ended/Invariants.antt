@@ -1,5 +1,5 @@
 use Rattle.std.proofs.Common.{◌≡◌, take}
-use Rattle.grant_table.specs.Tables.{open_count}
+use Rattle.grant_table.specs.Cases.{open_count}
 use Rattle.grant_table.proofs.rows.past_ended.Given as goal
 
 abbrev pub invariant-passing : goal.invariant-passing

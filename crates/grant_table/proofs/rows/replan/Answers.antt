@@ -1,7 +1,7 @@
 use Rattle.std.proofs.Common.{◌≡◌, ◌+◌, ◌<◌, drop, length, slice_set, vec_capacity, vec_len, Vec, Global, true, false, refl, ap, sym, ◌∙◌, arith}
 use Rattle.std.proofs.lemmas.List.{get_or_default}
 use Rattle.wf_names.specs.States.{is_live}
-use Rattle.grant_table.specs.Tables.{is_open_row, replanned_row}
+use Rattle.grant_table.specs.Cases.{is_open_row, replanned_row}
 use Rattle.grant_table.specs.declared.rows.Row.{Row}
 use Rattle.grant_table.proofs.Replanning.{gets_next, none_left, passes_over, replanned_closed, replanned_so_far}
 use Rattle.grant_table.proofs.Passed.{replanned_passed}

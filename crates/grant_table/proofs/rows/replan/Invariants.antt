@@ -1,5 +1,5 @@
 use Rattle.std.proofs.Common.{◌≡◌, vec_capacity, vec_len}
-use Rattle.grant_table.specs.Tables.{replanned}
+use Rattle.grant_table.specs.Cases.{replanned}
 use Rattle.grant_table.proofs.Replanning.{replanned_so_far}
 use Rattle.grant_table.proofs.rows.replan.Given as goal
 

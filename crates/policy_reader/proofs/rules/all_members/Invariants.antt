@@ -1,5 +1,5 @@
 use Rattle.policy_reader.proofs.Words.{◌≡◌, ◌<◌, drop, length, true, IsTrue, items_view, any_from, each, HasStepsBelow, items, next_member}
-use Rattle.constraint_forms.specs.Assigned.{no_steps}
+use Rattle.constraint_forms.specs.Assign.{no_steps}
 use Rattle.policy_reader.proofs.rules.all_members.Given as goal
 
 abbrev pub invariant-items : goal.invariant-items

@@ -1,5 +1,5 @@
 use Rattle.std.proofs.Common.{◌≡◌, drop}
-use Rattle.refutation_tree.specs.Shapes.{joined}
+use Rattle.refutation_tree.specs.Tree.{joined}
 use Rattle.refutation_tree.specs.Views.{kids_of_items}
 use Rattle.refutation_tree.proofs.tree.+copy.Given as goal
 

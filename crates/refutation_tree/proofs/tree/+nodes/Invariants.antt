@@ -1,5 +1,5 @@
 use Rattle.std.proofs.Common.{◌≡◌, ◌≤◌, ◌+◌, ◌-◌, ◌^◌, drop}
-use Rattle.refutation_tree.specs.Shapes.{capped, nodes_of_kids}
+use Rattle.refutation_tree.specs.Tree.{capped, nodes_of_kids}
 use Rattle.refutation_tree.specs.Views.{kids_of_items}
 use Rattle.refutation_tree.proofs.tree.+nodes.Given as goal
 

@@ -1,8 +1,8 @@
 use Rattle.std.proofs.Common.{◌≡◌, ◌<◌, ◌-◌, ◌+◌, ◌∙◌, ℕ, List, length, true, not, refl, sym, ap, subst, arith, Option}
 use Rattle.refutation_tree.specs.declared.tree.Tree.{Tree}
-use Rattle.resilience_check.specs.Absences.{AreUsers}
+use Rattle.resilience_check.specs.Left.{AreUsers}
 use Rattle.resilience_check.specs.Lists.{Withstands}
-use Rattle.resilience_check.specs.Searches.{HasFoundWith, HasTried, HasTriedWith}
+use Rattle.resilience_check.specs.Searches.{HasFoundWith, HasTriedAbsences, HasTriedWith}
 use Rattle.resilience_check.proofs.Families.{cut_back, found_behind, found_from, grown_on, none_by, none_from, stays_grown}
 use Rattle.resilience_check.proofs.Ones.{known_with}
 use Rattle.std.specs.Option.{is_none}
@@ -76,9 +76,9 @@ with_user-returns t c =
     let absent = c.args.absent.now in
     let now = c.first_breaking.new.absent in
     let same : c.u.inside.0 ≡ c.args.u = cc in
-    let next = subst (λ (k : ℕ). HasTried p c.args.f c.args.family.now c.push.new.self (k + 1) c.args.left
+    let next = subst (λ (k : ℕ). HasTriedAbsences p c.args.f c.args.family.now c.push.new.self (k + 1) c.args.left
     c.first_breaking.new.family now c.in_ok-found.found) same c.in_ok-found.ensures in
-    let tried = subst (λ (us : List ℕ). HasTried p c.args.f c.args.family.now us (c.args.u + 1) c.args.left
+    let tried = subst (λ (us : List ℕ). HasTriedAbsences p c.args.f c.args.family.now us (c.args.u + 1) c.args.left
     c.first_breaking.new.family now c.in_ok-found.found) c.in_ok-push.ensures.pushed next in
     elim c.if-is_none.branch [
       | with_user-then-is_none w ↦

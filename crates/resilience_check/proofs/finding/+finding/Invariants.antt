@@ -1,7 +1,7 @@
 use Rattle.std.proofs.Common.{◌≡◌, ℕ, ◌+◌, ◌-◌, ◌*◌, ◌<◌, ◌≤◌, List, ◌∷◌, ◌++◌, true, length}
-use Rattle.resilience_check.specs.Absences.{AreAscending}
-use Rattle.resilience_check.specs.Families.{leaves_some}
-use Rattle.resilience_check.specs.Searches.{HasGrown}
+use Rattle.resilience_check.specs.Left.{AreUsersInOrder}
+use Rattle.resilience_check.specs.Covering.{leaves_some}
+use Rattle.resilience_check.specs.Searches.{FamilyGrows}
 use Rattle.resilience_check.proofs.finding.+finding.Given as goal
 
 abbrev pub decreases-first_breaking : goal.decreases-first_breaking
@@ -13,7 +13,7 @@ decreases-with_user l = 2 * l.left + 1
 abbrev pub invariant-first_breaking-users : goal.invariant-first_breaking-users
 invariant-first_breaking-users l = record {
   same : l.absent ≡ l.fn.absent;
-  grown : HasGrown l.p l.f l.fn.family l.family;
-  each : (v : ℕ) → l.from ≤ v → v < l.u → (other : List ℕ) → AreAscending (v + 1) (length l.p.roster.users) other → length other + 1 ≡ l.left
+  grown : FamilyGrows l.p l.f l.fn.family l.family;
+  each : (v : ℕ) → l.from ≤ v → v < l.u → (other : List ℕ) → AreUsersInOrder (v + 1) (length l.p.roster.users) other → length other + 1 ≡ l.left
       → leaves_some l.family (l.fn.absent ++ (v ∷ other)) ≡ true;
 }

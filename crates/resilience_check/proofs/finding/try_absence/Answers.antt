@@ -1,5 +1,5 @@
 use Rattle.std.proofs.Common.{◌≡◌, ℕ, List, Bool, Option, true, subst}
-use Rattle.constraint_forms.specs.Assigned.{no_steps, no_users}
+use Rattle.constraint_forms.specs.Assign.{no_steps, no_users}
 use Rattle.policy_book.specs.Plans.{IsValidPlan}
 use Rattle.policy_book.specs.Policies.{problem_of}
 use Rattle.policy_book.specs.Refuting.{refutes}

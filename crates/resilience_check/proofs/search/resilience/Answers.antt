@@ -2,7 +2,7 @@ use Rattle.std.proofs.Common.{ℕ, List, length, true, refl, subst, arith, Optio
 use Rattle.std.proofs.lemmas.Bool.{false≢true}
 use Rattle.policy_book.specs.Policies.{problem_of}
 use Rattle.refutation_tree.specs.declared.tree.Tree.{Tree}
-use Rattle.resilience_check.specs.Searches.{HasFound, HasTried}
+use Rattle.resilience_check.specs.Searches.{HasFoundLeast, HasTriedAbsences}
 use Rattle.resilience_check.proofs.Authority.{can_do_by}
 use Rattle.resilience_check.proofs.Coverage.{ascends_below, covers_by}
 use Rattle.resilience_check.proofs.Families.{least_by}
@@ -12,9 +12,11 @@ tried-in : goal.returns-in-Some-clause-answer
 tried-in c =
     let p = c.args.p.now in
     let now = c.first_breaking.new.absent in
-    let tried = subst (λ (o : Option Tree). HasTried p c.args.f c.sizes.family c.sizes.absent 0 c.sizes.size c.first_breaking.new.family now o) c.in-Some.is
+    let tried =
+    subst (λ (o : Option Tree). HasTriedAbsences p c.args.f c.sizes.family c.sizes.absent 0 c.sizes.size c.first_breaking.new.family now o) c.in-Some.is
     c.in_ok-tree.ensures in
-    let found = subst (λ (absent : List ℕ). HasFound p c.args.f absent 0 c.sizes.size c.first_breaking.new.family now c.in-Some.tree) c.sizes.invariant.same
+    let found =
+    subst (λ (absent : List ℕ). HasFoundLeast p c.args.f absent 0 c.sizes.size c.first_breaking.new.family now c.in-Some.tree) c.sizes.invariant.same
     tried.1 in (
       least_by p c.args.f c.args.t c.sizes.size c.sizes.family c.first_breaking.new.family now c.in-Some.tree
           (omega (arith, c.sizes-test.true)) c.rules.ensures.well_formed c.sizes.invariant.each tried.0 found,

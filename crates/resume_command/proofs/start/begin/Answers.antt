@@ -1,7 +1,7 @@
 use Rattle.policy_book.specs.Shapes.{PolicyShape}
 use Rattle.wf_outside.specs.Outside.{Filed}
 use Rattle.resume_command.specs.Begun.{BeginsBy, StopsBy, session_of}
-use Rattle.resume_command.specs.Loading.{OverBoth}
+use Rattle.resume_command.specs.Load.{OverBoth}
 use Rattle.resume_command.proofs.Files.{moved, policy_fails, policy_there}
 use Rattle.resume_command.proofs.Taken.{stopped}
 use Rattle.resume_command.proofs.start.begin.Goals as goal

@@ -2,7 +2,7 @@ use Rattle.std.proofs.Common.{true}
 use Rattle.line_cutter.specs.Jobs.{jobs_of_input}
 use Rattle.resume_command.specs.declared.start.TheConstants.{TRANSCRIPT_FILE_LIMIT}
 use Rattle.resume_command.specs.Begun.{BeginsBy, StopsBy, session_of}
-use Rattle.resume_command.specs.Loading.{OverTranscript}
+use Rattle.resume_command.specs.Load.{OverTranscript}
 use Rattle.resume_command.proofs.Files.{text_fails, text_there}
 use Rattle.resume_command.proofs.Taken.{stopped}
 use Rattle.resume_command.proofs.start.begin_behind.Goals as goal

@@ -6,7 +6,7 @@ use Rattle.resume_command.specs.declared.refusal.Refusal.{Refusal}
 use Rattle.resume_command.specs.declared.refusal.Refusal.TheVariants.{Ends}
 use Rattle.line_cutter.specs.Jobs.{Cut, jobs_of_input}
 use Rattle.resume_command.specs.Begun.{BeginsBy, StopsBy, session_of}
-use Rattle.resume_command.specs.Loading.{OverTranscriptFile}
+use Rattle.resume_command.specs.Load.{OverTranscriptFile}
 use Rattle.resume_command.proofs.Files.{limit_kept, limit_met, loads_refused, requests_fail, requests_there}
 use Rattle.resume_command.proofs.Taken.{stopped}
 use Rattle.resume_command.proofs.start.begin_under.Goals as goal

@@ -1,5 +1,5 @@
 use Rattle.std.proofs.Common.{◌≡◌, ◌<◌, ℕ, IsTrue, Some}
-use Rattle.constraint_forms.specs.Assigned.{is_member, user_at}
+use Rattle.constraint_forms.specs.Assign.{is_member, user_at}
 use Rattle.story_words.proofs.held.are_given.Given as goal
 
 abbrev pub invariant-steps : goal.invariant-steps

@@ -1,6 +1,6 @@
 use Rattle.std.proofs.Common.{◌≡◌, ap, ◌<◌, ℕ, zero, suc, List, [], ◌∷◌, length, Option, Some, is_some, arith}
 use Rattle.std.proofs.lemmas.Bool.{false≢true}
-use Rattle.constraint_forms.specs.Assigned.{user_at}
+use Rattle.constraint_forms.specs.Assign.{user_at}
 use Rattle.policy_book.specs.Policies.{problem_of}
 use Rattle.story_words.proofs.held.is_within.Goals as goal
 

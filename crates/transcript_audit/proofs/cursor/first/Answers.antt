@@ -1,5 +1,5 @@
 use Rattle.std.proofs.Common.{◌≤◌, refl, subst, ap, ◌∙◌, slice_index_or, arith}
-use Rattle.wf_desk.specs.Places.{IsNextPlace}
+use Rattle.wf_desk.specs.Docket.{IsNextPlace}
 use Rattle.transcript_audit.specs.Keeping.{part}
 use Rattle.transcript_audit.proofs.Batches.{slice_part}
 use Rattle.transcript_audit.proofs.cursor.first.Goals as goal

@@ -1,5 +1,5 @@
 use Rattle.std.proofs.Common.{◌+◌, subst, ap, slice_index_or}
-use Rattle.wf_desk.specs.Places.{IsNextPlace}
+use Rattle.wf_desk.specs.Docket.{IsNextPlace}
 use Rattle.transcript_audit.specs.declared.cursor.Cursor.{Cursor}
 use Rattle.transcript_audit.proofs.Batches.{slice_part}
 use Rattle.transcript_audit.proofs.cursor.step.Goals as goal

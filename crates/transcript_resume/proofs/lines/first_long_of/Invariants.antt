@@ -1,5 +1,5 @@
 use Rattle.std.proofs.Common.{◌≡◌, ◌≤◌, ◌-◌, drop, length}
-use Rattle.line_reader.specs.Lines.{lines_of}
+use Rattle.line_reader.specs.Reader.{lines_of}
 use Rattle.transcript_resume.specs.Resumed.{first_long}
 use Rattle.transcript_resume.proofs.lines.first_long_of.Given as goal
 

@@ -1,6 +1,6 @@
 use Rattle.std.proofs.Common.{◌≡◌, ◌≤◌, ◌-◌, ℕ, None, drop, length}
-use Rattle.line_reader.specs.Lines.{lines_of}
-use Rattle.transcript_audit.specs.Audits.{AuditShape}
+use Rattle.line_reader.specs.Reader.{lines_of}
+use Rattle.transcript_audit.specs.Auditor.{AuditShape}
 use Rattle.transcript_audit.specs.declared.fault.AuditKind.{AuditKind}
 use Rattle.transcript_resume.specs.Auditing.{HasTakenAll}
 use Rattle.transcript_resume.specs.Resumed.{FailsAt}

@@ -1,5 +1,5 @@
 use Rattle.std.proofs.Common.{◌≡◌, drop}
-use Rattle.transcript_resume.specs.Places.{end_at, start_at}
+use Rattle.transcript_resume.specs.Unserved.{end_at, start_at}
 use Rattle.transcript_resume.proofs.unserved.bounds.Given as goal
 
 abbrev pub invariant-ends : goal.invariant-ends

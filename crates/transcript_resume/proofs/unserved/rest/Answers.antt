@@ -1,5 +1,5 @@
 use Rattle.std.proofs.Common.{◌≡◌, length, ap, ◌∙◌}
-use Rattle.transcript_resume.specs.Places.{jobs_between}
+use Rattle.transcript_resume.specs.Unserved.{jobs_between}
 use Rattle.transcript_resume.proofs.Rests.{answers_part, bounds_order, bounds_within, short_between}
 use Rattle.transcript_resume.proofs.unserved.rest.Goals as goal
 

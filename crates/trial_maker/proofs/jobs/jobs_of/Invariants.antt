@@ -1,5 +1,5 @@
 use Rattle.std.proofs.Common.{◌≡◌}
-use Rattle.trial_maker.specs.Trials.{openings, rounds}
+use Rattle.trial_maker.specs.Jobs.{openings, rounds}
 use Rattle.trial_maker.proofs.jobs.jobs_of.Given as goal
 
 abbrev pub invariant-rounds : goal.invariant-rounds

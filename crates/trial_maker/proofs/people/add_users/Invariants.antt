@@ -1,6 +1,6 @@
 use Rattle.std.proofs.Common.{◌≡◌, map}
 use Rattle.std.specs.List.{range_with_len}
-use Rattle.trial_maker.specs.TrialNames.{user_name}
+use Rattle.trial_maker.specs.Named.{user_name}
 use Rattle.trial_maker.proofs.people.add_users.Given as goal
 
 abbrev pub invariant-users : goal.invariant-users

@@ -1,6 +1,6 @@
 use Rattle.std.proofs.Common.{◌≡◌}
 use Rattle.trial_maker.specs.Draws.{after}
-use Rattle.trial_maker.specs.TrialPolicy.{drawn_members}
+use Rattle.trial_maker.specs.Policy.{drawn_members}
 use Rattle.trial_maker.proofs.people.draw_roles.Given as goal
 
 abbrev pub invariant-users : goal.invariant-users

@@ -1,6 +1,6 @@
 use Rattle.std.proofs.Common.{◌≡◌, map}
 use Rattle.std.specs.List.{range_with_len}
-use Rattle.trial_maker.specs.TrialNames.{step_name}
+use Rattle.trial_maker.specs.Named.{step_name}
 use Rattle.trial_maker.proofs.steps.step_table.Given as goal
 
 abbrev pub invariant-steps : goal.invariant-steps

@@ -2,7 +2,7 @@ use Rattle.std.specs.FinSet as set
 use Rattle.pair_set.specs.Pairs.{Pairs}
 use Rattle.user_relations.specs.Relations.{RelationKind}
 use Rattle.std.specs.Prelude.{Option}
-use Rattle.user_relations.specs.Faults.{put_fault}
+use Rattle.user_relations.specs.Kinds.{put_fault}
 use Rattle.user_relations.proofs.Numbered.{pairs_written, fault_read}
 use Rattle.user_relations.proofs.kinds.relate.Goals as goal
 

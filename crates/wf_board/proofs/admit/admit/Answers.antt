@@ -1,5 +1,5 @@
 use Rattle.std.proofs.Common.{subst}
-use Rattle.first_fault.specs.Reading.{Fails}
+use Rattle.basics.specs.Reading.{Fails}
 use Rattle.wf_board.specs.Boards.{book_of}
 use Rattle.wf_board.specs.Decisions.{decision_of}
 use Rattle.wf_board.specs.Refusals.{denial_in}

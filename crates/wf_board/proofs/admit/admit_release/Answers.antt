@@ -1,7 +1,7 @@
 use Rattle.std.proofs.Common.{Ok, refl, sym, subst}
 use Rattle.wf_names.specs.declared.states.StepState.TheVariants.{Free}
 use Rattle.case_record.specs.Cases.{with_state}
-use Rattle.grant_table.specs.Tables.{freed_row}
+use Rattle.grant_table.specs.Cases.{freed_row}
 use Rattle.wf_talk.specs.declared.reply.Reply.TheVariants as replies
 use Rattle.wf_board.specs.declared.deed.Deed.TheVariants as deeds
 use Rattle.wf_board.specs.Taking.{HasTakenStep}

@@ -1,5 +1,5 @@
 use Rattle.std.proofs.Common.{sym, subst, ap, ◌∙◌}
-use Rattle.grant_table.specs.Tables.{CasesShape}
+use Rattle.grant_table.specs.Cases.{CasesShape}
 use Rattle.wf_board.specs.Boards.{book_of}
 use Rattle.wf_board.specs.Deeds.{FitsDeed}
 use Rattle.wf_board.specs.Kept.{ArePlanned}

@@ -1,5 +1,5 @@
 use Rattle.std.proofs.Common.{ℕ, Bool, ◌≡◌, ◌==◌, ◌<◌, true, sym, ap, length, ◌∙◌, arith}
-use Rattle.constraint_forms.specs.Assigned.{planned}
+use Rattle.constraint_forms.specs.Assign.{planned}
 use Rattle.policy_book.proofs.Counting.{any_below-at}
 use Rattle.wf_board.proofs.breaking.gives.Goals as goal
 

@@ -1,5 +1,5 @@
 use Rattle.std.proofs.Common.{◌≡◌, ◌==◌, ◌&&◌, false}
-use Rattle.constraint_forms.specs.Assigned.{planned}
+use Rattle.constraint_forms.specs.Assign.{planned}
 use Rattle.policy_book.specs.Policies.{any_below}
 use Rattle.wf_board.specs.Breaking.{is_barred}
 use Rattle.wf_board.proofs.breaking.loses_step.Given as goal

@@ -1,6 +1,6 @@
 use Rattle.std.proofs.Common.{◌≡◌, false, sym, subst, ap, ◌∙◌}
 use Rattle.wf_board.specs.Breaking.{breaks, HasPlanFor}
-use Rattle.wf_board.specs.Edited.{IsPlanOf}
+use Rattle.wf_board.specs.Edition.{IsPlanOf}
 use Rattle.wf_board.proofs.Unbroken.{has_plan, names_step, unbroken}
 use Rattle.wf_board.proofs.breaking.may_break.Goals as goal
 

@@ -1,5 +1,5 @@
 use Rattle.std.proofs.Common.{◌≡◌, ◌↔◌, Ok, true, refl, sym, subst}
-use Rattle.constraint_forms.specs.Assigned.{no_steps, no_users}
+use Rattle.constraint_forms.specs.Assign.{no_steps, no_users}
 use Rattle.wf_board.specs.Boards.{book_of}
 use Rattle.wf_board.specs.Verdicts.{IsCertificate}
 use Rattle.wf_board.proofs.Certificates.{certificate_same, claim_certificate, open_certificate}

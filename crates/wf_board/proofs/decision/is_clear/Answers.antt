@@ -1,7 +1,7 @@
 use Rattle.std.proofs.Common.{◌≡◌, true, sym, ◌∙◌, arith}
 use Rattle.std.proofs.lemmas.Grind.{common_steps}
 use Rattle.policy_book.specs.Policies.{flow_at, is_authorised}
-use Rattle.case_record.specs.Ready.{is_ready}
+use Rattle.case_record.specs.Order.{is_ready}
 use Rattle.wf_board.proofs.Grants.{clear_none, told_false}
 use Rattle.wf_board.proofs.decision.is_clear.Goals as goal
 

@@ -1,5 +1,5 @@
 use Rattle.std.proofs.Common.{refl}
-use Rattle.constraint_forms.specs.Assigned.{no_steps, no_users}
+use Rattle.constraint_forms.specs.Assign.{no_steps, no_users}
 use Rattle.wf_board.specs.declared.verdict.Verdict.TheVariants as verdicts
 use Rattle.wf_board.proofs.Certificates.{certificate_same}
 use Rattle.wf_board.proofs.granted.is_opening_plan.Goals as goal

@@ -1,7 +1,7 @@
 use Rattle.std.proofs.Common.{◌≡◌, IsSomeAnd, Ok, refl, sym, subst}
 use Rattle.wf_names.specs.States.{is_done}
 use Rattle.case_record.specs.Cases.{finished_case}
-use Rattle.grant_table.specs.Tables.{case_at, finished_row, HasHeldStep}
+use Rattle.grant_table.specs.Cases.{case_at, finished_row, HasHeldStep}
 use Rattle.wf_talk.specs.declared.reply.Reply.TheVariants as replies
 use Rattle.wf_board.specs.declared.deed.Deed.TheVariants as deeds
 use Rattle.wf_board.specs.Taking.{HasTakenStep}

@@ -1,7 +1,7 @@
 use Rattle.std.proofs.Common.{sym, subst}
 use Rattle.wf_names.specs.declared.states.StepState.TheVariants.{Free}
 use Rattle.case_record.specs.Cases.{with_state}
-use Rattle.grant_table.specs.Tables.{freed_row, HasHeldStep}
+use Rattle.grant_table.specs.Cases.{freed_row, HasHeldStep}
 use Rattle.wf_board.specs.Taking.{HasChanged}
 use Rattle.wf_board.proofs.Planned.{freed_keeps, on_case}
 use Rattle.wf_board.proofs.taking.give_back.Goals as goal

@@ -1,6 +1,6 @@
 use Rattle.std.proofs.Common.{◌≡◌, ◌<◌, true, false, sym, subst, ◌∙◌}
 use Rattle.wf_names.specs.declared.limits.TheConstants.{CASE_LIMIT, OPEN_CASE_LIMIT}
-use Rattle.grant_table.specs.Tables.{open_count}
+use Rattle.grant_table.specs.Cases.{open_count}
 use Rattle.wf_talk.specs.declared.reply.Reply.TheVariants as replies
 use Rattle.wf_talk.specs.declared.reply.Denial.TheVariants.{Full}
 use Rattle.wf_board.specs.Boards.{book_of}

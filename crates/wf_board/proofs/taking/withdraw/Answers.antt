@@ -1,7 +1,7 @@
 use Rattle.std.proofs.Common.{sym, subst}
 use Rattle.wf_names.specs.declared.states.Phase.TheVariants.{Withdrawn}
 use Rattle.case_record.specs.Cases.{with_phase}
-use Rattle.grant_table.specs.Tables.{withdrawn_row}
+use Rattle.grant_table.specs.Cases.{withdrawn_row}
 use Rattle.wf_board.specs.Taking.{HasChanged}
 use Rattle.wf_board.proofs.Planned.{withdrawn_keeps}
 use Rattle.wf_board.proofs.taking.withdraw.Goals as goal

@@ -1,6 +1,6 @@
 use Rattle.std.proofs.Common.{◌≡◌, [], drop, length}
 use Rattle.serde_json.specs.View.{items_view}
-use Rattle.first_fault.specs.Reading.{each}
+use Rattle.basics.specs.Reading.{each}
 use Rattle.wf_commands.specs.Input.{next_user, listed_items, AreAmong}
 use Rattle.wf_commands.proofs.input.read_users.Given as goal
 

@@ -1,8 +1,8 @@
 use Rattle.std.proofs.Common.{◌≡◌, ℕ, List, Bool, Option, Err, sym, refl, subst}
-use Rattle.constraint_forms.specs.Assigned.{no_steps}
+use Rattle.constraint_forms.specs.Assign.{no_steps}
 use Rattle.policy_book.specs.Plans.{IsValidPlan}
 use Rattle.policy_book.specs.Policies.{problem_of}
-use Rattle.certificate_check.specs.Faults.{plan_verdict}
+use Rattle.certificate_check.specs.Plan.{plan_verdict}
 use Rattle.wf_commands.proofs.plan.judge_plan.Goals as goal
 
 pub returns-in_ok-from_str-in-Ok : goal.returns-in_ok-from_str-in-Ok

@@ -1,7 +1,7 @@
 use Rattle.std.proofs.Common.{◌≡◌, true, refl, ap, subst, ◌∙◌}
 use Rattle.std.specs.Prelude.{◌↔◌}
-use Rattle.resilience_check.specs.Absences.{IsResilient}
-use Rattle.resilience_check.specs.Families.{AnswersAbsence, holds}
+use Rattle.resilience_check.specs.Left.{IsResilient}
+use Rattle.resilience_check.specs.Covering.{AnswersAbsence, holds}
 use Rattle.resilience_check.specs.declared.search.AbsenceAnswer.{AbsenceAnswer}
 use Rattle.wire_json.specs.Absences.{family_line}
 use Rattle.wf_commands.proofs.resilience.check_absences.Goals as goal

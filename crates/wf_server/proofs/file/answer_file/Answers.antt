@@ -1,7 +1,7 @@
 use Rattle.std.proofs.Common.{◌≡◌, ◌∙◌, ◌<◌, length, slice_index_or, refl, sym, subst, arith}
 use Rattle.std.proofs.lemmas.Grind.{common_steps}
 use Rattle.line_cutter.specs.Laws.{AreInOrder}
-use Rattle.transcript_resume.specs.Places.{jobs_between}
+use Rattle.transcript_resume.specs.Unserved.{jobs_between}
 use Rattle.wf_server.specs.Batches.{told_of, IsBatch}
 use Rattle.wf_server.specs.Files.{IsToldTo}
 use Rattle.wf_server.proofs.FileLaws.{file_batch, file_fails, is_next, told_more}
@@ -58,7 +58,8 @@ answer_batch-next-requires-clause-takes g c =
       some = subst (λ n. 0 < n) (sym same) c.requires.lanes;
       done = answered.done;
       whole = answered.fills.whole;
-      follows = subst (λ js. IsBatch d.lanes (length c.answering.told.jobs) js) (sym batch) (file_batch d.lanes jobs ends c.answering.count _ _ order known next);
+      follows =
+          subst (λ js. IsBatch d.lanes (length c.answering.told.jobs) js) (sym batch) (file_batch d.lanes jobs ends c.answering.count _ _ order known next);
     }
 
 pub answering-preserved : goal.answering-preserved

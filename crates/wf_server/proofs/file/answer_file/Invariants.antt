@@ -1,6 +1,6 @@
 use Rattle.std.proofs.Common.{◌≡◌, ◌-◌, ℕ, List, Option, length}
 use Rattle.wf_server.specs.Batch.{IsServedOn}
-use Rattle.wf_server.specs.Batches.{told_of, HasAnswered}
+use Rattle.wf_server.specs.Batches.{told_of, HasAnsweredAll}
 use Rattle.wf_server.specs.Files.{IsToldTo}
 use Rattle.wf_server.proofs.file.answer_file.Given as goal
 
@@ -9,8 +9,8 @@ invariant-answering g l =
     record {
       told : IsToldTo l.file.jobs l.file.ends l.count (told_of l.desk l.told);
       on : IsServedOn (λ d e. goal.W-post g l.way d e) l.fn.desk l.desk;
-      answered : (held : Option (List ℕ)) → HasAnswered held (g.K.Sink.held l.fn.sink) l.fn.desk (told_of l.fn.desk l.fn.told) →
-          HasAnswered held (g.K.Sink.held l.sink) l.desk (told_of l.desk l.told);
+      answered : (held : Option (List ℕ)) → HasAnsweredAll held (g.K.Sink.held l.fn.sink) l.fn.desk (told_of l.fn.desk l.fn.told) →
+          HasAnsweredAll held (g.K.Sink.held l.sink) l.desk (told_of l.desk l.told);
       faults : g.K.Sink.faults l.sink ≡ g.K.Sink.faults l.fn.sink;
     }
 

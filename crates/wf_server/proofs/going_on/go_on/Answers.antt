@@ -1,5 +1,5 @@
 use Rattle.std.proofs.Common.{◌<◌, refl, sym, ap, subst}
-use Rattle.batch_reader.specs.Reading.{ReaderShape}
+use Rattle.batch_reader.specs.Reader.{BatchReaderShape}
 use Rattle.line_cutter.specs.Jobs.{next_input}
 use Rattle.run_record.specs.Report.{told_by}
 use Rattle.run_record.specs.Run.{Streams}
@@ -27,7 +27,7 @@ answer_requests-served-requires-clause-file g c =
 pub serve_batches-requires-clause-ready : goal.serve_batches-requires-clause-ready
 serve_batches-requires-clause-ready g c =
     let reads = c.requires.begun.1.1.1.reader in
-    record { going = ap (λ (r : ReaderShape). r.cut.stop) reads; handed = ap (λ (r : ReaderShape). r.cut.ends) reads }
+    record { going = ap (λ (r : BatchReaderShape). r.cut.stop) reads; handed = ap (λ (r : BatchReaderShape). r.cut.ends) reads }
 
 pub serve_batches-requires-clause-lanes : goal.serve_batches-requires-clause-lanes
 serve_batches-requires-clause-lanes g c =
@@ -83,7 +83,7 @@ returns-in-Ok-clause-served g c s cut transcript h =
     served_begun s cut transcript c.args.beginning c.answer_requests-served.result.0 c.args.beginning.reader.room before _ (told_by c.serve_batches.result)
     c.serve_batches.result.fault
     h c.histories_keep_completable.ensures c.histories_are_exact.ensures c.answer_requests-served.ensures.on.setting
-    (ap (λ (r : ReaderShape). r.room) h.reader) c.serve_batches.ensures.behind.legal
+    (ap (λ (r : BatchReaderShape). r.room) h.reader) c.serve_batches.ensures.behind.legal
     (c.serve_batches.ensures.serves (next_input cut) before serving)
 
 pub returns-in-Ok-clause-behind : goal.returns-in-Ok-clause-behind

@@ -1,5 +1,5 @@
 use Rattle.std.proofs.Common.{inl, inr, refl}
-use Rattle.resume_command.specs.Loading.{Names}
+use Rattle.resume_command.specs.Load.{Names}
 use Rattle.resume_command.specs.Start.{names_in}
 use Rattle.wf_server.specs.GoingOn.{options_by}
 use Rattle.wf_server.proofs.ResumeLaws.{all_refused, begun_there, gone_on, refused_usage, served_usage}

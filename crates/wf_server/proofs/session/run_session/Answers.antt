@@ -5,7 +5,7 @@ use Rattle.command_words.specs.Asked.{options_in}
 use Rattle.wf_board.specs.States.{opening_state}
 use Rattle.wf_board.specs.Histories.{AreAnsweredOnce, AreRightful, IsLegal}
 use Rattle.wf_server.specs.Serving.{setting}
-use Rattle.batch_reader.specs.Reading.{ReaderShape}
+use Rattle.batch_reader.specs.Reader.{BatchReaderShape}
 use Rattle.line_cutter.specs.Jobs.{start}
 use Rattle.wf_server.specs.Batches.{Serves}
 use Rattle.wf_server.specs.Sessions.{Setting}
@@ -83,7 +83,7 @@ returns-clause-serves g c =
     new.entries new.restored
     c.new-3.ensures.jobs c.new-3.ensures.ends c.in-Ok-new.ensures in
     subst (λ (n : ℕ). Serves set (start n) c.args.room streams after told fault) new.lanes
-    (subst (λ (m : ℕ). Serves set (start d.lanes) m streams after told fault) (ap (λ (r : ReaderShape). r.room) c.in-Ok-new.ensures)
+    (subst (λ (m : ℕ). Serves set (start d.lanes) m streams after told fault) (ap (λ (r : BatchReaderShape). r.room) c.in-Ok-new.ensures)
     (subst (λ (s : Setting). Serves s (start d.lanes) c.in-Ok-new.reader.room streams after told fault) same
     (c.serve_batches.ensures.serves (start d.lanes) streams begun)))
 

@@ -1,6 +1,6 @@
 use Rattle.std.proofs.Common.{◌≡◌}
 use Rattle.line_cutter.specs.Jobs.{Cut}
-use Rattle.batch_reader.specs.Reading.{IsReady, left_to_read}
+use Rattle.batch_reader.specs.Reader.{CanReadOn, left_to_read}
 use Rattle.run_record.specs.Run.{Streams}
 use Rattle.wf_server.specs.Batch.{IsServedOn}
 use Rattle.wf_server.specs.Batches.{told_of, IsServing}
@@ -16,7 +16,7 @@ invariant-serving g l =
       write_faults = g.K.Sink.faults l.fn.sink;
     } in
     record {
-      ready : IsReady l.reader;
+      ready : CanReadOn l.reader;
       room : l.reader.room ≡ l.fn.reader.room;
       on : IsServedOn (λ d e. goal.W-post g l.way d e) l.fn.desk l.desk;
       serving : (first : Cut) (before : Streams) → IsServing first before begun l.fn.reader l.fn.desk (told_of l.fn.desk l.fn.told) → IsServing first before

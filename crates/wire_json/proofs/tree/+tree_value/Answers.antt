@@ -2,7 +2,7 @@ use Rattle.std.proofs.Common.{◌≡◌, [], ◌∷◌, IfOk, sym, ap, subst, �
 use Rattle.serde_json.specs.declared.value.Value.{Value}
 use Rattle.serde_json.specs.Data.{Data, array}
 use Rattle.serde_json.specs.View.{view, items_of}
-use Rattle.refutation_tree.specs.Shapes.{Kids}
+use Rattle.refutation_tree.specs.Tree.{Kids}
 use Rattle.refutation_tree.specs.Views.{branch_onto, shape_of}
 use Rattle.refutation_tree.proofs.Depths.{branches_below}
 use Rattle.wire_json.specs.Entries.{user_data}

@@ -1,8 +1,8 @@
 use Rattle.std.proofs.Common.{◌≡◌, ◌<◌, ℕ, length}
-use Rattle.refutation_tree.specs.Shapes.{rule}
+use Rattle.refutation_tree.specs.Tree.{rule}
 use Rattle.policy_book.specs.Policies.{problem_of}
 use Rattle.std.specs.Prelude.{slice_index_or}
-use Rattle.constraint_forms.specs.Assigned.{no_steps}
+use Rattle.constraint_forms.specs.Assign.{no_steps}
 use Rattle.wsp_solver.specs.Searches.{AreMentioned}
 use Rattle.wsp_solver.proofs.crew.all_named.Given as goal
 

@@ -1,5 +1,5 @@
 use Rattle.std.proofs.Common.{◌≡◌, ◌<◌, ℕ, false}
-use Rattle.refutation_tree.specs.Shapes.{holder}
+use Rattle.refutation_tree.specs.Tree.{holder}
 use Rattle.policy_book.specs.Policies.{problem_of}
 use Rattle.policy_book.specs.Refuting.{refutes}
 use Rattle.wsp_solver.proofs.leaf.first_misheld.Given as goal

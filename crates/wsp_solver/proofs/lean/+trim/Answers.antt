@@ -2,8 +2,8 @@ use Rattle.std.proofs.Common.{◌≡◌, ◌<◌, ◌≤◌, ◌+◌, ℕ, Bool,
 use Rattle.std.proofs.Common.{subst, ◌∙◌, arith}
 use Rattle.std.proofs.lemmas.Bool.{ltb-true}
 use Rattle.basics.proofs.Booleans.{and_both, or_right}
-use Rattle.constraint_forms.specs.Assigned.{user_at, is_member}
-use Rattle.refutation_tree.specs.Shapes.{Shape, Kids, holder, node, no_kids, nodes_of, nodes_of_kids}
+use Rattle.constraint_forms.specs.Assign.{user_at, is_member}
+use Rattle.refutation_tree.specs.Tree.{Shape, Kids, holder, node, no_kids, nodes_of, nodes_of_kids}
 use Rattle.refutation_tree.specs.Views.{kid_onto, kids_of_items, shape_of}
 use Rattle.refutation_tree.specs.declared.tree.Kid.{Kid}
 use Rattle.refutation_tree.specs.declared.tree.Tree.{Tree}
@@ -15,7 +15,7 @@ use Rattle.certificate_check.proofs.Assigned.{not_some}
 use Rattle.certificate_check.proofs.Dropped.{unmentioned_step_drops as drops}
 use Rattle.certificate_check.proofs.Trees.{branch_user, nodes_within, within_given}
 use Rattle.wsp_solver.specs.Searches.{AreMentioned}
-use Rattle.wsp_solver.specs.Trims.{IsTrimming}
+use Rattle.wsp_solver.specs.Lean.{IsTrimming}
 use Rattle.wsp_solver.proofs.Trimming.{IsTrimmedFront, front_end, front_tree, front_twin, next_users, tree_refutes, twin_is_found}
 use Rattle.wsp_solver.proofs.TwinUsers.{earlier_below}
 use Rattle.std.proofs.lemmas.Result.{IfOk-weaker}

@@ -1,6 +1,6 @@
 use Rattle.std.proofs.Common.{◌≡◌, ◌+◌, ◌*◌, ℕ, true}
-use Rattle.constraint_forms.specs.Assigned.{is_member}
-use Rattle.refutation_tree.specs.Shapes.{nodes_of, nodes_of_kids}
+use Rattle.constraint_forms.specs.Assign.{is_member}
+use Rattle.refutation_tree.specs.Tree.{nodes_of, nodes_of_kids}
 use Rattle.refutation_tree.specs.Views.{kids_of_items, shape_of}
 use Rattle.policy_book.specs.Policies.{problem_of}
 use Rattle.wsp_solver.proofs.Trimming.{IsTrimmedFront}

@@ -1,6 +1,6 @@
 use Rattle.std.proofs.Common.{◌≡◌, ◌<◌, ℕ, length, Some, slice_index}
 use Rattle.wf_names.specs.declared.limits.TheConstants.{STEP_LIMIT}
-use Rattle.constraint_forms.specs.Assigned.{user_at}
+use Rattle.constraint_forms.specs.Assign.{user_at}
 use Rattle.wsp_solver.proofs.next.plan_of.Given as goal
 
 abbrev pub invariant-steps : goal.invariant-steps

@@ -1,7 +1,7 @@
 use Rattle.std.proofs.Common.{◌≡◌, ◌<◌, ℕ, is_some, None, true, not, ◌+◌, ◌&&◌, nat_lt, List, [], Option, sym, ap, subst, ◌∙◌, arith}
 use Rattle.std.proofs.lemmas.Bool.{and_from, ltb-true}
-use Rattle.constraint_forms.specs.Assigned.{is_member, user_at}
-use Rattle.refutation_tree.specs.Shapes.{joined, no_kids, tree_kid, twin_kid}
+use Rattle.constraint_forms.specs.Assign.{is_member, user_at}
+use Rattle.refutation_tree.specs.Tree.{joined, no_kids, tree_kid, twin_kid}
 use Rattle.refutation_tree.specs.Views.{shape_of}
 use Rattle.policy_book.specs.Plans.{Problem, AreAssigned, IsWithin, IsValidPlan}
 use Rattle.policy_book.specs.Policies.{problem_of}

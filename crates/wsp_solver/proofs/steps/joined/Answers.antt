@@ -1,6 +1,6 @@
 use Rattle.std.proofs.Common.{◌≡◌, Bool, true, false, ◌||◌, refl, sym, ap, ◌∙◌}
 use Rattle.basics.proofs.Booleans.{eq_back}
-use Rattle.constraint_forms.specs.Assigned.{is_member}
+use Rattle.constraint_forms.specs.Assign.{is_member}
 use Rattle.constraint_forms.specs.Flags.{word_of}
 use Rattle.wsp_solver.proofs.Crews.{word_one}
 use Rattle.wsp_solver.proofs.steps.joined.Goals as goal

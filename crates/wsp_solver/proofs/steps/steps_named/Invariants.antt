@@ -1,5 +1,5 @@
 use Rattle.std.proofs.Common.{◌≡◌, ℕ, ◌&&◌, nat_lt}
-use Rattle.constraint_forms.specs.Assigned.{is_member}
+use Rattle.constraint_forms.specs.Assign.{is_member}
 use Rattle.constraint_forms.specs.Rules.{names}
 use Rattle.wsp_solver.proofs.steps.steps_named.Given as goal
 

@@ -1,6 +1,6 @@
 use Rattle.std.proofs.Common.{◌&&◌, ◌||◌, ◌==◌, sym, ap, ◌∙◌, arith}
 use Rattle.basics.proofs.Booleans.{or-false}
-use Rattle.constraint_forms.specs.Assigned.{is_member}
+use Rattle.constraint_forms.specs.Assign.{is_member}
 use Rattle.wsp_solver.proofs.Members.{member_added}
 use Rattle.wsp_solver.proofs.steps.with_if.Goals as goal
 

@@ -1,5 +1,5 @@
 use Rattle.std.proofs.Common.{◌≡◌, length, not, sym, ap, ◌∙◌, arith}
-use Rattle.constraint_forms.specs.Assigned.{user_at}
+use Rattle.constraint_forms.specs.Assign.{user_at}
 use Rattle.policy_book.specs.Twins.{all_below, is_given_to}
 use Rattle.certificate_check.proofs.Below.{one_fails, one_more_passes}
 use Rattle.wsp_solver.proofs.twin.has_no_step.Goals as goal

@@ -1,13 +1,13 @@
 use Rattle.std.proofs.Common.{◌≡◌, ◌+◌, ◌||◌, [], take, sym, ap, subst, ◌∙◌, arith}
 use Rattle.std.proofs.lemmas.List.{take_all}
-use Rattle.refutation_tree.specs.Shapes.{Kids}
+use Rattle.refutation_tree.specs.Tree.{Kids}
 use Rattle.policy_book.specs.Policies.{problem_of}
 use Rattle.policy_book.specs.Twins.{has_twin, is_one_of}
 use Rattle.basics.proofs.Booleans.{eq_back, or_left}
 use Rattle.certificate_check.specs.Walks.{AreUsersBelow, tree_users, user_onto}
 use Rattle.certificate_check.proofs.Trees.{one_of_all, one_of_more, tree_users-more, user_below}
 use Rattle.wsp_solver.specs.Crews.{IsFirstTwin}
-use Rattle.wsp_solver.specs.Trims.{kid_users}
+use Rattle.wsp_solver.specs.Lean.{kid_users}
 use Rattle.wsp_solver.proofs.Crews.{busy_alone}
 use Rattle.wsp_solver.proofs.TwinUsers.{first_alone, kid_user_below, kid_users-items, twin_here, twin_onto}
 use Rattle.wsp_solver.proofs.twin.twin_among.Goals as goal

@@ -1,7 +1,7 @@
 use Rattle.std.proofs.Common.{◌∙◌, ap, length}
 use Rattle.line_cutter.specs.Jobs.{Cut}
 use Rattle.line_cutter.specs.Cutter.{emptied}
-use Rattle.batch_reader.specs.Reading.{ReaderShape}
+use Rattle.batch_reader.specs.Reader.{BatchReaderShape}
 use Rattle.batch_reader.proofs.ReadingLaws.{closed_at, closed_on, closed_none, closed_batch, up_before, closed_counts}
 use Rattle.batch_reader.proofs.reader.Reader.next_batch.Goals as goal
 
@@ -23,16 +23,16 @@ returns-in_default-clause-reads g c before h read =
     (closed_at before (g.S.Source.left c.read_batch-paused.new.source) h c.read_batch-paused.new.self c.close_batch.new.self.cut c.take_batch.result
     (length c.self.inside.piece.items) c.read_batch-paused.result c.close_batch.result
     (c.read_batch-paused.ensures.reads before h read) c.read_batch-paused.ensures.pauses c.close_batch.ensures.closes c.in_default.not-NoMemory
-    (c.take_batch.ensures.batch ∙ ap (λ (s : ReaderShape). s.cut.jobs) c.self.view_is)
-    (ap (λ (s : ReaderShape). s.room) c.self.view_is ∙ c.close_batch.ensures.room)).reads
+    (c.take_batch.ensures.batch ∙ ap (λ (s : BatchReaderShape). s.cut.jobs) c.self.view_is)
+    (ap (λ (s : BatchReaderShape). s.room) c.self.view_is ∙ c.close_batch.ensures.room)).reads
 
 pub returns-in_default-clause-up : goal.returns-in_default-clause-up
 returns-in_default-clause-up g c before h read =
     (closed_at before (g.S.Source.left c.read_batch-paused.new.source) h c.read_batch-paused.new.self c.close_batch.new.self.cut c.take_batch.result
     (length c.self.inside.piece.items) c.read_batch-paused.result c.close_batch.result
     (c.read_batch-paused.ensures.reads before h read) c.read_batch-paused.ensures.pauses c.close_batch.ensures.closes c.in_default.not-NoMemory
-    (c.take_batch.ensures.batch ∙ ap (λ (s : ReaderShape). s.cut.jobs) c.self.view_is)
-    (ap (λ (s : ReaderShape). s.room) c.self.view_is ∙ c.close_batch.ensures.room)).up
+    (c.take_batch.ensures.batch ∙ ap (λ (s : BatchReaderShape). s.cut.jobs) c.self.view_is)
+    (ap (λ (s : BatchReaderShape). s.room) c.self.view_is ∙ c.close_batch.ensures.room)).up
 
 pub returns-in_default-clause-goes_on : goal.returns-in_default-clause-goes_on
 returns-in_default-clause-goes_on g c batch before h read =
@@ -40,9 +40,9 @@ returns-in_default-clause-goes_on g c batch before h read =
     c.close_batch.ensures.closes batch in
     closed_on before (g.S.Source.left c.read_batch-paused.new.source) h c.read_batch-paused.new.self _ c.take_batch.result c.read_batch-paused.result
     (c.read_batch-paused.ensures.reads before h read) c.read_batch-paused.ensures.pauses closes.0
-    (c.take_batch.ensures.batch ∙ ap (λ (s : ReaderShape). s.cut.jobs) c.self.view_is ∙ ap (λ (d : Cut). d.jobs) closes.1)
-    (c.take_batch.ensures.left ∙ ap (λ (s : ReaderShape). emptied s.cut) c.self.view_is ∙ ap emptied closes.1)
-    (ap (λ (s : ReaderShape). s.pending) c.self.view_is ∙ c.close_batch.ensures.pending)
+    (c.take_batch.ensures.batch ∙ ap (λ (s : BatchReaderShape). s.cut.jobs) c.self.view_is ∙ ap (λ (d : Cut). d.jobs) closes.1)
+    (c.take_batch.ensures.left ∙ ap (λ (s : BatchReaderShape). emptied s.cut) c.self.view_is ∙ ap emptied closes.1)
+    (ap (λ (s : BatchReaderShape). s.pending) c.self.view_is ∙ c.close_batch.ensures.pending)
 
 pub returns-in-NoMemory-clause-up_before : goal.returns-in-NoMemory-clause-up_before
 returns-in-NoMemory-clause-up_before g c before h read =

@@ -1,12 +1,12 @@
 use Rattle.std.proofs.Common.{◌≡◌, ◌≤◌, ℕ, List, Option}
-use Rattle.batch_reader.specs.Reading.{Handed, HasRead, IsReady, left_to_read}
+use Rattle.batch_reader.specs.Reader.{Handed, HasRead, CanReadOn, left_to_read}
 use Rattle.batch_reader.specs.Pausing.{steps_left}
 use Rattle.batch_reader.proofs.reader.Reader.read_batch.Given as goal
 
 abbrev pub invariant-reading : goal.invariant-reading
 invariant-reading g l =
     record {
-      ready : IsReady l.self;
+      ready : CanReadOn l.self;
       reads : (before : Option (List ℕ)) (h : Handed) → HasRead before (g.S.Source.left l.fn.source) h l.fn.self →
           HasRead before (g.S.Source.left l.source) h l.self;
       far : left_to_read l.self ≤ left_to_read l.fn.self;

@@ -1,7 +1,7 @@
 use Rattle.std.proofs.Common.{◌≡◌, ◌++◌, List, ℕ, take, drop, length, ap, sym, subst, arith}
 use Rattle.std.proofs.lemmas.Grind.{common_steps}
 use Rattle.wf_outside.specs.Outside.{HasTaken}
-use Rattle.batch_reader.specs.Reading.{ReaderShape}
+use Rattle.batch_reader.specs.Reader.{BatchReaderShape}
 use Rattle.batch_reader.proofs.ReadingLaws.{take_more}
 use Rattle.batch_reader.proofs.reader.Reader.take_piece.Goals as goal
 
@@ -14,4 +14,4 @@ returns-clause-reads g c before h read =
     let old = c.self.inside.piece in
     let front : take n (take old.len (new ++ drop (length new) old.items)) ≡ take n new = grind (arith, common_steps) in
     let taken = subst (λ (xs : List ℕ). HasTaken before_call after_call xs) (sym front) c.in_ok-self-inside.ensures.taken in
-    take_more before before_call after_call h c.args.self.now _ c.requires (ap (λ (s : ReaderShape). s.cut) c.self.view_is) taken read
+    take_more before before_call after_call h c.args.self.now _ c.requires (ap (λ (s : BatchReaderShape). s.cut) c.self.view_is) taken read

@@ -1,5 +1,5 @@
 use Rattle.std.proofs.Common.{◌≡◌, ◌++◌, take, flat_map}
-use Rattle.case_page.specs.Parts.{part_text}
+use Rattle.case_page.specs.Html.{part_text}
 use Rattle.case_page.proofs.html.Html.put.Given as goal
 
 abbrev pub invariant-parts : goal.invariant-parts

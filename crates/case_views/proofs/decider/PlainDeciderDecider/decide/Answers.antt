@@ -1,6 +1,6 @@
 use Rattle.std.proofs.Common.{ap, ◌∙◌}
 use Rattle.policy_book.specs.Shapes.{PolicyShape}
-use Rattle.grant_table.specs.Tables.{CasesShape}
+use Rattle.grant_table.specs.Cases.{CasesShape}
 use Rattle.wf_board.specs.Boards.{book_of, book_on}
 use Rattle.case_views.proofs.Deciding.{nothing_decides, refused_needs_none}
 use Rattle.case_views.proofs.decider.PlainDeciderDecider.decide.Goals as goal

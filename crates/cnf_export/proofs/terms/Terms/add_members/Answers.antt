@@ -1,6 +1,6 @@
 use Rattle.std.proofs.Common.{◌∙◌, ◌<◌, ◌&&◌, ℕ, map, length, sym, arith}
 use Rattle.basics.proofs.Booleans.{differ}
-use Rattle.constraint_forms.specs.Assigned.{is_member}
+use Rattle.constraint_forms.specs.Assign.{is_member}
 use Rattle.constraint_forms.specs.Rules.{turned}
 use Rattle.cnf_export.specs.Clauses.{yes_to}
 use Rattle.cnf_export.specs.Encodings.{has, users_who}

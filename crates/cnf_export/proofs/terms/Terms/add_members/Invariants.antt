@@ -1,6 +1,6 @@
 use Rattle.std.proofs.Common.{◌≡◌, ◌-◌, ◌++◌, ◌&&◌, map, length}
 use Rattle.std.specs.List.{flat_map}
-use Rattle.constraint_forms.specs.Assigned.{is_member}
+use Rattle.constraint_forms.specs.Assign.{is_member}
 use Rattle.constraint_forms.specs.Rules.{turned}
 use Rattle.policy_book.specs.Refuting.{passing}
 use Rattle.cnf_export.specs.Clauses.{yes_to}

@@ -1,5 +1,5 @@
 use Rattle.wf_names.specs.declared.limits.TheConstants.{STEP_LIMIT}
-use Rattle.constraint_forms.specs.Assigned.{no_steps}
+use Rattle.constraint_forms.specs.Assign.{no_steps}
 use Rattle.constraint_forms.proofs.Bits.{length-flags_of, flags_of-zero, none_of_zero}
 use Rattle.constraint_forms.proofs.step_set.StepSet.empty.Goals as goal
 

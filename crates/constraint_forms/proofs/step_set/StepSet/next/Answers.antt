@@ -1,7 +1,7 @@
 use Rattle.std.proofs.Common.{◌+◌, ◌/◌, ◌^◌, Bool, List, sym, ap, subst, ◌∙◌, arith}
 use Rattle.std.specs.Int.{w32, trailing_zeros}
 use Rattle.wf_names.specs.declared.limits.TheConstants.{STEP_LIMIT}
-use Rattle.constraint_forms.specs.Assigned.{is_member, IsNextStep}
+use Rattle.constraint_forms.specs.Assign.{is_member, IsNextStep}
 use Rattle.constraint_forms.proofs.Bits.{length-flags_of, has_no_flag}
 use Rattle.constraint_forms.proofs.NextSteps.{none_from, next_from}
 use Rattle.constraint_forms.proofs.step_set.StepSet.next.Goals as goal

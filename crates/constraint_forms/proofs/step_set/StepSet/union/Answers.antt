@@ -1,7 +1,7 @@
 use Rattle.std.proofs.Common.{◌||◌, bit_or, ap, ◌∙◌}
 use Rattle.std.proofs.lemmas.Nat.{or_lt}
 use Rattle.wf_names.specs.declared.limits.TheConstants.{STEP_LIMIT}
-use Rattle.constraint_forms.specs.Assigned.{is_member}
+use Rattle.constraint_forms.specs.Assign.{is_member}
 use Rattle.constraint_forms.specs.Flags.{flags_of}
 use Rattle.constraint_forms.proofs.Bits.{length-flags_of}
 use Rattle.constraint_forms.proofs.NextSteps.{flags_of-or}

@@ -1,6 +1,6 @@
 use Rattle.std.proofs.Common.{sym, ap, subst, ◌∙◌, nat_eq}
 use Rattle.grant_table.specs.declared.rows.Row.{Row}
-use Rattle.grant_table.specs.Tables.{only, open_count, row_at}
+use Rattle.grant_table.specs.Cases.{only, open_count, row_at}
 use Rattle.grant_table.specs.Kept.{IsSoundTable, rows_of}
 use Rattle.grant_table.proofs.Parts.{kept_filter, only_is}
 use Rattle.grant_table.proofs.Passed.{kept_anew}

@@ -1,7 +1,7 @@
 use Rattle.std.proofs.Common.{◌≡◌, ◌+◌, cond, refl, sym, ap, subst, IsSomeAnd, ◌∙◌}
 use Rattle.wf_names.specs.States.{is_done}
 use Rattle.case_record.specs.Cases.{CaseShape}
-use Rattle.grant_table.specs.Tables.{case_at, ones, finished_row, HasHeldStep}
+use Rattle.grant_table.specs.Cases.{case_at, ones, finished_row, HasHeldStep}
 use Rattle.grant_table.proofs.Keeping.{known, there_again, table_put, finish_counts, case_changed}
 use Rattle.grant_table.proofs.cases.Cases.finish.Goals as goal
 

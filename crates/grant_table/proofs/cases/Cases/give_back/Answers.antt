@@ -1,5 +1,5 @@
 use Rattle.std.proofs.Common.{◌≡◌, ◌+◌, refl, ap, ◌∙◌, arith}
-use Rattle.grant_table.specs.Tables.{ones, freed_row}
+use Rattle.grant_table.specs.Cases.{ones, freed_row}
 use Rattle.grant_table.proofs.Keeping.{there_again, table_put}
 use Rattle.grant_table.proofs.cases.Cases.give_back.Goals as goal
 

@@ -1,7 +1,7 @@
 use Rattle.std.proofs.Common.{◌<◌, refl, arith, ap}
 use Rattle.case_record.specs.Cases.{is_open}
 use Rattle.wf_names.specs.declared.limits.TheConstants.{OPEN_CASE_LIMIT}
-use Rattle.grant_table.specs.Tables.{open_count}
+use Rattle.grant_table.specs.Cases.{open_count}
 use Rattle.grant_table.proofs.Keeping.{kept_added}
 use Rattle.grant_table.proofs.Passed.{passed_added}
 use Rattle.grant_table.proofs.cases.Cases.open_fresh.Goals as goal

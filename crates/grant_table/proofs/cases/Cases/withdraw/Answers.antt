@@ -1,6 +1,6 @@
 use Rattle.std.proofs.Common.{◌≡◌, ℕ, ◌+◌, cond, true, refl, ap, ◌∙◌, arith}
 use Rattle.case_record.specs.Cases.{is_open}
-use Rattle.grant_table.specs.Tables.{ones, withdrawn_row}
+use Rattle.grant_table.specs.Cases.{ones, withdrawn_row}
 use Rattle.grant_table.proofs.Keeping.{known, there_again, table_put}
 use Rattle.grant_table.proofs.cases.Cases.withdraw.Goals as goal
 

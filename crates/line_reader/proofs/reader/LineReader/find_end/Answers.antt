@@ -1,6 +1,6 @@
 use Rattle.std.proofs.Common.{List, ℕ, take, drop, ◌-◌, ◌∙◌, ap, subst}
 use Rattle.memchr.specs.Find.{IsFirstByte, is_byte}
-use Rattle.line_reader.specs.Lines.{ReaderShape}
+use Rattle.line_reader.specs.Reader.{ReaderShape}
 use Rattle.line_reader.proofs.FirstLines.{finds_end}
 use Rattle.line_reader.proofs.Going.{between}
 use Rattle.line_reader.proofs.reader.LineReader.find_end.Goals as goal

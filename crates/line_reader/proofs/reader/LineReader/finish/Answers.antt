@@ -1,5 +1,5 @@
 use Rattle.std.proofs.Common.{true, length, ap, arith}
-use Rattle.line_reader.specs.Lines.{ReaderShape}
+use Rattle.line_reader.specs.Reader.{ReaderShape}
 use Rattle.line_reader.proofs.Going.{IsSound, sound, line_is_last}
 use Rattle.line_reader.proofs.reader.LineReader.finish.Goals as goal
 

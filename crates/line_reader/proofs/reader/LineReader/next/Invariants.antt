@@ -1,5 +1,5 @@
 use Rattle.std.proofs.Common.{◌≡◌, false}
-use Rattle.line_reader.specs.Lines.{HasSeen, pending}
+use Rattle.line_reader.specs.Reader.{HasSeen, pending}
 use Rattle.line_reader.specs.Steps.{steps_left}
 use Rattle.line_reader.proofs.reader.LineReader.next.Given as goal
 

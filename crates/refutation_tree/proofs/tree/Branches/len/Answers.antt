@@ -1,5 +1,5 @@
 use Rattle.std.proofs.Common.{ap, arith}
-use Rattle.refutation_tree.specs.Shapes.{kid_count}
+use Rattle.refutation_tree.specs.Tree.{kid_count}
 use Rattle.refutation_tree.proofs.ShapeLaws.{kid_count-items}
 use Rattle.refutation_tree.proofs.tree.Branches.len.Goals as goal
 

@@ -1,6 +1,6 @@
 use Rattle.std.proofs.Common.{ap, sym, ◌∙◌}
 use Rattle.wf_board.specs.Boards.{state_on}
-use Rattle.transcript_audit.specs.Audits.{state_now}
+use Rattle.transcript_audit.specs.Auditor.{state_now}
 use Rattle.transcript_audit.proofs.Entering.{edits_few, state_next}
 use Rattle.transcript_audit.proofs.auditor.Auditor.enter_step.Goals as goal
 

@@ -1,5 +1,5 @@
 use Rattle.std.proofs.Common.{ap, ◌∙◌}
-use Rattle.transcript_audit.specs.Audits.{present_jobs}
+use Rattle.transcript_audit.specs.Auditor.{present_jobs}
 use Rattle.transcript_audit.specs.Keeping.{part}
 use Rattle.transcript_audit.proofs.Cursors.{batch_is, cursor_order, cursor_within}
 use Rattle.transcript_audit.proofs.record.Record.batch.Goals as goal

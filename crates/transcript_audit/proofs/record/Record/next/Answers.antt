@@ -1,5 +1,5 @@
 use Rattle.std.proofs.Common.{ap, sym, ◌∙◌}
-use Rattle.transcript_audit.specs.Audits.{next_job, present_jobs}
+use Rattle.transcript_audit.specs.Auditor.{next_job, present_jobs}
 use Rattle.transcript_audit.proofs.Cursors.{next_past, next_placed}
 use Rattle.transcript_audit.proofs.record.Record.next.Goals as goal
 

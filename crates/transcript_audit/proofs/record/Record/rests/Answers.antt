@@ -2,7 +2,7 @@ use Rattle.std.proofs.Common.{◌≡◌, ◌<◌, false, drop, max, nat_le, ap, 
 use Rattle.std.proofs.lemmas.Grind.{common_steps}
 use Rattle.wf_board.specs.Counting.{counted, lane_end}
 use Rattle.wf_desk.proofs.DocketLaws.{rest_from}
-use Rattle.transcript_audit.specs.Audits.{present_start}
+use Rattle.transcript_audit.specs.Auditor.{present_start}
 use Rattle.transcript_audit.specs.Keeping.{rests_on}
 use Rattle.transcript_audit.proofs.Sound.{entries_few}
 use Rattle.transcript_audit.proofs.Cursors.{cursor_start}

@@ -1,5 +1,5 @@
 use Rattle.std.proofs.Common.{◌≡◌, if◌then◌else◌}
-use Rattle.trial_maker.specs.Trials.{is_edited, turns, with_edit}
+use Rattle.trial_maker.specs.Jobs.{is_edited, turns, with_edit}
 use Rattle.trial_maker.proofs.jobs.Maker.add_round.Given as goal
 
 abbrev pub invariant-cases : goal.invariant-cases

@@ -1,8 +1,8 @@
 use Rattle.std.proofs.Common.{◌≡◌, true, Some, None, IfSome, rules, refl, ap, ◌∙◌, sym, subst}
 use mathlib.Core.Option.{some}
-use Rattle.turn_table.specs.Lists.{GrowsByOne}
+use Rattle.turn_table.specs.Table.{GrowsByOne}
 use Rattle.turn_table.specs.Lanes.{LaneShape, hold_of, carried_by}
-use Rattle.turn_table.specs.Turns.{noting}
+use Rattle.turn_table.specs.Plays.{noting}
 use Rattle.turn_table.proofs.Keeps.{notes, unlocks}
 use Rattle.turn_table.proofs.Views.{slot_filled}
 use Rattle.turn_table.proofs.Numbers.{some_of, at_some}

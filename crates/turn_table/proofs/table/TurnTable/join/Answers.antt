@@ -1,7 +1,7 @@
 use Rattle.std.proofs.Common.{◌≡◌, false, ◌++◌, rules, ap, ◌∙◌, sym, subst}
 use Rattle.std.specs.List.{Contains}
 use Rattle.std.proofs.lemmas.List.Elements.{Contains-append_left, Contains-append_right}
-use Rattle.turn_table.specs.Lists.{brought}
+use Rattle.turn_table.specs.Table.{brought}
 use Rattle.turn_table.specs.Lanes.{hold_of, carried_by}
 use Rattle.turn_table.proofs.Seats.{joins}
 use Rattle.turn_table.proofs.Keeps.{compares}

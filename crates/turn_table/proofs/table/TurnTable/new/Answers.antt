@@ -1,6 +1,6 @@
 use Rattle.std.proofs.Common.{List, [], ◌∷◌, Option, Some, sym, subst}
 use Rattle.atomic_table.specs.Table.{opening}
-use Rattle.turn_table.specs.Turns.{TurnRule, starting}
+use Rattle.turn_table.specs.Plays.{TurnRule, starting}
 use Rattle.turn_table.proofs.Ends.{starts}
 use Rattle.turn_table.proofs.table.TurnTable.new.Goals as goal
 

@@ -1,7 +1,7 @@
 use Rattle.std.proofs.Common.{◌≡◌, true, Some, IsSome, rules, refl, ap, ◌∙◌, sym, subst}
-use Rattle.turn_table.specs.Lists.{Quiet}
+use Rattle.turn_table.specs.Table.{Quiet}
 use Rattle.turn_table.specs.Lanes.{LaneShape, shape_of}
-use Rattle.turn_table.specs.Turns.{entering}
+use Rattle.turn_table.specs.Plays.{entering}
 use Rattle.turn_table.proofs.Keeps.{locks}
 use Rattle.turn_table.proofs.Views.{slot_in_hand, same_item}
 use Rattle.turn_table.proofs.table.TurnTable.take.Goals as goal

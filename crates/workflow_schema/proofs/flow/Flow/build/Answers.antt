@@ -4,7 +4,7 @@ use Rattle.pair_set.specs.Pairs.{pair_cmp}
 use Rattle.workflow_schema.specs.declared.flow.Frame.{Frame}
 use Rattle.workflow_schema.specs.declared.fault.FlowFault.TheVariants.{Cycle}
 use Rattle.workflow_schema.specs.Flows.{has_twice, IsLeastCycle}
-use Rattle.workflow_schema.specs.Stored.{IsStored}
+use Rattle.workflow_schema.specs.Stored.{IsStoredFlow}
 use Rattle.workflow_schema.proofs.Permits.{permitted_by-is}
 use Rattle.workflow_schema.proofs.Kept.{few_steps}
 use Rattle.workflow_schema.proofs.Built.{counted, closed_order, no_cycle, least_cycle, one_least, built_flow}
@@ -23,7 +23,7 @@ returns-in-Some-clause-cycle c s =
 
 pub invariant_of-result : goal.invariant_of-result
 invariant_of-result c =
-    subst (λ (f : Frame). IsStored f.steps.names f.order f.later c.in-Some-Some.roles) (sym c.in-Ok.ensures)
+    subst (λ (f : Frame). IsStoredFlow f.steps.names f.order f.later c.in-Some-Some.roles) (sym c.in-Ok.ensures)
     (built_flow c.args.steps.names c.args.order.now c.args.permits.now c.close.new.rows c.in-Some-Some.roles
     (counted (length c.args.steps.names) c.len-count.result c.len-count.ensures.count c.if-count-eq0.false c.if-count-gt-STEP_LIMIT.false)
     c.requires.order_in c.requires.permits_in (closed_order (set.from_list {R = pair_cmp} c.args.order.now) c.in-Some-Some.later c.close.new.rows
