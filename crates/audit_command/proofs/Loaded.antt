@@ -21,7 +21,7 @@ use Rattle.audit_command.proofs.Legal.{legal_input}
 use Rattle.audit_command.specs.Finding.{AreShort, HasFound, ending_of, finding_text}
 use Rattle.audit_command.specs.Laws.{LegalIsExact}
 use Rattle.audit_command.specs.Loading.{GivesJobs, JobsOf}
-use Rattle.audit_command.specs.Run.{AuditOf, AuditsFile, AuditsPolicy, AuditsRequests, EndsWithout, Input, audit_for}
+use Rattle.audit_command.specs.Running.{AuditOf, AuditsFile, AuditsPolicy, AuditsRequests, EndsWithout, Input, audit_for}
 use Rattle.audit_command.specs.Steps.{FindsAs, FindsFile, IsReadEnding}
 
 -- ---- what is found with them

@@ -18,7 +18,7 @@ use Rattle.wf_commands.proofs.Runs.{ends_refused, loaded, no_writes, own_reads, 
 use Rattle.audit_command.specs.declared.finding.Finding.{Finding}
 use Rattle.audit_command.specs.declared.finding.Finding.TheVariants.{Legal, Fault, TooLong}
 use Rattle.audit_command.specs.Finding.{ending_of, finding_text}
-use Rattle.audit_command.specs.Run.{AuditsPolicy, AuditsRun, EndsWithout, ReadsAsAudit}
+use Rattle.audit_command.specs.Running.{AuditsPolicy, AuditsRun, EndsWithout, ReadsAsAudit}
 use Rattle.audit_command.specs.Steps.{FailsAs, FindsFile, HasTakenSome, HasToldPart, IsAuditEnding}
 
 -- ---- by the ending

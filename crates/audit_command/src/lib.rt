@@ -9,4 +9,4 @@ mod run;
 
 pub use finding::fault_text;
 pub use laws::{legal_is_exact, legal_is_next};
-pub use run::run_audit;
+pub use run::{AuditedSession, run_audit};

@@ -2,11 +2,11 @@
 ghost use Rattle.std.specs.Prelude.{◌≡◌, ◌<◌, ◌≤◌, ◌+◌, ℕ, List, [], length, Option, None, Some};
 ghost use Rattle.std.specs.Prelude.{Ok, Err, IfErr, IfOk};
 ghost use Rattle.wf_names.specs.declared.limits.TheConstants.{SESSION_LINE_LIMIT};
-ghost use Rattle.wf_names.specs.declared.limits.TheConstants.{TRANSCRIPT_LINE_LIMIT};
 ghost use Rattle.line_reader.specs.Reader.{pending};
 ghost use Rattle.run_record.specs.Fault.{fault_in, CountsReadsAlone};
 ghost use Rattle.transcript_audit.specs.Auditor.{AuditShape};
 ghost use Rattle.audit_command.specs.Finding.{EndsAs, HasFound};
+ghost use Rattle.audit_command.specs.Lines.{HasReadSome, IsUnread, IsAtLine, ReadsLines};
 ghost use Rattle.audit_command.specs.Steps.{HasAudited, HasOneMore, HasTakenSome, IsReadEnding};
 ghost use Rattle.audit_command.specs.Steps.{AuditStepsTo, TakesLine};
 
@@ -52,12 +52,9 @@ fn audit_lines<V: Decider, S: Source>(
     source: &mut S,
 ) -> Result<Finding, RunFault>
     requires ready { V.ready decider.now }
-    requires going { auditor.fault ≡ None }
-    requires first { auditor.entries ≡ [] }
-    requires few { length auditor.jobs ≤ SESSION_LINE_LIMIT }
+    requires first { IsUnread auditor }
     requires nothing { pending reader.old ≡ [] }
-    requires limit { reader.old.limit ≡ TRANSCRIPT_LINE_LIMIT }
-    requires room { reader.old.room ≡ PIECE }
+    requires reader { ReadsLines reader.old }
     ensures found { IfOk result (λ f. HasFound auditor f (S.left source.old) (S.left source.new)) }
     ensures taken { HasTakenSome (S.left source.old) (S.left source.new) }
     ensures ending { IfErr result IsReadEnding }
@@ -83,20 +80,16 @@ fn audit_line<V: Decider, S: Source>(
     source: &mut S,
 ) -> Result<Option<Finding>, RunFault>
     requires ready { V.ready decider.now }
-    requires going { auditor.old.fault ≡ None }
-    requires number { number ≡ length auditor.old.entries }
-    requires limit { reader.old.limit ≡ TRANSCRIPT_LINE_LIMIT }
-    requires room { reader.old.room ≡ PIECE }
+    requires at { IsAtLine auditor.old number }
+    requires reader { ReadsLines reader.old }
     ensures steps { (first : AuditShape) (before : Option (List ℕ)) →
         HasAudited first auditor.old before (S.left source.old) (pending reader.old) →
         AuditStepsTo first auditor.new before (S.left source.new) (pending reader.new) result }
     ensures more { result ≡ Ok None → HasOneMore auditor.old auditor.new }
-    ensures taken { HasTakenSome (S.left source.old) (S.left source.new) }
+    ensures read { HasReadSome (fault_in result) (S.left source.old) (S.left source.new)
+        (S.faults source.old) (S.faults source.new) }
     ensures ending { IfErr result IsReadEnding }
-    ensures limit { reader.new.limit ≡ reader.old.limit }
-    ensures room { reader.new.room ≡ reader.old.room }
-    ensures counts { CountsReadsAlone (fault_in result) (S.faults source.old)
-        (S.faults source.new) }
+    ensures reader { ReadsLines reader.new }
 {
     match reader.next(source) {
         Read::Line => take_line(alloc, decider, auditor, reader.line()),

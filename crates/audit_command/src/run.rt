@@ -7,8 +7,9 @@ ghost use Rattle.run_record.specs.Fault.{CountsWrites};
 ghost use Rattle.run_record.specs.Run.{run_of, streams_of};
 ghost use Rattle.wf_commands.specs.Load.{EndsTooLong};
 ghost use Rattle.audit_command.specs.Finding.{finding_text};
-ghost use Rattle.audit_command.specs.Run.{AuditsPolicy, AuditsRun, EndsWithout, ReadsAsAudit};
-ghost use Rattle.audit_command.specs.Steps.{FailsAs, FindsAs, FindsFile, IsAuditEnding};
+ghost use Rattle.audit_command.specs.Run.{EndsFinding, IsOnLanes};
+ghost use Rattle.audit_command.specs.Running.{AuditsPolicy, AuditsRun, ReadsAsAudit};
+ghost use Rattle.audit_command.specs.Steps.{FailsAs, FindsAs, FindsFile};
 
 use crate::finding::Finding;
 use crate::laws::legal_is_exact;
@@ -22,33 +23,39 @@ use wf_board::Decider;
 use wf_commands::load_policy;
 use wf_outside::{Shelf, Sink, Source, put_and_flush};
 
-/// Audits the transcript in the input: whether a session with the files `policy` and `requests`,
-/// served on `lanes` lanes, a request answered again after `rounds` lost rounds, can have written
-/// it. Writes what is found.
+/// A session of which a transcript is audited: its files, and how it was served.
+#[derive(Clone, Copy)]
+pub struct AuditedSession<'a> {
+    pub policy: &'a str,
+    pub requests: &'a str,
+    /// How many lanes there were, at least one.
+    pub lanes: u8,
+    /// After how many lost rounds a request was answered again.
+    pub rounds: u8,
+}
+
+/// Audits the transcript in the input: whether the session can have written it. Writes what is
+/// found.
 pub fn run_audit<V: Decider, F: Shelf, S: Source, K: Sink>(
     alloc: Global,
     decider: &V,
-    policy: &str,
-    requests: &str,
-    lanes: u8,
-    rounds: u8,
+    session: AuditedSession,
     shelf: &mut F,
     source: &mut S,
     sink: &mut K,
 ) -> Report
     requires ready { V.ready decider.now }
-    requires some { 0 < lanes }
-    requires lanes { lanes ≤ LANE_LIMIT }
+    requires some { 0 < session.lanes }
+    requires lanes { session.lanes ≤ LANE_LIMIT }
     ensures status { result.status ≡ status_of result.fault }
     ensures usage { result.fault ≡ RunFault.Usage → ⊥ }
-    ensures audits { AuditsRun policy.now requests.now lanes rounds (
+    ensures audits { AuditsRun session.entry.policy.now session.entry.requests.now
+        session.entry.lanes session.entry.rounds (
         run_of F.file F.faults shelf.old shelf.new
         (streams_of S.left S.faults K.held K.faults source.old sink.old)
         (streams_of S.left S.faults K.held K.faults source.new sink.new) result) }
 {
-    match find(
-        alloc, decider, policy, requests, lanes, rounds, shelf, source,
-    ) {
+    match find(alloc, decider, session, shelf, source) {
         Ok(finding) => match tell(alloc, finding, sink) {
             Ok(()) => bare_report(alloc, finding.ending()),
             Err(fault) => bare_report(alloc, fault),
@@ -61,58 +68,54 @@ pub fn run_audit<V: Decider, F: Shelf, S: Source, K: Sink>(
 fn find<V: Decider, F: Shelf, S: Source>(
     alloc: Global,
     decider: &V,
-    policy: &str,
-    requests: &str,
-    lanes: u8,
-    rounds: u8,
+    session: AuditedSession,
     shelf: &mut F,
     source: &mut S,
 ) -> Result<Finding, RunFault>
     requires ready { V.ready decider.now }
-    requires some { 0 < lanes }
-    requires lanes { lanes ≤ LANE_LIMIT }
-    ensures finds { FindsFile (AuditsPolicy
-        (record { requests = F.file shelf.old requests.now; lanes = lanes; rounds = rounds })
-        (record { before = S.left source.old; after = S.left source.new }))
-        (F.file shelf.old policy.now) result }
-    ensures ending { IfErr result IsAuditEnding }
-    ensures named { EndsTooLong POLICY_FILE_LIMIT (F.file shelf.old policy.now) (fault_in result) }
-    ensures without { EndsWithout (F.file shelf.old requests.now) (fault_in result) }
+    requires lanes { IsOnLanes session.lanes }
+    ensures finds { FindsFile (AuditsPolicy (record {
+      requests = F.file shelf.old session.entry.requests.now;
+      lanes = session.entry.lanes;
+      rounds = session.entry.rounds;
+    }) (record { before = S.left source.old; after = S.left source.new }))
+        (F.file shelf.old session.entry.policy.now) result }
+    ensures ends { EndsFinding (F.file shelf.old session.entry.requests.now) result }
+    ensures named { EndsTooLong POLICY_FILE_LIMIT (F.file shelf.old session.entry.policy.now)
+        (fault_in result) }
     ensures loads { CountsLoads (fault_in result) (F.faults shelf.old) (F.faults shelf.new) }
     ensures reads { CountsReadsAlone (fault_in result) (S.faults source.old) (S.faults source.new) }
     ensures input { ReadsAsAudit (fault_in result) (S.left source.old) (S.left source.new) }
 {
-    let p = load_policy(alloc, shelf, policy)?;
-    find_under(alloc, decider, p, requests, lanes, rounds, shelf, source)
+    let p = load_policy(alloc, shelf, session.policy)?;
+    find_under(alloc, decider, p, session, shelf, source)
 }
 
-// The same under a policy.
+// What the audit finds of a session that begins with a policy.
 fn find_under<V: Decider, F: Shelf, S: Source>(
     alloc: Global,
     decider: &V,
     policy: Policy,
-    requests: &str,
-    lanes: u8,
-    rounds: u8,
+    session: AuditedSession,
     shelf: &mut F,
     source: &mut S,
 ) -> Result<Finding, RunFault>
     requires ready { V.ready decider.now }
-    requires some { 0 < lanes }
-    requires lanes { lanes ≤ LANE_LIMIT }
-    ensures finds { FindsAs (AuditsPolicy
-        (record { requests = F.file shelf.old requests.now; lanes = lanes; rounds = rounds })
-        (record { before = S.left source.old; after = S.left source.new }) policy) result }
-    ensures ending { IfErr result IsAuditEnding }
-    ensures without { EndsWithout (F.file shelf.old requests.now) (fault_in result) }
+    requires lanes { IsOnLanes session.lanes }
+    ensures finds { FindsAs (AuditsPolicy (record {
+      requests = F.file shelf.old session.entry.requests.now;
+      lanes = session.entry.lanes;
+      rounds = session.entry.rounds;
+    }) (record { before = S.left source.old; after = S.left source.new }) policy) result }
+    ensures ends { EndsFinding (F.file shelf.old session.entry.requests.now) result }
     ensures loads { CountsLoads (fault_in result) (F.faults shelf.old) (F.faults shelf.new) }
     ensures reads { CountsReadsAlone (fault_in result) (S.faults source.old) (S.faults source.new) }
     ensures input { ReadsAsAudit (fault_in result) (S.left source.old) (S.left source.new) }
 {
-    let batch = load_jobs(alloc, shelf, requests, lanes)?;
-    know_session(&policy, rounds, &batch.jobs, &batch.ends);
+    let batch = load_jobs(alloc, shelf, session.requests, session.lanes)?;
+    know_session(&policy, session.rounds, &batch.jobs, &batch.ends);
     legal_is_exact();
-    let auditor = Auditor::new(alloc, policy, batch.jobs, batch.ends, rounds)?;
+    let auditor = Auditor::new(alloc, policy, batch.jobs, batch.ends, session.rounds)?;
     audit_input(alloc, decider, auditor, source)
 }
 

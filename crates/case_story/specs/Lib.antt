@@ -4,3 +4,5 @@ pub mod Followed
 pub mod Printed
 pub mod Writing
 pub mod Run
+pub mod Session
+pub mod Follow

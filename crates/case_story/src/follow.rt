@@ -2,6 +2,7 @@
 ghost use Rattle.std.specs.Prelude.{◌≡◌, ◌<◌, ◌≤◌, ◌+◌, length, None, Some, Ok, IfOk, IfSome};
 ghost use Rattle.transcript_audit.specs.Auditor.{AuditShape};
 ghost use Rattle.case_story.specs.Followed.{EndsAt, HasFollowed, IsAt, FollowsTo, StopsTo};
+ghost use Rattle.case_story.specs.Follow.{IsBetween};
 ghost use Rattle.case_story.specs.Verdicts.{right_lines};
 
 use crate::lines::{first_len, is_long};
@@ -66,8 +67,7 @@ pub(crate) fn follow_to<W: Watches>(
         FollowsTo first auditor.new text.now place.new o) }
     ensures at { result ≡ Ok None → IsAt text.now auditor.new place.new }
     ensures all { result ≡ Ok None → place.new.number < most → length text.now ≤ place.new.at }
-    ensures most { IfOk result (λ _. place.new.number ≤ most) }
-    ensures more { IfOk result (λ _. place.old.number ≤ place.new.number) }
+    ensures between { IfOk result (λ _. IsBetween place.old.number place.new.number most) }
     ensures number { IfOk result (λ o. IfSome o (λ v. right_lines v ≡ place.new.number)) }
 {
     'lines: while place.number < most && place.at < text.len() {

@@ -17,4 +17,5 @@ mod verdict;
 mod whole;
 
 pub use run::{What, run_told};
+pub use session::Files;
 pub use verdict::Verdict;

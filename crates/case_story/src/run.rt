@@ -3,6 +3,7 @@ ghost use Rattle.std.specs.Prelude.{◌≡◌, ◌<◌, ◌≤◌, ℕ, List, If
 ghost use Rattle.wf_names.specs.declared.limits.TheConstants.{LANE_LIMIT};
 ghost use Rattle.run_record.specs.Fault.{fault_in, CountsLoads, CountsWrites};
 ghost use Rattle.wf_commands.specs.Answer.{AnswersAs, IsAnswerEnding, IsCommandEnding};
+ghost use Rattle.case_story.specs.Session.{named_by};
 ghost use Rattle.case_story.specs.Sessions.{IsServed};
 ghost use Rattle.case_story.specs.Run.{FindsRun, Tells, TellsRun};
 
@@ -10,7 +11,7 @@ use crate::entry::tell_entry;
 use crate::log::tell_log;
 use crate::now::tell_now;
 use crate::page::tell_page;
-use crate::session::{Session, load_session};
+use crate::session::{Files, Session, load_session};
 use run_record::RunFault;
 use std::alloc::Global;
 use wf_commands::Answer;
@@ -30,30 +31,23 @@ pub enum What {
     Page(CaseId),
 }
 
-/// Tells of the file `transcript`, of a session with the files `policy` and `requests`, served on
-/// `lanes` lanes, a request answered again after `rounds` lost rounds.
+/// Tells of the transcript of a session.
 pub fn run_told<F: Shelf, K: Sink>(
     alloc: Global,
     what: What,
-    policy: &str,
-    requests: &str,
-    transcript: &str,
-    lanes: u8,
-    rounds: u8,
+    files: Files,
     shelf: &mut F,
     sink: &mut K,
 ) -> RunFault
-    requires some { 0 < lanes }
-    requires lanes { lanes ≤ LANE_LIMIT }
-    ensures tells { TellsRun (F.file shelf.old)
-        (record { policy = policy.now; requests = requests.now; transcript = transcript.now })
-        lanes rounds (Tells what) (K.held sink.old) (K.held sink.new) result }
+    requires some { 0 < files.lanes }
+    requires lanes { files.lanes ≤ LANE_LIMIT }
+    ensures tells { TellsRun (F.file shelf.old) (named_by files.entry) files.entry.lanes
+        files.entry.rounds
+        (Tells what) (K.held sink.old) (K.held sink.new) result }
     ensures loads { CountsLoads result (F.faults shelf.old) (F.faults shelf.new) }
     ensures writes { CountsWrites result (K.faults sink.old) (K.faults sink.new) }
 {
-    match find(
-        alloc, what, policy, requests, transcript, lanes, rounds, shelf,
-    ) {
+    match find(alloc, what, files, shelf) {
         Ok(answer) => match put_and_flush(sink, answer.text.as_slice()) {
             Ok(()) => answer.ending(),
             Err(_) => RunFault::Write,
@@ -66,22 +60,18 @@ pub fn run_told<F: Shelf, K: Sink>(
 fn find<F: Shelf>(
     alloc: Global,
     what: What,
-    policy: &str,
-    requests: &str,
-    transcript: &str,
-    lanes: u8,
-    rounds: u8,
+    files: Files,
     shelf: &mut F,
 ) -> Result<Answer, RunFault>
-    requires some { 0 < lanes }
-    requires lanes { lanes ≤ LANE_LIMIT }
-    ensures finds { FindsRun (F.file shelf.old)
-        (record { policy = policy.now; requests = requests.now; transcript = transcript.now })
-        lanes rounds (Tells what) result }
+    requires some { 0 < files.lanes }
+    requires lanes { files.lanes ≤ LANE_LIMIT }
+    ensures finds { FindsRun (F.file shelf.old) (named_by files.entry) files.entry.lanes
+        files.entry.rounds
+        (Tells what) result }
     ensures ending { IfErr result IsCommandEnding }
     ensures loads { CountsLoads (fault_in result) (F.faults shelf.old) (F.faults shelf.new) }
 {
-    let s = load_session(alloc, policy, requests, transcript, lanes, rounds, shelf)?;
+    let s = load_session(alloc, files, shelf)?;
     tell(alloc, what, &s)
 }
 

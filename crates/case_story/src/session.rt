@@ -4,6 +4,7 @@ ghost use Rattle.wf_names.specs.declared.limits.TheConstants.{LANE_LIMIT};
 ghost use Rattle.transcript_audit.specs.Laws.{AreOfSession};
 ghost use Rattle.run_record.specs.Fault.{fault_in, CountsLoads};
 ghost use Rattle.wf_commands.specs.Load.{IsLoadEnding};
+ghost use Rattle.case_story.specs.Session.{named_by};
 ghost use Rattle.case_story.specs.Sessions.{GivesSession, IsServed, audit_in, cut_in};
 
 use line_cutter::jobs_of;
@@ -17,6 +18,18 @@ use wf_outside::{Loaded, Shelf};
 
 /// Most bytes of a transcript.
 pub const TRANSCRIPT_FILE_LIMIT: usize = 67_108_864;
+
+/// The files of a session, and how it was served.
+#[derive(Clone, Copy)]
+pub struct Files<'a> {
+    pub policy: &'a str,
+    pub requests: &'a str,
+    pub transcript: &'a str,
+    /// How many lanes there were, at least one.
+    pub lanes: u8,
+    /// After how many lost rounds a request was answered again.
+    pub rounds: u8,
+}
 
 /// What is told of a session: the policy at its beginning, the texts of its requests and of its
 /// transcript, and how it was served.
@@ -50,32 +63,26 @@ impl Session {
 /// Loads the policy, the requests and the transcript of a session, in this order.
 pub(crate) fn load_session<F: Shelf>(
     alloc: Global,
-    policy: &str,
-    requests: &str,
-    transcript: &str,
-    lanes: u8,
-    rounds: u8,
+    files: Files,
     shelf: &mut F,
 ) -> Result<Session, RunFault>
-    requires some { 0 < lanes }
-    requires lanes { lanes ≤ LANE_LIMIT }
-    ensures gives { GivesSession (F.file shelf.old)
-        (record { policy = policy.now; requests = requests.now; transcript = transcript.now })
-        result }
-    ensures lanes { IfOk result (λ s. s.lanes ≡ lanes) }
-    ensures rounds { IfOk result (λ s. s.rounds ≡ rounds) }
+    requires some { 0 < files.lanes }
+    requires lanes { files.lanes ≤ LANE_LIMIT }
+    ensures gives { GivesSession (F.file shelf.old) (named_by files.entry) result }
+    ensures lanes { IfOk result (λ s. s.lanes ≡ files.entry.lanes) }
+    ensures rounds { IfOk result (λ s. s.rounds ≡ files.entry.rounds) }
     ensures served { IfOk result IsServed }
     ensures ending { IfErr result IsLoadEnding }
     ensures loads { CountsLoads (fault_in result) (F.faults shelf.old) (F.faults shelf.new) }
 {
-    let policy = load_policy(alloc, shelf, policy)?;
-    let requests = load_file(alloc, shelf, requests, REQUESTS_FILE_LIMIT)?;
-    let transcript = load_file(alloc, shelf, transcript, TRANSCRIPT_FILE_LIMIT)?;
+    let policy = load_policy(alloc, shelf, files.policy)?;
+    let requests = load_file(alloc, shelf, files.requests, REQUESTS_FILE_LIMIT)?;
+    let transcript = load_file(alloc, shelf, files.transcript, TRANSCRIPT_FILE_LIMIT)?;
     Ok(Session {
         policy,
         requests,
         transcript,
-        lanes,
-        rounds,
+        lanes: files.lanes,
+        rounds: files.rounds,
     })
 }

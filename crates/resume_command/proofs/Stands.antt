@@ -18,7 +18,7 @@ use Rattle.transcript_audit.proofs.Batches.{first_ends, part_length, start_first
 use Rattle.transcript_resume.specs.Unserved.{end_at, jobs_between, start_at}
 use Rattle.transcript_resume.specs.Resumed.{GoesOnAt, Session}
 use Rattle.transcript_resume.proofs.Rests.{answers_part, bounds_order, bounds_within, lanes_between}
-use Rattle.resume_command.specs.Start.{StandsAt, ends_to}
+use Rattle.resume_command.specs.Begun.{StandsAt, ends_to}
 
 -- ---- how many ends are not behind a place
 

@@ -18,7 +18,7 @@ use Rattle.resume_command.specs.declared.start.Beginning.{Beginning}
 use Rattle.resume_command.specs.declared.start.TheConstants.{PIECE}
 use Rattle.resume_command.specs.declared.refusal.Refusal.{Refusal}
 use Rattle.resume_command.specs.declared.refusal.Refusal.TheVariants.{Ends}
-use Rattle.resume_command.specs.Start.{BeginsBy, HasBegun, StandsAt, StopsBy, ends_to, session_of}
+use Rattle.resume_command.specs.Begun.{BeginsBy, HasBegun, StandsAt, StopsBy, ends_to, session_of}
 use Rattle.resume_command.specs.Load.{IsCutOf}
 use Rattle.resume_command.specs.Refusal.{refused_by}
 use Rattle.resume_command.proofs.Stands.{desk_lanes, reaches, stands}

@@ -1,3 +1,4 @@
 pub mod Refusal
 pub mod Load
+pub mod Begun
 pub mod Start

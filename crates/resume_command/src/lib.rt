@@ -7,4 +7,4 @@ mod refusal;
 mod start;
 
 pub use refusal::Refusal;
-pub use start::{Beginning, begin};
+pub use start::{Beginning, Earlier, begin};

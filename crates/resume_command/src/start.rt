@@ -1,14 +1,13 @@
 //! Where a session goes on: its files are loaded, and its transcript is taken up.
-ghost use Rattle.std.specs.Prelude.{◌≡◌, ◌<◌, ◌≤◌, ℕ, true, List, IfOk, length, take, None};
-ghost use Rattle.wf_names.specs.declared.limits.TheConstants.{LANE_LIMIT, ROUND_LIMIT};
-ghost use Rattle.wf_names.specs.declared.limits.TheConstants.{SESSION_LINE_LIMIT};
+ghost use Rattle.std.specs.Prelude.{◌≡◌, ◌≤◌, ℕ, true, List, IfOk, length, take};
 ghost use Rattle.line_cutter.specs.Jobs.{jobs_of_input};
-ghost use Rattle.line_cutter.specs.Laws.{AreInOrder, AreNamedJobs};
 ghost use Rattle.run_record.specs.Fault.{how_of, refused, CountsLoads};
+ghost use Rattle.transcript_resume.specs.Sessions.{AreServedWithin};
+ghost use Rattle.resume_command.specs.Start.{AreWhole, names_in};
 ghost use Rattle.resume_command.specs.Load.{IsCutOf, ending_at, OverBoth, OverFiles};
 ghost use Rattle.resume_command.specs.Load.{OverTranscript, OverTranscriptFile};
-ghost use Rattle.resume_command.specs.Start.{BeginsBy, EndsBeginning, EndsLoaded, StopsBy, ends_to};
-ghost use Rattle.resume_command.specs.Start.{fault_by, session_of};
+ghost use Rattle.resume_command.specs.Begun.{BeginsBy, EndsBeginning, EndsLoaded, StopsBy, ends_to};
+ghost use Rattle.resume_command.specs.Begun.{fault_by, session_of};
 
 use crate::Refusal;
 use crate::load::load_requests;
@@ -47,62 +46,62 @@ pub struct Beginning {
     pub reader: Reader,
 }
 
+/// An earlier session: its files, and how it was served.
+#[derive(Clone, Copy)]
+pub struct Earlier<'a> {
+    pub policy: &'a str,
+    pub requests: &'a str,
+    pub transcript: &'a str,
+    /// How many lanes there were, at least one.
+    pub lanes: u8,
+    /// After how many lost rounds a request was answered again.
+    pub rounds: u8,
+}
+
 /// Loads the policy, the requests and the transcript of an earlier session, each once those before
 /// it are found to be within their limits, and takes the session up.
 pub fn begin<V: Decider, F: Shelf>(
     alloc: Global,
     decider: &V,
-    policy: &str,
-    requests: &str,
-    transcript: &str,
-    lanes: u8,
-    rounds: u8,
+    earlier: Earlier,
     shelf: &mut F,
 ) -> Result<Beginning, Refusal>
     requires ready { V.ready decider.now }
-    requires some { 0 < lanes }
-    requires lanes { lanes ≤ LANE_LIMIT }
-    requires rounds { rounds ≤ ROUND_LIMIT }
-    ensures begins { OverFiles (F.file shelf.old)
-        (record { policy = policy.now; requests = requests.now; transcript = transcript.now })
-        lanes (StopsBy result)
-        (λ p cut transcript. BeginsBy (session_of p lanes rounds cut) cut transcript result) }
+    requires within { AreServedWithin earlier.lanes earlier.rounds }
+    ensures begins { OverFiles (F.file shelf.old) (names_in earlier.entry) earlier.entry.lanes
+        (StopsBy result)
+        (λ p cut transcript.
+        BeginsBy (session_of p earlier.entry.lanes earlier.entry.rounds cut) cut transcript
+        result) }
     ensures ending { EndsBeginning (how_of (fault_by result)) }
     ensures loads { CountsLoads (fault_by result) (F.faults shelf.old) (F.faults shelf.new) }
 {
-    let policy = load_policy(alloc, shelf, policy)?;
-    begin_under(
-        alloc, decider, policy, requests, transcript, lanes, rounds, shelf,
-    )
+    let policy = load_policy(alloc, shelf, earlier.policy)?;
+    begin_under(alloc, decider, policy, earlier, shelf)
 }
 
-// The same under a policy.
+// Loads the requests and the transcript of a session over a policy, and takes it up.
 fn begin_under<V: Decider, F: Shelf>(
     alloc: Global,
     decider: &V,
     policy: Policy,
-    requests: &str,
-    transcript: &str,
-    lanes: u8,
-    rounds: u8,
+    earlier: Earlier,
     shelf: &mut F,
 ) -> Result<Beginning, Refusal>
     requires ready { V.ready decider.now }
-    requires some { 0 < lanes }
-    requires lanes { lanes ≤ LANE_LIMIT }
-    requires rounds { rounds ≤ ROUND_LIMIT }
-    ensures begins { OverBoth lanes (StopsBy result)
-        (λ cut transcript. BeginsBy (session_of policy lanes rounds cut) cut transcript result)
-        (F.file shelf.old requests.now) (F.file shelf.old transcript.now) }
+    requires within { AreServedWithin earlier.lanes earlier.rounds }
+    ensures begins { OverBoth earlier.entry.lanes (StopsBy result) (λ cut transcript.
+        BeginsBy (session_of policy earlier.entry.lanes earlier.entry.rounds cut) cut transcript
+        result)
+        (F.file shelf.old earlier.entry.requests.now)
+        (F.file shelf.old earlier.entry.transcript.now) }
     ensures ending { EndsBeginning (how_of (fault_by result)) }
     ensures loads { CountsLoads (fault_by result) (F.faults shelf.old) (F.faults shelf.new) }
 {
-    let text = load_requests(alloc, shelf, requests, lanes)?;
+    let text = load_requests(alloc, shelf, earlier.requests, earlier.lanes)?;
     match text.stop {
         Some(stop) => Err(Refusal::Ends(ending_at(stop))),
-        None => begin_behind(
-            alloc, decider, policy, text, transcript, lanes, rounds, shelf,
-        ),
+        None => begin_behind(alloc, decider, policy, text, earlier, shelf),
     }
 }
 
@@ -118,37 +117,40 @@ fn ending_at(stop: Stop) -> RunFault
     }
 }
 
-// The same with the requests as they are cut.
+// Loads the transcript of a session over a policy and requests, and takes it up.
 fn begin_behind<V: Decider, F: Shelf>(
     alloc: Global,
     decider: &V,
     policy: Policy,
     text: CutText,
-    transcript: &str,
-    lanes: u8,
-    rounds: u8,
+    earlier: Earlier,
     shelf: &mut F,
 ) -> Result<Beginning, Refusal>
     requires ready { V.ready decider.now }
-    requires some { 0 < lanes }
-    requires lanes { lanes ≤ LANE_LIMIT }
-    requires rounds { rounds ≤ ROUND_LIMIT }
-    requires few { text.lines ≤ SESSION_LINE_LIMIT }
-    requires order { AreInOrder lanes text.batch.jobs text.batch.ends }
-    requires named { AreNamedJobs text.batch.jobs }
-    requires going { text.stop ≡ None }
-    ensures begins { (requests : List ℕ) → IsCutOf requests lanes text →
-        OverTranscriptFile (StopsBy result)
-        (λ transcript. BeginsBy (session_of policy lanes rounds (jobs_of_input requests true lanes))
-        (jobs_of_input requests true lanes) transcript result) (F.file shelf.old transcript.now) }
+    requires within { AreServedWithin earlier.lanes earlier.rounds }
+    requires whole { AreWhole earlier.lanes text }
+    ensures begins { (requests : List ℕ) → IsCutOf requests earlier.entry.lanes text →
+        OverTranscriptFile (StopsBy result) (λ transcript. BeginsBy
+        (session_of policy earlier.entry.lanes earlier.entry.rounds
+        (jobs_of_input requests true earlier.entry.lanes))
+        (jobs_of_input requests true earlier.entry.lanes) transcript result)
+        (F.file shelf.old earlier.entry.transcript.now) }
     ensures ending { EndsBeginning (how_of (fault_by result)) }
     ensures loads { CountsLoads (fault_by result) (F.faults shelf.old) (F.faults shelf.new) }
 {
-    let file = load_file(alloc, shelf, transcript, TRANSCRIPT_FILE_LIMIT)?;
-    begin_at(alloc, decider, policy, text, file, lanes, rounds)
+    let file = load_file(alloc, shelf, earlier.transcript, TRANSCRIPT_FILE_LIMIT)?;
+    begin_at(
+        alloc,
+        decider,
+        policy,
+        text,
+        file,
+        earlier.lanes,
+        earlier.rounds,
+    )
 }
 
-// The same with the transcript, if none of its whole lines is too long.
+// Takes a session up with its transcript, if none of the whole lines is too long.
 fn begin_at<V: Decider>(
     alloc: Global,
     decider: &V,
@@ -159,13 +161,8 @@ fn begin_at<V: Decider>(
     rounds: u8,
 ) -> Result<Beginning, Refusal>
     requires ready { V.ready decider.now }
-    requires some { 0 < lanes }
-    requires lanes { lanes ≤ LANE_LIMIT }
-    requires rounds { rounds ≤ ROUND_LIMIT }
-    requires few { text.lines ≤ SESSION_LINE_LIMIT }
-    requires order { AreInOrder lanes text.batch.jobs text.batch.ends }
-    requires named { AreNamedJobs text.batch.jobs }
-    requires going { text.stop ≡ None }
+    requires within { AreServedWithin lanes rounds }
+    requires whole { AreWhole lanes text }
     requires short { length transcript ≤ TRANSCRIPT_FILE_LIMIT }
     ensures begins { (requests : List ℕ) → IsCutOf requests lanes text →
         OverTranscript (StopsBy result)
@@ -190,13 +187,8 @@ fn take_up<V: Decider>(
     rounds: u8,
 ) -> Result<Beginning, Refusal>
     requires ready { V.ready decider.now }
-    requires some { 0 < lanes }
-    requires lanes { lanes ≤ LANE_LIMIT }
-    requires rounds { rounds ≤ ROUND_LIMIT }
-    requires few { text.lines ≤ SESSION_LINE_LIMIT }
-    requires order { AreInOrder lanes text.batch.jobs text.batch.ends }
-    requires named { AreNamedJobs text.batch.jobs }
-    requires going { text.stop ≡ None }
+    requires within { AreServedWithin lanes rounds }
+    requires whole { AreWhole lanes text }
     ensures begins { (requests : List ℕ) → IsCutOf requests lanes text →
         BeginsBy (session_of policy lanes rounds (jobs_of_input requests true lanes))
         (jobs_of_input requests true lanes) transcript result }
@@ -217,7 +209,7 @@ fn take_up<V: Decider>(
     Ok(with_told(alloc, resumed, reader)?)
 }
 
-// The same desk, with the jobs that are told up to the end of its batch.
+// The desk of a session that was taken up, with the jobs that are told up to the end of its batch.
 fn with_told(alloc: Global, resumed: Resumed, reader: Reader) -> Result<Beginning, AllocError>
     requires { resumed.next ≤ length resumed.batch.jobs }
     ensures desk { IfOk result (λ b. b.desk ≡ resumed.desk) }

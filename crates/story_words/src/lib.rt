@@ -24,4 +24,3 @@ pub use asks::push_ask;
 pub use entries::{push_entry, push_line};
 pub use refused::push_reasons;
 pub use tables::push_case;
-pub use trees::push_tree;

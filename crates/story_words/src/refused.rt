@@ -10,7 +10,6 @@ use grant_table::Cases;
 use policy_book::Policy;
 use refutation_tree::Tree;
 use std::alloc::{AllocError, Global};
-use wf_names::CaseId;
 use wf_talk::{Ask, Denial, Entry, Reply, Request};
 
 /// How much is told of a tree.
@@ -34,7 +33,7 @@ pub fn push_reasons(
     push_refused(alloc, out, p, cases, entry, Telling::InLines)
 }
 
-/// The same, told in this way.
+/// Adds why nobody could finish a case after what was denied, as much of it as is to be told.
 pub(crate) fn push_refused(
     alloc: Global,
     out: &mut String,
@@ -58,28 +57,27 @@ pub(crate) fn push_refused(
                 None => Ok(()),
             }
         }
-        Reply::Denied(Denial::Strands { case, tree, .. }) => {
-            push_strands(alloc, out, p, cases, &entry.ask, *case, tree, telling)
-        }
+        Reply::Denied(Denial::Strands { .. }) => push_strands(alloc, out, p, cases, entry, telling),
         _ => Ok(()),
     }
 }
 
-// The same of an edit, under the policy that it would have made.
+// Adds why an edit would have stranded a case, under the policy that it would have made.
 fn push_strands(
     alloc: Global,
     out: &mut String,
     p: &Policy,
     cases: &Cases,
-    ask: &Ask,
-    case: CaseId,
-    tree: &Tree,
+    entry: &Entry,
     telling: Telling,
 ) -> Result<(), AllocError> {
-    let Some(after) = edited(p, ask)? else {
+    let Reply::Denied(Denial::Strands { case, tree, .. }) = &entry.reply else {
         return Ok(());
     };
-    match held_in(&after, cases, case) {
+    let Some(after) = edited(p, &entry.ask)? else {
+        return Ok(());
+    };
+    match held_in(&after, cases, *case) {
         Some(held) => push_told(alloc, out, &after, &held, tree, telling),
         None => Ok(()),
     }

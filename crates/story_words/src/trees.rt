@@ -4,32 +4,24 @@ ghost use Rattle.std.specs.Prelude.{◌≡◌, ◌<◌, length};
 use crate::facts::push_broken;
 use crate::held::{Held, given, is_flow};
 use crate::names::{push_step, push_user, push_users};
-use constraint_forms::{Assign, StepSet};
 use plain_words::say;
 use policy_book::Policy;
 use refutation_tree::{Branch, Kid, Tree};
 use std::alloc::{AllocError, Global};
-use wf_names::{FlowId, RULE_LIMIT, StepId, USER_LIMIT, UserId, UserSet};
+use wf_names::{RULE_LIMIT, StepId, USER_LIMIT, UserId, UserSet};
 
-/// Adds the lines of a tree that shows why nobody can finish a case in which steps are given so,
-/// each behind this indent.
-pub fn push_tree(
+/// Adds the lines of a tree that shows why nobody can finish a case in which steps are held so,
+/// each behind the indent.
+pub(crate) fn push_tree(
     alloc: Global,
     out: &mut String,
     indent: &str,
     p: &Policy,
-    f: FlowId,
-    a: &Assign,
-    done: &StepSet,
+    held: &Held,
     tree: &Tree,
 ) -> Result<(), AllocError> {
-    let held = Held {
-        flow: f,
-        users: *a,
-        done: *done,
-    };
     out.push_str(indent)?;
-    push_node(alloc, out, indent, p, &held, tree)
+    push_node(alloc, out, indent, p, held, tree)
 }
 
 // Adds what a tree says behind what stands in the line, and the lines below it.

@@ -49,16 +49,7 @@ fn push_small(
     if tree.nodes() > MOST_NODES {
         return Ok(());
     }
-    push_tree(
-        alloc,
-        out,
-        "  ",
-        p,
-        held.flow,
-        &held.users,
-        &held.done,
-        tree,
-    )
+    push_tree(alloc, out, "  ", p, held, tree)
 }
 
 // Adds a small tree, or else the words of the rules; and that they cannot be met together.
@@ -78,16 +69,7 @@ fn push_clash(
     if tree.nodes() > MOST_NODES {
         push_rule_lines(alloc, out, p, held, rules)?;
     } else {
-        push_tree(
-            alloc,
-            out,
-            "  ",
-            p,
-            held.flow,
-            &held.users,
-            &held.done,
-            tree,
-        )?;
+        push_tree(alloc, out, "  ", p, held, tree)?;
     }
     push_rules(alloc, out, "Rule", rules)?;
     out.push_str(match rules.len() {

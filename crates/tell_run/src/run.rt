@@ -72,17 +72,7 @@ fn run_asked<F: Shelf, S: Source, K: Sink>(
     match asked {
         Asked::Policy { policy } => run_policy(alloc, policy, shelf, sink),
         Asked::Why { policy, flow } => run_why(alloc, policy, flow, shelf, source, sink).fault,
-        Asked::Told { what, session } => run_told(
-            alloc,
-            *what,
-            session.policy,
-            session.requests,
-            session.transcript,
-            session.lanes,
-            session.rounds,
-            shelf,
-            sink,
-        ),
+        Asked::Told { what, session } => run_told(alloc, *what, *session, shelf, sink),
     }
 }
 

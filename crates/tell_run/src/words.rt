@@ -3,7 +3,7 @@ ghost use Rattle.std.specs.Prelude.{◌<◌, ◌≤◌, IfSome, IfOk};
 ghost use Rattle.wf_names.specs.declared.limits.TheConstants.{LANE_LIMIT};
 ghost use Rattle.tell_run.specs.Words.{CanTell};
 
-use case_story::What;
+use case_story::{Files, What};
 use clap::error::ErrorKind;
 use clap::{Arg, ArgMatches, Command};
 use std::alloc::{AllocError, Global};
@@ -18,18 +18,6 @@ pub(crate) enum Asked<'a> {
     Why { policy: &'a str, flow: &'a str },
     /// What a transcript tells.
     Told { what: What, session: Files<'a> },
-}
-
-/// The files of a session, and how it was served.
-#[derive(Clone, Copy)]
-pub(crate) struct Files<'a> {
-    pub policy: &'a str,
-    pub requests: &'a str,
-    pub transcript: &'a str,
-    /// How many lanes there were, at least one.
-    pub lanes: u8,
-    /// After how many lost rounds a request was answered again.
-    pub rounds: u8,
 }
 
 /// Why words are no command.

@@ -1,3 +1,4 @@
 pub mod Unserved
 pub mod Resumed
 pub mod Auditing
+pub mod Sessions

@@ -1,6 +1,6 @@
 //! A session that goes on from a transcript.
-ghost use Rattle.std.specs.Prelude.{◌≡◌, ◌<◌, ◌≤◌, IfErr, IfOk, length, Some};
-ghost use Rattle.wf_names.specs.declared.limits.TheConstants.{LANE_LIMIT, ROUND_LIMIT};
+ghost use Rattle.std.specs.Prelude.{◌≡◌, IfErr, IfOk};
+ghost use Rattle.wf_names.specs.declared.limits.TheConstants.{LANE_LIMIT};
 ghost use Rattle.line_cutter.specs.Laws.{AreInOrder, AreNamedJobs};
 ghost use Rattle.wf_board.specs.Boards.{state_on};
 ghost use Rattle.wf_board.specs.Histories.{IsLegal, state_after};
@@ -8,6 +8,7 @@ ghost use Rattle.wf_board.specs.States.{opening_state};
 ghost use Rattle.wf_desk.specs.Parts.{FillsPart};
 ghost use Rattle.transcript_audit.specs.declared.fault.AuditFault.TheVariants.{NoMemory};
 ghost use Rattle.transcript_resume.specs.Resumed.{GoesOnAt, HasResumed, IsTakenUp, RefusesBy};
+ghost use Rattle.transcript_resume.specs.Sessions.{AreServedWithin, session_over};
 
 use crate::lines::whole_lines;
 use crate::taking::take_lines;
@@ -46,30 +47,14 @@ pub fn resume<V: Decider>(
     rounds: u8,
 ) -> Result<Resumed, AuditFault>
     requires ready { V.ready decider.now }
-    requires some { 0 < lanes }
-    requires lanes { lanes ≤ LANE_LIMIT }
-    requires rounds { rounds ≤ ROUND_LIMIT }
+    requires within { AreServedWithin lanes rounds }
     requires order { AreInOrder lanes batch.jobs batch.ends }
     requires named { AreNamedJobs batch.jobs }
-    ensures resumed { IfOk result (λ r. HasResumed (record {
-      policy = policy;
-      lanes = lanes;
-      rounds = rounds;
-      jobs = batch.jobs;
-      batch_ends =
-          batch.ends;
-    })
+    ensures resumed { IfOk result (λ r. HasResumed (session_over policy lanes rounds batch)
         transcript.now r.next r.desk) }
     ensures jobs { IfOk result (λ r. r.batch.jobs ≡ batch.jobs) }
     ensures ends { IfOk result (λ r. r.batch.ends ≡ batch.ends) }
-    ensures refused { IfErr result (RefusesBy (record {
-      policy = policy;
-      lanes = lanes;
-      rounds = rounds;
-      jobs = batch.jobs;
-      batch_ends =
-          batch.ends;
-    })
+    ensures refused { IfErr result (RefusesBy (session_over policy lanes rounds batch)
         transcript.now) }
 {
     let Ok(opening) = policy.copy() else {
@@ -95,30 +80,15 @@ fn take_up<V: Decider>(
     rounds: u8,
 ) -> Result<(Board, Journal, Batch), AuditFault>
     requires ready { V.ready decider.now }
-    requires lanes { lanes ≤ LANE_LIMIT }
-    requires order { AreInOrder lanes batch.jobs batch.ends }
+    requires order { AreInOrder LANE_LIMIT batch.jobs batch.ends }
     requires named { AreNamedJobs batch.jobs }
     ensures state { IfOk result (λ r. state_on r.0
         ≡ state_after (opening_state policy) r.1.entries) }
-    ensures taken { IfOk result (λ r. IsTakenUp (record {
-      policy = policy;
-      lanes = lanes;
-      rounds = rounds;
-      jobs = batch.jobs;
-      batch_ends =
-          batch.ends;
-    })
+    ensures taken { IfOk result (λ r. IsTakenUp (session_over policy lanes rounds batch)
         transcript.now r.1.entries) }
     ensures jobs { IfOk result (λ r. r.2.jobs ≡ batch.jobs) }
     ensures ends { IfOk result (λ r. r.2.ends ≡ batch.ends) }
-    ensures refused { IfErr result (RefusesBy (record {
-      policy = policy;
-      lanes = lanes;
-      rounds = rounds;
-      jobs = batch.jobs;
-      batch_ends =
-          batch.ends;
-    })
+    ensures refused { IfErr result (RefusesBy (session_over policy lanes rounds batch)
         transcript.now) }
 {
     let Batch { jobs, ends } = batch;
@@ -144,21 +114,12 @@ fn go_on(
     lanes: u8,
     rounds: u8,
 ) -> Result<Resumed, AllocError>
-    requires some { 0 < lanes }
-    requires lanes { lanes ≤ LANE_LIMIT }
-    requires rounds { rounds ≤ ROUND_LIMIT }
+    requires within { AreServedWithin lanes rounds }
     requires order { AreInOrder lanes batch.jobs batch.ends }
     requires state { state_on board ≡ state_after (opening_state policy) journal.entries }
     requires legal { IsLegal (opening_state policy) rounds journal.entries }
     requires part { FillsPart journal.entries batch.jobs batch.ends }
-    ensures goes_on { IfOk result (λ r. GoesOnAt (record {
-      policy = policy;
-      lanes = lanes;
-      rounds = rounds;
-      jobs = batch.jobs;
-      batch_ends =
-          batch.ends;
-    })
+    ensures goes_on { IfOk result (λ r. GoesOnAt (session_over policy lanes rounds batch)
         journal.entries r.next r.desk) }
     ensures jobs { IfOk result (λ r. r.batch.jobs ≡ batch.jobs) }
     ensures ends { IfOk result (λ r. r.batch.ends ≡ batch.ends) }

@@ -14,7 +14,7 @@ use Rattle.line_cutter.specs.Laws.{AreInOrder}
 use Rattle.transcript_audit.proofs.Batches.{ends_within, next_start, end_read, part_length, start_ahead, start_within}
 use Rattle.transcript_resume.specs.Unserved.{jobs_between}
 use Rattle.transcript_resume.proofs.Rests.{lanes_between, near_from}
-use Rattle.resume_command.specs.Start.{StandsAt}
+use Rattle.resume_command.specs.Begun.{StandsAt}
 use Rattle.resume_command.proofs.Stands.{jobs_here}
 use Rattle.run_record.specs.declared.fault.RunFault.{RunFault}
 use Rattle.run_record.specs.declared.fault.RunFault.TheVariants as fault

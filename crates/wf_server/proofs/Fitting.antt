@@ -19,10 +19,10 @@ use Rattle.run_record.specs.Run.{Streams}
 use Rattle.command_words.specs.Words.{AreOptions, Options}
 use Rattle.resume_command.specs.declared.start.Beginning.{Beginning}
 use Rattle.resume_command.specs.declared.start.TheConstants.{PIECE}
-use Rattle.resume_command.specs.Start.{HasBegun, session_of}
+use Rattle.resume_command.specs.Begun.{HasBegun, session_of}
 use Rattle.wf_server.specs.Batches.{AreInOrderFrom}
-use Rattle.wf_server.specs.GoingOn.{setting_behind}
-use Rattle.wf_server.specs.Serve.{setting}
+use Rattle.wf_server.specs.Resuming.{setting_behind}
+use Rattle.wf_server.specs.Serving.{setting}
 use Rattle.wf_server.specs.Sessions.{Served, Setting}
 use Rattle.wf_server.proofs.Handed.{answer_lines, lines_behind, nothing_open}
 

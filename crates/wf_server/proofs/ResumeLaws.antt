@@ -32,7 +32,7 @@ use Rattle.resume_command.specs.declared.start.Beginning.{Beginning}
 use Rattle.resume_command.specs.declared.start.TheConstants.{PIECE}
 use Rattle.resume_command.specs.declared.refusal.Refusal.{Refusal}
 use Rattle.resume_command.specs.declared.refusal.Refusal.TheVariants.{Ends, Line}
-use Rattle.resume_command.specs.Start.{BeginsBy, EndsBeginning, HasBegun, StopsBy, fault_by, session_of}
+use Rattle.resume_command.specs.Begun.{BeginsBy, EndsBeginning, HasBegun, StopsBy, fault_by, session_of}
 use Rattle.resume_command.specs.Load.{Names, OverFiles}
 use Rattle.resume_command.proofs.Files.{files_goal, files_map}
 use Rattle.command_words.specs.Words.{AreOptions, Command, Options, may_repeat, resume}
@@ -43,7 +43,7 @@ use Rattle.wf_server.specs.Ways.{setting_of}
 use Rattle.wf_server.specs.declared.batch.Answered.{Answered}
 use Rattle.wf_server.specs.Batches.{Serves, told_of, AreInOrderFrom, HasAnsweredAll, HasAnsweredPart, IsServing, IsWriteEnding}
 use Rattle.wf_server.specs.Files.{FileTo, IsToldTo, StopsIn}
-use Rattle.wf_server.specs.GoingOn.{CountsRefusal, EndsBy, RefusesAs, ResumesFrom, ResumesRun, TellsAs, setting_behind}
+use Rattle.wf_server.specs.Resuming.{CountsRefusal, EndsBy, RefusesAs, ResumesFrom, ResumesRun, TellsAs, setting_behind}
 use Rattle.wf_server.proofs.SessionLaws.{lanes_of, late_reads, serves_kept}
 use Rattle.wf_server.proofs.ServeLaws.{loads_late}
 use Rattle.wf_server.proofs.WayLaws.{once_legal}
@@ -200,16 +200,6 @@ pub late_begun : (set : Setting) (first : Cut) (room : ℕ) (before after : Stre
 late_begun set first room before after told ending served = late_reads before.input after.input room (handed_in first told) ending served.reads
 
 -- ---- what was taken up
-
-pub begins_behind : (b d : DeskShape) (es : List Entry) → b.restored ≡ length b.entries → d.restored ≡ b.restored →
-    take d.restored es ≡ take d.restored d.entries
-    → take b.restored d.entries ≡ take b.restored b.entries → take (length b.entries) es ≡ b.entries
-begins_behind b d es size same later first =
-    ap (λ n. take n es) (sym (same ∙ size)) ∙ later ∙ ap (λ n. take n d.entries) same ∙ first ∙ ap (λ n. take n b.entries) size ∙
-    take_all (length b.entries) b.entries (omega arith)
-
-pub none_before : (b : DeskShape) → b.restored ≡ length b.entries → AreAnsweredOnce (drop b.restored b.entries)
-none_before b size = subst AreAnsweredOnce (sym (drop_all b.restored b.entries (omega (arith, size)))) tt
 
 -- ---- the run
 

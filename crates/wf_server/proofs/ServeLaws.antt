@@ -17,7 +17,7 @@ use Rattle.wf_board.specs.Histories.{AreRightful}
 use Rattle.entry_laws.specs.Fits.{FitLines}
 use Rattle.entry_laws.specs.Transcripts.{texts_of}
 use Rattle.command_words.specs.Words.{AreOptions, Options}
-use Rattle.wf_server.specs.Serve.{setting, EndsBefore, ServesFile, ServesRun}
+use Rattle.wf_server.specs.Serving.{setting, EndsBefore, ServesFile, ServesRun}
 
 ends_before : (file : List ℕ) (fault : RunFault) → PolicyOf file (Err fault) → IsLoadEnding fault → EndsBefore file fault
 ends_before file FileTooLong gives ending = gives

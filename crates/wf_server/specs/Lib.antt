@@ -2,7 +2,11 @@ pub mod Sessions
 pub mod Ways
 pub mod Batches
 pub mod Names
-pub mod Serve
+pub mod Serving
 pub mod Files
-pub mod GoingOn
+pub mod Resuming
 pub mod Runs
+pub mod Batch
+pub mod Session
+pub mod GoingOn
+pub mod Serve

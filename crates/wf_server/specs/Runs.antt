@@ -8,13 +8,13 @@ use Rattle.wf_commands.specs.Plan.{Plans}
 use Rattle.wf_commands.specs.Show.{Shows}
 use Rattle.wf_commands.specs.Solve.{Solves}
 use Rattle.wf_commands.specs.Resilience.{ChecksResilience}
-use Rattle.audit_command.specs.Run.{AuditsRun}
+use Rattle.audit_command.specs.Running.{AuditsRun}
 use Rattle.cnf_command.specs.Model.{ReadsModelFile, WritesClauses}
 use Rattle.trial_command.specs.Run.{RunsTrial}
 use Rattle.command_words.specs.Words.{Command, plan, show, solve, resilience, cnf, serve, audit}
 use Rattle.command_words.specs.Words.{resume, trial}
-use Rattle.wf_server.specs.Serve.{ServesRun}
-use Rattle.wf_server.specs.GoingOn.{ResumesRun}
+use Rattle.wf_server.specs.Serving.{ServesRun}
+use Rattle.wf_server.specs.Resuming.{ResumesRun}
 
 -- a run does what its command is, where a request may be answered again or not; where the words are
 -- none it ends before anything

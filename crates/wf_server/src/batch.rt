@@ -1,18 +1,19 @@
 //! Answering the jobs of a batch, and writing the entries.
-ghost use Rattle.std.specs.Prelude.{◌≡◌, ◌≢◌, ◌≤◌, ◌<◌, ◌+◌, ℕ, List, [], ◌∷◌, ◌++◌, length, take};
+ghost use Rattle.std.specs.Prelude.{◌≡◌, ◌≢◌, ◌≤◌, ◌<◌, ◌+◌, ℕ, List, [], ◌∷◌, ◌++◌, length};
 ghost use Rattle.std.specs.Prelude.{drop, Option, Err, IfErr, OnOk, OnErr};
 ghost use Rattle.wf_outside.specs.Outside.{HasPart, with_bytes};
 ghost use Rattle.wf_names.specs.declared.limits.TheConstants.{SESSION_LINE_LIMIT};
 ghost use Rattle.line_cutter.specs.Cutter.{ends_after};
 ghost use Rattle.wf_board.specs.Histories.{AreAnsweredOnce};
-ghost use Rattle.wf_desk.specs.Desks.{AreOfLanes, IsDone, IsSoundDesk};
+ghost use Rattle.wf_desk.specs.Desks.{IsDone, IsSoundDesk};
 ghost use Rattle.wf_desk.specs.Schedules.{HasGrown};
 ghost use Rattle.wire_json.specs.Replies.{entry_text};
 ghost use Rattle.run_record.specs.Fault.{fault_in, CountsWrites};
 ghost use Rattle.run_record.specs.Report.{Told};
 ghost use Rattle.wf_server.specs.Batches.{entries_text, told_of, HasAnsweredAll, HasLoaded};
 ghost use Rattle.wf_server.specs.Batches.{IsBatchAdded};
-ghost use Rattle.wf_server.specs.Batches.{IsBatch, AnswersTo, LoadedTo, IsWriteEnding};
+ghost use Rattle.wf_server.specs.Batch.{CanBeServed, CanTake, IsServedOn};
+ghost use Rattle.wf_server.specs.Batches.{AnswersTo, LoadedTo, IsWriteEnding};
 ghost use Rattle.wf_server.specs.Ways.{IsWay, ServesOnce, setting_of};
 
 use crate::texts::texts_stay;
@@ -58,18 +59,12 @@ pub(crate) fn answer_batch<K: Sink, W: Fn(Desk) -> Desk>(
     sink: &mut K,
 ) -> (Desk, Result<(), RunFault>)
     requires way { IsWay (W.pre way.now) (W.post way.now) }
-    requires lanes { 0 < desk.lanes }
-    requires done { IsDone desk }
-    requires whole { length desk.entries ≡ length told.old.jobs }
-    requires batch { IsBatch desk.lanes (length told.old.jobs) batch.now }
-    ensures setting { setting_of result.0 ≡ setting_of desk }
-    ensures begins { take desk.restored result.0.entries ≡ take desk.restored desk.entries }
+    requires takes { CanTake desk (told_of desk told.old) batch.now }
+    ensures on { IsServedOn (W.post way.now) desk result.0 }
     ensures answers { (held : Option (List ℕ)) →
         HasAnsweredAll held (K.held sink.old) desk (told_of desk told.old) →
         AnswersTo held (K.held sink.new) (told_of desk told.old) batch.now result.0
         (told_of result.0 told.new) result.1 }
-    ensures once { ServesOnce (W.post way.now) → AreAnsweredOnce (drop desk.restored desk.entries)
-        → AreAnsweredOnce (drop desk.restored result.0.entries) }
     ensures ending { IfErr result.1 IsWriteEnding }
     ensures counts { CountsWrites (fault_in result.1) (K.faults sink.old) (K.faults sink.new) }
     ensures flushed { K.is_flushed sink.old → result.1 ≢ Err RunFault.Write
@@ -90,15 +85,11 @@ pub(crate) fn answer_loaded<K: Sink, W: Fn(Desk) -> Desk>(
     sink: &mut K,
 ) -> (Desk, Result<(), RunFault>)
     requires way { IsWay (W.pre way.now) (W.post way.now) }
-    requires some { 0 < desk.lanes }
-    requires lanes { AreOfLanes desk.lanes desk.jobs }
-    ensures setting { setting_of result.0 ≡ setting_of desk }
-    ensures begins { take desk.restored result.0.entries ≡ take desk.restored desk.entries }
+    requires ready { CanBeServed desk }
+    ensures on { IsServedOn (W.post way.now) desk result.0 }
     ensures answers { (held : Option (List ℕ)) (before after : Told) →
         HasLoaded held (K.held sink.old) desk before → IsBatchAdded before desk.jobs after →
         after.entries ≡ result.0.entries → LoadedTo held (K.held sink.new) result.0 after result.1 }
-    ensures once { ServesOnce (W.post way.now) → AreAnsweredOnce (drop desk.restored desk.entries)
-        → AreAnsweredOnce (drop desk.restored result.0.entries) }
     ensures some { OnErr result.1 (0 < length result.0.entries) }
     ensures ending { IfErr result.1 IsWriteEnding }
     ensures counts { CountsWrites (fault_in result.1) (K.faults sink.old) (K.faults sink.new) }
@@ -124,18 +115,14 @@ fn take_batch(
     told: &mut Answered,
     batch: &[Job],
 ) -> Result<(), AllocError>
-    requires done { IsDone desk.old }
-    requires whole { length desk.old.entries ≡ length told.old.jobs }
-    requires batch { IsBatch desk.old.lanes (length told.old.jobs) batch.now }
+    requires takes { CanTake desk.old (told_of desk.old told.old) batch.now }
     ensures setting { setting_of desk.new ≡ setting_of desk.old }
     ensures entries { desk.new.entries ≡ desk.old.entries }
     ensures loaded { OnOk result (desk.new.jobs ≡ batch.now) }
     ensures start { OnOk result (desk.new.start ≡ length desk.old.entries) }
-    ensures jobs { OnOk result (told.new.jobs ≡ told.old.jobs ++ batch.now) }
-    ensures ends { OnOk result (told.new.batch_ends
-        ≡ ends_after told.old.batch_ends (length told.old.jobs) batch.now) }
-    ensures jobs_stay { OnErr result (told.new.jobs ≡ told.old.jobs) }
-    ensures ends_stay { OnErr result (told.new.batch_ends ≡ told.old.batch_ends) }
+    ensures added { OnOk result
+        (IsBatchAdded (told_of desk.old told.old) batch.now (told_of desk.new told.new)) }
+    ensures stay { OnErr result (told.new ≡ told.old) }
 {
     desk.load_batch(alloc, batch)?;
     add_batch(told, batch)
@@ -144,8 +131,7 @@ fn take_batch(
 // Has the jobs of a batch served.
 fn serve_jobs<W: Fn(Desk) -> Desk>(way: &W, desk: Desk) -> Desk
     requires way { IsWay (W.pre way.now) (W.post way.now) }
-    requires some { 0 < desk.lanes }
-    requires lanes { AreOfLanes desk.lanes desk.jobs }
+    requires ready { CanBeServed desk }
     ensures grown { HasGrown desk result }
     ensures done { IsDone result }
     ensures sound { IsSoundDesk result }
@@ -165,8 +151,7 @@ fn add_batch(told: &mut Answered, batch: &[Job]) -> Result<(), AllocError>
     ensures jobs { OnOk result (told.new.jobs ≡ told.old.jobs ++ batch.now) }
     ensures ends { OnOk result (told.new.batch_ends
         ≡ ends_after told.old.batch_ends (length told.old.jobs) batch.now) }
-    ensures jobs_stay { OnErr result (told.new.jobs ≡ told.old.jobs) }
-    ensures ends_stay { OnErr result (told.new.batch_ends ≡ told.old.batch_ends) }
+    ensures stay { OnErr result (told.new ≡ told.old) }
 {
     let count = told.jobs.len();
     told.jobs.push_all(batch)?;
@@ -179,7 +164,7 @@ fn add_batch(told: &mut Answered, batch: &[Job]) -> Result<(), AllocError>
     }
 }
 
-// Adds the end of a batch of so many jobs, if it has one, behind so many others.
+// Adds the end of a batch of `count` jobs, if it has one, behind `before` others.
 fn add_end(ends: &mut Ends, before: usize, count: usize) -> Result<(), AllocError>
     requires few { before + count ≤ SESSION_LINE_LIMIT }
     ensures none { OnOk result (count ≡ 0 → ends.new ≡ ends.old) }
@@ -192,7 +177,7 @@ fn add_end(ends: &mut Ends, before: usize, count: usize) -> Result<(), AllocErro
     ends.push((before + count) as u32)
 }
 
-// The entries behind the first so many.
+// The entries behind the first `done`.
 #[tactic(auto, using(wf_desk::proofs::DocketLaws::rest_from))]
 fn entries_after(journal: &Journal, done: usize) -> &[Entry]
     requires { done ≤ length journal.now.entries }

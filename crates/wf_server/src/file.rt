@@ -1,14 +1,11 @@
 //! Answering the jobs of a requests file that have no entry yet.
-ghost use Rattle.std.specs.Prelude.{◌≡◌, ◌≤◌, ◌<◌, ℕ, List, length, take, drop, Option, IfErr};
-ghost use Rattle.wf_board.specs.Histories.{AreAnsweredOnce};
-ghost use Rattle.wf_desk.specs.Desks.{AreOfLanes, IsDone};
-ghost use Rattle.line_cutter.specs.Laws.{AreInOrder};
+ghost use Rattle.std.specs.Prelude.{◌≡◌, ◌≤◌, ◌<◌, ℕ, List, length, Option, IfErr};
 ghost use Rattle.transcript_resume.specs.Unserved.{jobs_between};
-ghost use Rattle.resume_command.specs.Start.{StandsAt};
 ghost use Rattle.run_record.specs.Fault.{fault_in, CountsWrites};
+ghost use Rattle.wf_server.specs.Batch.{IsServedOn};
 ghost use Rattle.wf_server.specs.Batches.{told_of, HasAnsweredAll, IsWriteEnding};
-ghost use Rattle.wf_server.specs.Files.{FileTo, IsToldTo};
-ghost use Rattle.wf_server.specs.Ways.{IsWay, ServesOnce, setting_of};
+ghost use Rattle.wf_server.specs.Files.{FileTo, IsInFile, StandsBehind};
+ghost use Rattle.wf_server.specs.Ways.{IsWay};
 
 use crate::batch::{Answered, answer_batch, answer_loaded};
 use line_cutter::Batch;
@@ -18,9 +15,9 @@ use wf_desk::Desk;
 use wf_outside::Sink;
 use wf_talk::Job;
 
-/// Answers the jobs of a file from the batch on that is at the desk, where the file has so many
-/// batches up to that one and with it, in a way of serving, and writes their entries. The desk
-/// comes back.
+/// Answers the jobs of a file from the batch on that is at the desk, in a way of serving, and
+/// writes their entries. The file has `count` batches up to that one and with it. The desk comes
+/// back.
 pub(crate) fn answer_requests<K: Sink, W: Fn(Desk) -> Desk>(
     alloc: Global,
     way: &W,
@@ -31,18 +28,11 @@ pub(crate) fn answer_requests<K: Sink, W: Fn(Desk) -> Desk>(
     sink: &mut K,
 ) -> (Desk, Result<(), RunFault>)
     requires way { IsWay (W.pre way.now) (W.post way.now) }
-    requires some { 0 < desk.lanes }
-    requires of_lanes { AreOfLanes desk.lanes desk.jobs }
-    requires restored { desk.restored ≡ length desk.entries }
-    requires stands { StandsAt desk.entries desk.start desk.jobs told.old.jobs told.old.batch_ends }
-    requires order { AreInOrder desk.lanes file.now.jobs file.now.ends }
-    requires told { IsToldTo file.now.jobs file.now.ends count (told_of desk told.old) }
-    ensures setting { setting_of result.0 ≡ setting_of desk }
-    ensures begins { take desk.restored result.0.entries ≡ take desk.restored desk.entries }
+    requires stands { StandsBehind desk (told_of desk told.old) }
+    requires file { IsInFile desk.lanes file.now.jobs file.now.ends count (told_of desk told.old) }
+    ensures on { IsServedOn (W.post way.now) desk result.0 }
     ensures answers { FileTo (K.held sink.old) (K.held sink.new) file.now.jobs file.now.ends
         result.0 (told_of result.0 told.new) result.1 }
-    ensures once { ServesOnce (W.post way.now) → AreAnsweredOnce (drop desk.restored desk.entries)
-        → AreAnsweredOnce (drop desk.restored result.0.entries) }
     ensures ending { IfErr result.1 IsWriteEnding }
     ensures counts { CountsWrites (fault_in result.1) (K.faults sink.old) (K.faults sink.new) }
 {
@@ -53,7 +43,7 @@ pub(crate) fn answer_requests<K: Sink, W: Fn(Desk) -> Desk>(
     }
 }
 
-// Answers the jobs of a file, batch after batch, behind the first so many batches.
+// Answers the jobs of a file, batch after batch, behind the first `count` batches.
 fn answer_file<K: Sink, W: Fn(Desk) -> Desk>(
     alloc: Global,
     way: &W,
@@ -65,18 +55,14 @@ fn answer_file<K: Sink, W: Fn(Desk) -> Desk>(
 ) -> (Desk, Result<(), RunFault>)
     requires way { IsWay (W.pre way.now) (W.post way.now) }
     requires lanes { 0 < desk.lanes }
-    requires order { AreInOrder desk.lanes file.now.jobs file.now.ends }
-    requires told { IsToldTo file.now.jobs file.now.ends count (told_of desk told.old) }
+    requires file { IsInFile desk.lanes file.now.jobs file.now.ends count (told_of desk told.old) }
     requires answered { (held : Option (List ℕ))
         × HasAnsweredAll held (K.held sink.old) desk (told_of desk told.old) }
-    ensures setting { setting_of result.0 ≡ setting_of desk }
-    ensures begins { take desk.restored result.0.entries ≡ take desk.restored desk.entries }
+    ensures on { IsServedOn (W.post way.now) desk result.0 }
     ensures answers { (held : Option (List ℕ)) →
         HasAnsweredAll held (K.held sink.old) desk (told_of desk told.old) →
         FileTo held (K.held sink.new) file.now.jobs file.now.ends result.0
         (told_of result.0 told.new) result.1 }
-    ensures once { ServesOnce (W.post way.now) → AreAnsweredOnce (drop desk.restored desk.entries)
-        → AreAnsweredOnce (drop desk.restored result.0.entries) }
     ensures ending { IfErr result.1 IsWriteEnding }
     ensures counts { CountsWrites (fault_in result.1) (K.faults sink.old) (K.faults sink.new) }
 {

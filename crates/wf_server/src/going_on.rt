@@ -1,22 +1,23 @@
 //! The command `resume`: it goes on from the transcript of an earlier session.
-ghost use Rattle.std.specs.Prelude.{◌≡◌, ◌<◌, Bool, false, ℕ, List, length, take, drop};
+ghost use Rattle.std.specs.Prelude.{◌≡◌, ◌<◌, Bool, false, ℕ, List, length};
 ghost use Rattle.std.proofs.Common.{◌⊎◌};
 ghost use Rattle.run_record.specs.Fault.{status_of, CountsWrites};
 ghost use Rattle.run_record.specs.Report.{nothing_told, told_by};
 ghost use Rattle.run_record.specs.Run.{run_of, streams_of};
 ghost use Rattle.wf_board.specs.States.{opening_state};
-ghost use Rattle.wf_board.specs.Histories.{AreAnsweredOnce, AreRightful, state_after};
+ghost use Rattle.wf_board.specs.Histories.{state_after};
 ghost use Rattle.entry_reader.specs.Named.{HasNames};
 ghost use Rattle.line_cutter.specs.Jobs.{Cut, next_input};
 ghost use Rattle.transcript_resume.specs.Resumed.{Session};
 ghost use Rattle.resume_command.specs.declared.start.TheConstants.{PIECE};
-ghost use Rattle.resume_command.specs.Start.{HasBegun};
+ghost use Rattle.resume_command.specs.Begun.{HasBegun};
+ghost use Rattle.resume_command.specs.Start.{names_in};
 ghost use Rattle.audit_command.specs.Finding.{fault_line};
 ghost use Rattle.command_words.specs.Words.{AreOptions};
-ghost use Rattle.command_words.specs.Asked.{options_in};
+ghost use Rattle.wf_server.specs.GoingOn.{GoOnBehind, options_by};
 ghost use Rattle.wf_server.specs.Sessions.{Served};
-ghost use Rattle.wf_server.specs.GoingOn.{CountsRefusal, RefusesAs, ResumesRun, TellsAs};
-ghost use Rattle.wf_server.specs.GoingOn.{setting_behind};
+ghost use Rattle.wf_server.specs.Resuming.{CountsRefusal, RefusesAs, ResumesRun, TellsAs};
+ghost use Rattle.wf_server.specs.Resuming.{setting_behind};
 ghost use Rattle.wf_server.specs.Ways.{IsWay, ServesOnce};
 
 use crate::batch::Answered;
@@ -25,10 +26,9 @@ use crate::session::{report_of, serve_batches};
 use crate::texts::names_known;
 use audit_command::fault_text;
 use case_views::PlainDecider;
-use command_words::Options;
 use entry_laws::lines_fit;
 use line_cutter::jobs_stay_named;
-use resume_command::{Beginning, Refusal, begin};
+use resume_command::{Beginning, Earlier, Refusal, begin};
 use run_record::{Report, RunFault, bare_report};
 use std::alloc::Global;
 use transcript_audit::AuditKind;
@@ -36,44 +36,30 @@ use wf_board::laws::{histories_are_exact, histories_keep_completable};
 use wf_desk::Desk;
 use wf_outside::{Shelf, Sink, Source, put_and_flush};
 
-/// Takes up the transcript of an earlier session over a policy and requests, answers the requests
-/// that have no entry, and then those in the input, in a way of serving.
+/// Takes up the transcript of an earlier session, answers the requests that have no entry, and then
+/// those in the input, in a way of serving.
 pub(crate) fn run_resume<F: Shelf, S: Source, K: Sink, W: Fn(Desk) -> Desk>(
     alloc: Global,
     way: &W,
-    policy: &str,
-    requests: &str,
-    transcript: &str,
-    options: Options,
+    earlier: Earlier,
     shelf: &mut F,
     source: &mut S,
     sink: &mut K,
 ) -> Report
     requires way { IsWay (W.pre way.now) (W.post way.now) }
-    requires options { AreOptions (options_in options) }
+    requires options { AreOptions (options_by earlier) }
     ensures status { result.status ≡ status_of result.fault }
     ensures usage { result.fault ≡ RunFault.Usage → ⊥ }
     ensures resumes { (repeats : Bool) →
-        (repeats ≡ false → ServesOnce (W.post way.now) ⊎ (options.rounds ≡ 0)) →
-        ResumesRun (record
-        { policy = policy.now; requests = requests.now; transcript = transcript.now })
-        (options_in options) repeats (
+        (repeats ≡ false → ServesOnce (W.post way.now) ⊎ (earlier.entry.rounds ≡ 0)) →
+        ResumesRun (names_in earlier.entry) (options_by earlier.entry) repeats (
         run_of F.file F.faults shelf.old shelf.new
         (streams_of S.left S.faults K.held K.faults source.old sink.old)
         (streams_of S.left S.faults K.held K.faults source.new sink.new) result) }
 {
     lines_fit();
     jobs_stay_named();
-    match begin(
-        alloc,
-        &PlainDecider,
-        policy,
-        requests,
-        transcript,
-        options.lanes,
-        options.rounds,
-        shelf,
-    ) {
+    match begin(alloc, &PlainDecider, earlier, shelf) {
         Ok(beginning) => go_on(alloc, way, beginning, source, sink),
         Err(refusal) => refuse(alloc, refusal, sink),
     }
@@ -113,12 +99,7 @@ fn go_on<S: Source, K: Sink, W: Fn(Desk) -> Desk>(
         (streams_of S.left S.faults K.held K.faults source.old sink.old)
         (streams_of S.left S.faults K.held K.faults source.new sink.new)
         (told_by result) result.fault }
-    ensures begins { take (length beginning.desk.entries) (told_by result).entries
-        ≡ beginning.desk.entries }
-    ensures once { ServesOnce (W.post way.now)
-        → AreAnsweredOnce (drop (length beginning.desk.entries) (told_by result).entries) }
-    ensures wants { AreRightful
-        (drop (length beginning.desk.entries) (told_by result).entries) }
+    ensures behind { GoOnBehind (W.post way.now) beginning.desk.entries (told_by result).entries }
     ensures named { HasNames (state_after (opening_state beginning.desk.opening)
         beginning.desk.entries).book.policy }
     ensures status { result.status ≡ status_of result.fault }

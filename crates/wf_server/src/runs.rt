@@ -14,10 +14,11 @@ ghost use Rattle.wf_server.specs.Runs.{Does, HasRun, IsWordsEnding, takes_up};
 
 use crate::going_on::run_resume;
 use crate::serve::run_serve;
-use audit_command::run_audit;
+use audit_command::{AuditedSession, run_audit};
 use case_views::{PlainDecider, SpreadDecider};
 use cnf_command::{run_clauses, run_model};
 use command_words::{Command, Options, read_words};
+use resume_command::Earlier;
 use run_record::{Report, RunFault, bare_report};
 use std::alloc::Global;
 use std::sync::Wait;
@@ -74,9 +75,14 @@ pub fn run<R: Threads + Wait + Sync, F: Shelf, S: Source, K: Sink, G: Gate + Syn
                 requires { (0 < desk.lanes) × AreOfLanes desk.lanes desk.jobs }
                 ensures { HasGrown desk result × IsDone result }
             { serve_by_lanes(rt, alloc, &SpreadDecider::new(rt), gate, desk) };
-            run_resume(
-                alloc, &on_lanes, policy, requests, transcript, options, shelf, source, sink,
-            )
+            let earlier = Earlier {
+                policy,
+                requests,
+                transcript,
+                lanes: options.lanes,
+                rounds: options.rounds,
+            };
+            run_resume(alloc, &on_lanes, earlier, shelf, source, sink)
         }
         Ok(other) => run_command(alloc, other, shelf, source, sink),
         Err(fault) => bare_report(alloc, fault),
@@ -189,17 +195,13 @@ fn run_command<F: Shelf, S: Source, K: Sink>(
             requests,
             options,
         } => {
-            run_audit(
-                alloc,
-                &PlainDecider,
+            let session = AuditedSession {
                 policy,
                 requests,
-                options.lanes,
-                options.rounds,
-                shelf,
-                source,
-                sink,
-            )
+                lanes: options.lanes,
+                rounds: options.rounds,
+            };
+            run_audit(alloc, &PlainDecider, session, shelf, source, sink)
         }
         Command::Resume {
             policy,
@@ -211,9 +213,14 @@ fn run_command<F: Shelf, S: Source, K: Sink>(
                 requires { (0 < desk.lanes) × AreOfLanes desk.lanes desk.jobs }
                 ensures { HasServedOn desk result × IsDone result }
             { turned(alloc, desk) };
-            run_resume(
-                alloc, &by_turns, policy, requests, transcript, options, shelf, source, sink,
-            )
+            let earlier = Earlier {
+                policy,
+                requests,
+                transcript,
+                lanes: options.lanes,
+                rounds: options.rounds,
+            };
+            run_resume(alloc, &by_turns, earlier, shelf, source, sink)
         }
         Command::Trial { seed } => run_trial(alloc, &PlainDecider, seed, sink),
     }

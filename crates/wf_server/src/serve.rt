@@ -4,15 +4,11 @@ ghost use Rattle.run_record.specs.Fault.{status_of, is_before_input};
 ghost use Rattle.run_record.specs.Report.{told_by};
 ghost use Rattle.run_record.specs.Run.{run_of, streams_of};
 ghost use Rattle.policy_reader.specs.File.{IsFilePolicy};
-ghost use Rattle.wf_board.specs.States.{opening_state};
-ghost use Rattle.wf_board.specs.Histories.{AreAnsweredOnce, AreRightful};
-ghost use Rattle.entry_laws.specs.Fits.{FitLines};
-ghost use Rattle.entry_laws.specs.Transcripts.{texts_of};
-ghost use Rattle.line_cutter.specs.Jobs.{start};
-ghost use Rattle.wf_server.specs.Sessions.{Served};
+ghost use Rattle.wf_board.specs.Histories.{AreAnsweredOnce};
 ghost use Rattle.command_words.specs.Words.{AreOptions};
 ghost use Rattle.command_words.specs.Asked.{options_in};
-ghost use Rattle.wf_server.specs.Serve.{setting, ServesRun};
+ghost use Rattle.wf_server.specs.Serve.{HasServedPolicy};
+ghost use Rattle.wf_server.specs.Serving.{ServesRun};
 ghost use Rattle.wf_server.specs.Ways.{IsWay, ServesOnce};
 
 use crate::session::run_session;
@@ -70,13 +66,11 @@ fn serve_policy<S: Source, K: Sink, W: Fn(Desk) -> Desk>(
     requires way { IsWay (W.pre way.now) (W.post way.now) }
     requires options { AreOptions (options_in options) }
     requires file { IsFilePolicy policy }
-    ensures served { Served (setting policy (options_in options)) (start options.lanes) PIECE
+    ensures served { HasServedPolicy policy (options_in options)
         (streams_of S.left S.faults K.held K.faults source.old sink.old)
         (streams_of S.left S.faults K.held K.faults source.new sink.new)
         (told_by result) result.fault }
     ensures once { ServesOnce (W.post way.now) → AreAnsweredOnce (told_by result).entries }
-    ensures wants { AreRightful (told_by result).entries }
-    ensures fits { FitLines (texts_of (opening_state policy) (told_by result).entries) }
     ensures late { is_before_input result.fault ≡ false }
     ensures status { result.status ≡ status_of result.fault }
 {

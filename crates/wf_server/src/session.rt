@@ -1,17 +1,19 @@
 //! The session: batch after batch is read, answered and written.
-ghost use Rattle.std.specs.Prelude.{◌≡◌, ◌<◌, take, drop, None};
+ghost use Rattle.std.specs.Prelude.{◌≡◌, ◌<◌, None};
 ghost use Rattle.wf_board.specs.States.{opening_state};
 ghost use Rattle.wf_board.specs.Histories.{AreAnsweredOnce, AreRightful, IsLegal};
 ghost use Rattle.wf_desk.specs.Desks.{IsSoundDesk};
 ghost use Rattle.line_cutter.specs.Jobs.{Cut, start};
-ghost use Rattle.batch_reader.specs.Reader.{CanReadOn, left_to_read};
+ghost use Rattle.batch_reader.specs.Reader.{CanReadOn};
 ghost use Rattle.run_record.specs.Fault.{status_of};
 ghost use Rattle.run_record.specs.Report.{told_by};
 ghost use Rattle.run_record.specs.Run.{Streams, streams_of};
 ghost use Rattle.command_words.specs.Words.{AreOptions};
 ghost use Rattle.command_words.specs.Asked.{options_in};
-ghost use Rattle.wf_server.specs.Serve.{setting};
+ghost use Rattle.wf_server.specs.Serving.{setting};
 ghost use Rattle.wf_server.specs.Batches.{told_of, ending_after, IsServing, BatchEnds, Serves};
+ghost use Rattle.wf_server.specs.Batch.{IsServedOn};
+ghost use Rattle.wf_server.specs.Session.{AreBehind, GoesOnReading};
 ghost use Rattle.wf_server.specs.Ways.{IsWay, ServesOnce, setting_of};
 
 use crate::batch::{Answered, answer_batch};
@@ -87,12 +89,7 @@ pub(crate) fn serve_batches<S: Source, K: Sink, W: Fn(Desk) -> Desk>(
         Serves (setting_of desk) first reader.old.room before
         (streams_of S.left S.faults K.held K.faults source.new sink.new)
         (told_by result) result.fault }
-    ensures begins { take desk.restored (told_by result).entries
-        ≡ take desk.restored desk.entries }
-    ensures legal { IsLegal (opening_state desk.opening) desk.rounds (told_by result).entries }
-    ensures once { ServesOnce (W.post way.now) → AreAnsweredOnce (drop desk.restored desk.entries)
-        → AreAnsweredOnce (drop desk.restored (told_by result).entries) }
-    ensures wants { AreRightful (drop desk.restored (told_by result).entries) }
+    ensures behind { AreBehind (W.post way.now) desk (told_by result).entries }
     ensures status { result.status ≡ status_of result.fault }
 {
     'serving: loop {
@@ -126,12 +123,8 @@ fn serve_batch<S: Source, K: Sink, W: Fn(Desk) -> Desk>(
         BatchEnds first before
         (streams_of S.left S.faults K.held K.faults source.new sink.new)
         reader.new result.0 (told_of result.0 told.new) result.1 }
-    ensures once { ServesOnce (W.post way.now) → AreAnsweredOnce (drop desk.restored desk.entries)
-        → AreAnsweredOnce (drop desk.restored result.0.entries) }
-    ensures setting { setting_of result.0 ≡ setting_of desk }
-    ensures begins { take desk.restored result.0.entries ≡ take desk.restored desk.entries }
-    ensures ready { result.1 ≡ None → CanReadOn reader.new }
-    ensures less { result.1 ≡ None → left_to_read reader.new < left_to_read reader.old }
+    ensures on { IsServedOn (W.post way.now) desk result.0 }
+    ensures goes_on { result.1 ≡ None → GoesOnReading reader.old reader.new }
     ensures room { reader.new.room ≡ reader.old.room }
 {
     let Reading { jobs, paused } = reader.next_batch(source);
@@ -159,7 +152,7 @@ fn ending_after(paused: Paused) -> Option<RunFault>
     }
 }
 
-/// The report of a session that ended so.
+/// The report of a session that ended with a fault, or with none.
 pub(crate) fn report_of(fault: RunFault, desk: Desk, told: Answered) -> Report
     ensures status { result.status ≡ status_of fault }
     ensures fault { result.fault ≡ fault }

@@ -7,7 +7,7 @@ pub returns-in-Line-clause-steps : goal.returns-in-Line-clause-steps
 returns-in-Line-clause-steps g c first before h =
     line_taken first c.args.auditor.now c.take_line.new.auditor before (g.S.Source.left c.args.source.now) (g.S.Source.left c.next.new.source)
     c.args.reader.now c.next.new.self c.take_line.result
-    h c.in-Line.ensures.reads c.requires.limit c.requires.room
+    h c.in-Line.ensures.reads c.requires.reader.limit c.requires.reader.room
     (subst (λ (l : List ℕ). TakesLine c.args.auditor.now c.take_line.new.auditor l c.take_line.result) c.line.ensures c.take_line.ensures.takes)
 
 pub returns-in-End-clause-steps : goal.returns-in-End-clause-steps
@@ -19,4 +19,4 @@ pub returns-in-TooLong-clause-steps : goal.returns-in-TooLong-clause-steps
 returns-in-TooLong-clause-steps g c first before h =
     long_found first c.args.auditor.now before (g.S.Source.left c.args.source.now) (g.S.Source.left c.next.new.source) c.args.reader.now c.next.new.self
     c.args.number h c.in-TooLong.ensures.reads
-    c.requires.limit c.requires.room c.requires.number
+    c.requires.reader.limit c.requires.reader.room c.requires.at.here

@@ -5,13 +5,11 @@ use Rattle.audit_command.proofs.lines.audit_lines.Goals as goal
 
 pub auditing-init : goal.auditing-init
 auditing-init g c = record {
-  audited = audit_begins c.args.auditor (g.S.Source.left c.args.source.now) (pending c.args.reader.now) c.requires.first c.requires.nothing;
-  going = c.requires.going;
-  number = sym (ap length c.requires.first);
-  few = c.requires.few;
-  within = omega (arith, ap length c.requires.first);
-  limit = c.requires.limit;
-  room = c.requires.room;
+  audited = audit_begins c.args.auditor (g.S.Source.left c.args.source.now) (pending c.args.reader.now) c.requires.first.first c.requires.nothing;
+  at = record { going = c.requires.first.going; here = sym (ap length c.requires.first.first) };
+  few = c.requires.first.few;
+  within = omega (arith, ap length c.requires.first.first);
+  reader = c.requires.reader;
   faults = refl;
 }
 
@@ -25,10 +23,10 @@ pub returns-in-Some-clause-taken : goal.returns-in-Some-clause-taken
 returns-in-Some-clause-taken g c =
     taken_on c.args.auditor c.auditing.auditor (g.S.Source.left c.args.source.now) (g.S.Source.left c.auditing.source)
     (g.S.Source.left c.audit_line.new.source) (pending c.auditing.reader)
-    c.auditing.invariant.audited c.audit_line.ensures.taken
+    c.auditing.invariant.audited c.audit_line.ensures.read.taken
 
 pub returns-in_err-audit_line-clause-taken : goal.returns-in_err-audit_line-clause-taken
 returns-in_err-audit_line-clause-taken g c =
     taken_on c.args.auditor c.auditing.auditor (g.S.Source.left c.args.source.now) (g.S.Source.left c.auditing.source)
     (g.S.Source.left c.audit_line.new.source) (pending c.auditing.reader)
-    c.auditing.invariant.audited c.audit_line.ensures.taken
+    c.auditing.invariant.audited c.audit_line.ensures.read.taken

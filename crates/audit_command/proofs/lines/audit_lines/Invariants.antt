@@ -1,7 +1,7 @@
-use Rattle.std.proofs.Common.{◌≡◌, ◌≤◌, ◌-◌, length, None}
-use Rattle.wf_names.specs.declared.limits.TheConstants.{SESSION_LINE_LIMIT, TRANSCRIPT_LINE_LIMIT}
+use Rattle.std.proofs.Common.{◌≡◌, ◌≤◌, ◌-◌, length}
+use Rattle.wf_names.specs.declared.limits.TheConstants.{SESSION_LINE_LIMIT}
 use Rattle.line_reader.specs.Reader.{pending}
-use Rattle.audit_command.specs.declared.lines.TheConstants.{PIECE}
+use Rattle.audit_command.specs.Lines.{IsAtLine, ReadsLines}
 use Rattle.audit_command.specs.Steps.{HasAudited}
 use Rattle.audit_command.proofs.lines.audit_lines.Given as goal
 
@@ -9,12 +9,10 @@ abbrev pub invariant-auditing : goal.invariant-auditing
 invariant-auditing g l =
     record {
       audited : HasAudited l.fn.auditor l.auditor (g.S.Source.left l.fn.source) (g.S.Source.left l.source) (pending l.reader);
-      going : l.auditor.fault ≡ None;
-      number : l.number ≡ length l.auditor.entries;
+      at : IsAtLine l.auditor l.number;
       few : length l.auditor.jobs ≤ SESSION_LINE_LIMIT;
       within : length l.auditor.entries ≤ length l.auditor.jobs;
-      limit : l.reader.limit ≡ TRANSCRIPT_LINE_LIMIT;
-      room : l.reader.room ≡ PIECE;
+      reader : ReadsLines l.reader;
       faults : g.S.Source.faults l.source ≡ g.S.Source.faults l.fn.source;
     }
 

@@ -1,7 +1,9 @@
 use Rattle.std.proofs.Common.{subst}
 use Rattle.wf_outside.specs.Outside.{Filed}
-use Rattle.audit_command.specs.Run.{AuditsPolicy}
+use Rattle.audit_command.specs.Running.{AuditsPolicy}
 use Rattle.audit_command.specs.Steps.{FindsAs}
+use Rattle.audit_command.specs.Run.{EndsFinding}
+use Rattle.audit_command.proofs.Endings.{loads_end}
 use Rattle.audit_command.proofs.Loaded.{finds_file, no_policy}
 use Rattle.wf_commands.proofs.Loading.{policy_named}
 use Rattle.audit_command.proofs.Runs.{unread_after}
@@ -14,22 +16,33 @@ returns-in_err-p-clause-input g c =
 pub returns-in_err-p-clause-finds : goal.returns-in_err-p-clause-finds
 returns-in_err-p-clause-finds g c =
     no_policy
-    (AuditsPolicy (record { requests = g.F.Shelf.file c.args.shelf.now c.args.requests.now; lanes = c.args.lanes; rounds = c.args.rounds })
+    (AuditsPolicy
+    (record { requests = g.F.Shelf.file c.args.shelf.now c.args.session.requests.now; lanes = c.args.session.lanes; rounds = c.args.session.rounds })
     (record { before = g.S.Source.left c.args.source.now; after = g.S.Source.left c.args.source.now }))
-    (g.F.Shelf.file c.args.shelf.now c.args.policy.now) c.from_residual.result c.in_err-p.field-0.0 c.from_residual.ensures.1 c.in_err-p.ensures.policy
+    (g.F.Shelf.file c.args.shelf.now c.args.session.policy.now) c.from_residual.result c.in_err-p.field-0.0 c.from_residual.ensures.1 c.in_err-p.ensures.policy
     c.in_err-p.ensures.ending
 
 pub returns-clause-finds : goal.returns-clause-finds
 returns-clause-finds g c =
     finds_file
-    (AuditsPolicy (record { requests = g.F.Shelf.file c.args.shelf.now c.args.requests.now; lanes = c.args.lanes; rounds = c.args.rounds })
+    (AuditsPolicy
+    (record { requests = g.F.Shelf.file c.args.shelf.now c.args.session.requests.now; lanes = c.args.session.lanes; rounds = c.args.session.rounds })
     (record { before = g.S.Source.left c.args.source.now; after = g.S.Source.left c.find_under.new.source }))
-    (g.F.Shelf.file c.args.shelf.now c.args.policy.now) c.in_ok-p.p c.find_under.result c.in_ok-p.ensures.policy
+    (g.F.Shelf.file c.args.shelf.now c.args.session.policy.now) c.in_ok-p.p c.find_under.result c.in_ok-p.ensures.policy
     (subst
-    (λ (x : Filed). FindsAs (AuditsPolicy (record { requests = x; lanes = c.args.lanes; rounds = c.args.rounds })
+    (λ (x : Filed). FindsAs (AuditsPolicy (record { requests = x; lanes = c.args.session.lanes; rounds = c.args.session.rounds })
     (record { before = g.S.Source.left c.args.source.now; after = g.S.Source.left c.find_under.new.source }) c.in_ok-p.p) c.find_under.result)
-    (c.in_ok-p.ensures.kept c.args.requests.now) c.find_under.ensures.finds)
+    (c.in_ok-p.ensures.kept c.args.session.requests.now) c.find_under.ensures.finds)
 
 pub returns-clause-named : goal.returns-clause-named
 returns-clause-named g c =
-    policy_named (g.F.Shelf.file c.args.shelf.now c.args.policy.now) c.in_ok-p.p _ c.in_ok-p.ensures.policy
+    policy_named (g.F.Shelf.file c.args.shelf.now c.args.session.policy.now) c.in_ok-p.p _ c.in_ok-p.ensures.policy
+
+pub returns-in_err-p-clause-ends : goal.returns-in_err-p-clause-ends
+returns-in_err-p-clause-ends g c =
+    loads_end (g.F.Shelf.file c.args.shelf.now c.args.session.requests.now) c.from_residual.result c.in_err-p.field-0.0 c.from_residual.ensures.1
+    c.in_err-p.ensures.ending
+
+pub returns-clause-ends : goal.returns-clause-ends
+returns-clause-ends g c =
+    subst (λ (x : Filed). EndsFinding x c.find_under.result) (c.in_ok-p.ensures.kept c.args.session.requests.now) c.find_under.ensures.ends

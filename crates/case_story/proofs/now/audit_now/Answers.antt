@@ -45,7 +45,7 @@ returns-clause-number c =
     c.start-place.ensures.number
     (λ first h. walked first c.follow_to.new.auditor c.as_bytes-text.result.now c.follow_to.new.place c.in_ok-verdict.field-0
     c.in-None.is (c.in_ok-verdict.ensures.steps first h)) c.in_ok-verdict-in-None.ensures.stops (c.in_ok-verdict.ensures.all (ap Ok c.in-None.is))
-    c.in_ok-verdict.ensures.most c.in_ok-verdict-in-None.ensures.more
+    c.in_ok-verdict.ensures.between.most c.in_ok-verdict-in-None.ensures.more
 
 pub returns-clause-prints : goal.returns-clause-prints
 returns-clause-prints c =

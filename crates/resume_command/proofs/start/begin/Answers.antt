@@ -1,6 +1,6 @@
 use Rattle.policy_book.specs.Shapes.{PolicyShape}
 use Rattle.wf_outside.specs.Outside.{Filed}
-use Rattle.resume_command.specs.Start.{BeginsBy, StopsBy, session_of}
+use Rattle.resume_command.specs.Begun.{BeginsBy, StopsBy, session_of}
 use Rattle.resume_command.specs.Load.{OverBoth}
 use Rattle.resume_command.proofs.Files.{moved, policy_fails, policy_there}
 use Rattle.resume_command.proofs.Taken.{stopped}
@@ -8,17 +8,18 @@ use Rattle.resume_command.proofs.start.begin.Goals as goal
 
 pub returns-in_err-policy-clause-begins : goal.returns-in_err-policy-clause-begins
 returns-in_err-policy-clause-begins g c =
-    policy_fails _ _ (g.F.Shelf.file c.args.shelf.now c.args.policy.now) c.in_err-policy.field-0.0 c.in_err-policy.ensures.policy
+    policy_fails _ _ (g.F.Shelf.file c.args.shelf.now c.args.earlier.policy.now) c.in_err-policy.field-0.0 c.in_err-policy.ensures.policy
     (stopped c.from_residual.result c.in_err-policy.field-0.0 c.from_residual.ensures.1)
 
 pub returns-clause-begins : goal.returns-clause-begins
 returns-clause-begins g c =
     let result = c.begin_under.result in
     let p = c.in_ok-policy.policy in
-    let requests = g.F.Shelf.file c.args.shelf.now c.args.requests.now in
-    let transcript = g.F.Shelf.file c.args.shelf.now c.args.transcript.now in
-    let over = λ (p : PolicyShape) (a b : Filed). OverBoth c.args.lanes (StopsBy result)
-    (λ cut x. BeginsBy (session_of p c.args.lanes c.args.rounds cut) cut x result) a b in
-    policy_there (StopsBy result) (λ p. over p requests transcript) (g.F.Shelf.file c.args.shelf.now c.args.policy.now) p c.in_ok-policy.ensures.policy
+    let requests = g.F.Shelf.file c.args.shelf.now c.args.earlier.requests.now in
+    let transcript = g.F.Shelf.file c.args.shelf.now c.args.earlier.transcript.now in
+    let over = λ (p : PolicyShape) (a b : Filed). OverBoth c.args.earlier.lanes (StopsBy result)
+    (λ cut x. BeginsBy (session_of p c.args.earlier.lanes c.args.earlier.rounds cut) cut x result) a b in
+    policy_there (StopsBy result) (λ p. over p requests transcript) (g.F.Shelf.file c.args.shelf.now c.args.earlier.policy.now) p c.in_ok-policy.ensures.policy
     c.in_ok-policy.ensures.sound
-    (moved (over p) _ _ _ _ (c.in_ok-policy.ensures.kept c.args.requests.now) (c.in_ok-policy.ensures.kept c.args.transcript.now) c.begin_under.ensures.begins)
+    (moved (over p) _ _ _ _ (c.in_ok-policy.ensures.kept c.args.earlier.requests.now) (c.in_ok-policy.ensures.kept c.args.earlier.transcript.now)
+    c.begin_under.ensures.begins)

@@ -6,7 +6,7 @@ use Rattle.run_record.specs.declared.fault.RunFault.TheVariants.{LineTooLong}
 use Rattle.resume_command.specs.declared.start.Beginning.{Beginning}
 use Rattle.resume_command.specs.declared.refusal.Refusal.{Refusal}
 use Rattle.resume_command.specs.declared.refusal.Refusal.TheVariants.{Ends}
-use Rattle.resume_command.specs.Start.{BeginsBy, StopsBy, session_of}
+use Rattle.resume_command.specs.Begun.{BeginsBy, StopsBy, session_of}
 use Rattle.resume_command.proofs.Files.{line_long, lines_short}
 use Rattle.resume_command.proofs.start.begin_at.Goals as goal
 

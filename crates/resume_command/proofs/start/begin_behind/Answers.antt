@@ -1,7 +1,7 @@
 use Rattle.std.proofs.Common.{true}
 use Rattle.line_cutter.specs.Jobs.{jobs_of_input}
 use Rattle.resume_command.specs.declared.start.TheConstants.{TRANSCRIPT_FILE_LIMIT}
-use Rattle.resume_command.specs.Start.{BeginsBy, StopsBy, session_of}
+use Rattle.resume_command.specs.Begun.{BeginsBy, StopsBy, session_of}
 use Rattle.resume_command.specs.Load.{OverTranscript}
 use Rattle.resume_command.proofs.Files.{text_fails, text_there}
 use Rattle.resume_command.proofs.Taken.{stopped}
@@ -9,13 +9,13 @@ use Rattle.resume_command.proofs.start.begin_behind.Goals as goal
 
 pub returns-in_err-file-clause-begins : goal.returns-in_err-file-clause-begins
 returns-in_err-file-clause-begins g c requests cut =
-    text_fails TRANSCRIPT_FILE_LIMIT _ _ (g.F.Shelf.file c.args.shelf.now c.args.transcript.now) c.in_err-file.field-0.0 c.in_err-file.ensures.bytes
+    text_fails TRANSCRIPT_FILE_LIMIT _ _ (g.F.Shelf.file c.args.shelf.now c.args.earlier.transcript.now) c.in_err-file.field-0.0 c.in_err-file.ensures.bytes
     (stopped c.from_residual.result c.in_err-file.field-0.0 c.from_residual.ensures.1)
 
 pub returns-clause-begins : goal.returns-clause-begins
 returns-clause-begins g c requests cut =
-    let file = jobs_of_input requests true c.args.lanes in
+    let file = jobs_of_input requests true c.args.earlier.lanes in
     let result = c.begin_at.result in
     text_there TRANSCRIPT_FILE_LIMIT (StopsBy result)
-    (OverTranscript (StopsBy result) (λ xs. BeginsBy (session_of c.args.policy c.args.lanes c.args.rounds file) file xs result))
-    (g.F.Shelf.file c.args.shelf.now c.args.transcript.now) c.in_ok-file.file c.in_ok-file.ensures.bytes (c.begin_at.ensures.begins requests cut)
+    (OverTranscript (StopsBy result) (λ xs. BeginsBy (session_of c.args.policy c.args.earlier.lanes c.args.earlier.rounds file) file xs result))
+    (g.F.Shelf.file c.args.shelf.now c.args.earlier.transcript.now) c.in_ok-file.file c.in_ok-file.ensures.bytes (c.begin_at.ensures.begins requests cut)

@@ -1,5 +1,5 @@
 use Rattle.std.proofs.Common.{◌≡◌, ◌+◌, drop}
-use Rattle.resume_command.specs.Start.{ends_to}
+use Rattle.resume_command.specs.Begun.{ends_to}
 use Rattle.resume_command.proofs.start.count_ends.Given as goal
 
 abbrev pub invariant-ends : goal.invariant-ends

@@ -1,22 +1,16 @@
 use Rattle.std.proofs.Common.{◌≤◌, length, take, ap, sym, subst, ◌∙◌}
 use Rattle.wf_desk.specs.Desks.{DeskShape}
 use Rattle.transcript_resume.specs.Resumed.{HasResumed, RefusesBy, Session}
-use Rattle.resume_command.specs.Start.{ends_to}
+use Rattle.transcript_resume.specs.Sessions.{session_over}
+use Rattle.resume_command.specs.Begun.{ends_to}
 use Rattle.resume_command.proofs.Taken.{has_begun, lacked, next_within, refused_so}
 use Rattle.resume_command.proofs.start.take_up.Goals as goal
 
 pub with_told-requires : goal.with_told-requires
 with_told-requires g c =
-    let s : Session = record {
-      policy = c.args.policy;
-      lanes = c.args.lanes;
-      rounds = c.args.rounds;
-      jobs = c.args.text.batch.jobs;
-      batch_ends =
-          c.args.text.batch.ends;
-    } in
+    let s : Session = session_over c.args.policy c.args.lanes c.args.rounds c.args.text.batch in
     let within = next_within
-    s c.as_bytes.result.now c.in_ok-resumed.resumed.next c.in_ok-resumed.resumed.desk c.requires.order c.in_ok-resumed.ensures.resumed in
+    s c.as_bytes.result.now c.in_ok-resumed.resumed.next c.in_ok-resumed.resumed.desk c.requires.whole.order c.in_ok-resumed.ensures.resumed in
     subst (λ js. c.in_ok-resumed.resumed.next ≤ length js) (sym c.in_ok-resumed.ensures.jobs) within
 
 pub returns-in_err-reader-clause-begins : goal.returns-in_err-reader-clause-begins
@@ -26,14 +20,8 @@ pub returns-in_err-resumed-clause-begins : goal.returns-in_err-resumed-clause-be
 returns-in_err-resumed-clause-begins g c requests cut =
     refused_so c.args.policy c.args.lanes c.args.rounds requests c.args.transcript c.args.text c.in_err-resumed.field-0.0
     c.from_residual-in_err-resumed.result cut
-    (subst (λ xs. RefusesBy (record {
-      policy = c.args.policy;
-      lanes = c.args.lanes;
-      rounds = c.args.rounds;
-      jobs = c.args.text.batch.jobs;
-      batch_ends =
-          c.args.text.batch.ends;
-    }) xs c.in_err-resumed.field-0.0) c.as_bytes.ensures c.in_err-resumed.ensures.refused)
+    (subst (λ xs. RefusesBy (session_over c.args.policy c.args.lanes c.args.rounds c.args.text.batch) xs c.in_err-resumed.field-0.0) c.as_bytes.ensures
+    c.in_err-resumed.ensures.refused)
     c.from_residual-in_err-resumed.ensures.1
 
 pub returns-in_err-with_told-clause-begins : goal.returns-in_err-with_told-clause-begins
@@ -44,17 +32,10 @@ returns-clause-begins g c requests cut =
     let b = c.in_ok-with_told.field-0 in
     let w = c.in_ok-with_told.ensures in
     let r = c.in_ok-resumed.ensures in
-    let s : Session = record {
-      policy = c.args.policy;
-      lanes = c.args.lanes;
-      rounds = c.args.rounds;
-      jobs = c.args.text.batch.jobs;
-      batch_ends =
-          c.args.text.batch.ends;
-    } in
+    let s : Session = session_over c.args.policy c.args.lanes c.args.rounds c.args.text.batch in
     let next = c.in_ok-resumed.resumed.next in
     has_begun c.args.policy c.args.lanes c.args.rounds requests c.args.transcript c.args.text next c.in_ok-reader.reader b c.admin.ensures.sound
-    c.requires.order c.inputs_go_on.ensures cut c.requires.going
+    c.requires.whole.order c.inputs_go_on.ensures cut c.requires.whole.going
     (subst (λ (d : DeskShape). HasResumed s c.args.transcript next d) (sym w.desk)
     (subst (λ xs. HasResumed s xs next c.in_ok-resumed.resumed.desk) c.as_bytes.ensures r.resumed))
     (record {

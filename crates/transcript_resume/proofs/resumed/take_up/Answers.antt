@@ -1,11 +1,6 @@
-use Rattle.wf_names.specs.declared.limits.TheConstants.{LANE_LIMIT}
-use Rattle.line_cutter.proofs.Order.{order_within}
 use Rattle.transcript_resume.specs.Resumed.{Session}
 use Rattle.transcript_resume.proofs.LinesTaken.{refused_of, taken_of}
 use Rattle.transcript_resume.proofs.resumed.take_up.Goals as goal
-
-pub know_session-requires-clause-order : goal.know_session-requires-clause-order
-know_session-requires-clause-order g c = order_within c.args.lanes LANE_LIMIT c.args.batch.jobs c.args.batch.ends c.requires.lanes c.requires.order
 
 pub returns-in_err-take_lines-clause-refused : goal.returns-in_err-take_lines-clause-refused
 returns-in_err-take_lines-clause-refused g c =

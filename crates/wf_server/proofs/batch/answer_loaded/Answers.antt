@@ -1,10 +1,14 @@
 use Rattle.std.proofs.Common.{arith}
 use Rattle.std.proofs.lemmas.Grind.{common_steps}
-use Rattle.wf_server.proofs.BatchLaws.{begins_grown, loaded_answers}
+use Rattle.wf_server.proofs.BatchLaws.{begins_grown, loaded_answers, setting_grown}
 use Rattle.wf_server.proofs.batch.answer_loaded.Goals as goal
 
-pub returns-clause-begins : goal.returns-clause-begins
-returns-clause-begins g c = begins_grown c.args.desk c.serve_jobs-served.result c.serve_jobs-served.ensures.grown c.journal.ensures.sound.kept
+pub returns-clause-on : goal.returns-clause-on
+returns-clause-on g c = record {
+  setting = setting_grown c.args.desk c.serve_jobs-served.result c.serve_jobs-served.ensures.grown;
+  begins = begins_grown c.args.desk c.serve_jobs-served.result c.serve_jobs-served.ensures.grown c.journal.ensures.sound.kept;
+  once = c.serve_jobs-served.ensures.once;
+}
 
 pub returns-clause-answers : goal.returns-clause-answers
 returns-clause-answers g c held before after loaded added same =

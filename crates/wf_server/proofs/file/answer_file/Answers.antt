@@ -1,21 +1,18 @@
-use Rattle.std.proofs.Common.{◌≡◌, ◌∙◌, ◌<◌, drop, length, slice_index_or, take, refl, sym, ap, subst, arith}
+use Rattle.std.proofs.Common.{◌≡◌, ◌∙◌, ◌<◌, length, slice_index_or, refl, sym, subst, arith}
 use Rattle.std.proofs.lemmas.Grind.{common_steps}
 use Rattle.line_cutter.specs.Laws.{AreInOrder}
-use Rattle.wf_board.specs.Histories.{AreAnsweredOnce}
-use Rattle.wf_server.specs.Sessions.{Setting}
 use Rattle.transcript_resume.specs.Unserved.{jobs_between}
 use Rattle.wf_server.specs.Batches.{told_of, IsBatch}
 use Rattle.wf_server.specs.Files.{IsToldTo}
 use Rattle.wf_server.proofs.FileLaws.{file_batch, file_fails, is_next, told_more}
+use Rattle.wf_server.proofs.ServedOn.{on_then, same_on}
 use Rattle.wf_server.proofs.SessionLaws.{lanes_of}
 use Rattle.wf_server.proofs.file.answer_file.Goals as goal
 
 pub answering-init : goal.answering-init
 answering-init g c = record {
-  told = c.requires.told;
-  setting = refl;
-  begins = refl;
-  once = λ serves once. once;
+  told = c.requires.file.to;
+  on = same_on _ c.args.desk;
   answered = λ held answered. answered;
   faults = refl;
 }
@@ -26,7 +23,7 @@ jobs_between-batch-requires-clause-order g c =
     let d = c.answering.desk in
     let jobs = c.args.file.now.jobs in
     let ends = c.args.file.now.ends in
-    let order = subst (λ n. AreInOrder n jobs ends) (sym (lanes_of c.args.desk d c.answering.invariant.setting)) c.requires.order in
+    let order = subst (λ n. AreInOrder n jobs ends) (sym (lanes_of c.args.desk d c.answering.invariant.on.setting)) c.requires.file.order in
     let known : c.answering.count < length ends = let test = c.answering-test.true in let size = c.len.ensures in omega (arith, test, size) in
     let next = is_next d.lanes jobs ends c.answering.count (told_of d c.answering.told) order known is in
     let above = next.order in
@@ -38,33 +35,32 @@ jobs_between-batch-requires-clause-within g c =
     let d = c.answering.desk in
     let jobs = c.args.file.now.jobs in
     let ends = c.args.file.now.ends in
-    let order = subst (λ n. AreInOrder n jobs ends) (sym (lanes_of c.args.desk d c.answering.invariant.setting)) c.requires.order in
+    let order = subst (λ n. AreInOrder n jobs ends) (sym (lanes_of c.args.desk d c.answering.invariant.on.setting)) c.requires.file.order in
     let known : c.answering.count < length ends = let test = c.answering-test.true in let size = c.len.ensures in omega (arith, test, size) in
     let next = is_next d.lanes jobs ends c.answering.count (told_of d c.answering.told) order known is in
     let within = next.within in
     grind (arith, common_steps)
 
-pub answer_batch-next-requires-clause-lanes : goal.answer_batch-next-requires-clause-lanes
-answer_batch-next-requires-clause-lanes g c = subst (λ n. 0 < n) (sym (lanes_of c.args.desk c.answering.desk c.answering.invariant.setting)) c.requires.lanes
-
-pub answer_batch-next-requires-clause-done : goal.answer_batch-next-requires-clause-done
-answer_batch-next-requires-clause-done g c = (c.answering.invariant.answered c.requires.answered.0 c.requires.answered.1).done
-
-pub answer_batch-next-requires-clause-whole : goal.answer_batch-next-requires-clause-whole
-answer_batch-next-requires-clause-whole g c = (c.answering.invariant.answered c.requires.answered.0 c.requires.answered.1).fills.whole
-
-pub answer_batch-next-requires-clause-batch : goal.answer_batch-next-requires-clause-batch
-answer_batch-next-requires-clause-batch g c =
+pub answer_batch-next-requires-clause-takes : goal.answer_batch-next-requires-clause-takes
+answer_batch-next-requires-clause-takes g c =
     let is = c.answering.invariant.told in
     let d = c.answering.desk in
     let jobs = c.args.file.now.jobs in
     let ends = c.args.file.now.ends in
-    let order = subst (λ n. AreInOrder n jobs ends) (sym (lanes_of c.args.desk d c.answering.invariant.setting)) c.requires.order in
+    let same = lanes_of c.args.desk d c.answering.invariant.on.setting in
+    let order = subst (λ n. AreInOrder n jobs ends) (sym same) c.requires.file.order in
     let known : c.answering.count < length ends = let test = c.answering-test.true in let size = c.len.ensures in omega (arith, test, size) in
     let next = is_next d.lanes jobs ends c.answering.count (told_of d c.answering.told) order known is in
     let batch : c.jobs_between-batch.result.now ≡ jobs_between (length c.answering.told.jobs) (slice_index_or ends c.answering.count 0) jobs =
     grind (arith, common_steps) in
-    subst (λ js. IsBatch d.lanes (length c.answering.told.jobs) js) (sym batch) (file_batch d.lanes jobs ends c.answering.count _ _ order known next)
+    let answered = c.answering.invariant.answered c.requires.answered.0 c.requires.answered.1 in
+    record {
+      some = subst (λ n. 0 < n) (sym same) c.requires.lanes;
+      done = answered.done;
+      whole = answered.fills.whole;
+      follows =
+          subst (λ js. IsBatch d.lanes (length c.answering.told.jobs) js) (sym batch) (file_batch d.lanes jobs ends c.answering.count _ _ order known next);
+    }
 
 pub answering-preserved : goal.answering-preserved
 answering-preserved g c =
@@ -72,42 +68,25 @@ answering-preserved g c =
     let d = c.answering.desk in
     let jobs = c.args.file.now.jobs in
     let ends = c.args.file.now.ends in
-    let order = subst (λ n. AreInOrder n jobs ends) (sym (lanes_of c.args.desk d c.answering.invariant.setting)) c.requires.order in
+    let order = subst (λ n. AreInOrder n jobs ends) (sym (lanes_of c.args.desk d c.answering.invariant.on.setting)) c.requires.file.order in
     let known : c.answering.count < length ends = let test = c.answering-test.true in let size = c.len.ensures in omega (arith, test, size) in
     let next = is_next d.lanes jobs ends c.answering.count (told_of d c.answering.told) order known is in
     let batch : c.jobs_between-batch.result.now ≡ jobs_between (length c.answering.told.jobs) (slice_index_or ends c.answering.count 0) jobs =
     grind (arith, common_steps) in
     let e = c.answer_batch-next.result.0 in
-    let restored : d.restored ≡ c.args.desk.restored = ap (λ (s : Setting). s.restored) c.answering.invariant.setting in
     let added = (rw c.in-Ok.is at c.answer_batch-next.ensures.answers c.requires.answered.0
     (c.answering.invariant.answered c.requires.answered.0 c.requires.answered.1)).0 in
     record {
       told = told_more d.lanes jobs ends c.answering.count (told_of d c.answering.told) (told_of e c.answer_batch-next.new.told)
           c.jobs_between-batch.result.now _ _ order known is next refl batch added;
-      setting = c.answer_batch-next.ensures.setting ∙ c.answering.invariant.setting;
-      begins = subst (λ n. take n e.entries ≡ take n d.entries) restored c.answer_batch-next.ensures.begins ∙ c.answering.invariant.begins;
-      once = λ serves before.
-          subst (λ n. AreAnsweredOnce (drop n e.entries)) restored
-          (c.answer_batch-next.ensures.once serves (subst (λ n. AreAnsweredOnce (drop n d.entries)) (sym restored) (c.answering.invariant.once serves before)));
+      on = on_then _ c.args.desk d e c.answering.invariant.on c.answer_batch-next.ensures.on;
       answered = λ held answered. (rw c.in-Ok.is at c.answer_batch-next.ensures.answers held (c.answering.invariant.answered held answered)).1;
       faults = (rw c.in-Ok.is at c.answer_batch-next.ensures.counts) ∙ c.answering.invariant.faults;
     }
 
-pub returns-in-Err-clause-setting : goal.returns-in-Err-clause-setting
-returns-in-Err-clause-setting g c = c.answer_batch-next.ensures.setting ∙ c.answering.invariant.setting
-
-pub returns-in-Err-clause-begins : goal.returns-in-Err-clause-begins
-returns-in-Err-clause-begins g c =
-    let restored : c.answering.desk.restored ≡ c.args.desk.restored = ap (λ (s : Setting). s.restored) c.answering.invariant.setting in
-    subst (λ n. take n c.answer_batch-next.result.0.entries ≡ take n c.answering.desk.entries) restored c.answer_batch-next.ensures.begins ∙
-    c.answering.invariant.begins
-
-pub returns-in-Err-clause-once : goal.returns-in-Err-clause-once
-returns-in-Err-clause-once g c serves before =
-    let restored : c.answering.desk.restored ≡ c.args.desk.restored = ap (λ (s : Setting). s.restored) c.answering.invariant.setting in
-    subst (λ n. AreAnsweredOnce (drop n c.answer_batch-next.result.0.entries)) restored
-    (c.answer_batch-next.ensures.once serves
-    (subst (λ n. AreAnsweredOnce (drop n c.answering.desk.entries)) (sym restored) (c.answering.invariant.once serves before)))
+pub returns-in-Err-clause-on : goal.returns-in-Err-clause-on
+returns-in-Err-clause-on g c =
+    on_then _ c.args.desk c.answering.desk c.answer_batch-next.result.0 c.answering.invariant.on c.answer_batch-next.ensures.on
 
 pub returns-in-Err-clause-answers : goal.returns-in-Err-clause-answers
 returns-in-Err-clause-answers g c held answered =
@@ -115,7 +94,7 @@ returns-in-Err-clause-answers g c held answered =
     let d = c.answering.desk in
     let jobs = c.args.file.now.jobs in
     let ends = c.args.file.now.ends in
-    let order = subst (λ n. AreInOrder n jobs ends) (sym (lanes_of c.args.desk d c.answering.invariant.setting)) c.requires.order in
+    let order = subst (λ n. AreInOrder n jobs ends) (sym (lanes_of c.args.desk d c.answering.invariant.on.setting)) c.requires.file.order in
     let known : c.answering.count < length ends = let test = c.answering-test.true in let size = c.len.ensures in omega (arith, test, size) in
     let next = is_next d.lanes jobs ends c.answering.count (told_of d c.answering.told) order known is in
     let batch : c.jobs_between-batch.result.now ≡ jobs_between (length c.answering.told.jobs) (slice_index_or ends c.answering.count 0) jobs =

@@ -11,12 +11,12 @@ pub returns-in-Ok-clause-serves : goal.returns-in-Ok-clause-serves
 returns-in-Ok-clause-serves g c = record {
   within = c.requires.options;
   serves = is_served (g.F.Shelf.file c.args.shelf.now c.args.policy.now) c.in-Ok.p (options_in c.args.options) _ c.in-Ok.ensures.policy
-      c.in-Ok.ensures.sound c.serve_policy.ensures.served c.serve_policy.ensures.wants c.serve_policy.ensures.fits;
+      c.in-Ok.ensures.sound c.serve_policy.ensures.served.served c.serve_policy.ensures.served.wants c.serve_policy.ensures.served.fits;
   orderly = record {
     early = λ e. let late = c.serve_policy.ensures.late in cc;
     loads = loads_late _ _ _ c.serve_policy.ensures.late c.in-Ok.ensures.loads;
-    reads = c.serve_policy.ensures.served.read_faults;
-    writes = c.serve_policy.ensures.served.write_faults;
+    reads = c.serve_policy.ensures.served.served.read_faults;
+    writes = c.serve_policy.ensures.served.served.write_faults;
   };
 }
 
@@ -29,7 +29,7 @@ pub returns-in-Err-clause-once : goal.returns-in-Err-clause-once
 returns-in-Err-clause-once g c serves = subst (λ (t : Told). AreAnsweredOnce t.entries) (sym c.bare_report.ensures.told) tt
 
 pub returns-in-Ok-clause-no_rounds : goal.returns-in-Ok-clause-no_rounds
-returns-in-Ok-clause-no_rounds g c none = once_legal (opening_state c.in-Ok.p) c.args.options.rounds _ c.serve_policy.ensures.served.legal none
+returns-in-Ok-clause-no_rounds g c none = once_legal (opening_state c.in-Ok.p) c.args.options.rounds _ c.serve_policy.ensures.served.served.legal none
 
 pub returns-in-Err-clause-no_rounds : goal.returns-in-Err-clause-no_rounds
 returns-in-Err-clause-no_rounds g c none = subst (λ (t : Told). AreAnsweredOnce t.entries) (sym c.bare_report.ensures.told) tt

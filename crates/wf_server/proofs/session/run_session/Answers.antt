@@ -1,8 +1,10 @@
-use Rattle.std.proofs.Common.{◌≡◌, ℕ, ap, refl, subst, ◌∙◌}
+use Rattle.std.proofs.Common.{◌≡◌, ℕ, drop, ap, refl, sym, subst, ◌∙◌}
 use Rattle.run_record.specs.Report.{told_by}
 use Rattle.run_record.specs.Run.{Streams}
 use Rattle.command_words.specs.Asked.{options_in}
-use Rattle.wf_server.specs.Serve.{setting}
+use Rattle.wf_board.specs.States.{opening_state}
+use Rattle.wf_board.specs.Histories.{AreAnsweredOnce, AreRightful, IsLegal}
+use Rattle.wf_server.specs.Serving.{setting}
 use Rattle.batch_reader.specs.Reader.{BatchReaderShape}
 use Rattle.line_cutter.specs.Jobs.{start}
 use Rattle.wf_server.specs.Batches.{Serves}
@@ -84,3 +86,22 @@ returns-clause-serves g c =
     (subst (λ (m : ℕ). Serves set (start d.lanes) m streams after told fault) (ap (λ (r : BatchReaderShape). r.room) c.in-Ok-new.ensures)
     (subst (λ (s : Setting). Serves s (start d.lanes) c.in-Ok-new.reader.room streams after told fault) same
     (c.serve_batches.ensures.serves (start d.lanes) streams begun)))
+
+pub returns-clause-legal : goal.returns-clause-legal
+returns-clause-legal g c =
+    let d = c.in-Ok.desk in
+    let new = c.in-Ok.ensures in
+    let same : setting_of d ≡ setting c.args.policy (options_in c.args.options) = rw (new.opening, new.lanes, new.rounds, new.restored) refl in
+    subst (λ (s : Setting). IsLegal (opening_state s.policy) s.rounds (told_by c.serve_batches.result).entries) same c.serve_batches.ensures.behind.legal
+
+pub returns-clause-wants : goal.returns-clause-wants
+returns-clause-wants g c =
+    subst (λ n. AreRightful (drop n (told_by c.serve_batches.result).entries)) c.in-Ok.ensures.restored c.serve_batches.ensures.behind.wants
+
+pub returns-clause-once : goal.returns-clause-once
+returns-clause-once g c serves =
+    let d = c.in-Ok.desk in
+    let new = c.in-Ok.ensures in
+    let none : AreAnsweredOnce (drop d.restored d.entries) = subst (λ n. AreAnsweredOnce (drop n d.entries)) (sym new.restored)
+    (subst AreAnsweredOnce (sym new.entries) tt) in
+    subst (λ n. AreAnsweredOnce (drop n (told_by c.serve_batches.result).entries)) new.restored (c.serve_batches.ensures.behind.once serves none)

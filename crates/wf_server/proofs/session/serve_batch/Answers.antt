@@ -1,19 +1,25 @@
-use Rattle.std.proofs.Common.{refl, sym, subst}
+use Rattle.std.proofs.Common.{refl, sym, subst, ◌∙◌}
 use Rattle.run_record.specs.Run.{Streams}
 use Rattle.wf_server.specs.Sessions.{handed_in}
 use Rattle.wf_server.specs.Batches.{told_of, BatchEnds}
+use Rattle.wf_server.proofs.ServedOn.{pauses_on, same_on}
 use Rattle.wf_server.proofs.SessionLaws.{next_batch, memory_serves, done_ends, fault_ends}
 use Rattle.wf_server.proofs.session.serve_batch.Goals as goal
 
-pub answer_batch-served-requires-clause-batch : goal.answer_batch-served-requires-clause-batch
-answer_batch-served-requires-clause-batch g c =
+pub answer_batch-served-requires-clause-takes : goal.answer_batch-served-requires-clause-takes
+answer_batch-served-requires-clause-takes g c =
     let d = c.args.desk in
     let first = c.requires.serving.0 in
     let serving = c.requires.serving.1.1 in
     let told = told_of d c.args.told.now in
-    rw c.as_slice.ensures
-    (next_batch d.lanes first _ _ told c.next_batch-jobs.result.jobs serving.order serving.read.closed
-    (c.next_batch-jobs.ensures.up c.requires.serving.1.0.input (handed_in first told) serving.read))
+    record {
+      some = c.requires.lanes;
+      done = serving.answered.done;
+      whole = serving.answered.fills.whole;
+      follows = rw c.as_slice.ensures
+          (next_batch d.lanes first _ _ told c.next_batch-jobs.result.jobs serving.order serving.read.closed
+          (c.next_batch-jobs.ensures.up c.requires.serving.1.0.input (handed_in first told) serving.read));
+    }
 
 pub returns-in-NoMemory-clause-batch : goal.returns-in-NoMemory-clause-batch
 returns-in-NoMemory-clause-batch g c first before serving =
@@ -61,7 +67,7 @@ returns-in-Ok-clause-batch g c first before serving =
           g.S.Source.faults c.args.source.now;
       write_faults = g.K.Sink.faults c.args.sink.now;
     }) after
-    c.args.reader.now t d e told (told_of e c.answer_batch-served.new.told) jobs how serving c.answer_batch-served.ensures.setting
+    c.args.reader.now t d e told (told_of e c.answer_batch-served.new.told) jobs how serving c.answer_batch-served.ensures.on.setting
     (rw same (c.next_batch-jobs.ensures.reads before.input h serving.read))
     (λ batch. rw same (c.next_batch-jobs.ensures.goes_on batch before.input h serving.read))
     answers.0 answers.1 c.next_batch-jobs.ensures.counts writes)
@@ -92,7 +98,15 @@ returns-clause-batch g c first before serving =
           g.S.Source.faults c.next_batch-jobs.new.source;
       write_faults = g.K.Sink.faults c.answer_batch-served.new.sink;
     })
-    c.args.reader.now d e told (told_of e c.answer_batch-served.new.told) jobs how c.in-Err.fault serving c.answer_batch-served.ensures.setting
+    c.args.reader.now d e told (told_of e c.answer_batch-served.new.told) jobs how c.in-Err.fault serving c.answer_batch-served.ensures.on.setting
     (rw same (c.next_batch-jobs.ensures.reads before.input h serving.read)) c.in_default.not-NoMemory
     (rw same (c.next_batch-jobs.ensures.up before.input h serving.read)) (c.next_batch-jobs.ensures.up_before before.input h serving.read)
     answers ending c.next_batch-jobs.ensures.counts writes
+
+pub returns-in-NoMemory-clause-on : goal.returns-in-NoMemory-clause-on
+returns-in-NoMemory-clause-on g c = same_on _ c.args.desk
+
+pub returns-in-Ok-clause-goes_on : goal.returns-in-Ok-clause-goes_on
+returns-in-Ok-clause-goes_on g c none =
+    pauses_on c.next_batch-jobs.result.paused c.args.reader.now c.next_batch-jobs.new.self c.next_batch-jobs.ensures.ready c.next_batch-jobs.ensures.less
+    (sym c.ending_after.ensures ∙ none)

@@ -1,10 +1,9 @@
-use Rattle.std.proofs.Common.{◌≡◌, drop, take}
+use Rattle.std.proofs.Common.{◌≡◌}
 use Rattle.line_cutter.specs.Jobs.{Cut}
 use Rattle.batch_reader.specs.Reader.{CanReadOn, left_to_read}
 use Rattle.run_record.specs.Run.{Streams}
-use Rattle.wf_board.specs.Histories.{AreAnsweredOnce}
+use Rattle.wf_server.specs.Batch.{IsServedOn}
 use Rattle.wf_server.specs.Batches.{told_of, IsServing}
-use Rattle.wf_server.specs.Ways.{ServesOnce, setting_of}
 use Rattle.wf_server.proofs.session.serve_batches.Given as goal
 
 abbrev pub invariant-serving : goal.invariant-serving
@@ -19,10 +18,7 @@ invariant-serving g l =
     record {
       ready : CanReadOn l.reader;
       room : l.reader.room ≡ l.fn.reader.room;
-      setting : setting_of l.desk ≡ setting_of l.fn.desk;
-      once : ServesOnce (λ d e. goal.W-post g l.way d e) → AreAnsweredOnce (drop l.fn.desk.restored l.fn.desk.entries) →
-          AreAnsweredOnce (drop l.fn.desk.restored l.desk.entries);
-      begins : take l.fn.desk.restored l.desk.entries ≡ take l.fn.desk.restored l.fn.desk.entries;
+      on : IsServedOn (λ d e. goal.W-post g l.way d e) l.fn.desk l.desk;
       serving : (first : Cut) (before : Streams) → IsServing first before begun l.fn.reader l.fn.desk (told_of l.fn.desk l.fn.told) → IsServing first before
           (record {
             input = g.S.Source.left l.source;

@@ -1,0 +1,105 @@
+-- A desk that is served on, step by step.
+use Rattle.std.proofs.Common.{◌≡◌, ◌<◌, List, None, drop, length, take, refl, sym, ap, subst, ◌∙◌, arith}
+use Rattle.std.proofs.lemmas.List.{drop_all, take_all}
+use Rattle.wf_talk.specs.declared.entry.Entry.{Entry}
+use Rattle.wf_talk.specs.declared.job.Job.{Job}
+use Rattle.line_cutter.specs.declared.stop.Stop.TheVariants as stop
+use Rattle.batch_reader.specs.declared.reader.Paused.{Paused}
+use Rattle.batch_reader.specs.declared.reader.Paused.TheVariants as paused
+use Rattle.batch_reader.specs.Reader.{CanReadOn, BatchReaderShape, left_to_read}
+use Rattle.wf_board.specs.States.{opening_state}
+use Rattle.wf_board.specs.Histories.{AreAnsweredOnce, AreRightful, IsLegal}
+use Rattle.wf_desk.specs.Desks.{AreOfLanes, DeskShape, IsSoundDesk}
+use Rattle.run_record.specs.Report.{Told}
+use Rattle.wf_server.specs.declared.batch.Answered.{Answered}
+use Rattle.wf_server.specs.Batches.{ending_after, told_of}
+use Rattle.wf_server.specs.Batch.{CanBeServed, IsServedOn}
+use Rattle.wf_server.specs.GoingOn.{GoOnBehind}
+use Rattle.wf_server.specs.Session.{AreBehind, GoesOnReading}
+use Rattle.wf_server.specs.Sessions.{Setting}
+use Rattle.wf_server.specs.Ways.{setting_of}
+
+-- a desk that is as it was
+pub same_on : (Leaves : DeskShape → DeskShape → Type 0) (d : DeskShape) → IsServedOn Leaves d d
+same_on Leaves d = record { setting = refl; begins = refl; once = λ serves once. once }
+
+-- a desk that has taken a batch
+pub loaded_on : (Leaves : DeskShape → DeskShape → Type 0) (d l : DeskShape) → setting_of l ≡ setting_of d → l.entries ≡ d.entries → IsServedOn Leaves d l
+loaded_on Leaves d l setting entries = record {
+  setting = setting;
+  begins = ap (take d.restored) entries;
+  once = λ serves once. subst (λ es. AreAnsweredOnce (drop d.restored es)) (sym entries) once;
+}
+
+pub loaded_ready : (d l : DeskShape) (batch : List Job) → setting_of l ≡ setting_of d → l.jobs ≡ batch → 0 < d.lanes → AreOfLanes d.lanes batch → CanBeServed l
+loaded_ready d l batch setting loads some of_lanes =
+    let lanes : l.lanes ≡ d.lanes = ap (λ (s : Setting). s.lanes) setting in
+    record {
+      some = subst (λ n. 0 < n) (sym lanes) some;
+      of_lanes = subst (λ js. AreOfLanes l.lanes js) (sym loads) (subst (λ n. AreOfLanes n batch) (sym lanes) of_lanes);
+    }
+
+-- one step behind another
+pub on_then : (Leaves : DeskShape → DeskShape → Type 0) (d e f : DeskShape) → IsServedOn Leaves d e → IsServedOn Leaves e f → IsServedOn Leaves d f
+on_then Leaves d e f one two =
+    let restored : e.restored ≡ d.restored = ap (λ (s : Setting). s.restored) one.setting in
+    record {
+      setting = two.setting ∙ one.setting;
+      begins = subst (λ n. take n f.entries ≡ take n e.entries) restored two.begins ∙ one.begins;
+      once = λ serves before.
+          subst (λ n. AreAnsweredOnce (drop n f.entries)) restored
+          (two.once serves (subst (λ n. AreAnsweredOnce (drop n e.entries)) (sym restored) (one.once serves before)));
+    }
+
+-- what a session tells that ends at such a desk
+behind_on : (Leaves : DeskShape → DeskShape → Type 0) (d e : DeskShape) → IsServedOn Leaves d e → IsSoundDesk e → AreBehind Leaves d e.entries
+behind_on Leaves d e on sound = record {
+  legal = subst (λ (set : Setting). IsLegal (opening_state set.policy) set.rounds e.entries) on.setting sound.legal;
+  begins = on.begins;
+  wants = subst (λ (set : Setting). AreRightful (drop set.restored e.entries)) on.setting sound.wants;
+  once = on.once;
+}
+
+pub told_behind : (Leaves : DeskShape → DeskShape → Type 0) (d e : DeskShape) (told : Told) (a : Answered) → told ≡ told_of e a → IsServedOn Leaves d e →
+    IsSoundDesk e → AreBehind Leaves d told.entries
+told_behind Leaves d e told a is on sound = subst (λ (t : Told). AreBehind Leaves d t.entries) (sym is) (behind_on Leaves d e on sound)
+
+begins_behind : (b d : DeskShape) (es : List Entry) → b.restored ≡ length b.entries → d.restored ≡ b.restored →
+    take d.restored es ≡ take d.restored d.entries
+    → take b.restored d.entries ≡ take b.restored b.entries → take (length b.entries) es ≡ b.entries
+begins_behind b d es size same later first =
+    ap (λ n. take n es) (sym (same ∙ size)) ∙ later ∙ ap (λ n. take n d.entries) same ∙ first ∙ ap (λ n. take n b.entries) size ∙
+    take_all (length b.entries) b.entries (omega arith)
+
+none_before : (b : DeskShape) → b.restored ≡ length b.entries → AreAnsweredOnce (drop b.restored b.entries)
+none_before b size = subst AreAnsweredOnce (sym (drop_all b.restored b.entries (omega (arith, size)))) tt
+
+-- and one that goes on from there
+pub behind_then : (Leaves : DeskShape → DeskShape → Type 0) (d e : DeskShape) (entries : List Entry) → d.restored ≡ length d.entries → IsServedOn Leaves d e →
+    AreBehind Leaves e entries → GoOnBehind Leaves d.entries entries
+behind_then Leaves d e entries size on behind =
+    let restored : e.restored ≡ d.restored = ap (λ (s : Setting). s.restored) on.setting in
+    record {
+      begins = begins_behind d e entries size restored behind.begins on.begins;
+      wants = subst (λ n. AreRightful (drop n entries)) (restored ∙ size) behind.wants;
+      once = λ serves.
+          subst (λ n. AreAnsweredOnce (drop n entries)) (restored ∙ size)
+          (behind.once serves (subst (λ n. AreAnsweredOnce (drop n e.entries)) (sym restored) (on.once serves (none_before d size))));
+    }
+
+-- one that ends with the requests file
+pub told_then : (Leaves : DeskShape → DeskShape → Type 0) (d e : DeskShape) (told : Told) (a : Answered) → told ≡ told_of e a → d.restored ≡ length d.entries →
+    IsServedOn Leaves d e → IsSoundDesk e → GoOnBehind Leaves d.entries told.entries
+told_then Leaves d e told a is size on sound =
+    subst (λ (t : Told). GoOnBehind Leaves d.entries t.entries) (sym is)
+    (behind_then Leaves d e e.entries size on (behind_on Leaves e e (same_on Leaves e) sound))
+
+-- where reading has paused between two batches a session goes on
+pub pauses_on : (how : Paused) (r t : BatchReaderShape) → (how ≡ paused.Batch → CanReadOn t) → (how ≡ paused.Batch → left_to_read t < left_to_read r) →
+    ending_after how ≡ None → GoesOnReading r t
+pauses_on paused.Batch r t ready less none = record { ready = ready refl; less = less refl }
+pauses_on paused.End r t ready less none = cc
+pauses_on paused.Failed r t ready less none = cc
+pauses_on (paused.Stopped (stop.LineTooLong line)) r t ready less none = cc
+pauses_on (paused.Stopped stop.TooManyLines) r t ready less none = cc
+pauses_on paused.NoMemory r t ready less none = cc
