@@ -13,8 +13,8 @@ use Rattle.batch_reader.specs.Reader.{left_to_read}
 
 -- some bytes were cut, and before the last of them no batch had ended and the cutting had not
 -- stopped
-pub record HasCut (before after : Option (List ℕ)) (h : Handed) (r : BatchReaderShape) : Type
-    0 where
+pub record HasCut (before after : Option (List ℕ)) (h : Handed) (r : BatchReaderShape) :
+    Type 0 where
   pub front : List ℕ
   pub last : ℕ
   pub taken : HasTaken before after ((front ++ last ∷ []) ++ r.pending)

@@ -36,8 +36,8 @@ handed_more h more =
 
 -- of what a source gave that had `before` left and has `after` left, all is cut but what is
 -- pending, and the rest is not handed over yet
-pub record HasRead (before after : Option (List ℕ)) (h : Handed) (r : BatchReaderShape) : Type
-    0 where
+pub record HasRead (before after : Option (List ℕ)) (h : Handed) (r : BatchReaderShape) :
+    Type 0 where
   pub bytes : List ℕ
   pub taken : HasTaken before after (bytes ++ r.pending)
   pub cut : after_handing h.jobs h.batch_ends r.cut ≡ cut_all h.first bytes

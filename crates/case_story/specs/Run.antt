@@ -21,8 +21,8 @@ Tells (what.Now at) s fault text = TellsNow at s fault text
 Tells (what.Page number) s fault text = TellsPage number s fault text
 
 -- the files give a session that was served so
-pub record GivesServed (files : List ℕ → Filed) (n : Names) (lanes rounds : ℕ) (s : Session) : Type
-    0 where
+pub record GivesServed (files : List ℕ → Filed) (n : Names) (lanes rounds : ℕ) (s : Session) :
+    Type 0 where
   pub gives : GivesSession files n (Ok s)
   pub on_lanes : s.lanes ≡ lanes
   pub with_rounds : s.rounds ≡ rounds

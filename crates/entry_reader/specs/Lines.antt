@@ -45,8 +45,8 @@ pub record IsEntry (p : PolicyShape) (flows : ℕ → Option ℕ) (e : Entry) : 
   pub nests : depth (entry_data p e) ≤ max_depth
 
 -- a line is the text of an entry
-pub record IsLineOf (p : PolicyShape) (flows : ℕ → Option ℕ) (text : List ℕ) (e : Entry) : Type
-    0 where
+pub record IsLineOf (p : PolicyShape) (flows : ℕ → Option ℕ) (text : List ℕ) (e : Entry) :
+    Type 0 where
   pub entry : IsEntry p flows e
   pub written : entry_text p e ≡ text
 

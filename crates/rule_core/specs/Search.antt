@@ -46,8 +46,8 @@ pub record IsCore (p : Problem) (assigned : List (Option ℕ)) (finished : List 
       IsCompletable (problem_with p (without k numbers)) assigned finished
 
 -- a policy whose only workflow is one of another policy with the rules of these numbers alone
-pub record IsWithRules (p : PolicyShape) (f : ℕ) (numbers : List ℕ) (left : PolicyShape) : Type
-    0 where
+pub record IsWithRules (p : PolicyShape) (f : ℕ) (numbers : List ℕ) (left : PolicyShape) :
+    Type 0 where
   pub alone : length left.flows ≡ 1
   pub problem : problem_of left 0 ≡ problem_with (problem_of p f) numbers
 

@@ -20,8 +20,8 @@ pub record IsOpenAt (p : PolicyShape) (rows : List Row) (n : ℕ) (c : CaseShape
   pub known : IsOfPolicy p c
 
 -- an open case, one of its steps, and a user of the policy
-pub record AreFound (p : PolicyShape) (rows : List Row) (n : ℕ) (c : CaseShape) (s u : ℕ) : Type
-    0 where
+pub record AreFound (p : PolicyShape) (rows : List Row) (n : ℕ) (c : CaseShape) (s u : ℕ) :
+    Type 0 where
   pub case : IsOpenAt p rows n c
   pub step : s < length c.states
   pub user : u < length p.roster.users

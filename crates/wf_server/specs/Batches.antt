@@ -54,8 +54,8 @@ pub record IsBatch (lanes before : ℕ) (batch : List Job) : Type 0 where
   pub of_lanes : AreOfLanes lanes batch
 
 -- the jobs so far are answered, and the entries written
-pub record HasAnsweredAll (held held-after : Option (List ℕ)) (d : DeskShape) (told : Told) : Type
-    0 where
+pub record HasAnsweredAll (held held-after : Option (List ℕ)) (d : DeskShape) (told : Told) :
+    Type 0 where
   pub done : IsDone d
   pub fills : FillsJobs told.entries told.jobs told.batch_ends
   pub ends : EndAt told.batch_ends (length told.jobs)
@@ -76,8 +76,8 @@ pub record IsBatchAdded (before : Told) (batch : List Job) (after : Told) : Type
 
 -- a batch is at a desk behind those that are told: their jobs are answered; of the entries of the
 -- batch those alone are there that were taken up; and what was not taken up is written
-pub record HasLoaded (held held-after : Option (List ℕ)) (d : DeskShape) (told : Told) : Type
-    0 where
+pub record HasLoaded (held held-after : Option (List ℕ)) (d : DeskShape) (told : Told) :
+    Type 0 where
   pub fills : FillsJobs told.entries told.jobs told.batch_ends
   pub ends : EndAt told.batch_ends (length told.jobs)
   pub front : take d.start d.entries ≡ told.entries

@@ -13,8 +13,8 @@ options_by e = record { lanes = e.lanes; rounds = e.rounds }
 
 -- entries go on behind those that were taken up: these stay as they were, what comes is rightful,
 -- and by a way of serving that answers no request again none is
-pub record GoOnBehind (Leaves : DeskShape → DeskShape → Type 0) (taken entries : List Entry) : Type
-    0 where
+pub record GoOnBehind (Leaves : DeskShape → DeskShape → Type 0) (taken entries : List Entry) :
+    Type 0 where
   pub begins : take (length taken) entries ≡ taken
   pub wants : AreRightful (drop (length taken) entries)
   pub once : ServesOnce Leaves → AreAnsweredOnce (drop (length taken) entries)

@@ -13,8 +13,8 @@ setting_of d =
 -- a way of serving, by what it asks of a desk and what comes of it: it asks no more than that each
 -- job is of one of the lanes, and then none is left without an entry, and nothing is changed but by
 -- the entries
-pub record IsWay (Asks : DeskShape → Type 0) (Leaves : DeskShape → DeskShape → Type 0) : Type
-    0 where
+pub record IsWay (Asks : DeskShape → Type 0) (Leaves : DeskShape → DeskShape → Type 0) :
+    Type 0 where
   pub asks : (d : DeskShape) → 0 < d.lanes → AreOfLanes d.lanes d.jobs → Asks d
   pub grown : (d e : DeskShape) → Leaves d e → HasGrown d e
   pub done : (d e : DeskShape) → Leaves d e → IsDone e

@@ -29,8 +29,8 @@ use Rattle.wsp_solver.proofs.TwinUsers.{has_twin_from, kid_user_below, twin_of_c
 abbrev pub IsCovered : Problem → List (Option ℕ) → List ℕ → ℕ → Type 0
 IsCovered p a users w = (is_one_of users w ≡ true) ⊎ (has_twin p a w users ≡ true)
 
-pub record IsTrimmedFront (p : Problem) (a : List (Option ℕ)) (done : List Bool) (s : ℕ) (bs : List Branch) (i : ℕ) (kept : Kids) (steps : List Bool) : Type
-    0 where
+pub record IsTrimmedFront (p : Problem) (a : List (Option ℕ)) (done : List Bool) (s : ℕ) (bs : List Branch) (i : ℕ) (kept : Kids) (steps : List Bool) :
+    Type 0 where
   pub users : have_users (authorised_users p s) (joined kept (kids_of_items (drop i bs))) ≡ true
   pub refute : all_refute p a done s [] kept ≡ true
   pub lean : are_lean p a s [] kept ≡ true

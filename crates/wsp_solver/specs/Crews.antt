@@ -29,8 +29,8 @@ abbrev pub has_steps : List (List Bool) → List Bool → ℕ → Bool
 has_steps duties steps u = word_of (duties_of duties u) == word_of steps
 
 -- the first user from one on and below a number who has certain steps in a table
-pub record IsNextWith (duties : List (List Bool)) (steps : List Bool) (from end v : ℕ) : Type
-    0 where
+pub record IsNextWith (duties : List (List Bool)) (steps : List Bool) (from end v : ℕ) :
+    Type 0 where
   pub within : v < end
   pub from_on : from ≤ v
   pub has : has_steps duties steps v ≡ true
