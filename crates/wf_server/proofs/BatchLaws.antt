@@ -129,7 +129,7 @@ writes_whole set held after told written =
     subst (λ a. HasPart (with_bytes held front) a rest) (sym (written ∙ ap (with_bytes held) whole ∙ sym (more_put held front rest)))
     (part_all (with_bytes held front) rest)
 
-setting_grown : (b c : DeskShape) → HasGrown b c → setting_of c ≡ setting_of b
+pub setting_grown : (b c : DeskShape) → HasGrown b c → setting_of c ≡ setting_of b
 setting_grown b c grown = rw (grown.opening, grown.lanes, grown.rounds, grown.restored) refl
 
 -- the first entries stay
