@@ -1,7 +1,7 @@
 -- A policy is read from the document that it is written as.
 use Rattle.std.proofs.Common.{◌≡◌, ℕ, zero, suc, ◌<◌, Bool, true, false, List, [], ◌∷◌, length, refl, sym, ap, ◌∙◌, ◌⊎◌, inl, inr, arith, codes, Some, Ok}
 use Rattle.std.proofs.Common.{slice_index_or}
-use Rattle.policy_printer.proofs.Words.{AllByRecursion, Members, get_member, IsDecided, PolicyShape, WorkflowShape, no_workflow, any_below, ◌>>=◌, File}
+use Rattle.policy_printer.proofs.Words.{AllByRecursion, Members, get_member, OrderIsDecided, PolicyShape, WorkflowShape, no_workflow, any_below, ◌>>=◌, File}
 use Rattle.policy_printer.proofs.Words.{written_format, needs_second, form_of, flow_at, file_keys, IsPrintable, name_at, names_data, users_data, relations_data}
 use Rattle.policy_printer.proofs.Words.{flows_data, IsNamedPolicy, Format, format_number, string, integer}
 use Rattle.policy_reader.specs.Grammars.{today}
@@ -50,7 +50,7 @@ forms_known p f lt = at (bool_cases (any_below (length p.flows) test))
     at (inr none) = rw none (first_known (flow_at p f).rules
         (not_true (test f) (λ here. differ (any_below (length p.flows) test) (any_below-at (length p.flows) f test lt here) none)))
 
-module _ (decided : IsDecided) (p : PolicyShape) (h : IsNamedPolicy p) (is : IsPrintable p) where
+module _ (decided : OrderIsDecided) (p : PolicyShape) (h : IsNamedPolicy p) (is : IsPrintable p) where
   abbrev doc : Members
   doc = document_of p
 

@@ -2,7 +2,7 @@
 use Rattle.std.proofs.Common.{◌≡◌, ℕ, suc, ◌<◌, ◌≤◌, false, List, [], ◌∷◌, length, map, take, refl, sym, ap, ◌∙◌, arith, codes, Some, Ok}
 use Rattle.std.specs.FinSet as set
 use Rattle.policy_printer.proofs.Words.{length-map, each, take_all, not_true, and_both, lt_back, le_back, AreNames, Members, get_member, STEP_LIMIT, FLOW_LIMIT}
-use Rattle.policy_printer.proofs.Words.{AllPairs, RelationShape, known_names, is_before, IsDecided, PolicyShape, WorkflowShape, IsSoundWorkflow, flow_at}
+use Rattle.policy_printer.proofs.Words.{AllPairs, RelationShape, known_names, is_before, OrderIsDecided, PolicyShape, WorkflowShape, IsSoundWorkflow, flow_at}
 use Rattle.policy_printer.proofs.Words.{no_workflow, Flows, Ascend, names_data, pair_data, pairs_data, permits_data, rules_data, rows, flow_entry, flows_data}
 use Rattle.policy_printer.proofs.Words.{IsNamedWorkflow, least_none, Format}
 use Rattle.policy_reader.specs.Grammars.{today}
@@ -17,7 +17,7 @@ use Rattle.policy_printer.proofs.RulesAgain.{HaveForms, rules_back}
 use Rattle.policy_printer.proofs.Readings.{count_back, upto, upto_length, take_next, items_back, form_at, at_least-ok, at_most-ok}
 use Rattle.policy_printer.proofs.Tabled.{tabled_in_order}
 
-module _ (decided : IsDecided) (f : ℕ) (roles : List (List ℕ)) (relations : List RelationShape) (named : AreNames roles)
+module _ (decided : OrderIsDecided) (f : ℕ) (roles : List (List ℕ)) (relations : List RelationShape) (named : AreNames roles)
     (related : AreNames (known_names relations))
     (w : WorkflowShape) (h : IsNamedWorkflow w) (sound : IsSoundWorkflow (length roles) (length relations) w) (format : Format)
     (known : HaveForms format w.rules) where
@@ -62,7 +62,7 @@ module _ (decided : IsDecided) (f : ℕ) (roles : List (List ℕ)) (relations : 
   pub rules_again : rules_of format f relations steps written ≡ Ok w.rules
   rules_again = rules_back f steps h.steps relations related format written w.rules sound.ruled h.flags known sound.few there.2
 
-workflow_again : IsDecided → (p : PolicyShape) → AreNames p.roster.roles → AreNames (known_names p.relations) → (w : WorkflowShape) → IsNamedWorkflow w
+workflow_again : OrderIsDecided → (p : PolicyShape) → AreNames p.roster.roles → AreNames (known_names p.relations) → (w : WorkflowShape) → IsNamedWorkflow w
     → IsSoundWorkflow (length p.roster.roles) (length p.relations) w → (format : Format) → HaveForms format w.rules → w.retired ≡ false → workflow_in
     today format p (workflow_members p.roster.roles p.relations w) ≡ Ok w
 unfolding workflow_in ruled_in
@@ -78,7 +78,7 @@ workflow_again decided p named related w h sound format known active =
 
 -- ---- all workflows
 
-module _ (decided : IsDecided) (p : PolicyShape) (named : AreNames p.roster.roles) (related : AreNames (known_names p.relations))
+module _ (decided : OrderIsDecided) (p : PolicyShape) (named : AreNames p.roster.roles) (related : AreNames (known_names p.relations))
     (names : AreNames p.flow_names) (count : length p.flow_names ≡ length p.flows) (each_one : (f : ℕ) → f < length p.flows → IsNamedWorkflow (flow_at p f))
     (sound : (f : ℕ) → f < length p.flows → IsSoundWorkflow (length p.roster.roles) (length p.relations) (flow_at p f))
     (active : (f : ℕ) → f < length p.flows → (flow_at p f).retired ≡ false)

@@ -3,7 +3,7 @@ use Rattle.std.proofs.Common.{◌≡◌, ℕ, zero, suc, ◌+◌, true, false, n
 use Rattle.std.proofs.Common.{Some, None, option_map, Ok, slice_get}
 use Rattle.policy_printer.proofs.Words.{AllByRecursion, pointwise, nat_list_eq_equiv, slice_get-map, get_or_from_slice_get, length-map, Data, string, table}
 use Rattle.policy_printer.proofs.Words.{Members, no_members, member, get_member, AreNames, RELATION_LIMIT, PAIR_LIMIT, Pairs, RelationKind, listed, complement}
-use Rattle.policy_printer.proofs.Words.{RelationShape, known_names, complement_of, kind_of, complemented, has_list, is_listed, listed_pairs, AreSound}
+use Rattle.policy_printer.proofs.Words.{RelationShape, known_names, complement_of, kind_of, complemented, has_list, is_listed, listed_pairs, AreSoundRelations}
 use Rattle.policy_printer.proofs.Words.{AreOfUsers, Relations, entries, first_declared, names_of, is_built_in, is_complement, entry_of, Ascend, name_at}
 use Rattle.policy_printer.proofs.Words.{pair_data, pairs_data, rows, table_below, relation_entry, relations_data}
 use Rattle.std.specs.List.{IsDistinct}
@@ -87,7 +87,7 @@ module _ (users : List (List ℕ)) (whole : List RelationShape) where
   target_of (suc zero) h = cc
   target_of (suc (suc i)) h = target_at i (slice_get whole i) refl h
 
-  module _ (named : AreNames users) (sound : AreSound whole) (related : AreOfUsers (length users) whole) (known : AreNames (known_names whole)) where
+  module _ (named : AreNames users) (sound : AreSoundRelations whole) (related : AreOfUsers (length users) whole) (known : AreNames (known_names whole)) where
     names_apart : IsDistinct (pointwise nat_eq) (codes "same" ∷ codes "other" ∷ names_of whole) → IsDistinct (pointwise nat_eq) (names_of whole)
     unfolding IsDistinct
     names_apart d = d.1.1

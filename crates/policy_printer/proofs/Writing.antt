@@ -5,7 +5,8 @@ use Rattle.std.proofs.Common.{Some, None, option_map, zero, subst, inl, inr}
 use Rattle.std.specs.FinSet as set
 use Rattle.policy_printer.proofs.Words.{All, get_or_from_slice_get, slice_get_past, slice_get_within, AreNames, first_declared, RELATION_LIMIT, Pairs}
 use Rattle.policy_printer.proofs.Words.{RelationShape, RelationKind, listed, complement, kind_of, known_names, has_list, is_listed, complemented, complement_of}
-use Rattle.policy_printer.proofs.Words.{AreSound, match_ordering, get_or_default, length-map, map-append, take_more, take_all, Data, Members, member, view}
+use Rattle.policy_printer.proofs.Words.{AreSoundRelations, match_ordering, get_or_default, length-map, map-append, take_more, take_all, Data, Members, member}
+use Rattle.policy_printer.proofs.Words.{view}
 use Rattle.policy_printer.proofs.Words.{members_view, with_member, table_below, chosen, name_at, row, rows, string, array, items_of, pair_data}
 use Rattle.std.proofs.lemmas.Bool.{cases_lt}
 use Rattle.wf_names.specs.Names.{is_name}
@@ -100,7 +101,7 @@ one_further P n h here m lt = elim (cases_lt m n) [
 -- ---- relations
 
 -- the names of the built-in relations and of the declared ones
-pub known_named : (relations : List RelationShape) → AreSound relations →
+pub known_named : (relations : List RelationShape) → AreSoundRelations relations →
     ((n : ℕ) → n < length relations → is_name (name_at (known_names relations) (first_declared + n)) ≡ true) → AreNames (known_names relations)
 unfolding is_name
 known_named relations sound h = are_names (known_names relations) sound.names all
@@ -113,7 +114,7 @@ known_named relations sound h = are_names (known_names relations) sound.names al
         ap is_name (get_or_default (known_names relations) (suc (suc n)) d [] lt) ∙ ap (λ k. is_name (name_at (known_names relations) k)) (sym same) ∙
         h n (omega (arith, lt, length-map relations (λ r. r.name)))
 
-pub number_fits : (relations : List RelationShape) (n : ℕ) → AreSound relations → n < length relations → n < RELATION_LIMIT
+pub number_fits : (relations : List RelationShape) (n : ℕ) → AreSoundRelations relations → n < length relations → n < RELATION_LIMIT
 number_fits relations n sound lt = omega (arith, sound.count, lt)
 
 complement_kind : (o : Option RelationKind) (n : ℕ) → complemented o ≡ Some n → o ≡ Some (complement n)
@@ -131,5 +132,5 @@ listed_within relations (suc (suc n)) e = elim (cases_lt n (length relations)) [
 ]
 
 -- the relation whose complement one is, is there
-pub other_within : (relations : List RelationShape) (rho n : ℕ) → AreSound relations → complement_of relations rho ≡ Some n → n < length relations + 2
+pub other_within : (relations : List RelationShape) (rho n : ℕ) → AreSoundRelations relations → complement_of relations rho ≡ Some n → n < length relations + 2
 other_within relations rho n sound e = listed_within relations n (sound.complements rho n (complement_kind (kind_of relations rho) n e))
