@@ -48,7 +48,14 @@ impl Name {
         ensures form { IsSome result ↔ IsTrue (is_name text.now) }
         ensures value { IfSome result (λ n. n ≡ text.now) }
     {
-        let bytes = text.as_bytes();
+        Name::of_bytes(text.as_bytes())
+    }
+
+    /// The name that the bytes of a text are; None where they are not of a name's form.
+    pub fn of_bytes(bytes: &[u8]) -> Option<Name>
+        ensures form { IsSome result ↔ IsTrue (is_name bytes.now) }
+        ensures value { IfSome result (λ n. n ≡ bytes.now) }
+    {
         if has_form(bytes) {
             Some(stored(bytes))
         } else {
