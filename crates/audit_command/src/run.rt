@@ -121,7 +121,8 @@ fn find_under<V: Decider, F: Shelf, S: Source>(
 
 // Writes what is found, if it is something to write.
 fn tell<K: Sink>(alloc: Global, finding: Finding, sink: &mut K) -> Result<(), RunFault>
-    ensures told { OnOk result (K.held sink.new ≡ with_bytes (K.held sink.old) (finding_text finding)) }
+    ensures told { OnOk result (K.held sink.new
+        ≡ with_bytes (K.held sink.old) (finding_text finding)) }
     ensures fails { IfErr result (FailsAs finding (K.held sink.old) (K.held sink.new)) }
     ensures counts { CountsWrites (fault_in result) (K.faults sink.old) (K.faults sink.new) }
 {

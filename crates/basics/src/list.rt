@@ -72,7 +72,7 @@ impl<T: Drop> List<T> {
         Ok(())
     }
 
-    /// Keeps the first so many alone. Takes no memory.
+    /// Keeps the first `len` items alone. Takes no memory.
     pub fn truncate(&mut self, len: usize)
         ensures { self.new ≡ take len self.old }
     {

@@ -59,7 +59,7 @@ impl<T> Log<T> {
 }
 
 impl<T> Log<T> {
-    /// Makes room for so many more entries. Where it is there already, this succeeds.
+    /// Makes room for `more` further entries. Where it is there already, this succeeds.
     pub fn reserve(&mut self, more: u32) -> Result<(), AllocError>
         ensures succeeds { more ≤ self.old.spare → IsOk result }
         ensures room { OnOk result (more ≤ self.new.spare) }

@@ -15,7 +15,7 @@ pub record CaseShape : Type 0 where
   pub states : List StepState
   pub phase : Phase
 
--- a case of so many steps that nobody has worked on
+-- a case of a number of steps that nobody has worked on
 abbrev pub fresh_case : ℕ → ℕ → CaseShape
 fresh_case flow steps = record { flow = flow; states = replicate steps Free; phase = Live }
 

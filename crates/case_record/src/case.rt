@@ -64,7 +64,7 @@ impl Model for Case {
 }
 
 impl Case {
-    /// An open case of a workflow with so many steps, each of them free.
+    /// An open case of a workflow with `steps` steps, each of them free.
     pub fn fresh(flow: FlowId, steps: u8) -> Case
         requires { steps ≤ STEP_LIMIT }
         ensures case { result ≡ fresh_case flow steps }

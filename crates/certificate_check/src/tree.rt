@@ -96,7 +96,7 @@ fn branch_refutes(
     }
 }
 
-// Whether a user is a twin of this one, whose branch is one of some that have trees.
+// Whether `u` is a twin of a user among the branches whose branch has a tree.
 fn is_twin_of_one(
     p: &Policy,
     f: FlowId,

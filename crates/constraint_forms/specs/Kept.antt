@@ -11,13 +11,13 @@ are_unrelated_with related rho a x y s u =
     are_unrelated related rho (user_at (slice_set a s (Some u)) x)
     (user_at (slice_set a s (Some u)) y)
 
--- with the step s given to u, the members have more users than so many
+-- with the step s given to u, the members have more users than the limit
 abbrev pub too_many_with : ℕ → List Bool → List (Option ℕ) → ℕ → ℕ → Bool
 too_many_with limit group a s u =
     nat_lt limit (different (users_from 0 group (user_at (slice_set a s (Some u)))))
 
--- with the step s given to u, the members have fewer users than so many, even if each free one gets
--- another
+-- with the step s given to u, the members have fewer users than the limit, even if each free one
+-- gets another
 abbrev pub too_few_with : ℕ → List Bool → List (Option ℕ) → ℕ → ℕ → Bool
 too_few_with limit group a s u =
     nat_lt (different (users_from 0 group (user_at (slice_set a s (Some u)))) + free_from 0

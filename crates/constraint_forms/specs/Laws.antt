@@ -54,7 +54,7 @@ SeesRelatedness =
 abbrev pub exchanged : ℕ → ℕ → ℕ → ℕ
 exchanged u v w = cond (w == u) v (cond (w == v) u w)
 
--- a relation treats u and v alike: towards every other of so many users, and between themselves
+-- a relation treats u and v alike: towards every other of all users, and between themselves
 pub record AreInterchangeable (users : ℕ) (holds : ℕ → ℕ → Bool) (u v : ℕ) : Type 0 where
   pub towards : (w : ℕ) → w < users → (w ≡ u → ⊥) → (w ≡ v → ⊥) → holds u w ≡ holds v w
   pub «from» : (w : ℕ) → w < users → (w ≡ u → ⊥) → (w ≡ v → ⊥) → holds w u ≡ holds w v

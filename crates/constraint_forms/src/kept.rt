@@ -251,7 +251,7 @@ fn keep_related_to_self<R: RelatedRows>(rows: &R, rho: RelId, users: u16, set: &
     }
 }
 
-// Keeps the users with whom the members have so many users at most.
+// Keeps the users with whom the members have `limit` users at most.
 fn keep_at_most(limit: u8, asked: &Asked, group: &StepSet, set: &mut UserSet)
     requires step { asked.now.s < STEP_LIMIT }
     requires users { asked.now.users ≤ USER_LIMIT }
@@ -269,7 +269,7 @@ fn keep_at_most(limit: u8, asked: &Asked, group: &StepSet, set: &mut UserSet)
     }
 }
 
-// Keeps the users with whom the members have so many users at least, once the free ones have some.
+// Keeps the users with whom the members have `limit` users at least, once the free ones have some.
 fn keep_at_least(limit: u8, asked: &Asked, group: &StepSet, set: &mut UserSet)
     requires step { asked.now.s < STEP_LIMIT }
     requires users { asked.now.users ≤ USER_LIMIT }

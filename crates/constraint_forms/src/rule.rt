@@ -38,12 +38,12 @@ pub enum Rule {
         step: StepId,
         group: StepSet,
     },
-    /// The steps of the group have so many users at most.
+    /// The steps of the group have at most `limit` users.
     AtMost {
         limit: u8,
         group: StepSet,
     },
-    /// The steps of the group have so many users at least.
+    /// The steps of the group have at least `limit` users.
     AtLeast {
         limit: u8,
         group: StepSet,

@@ -15,7 +15,6 @@ use crate::{Place, TextFault};
 use memchr::memchr;
 use policy_book::{Plan, Policy};
 use std::alloc::{AllocError, Global};
-use std::str;
 use wf_names::{CASE_NUMBER_LIMIT, CaseId, Name, STEP_LIMIT, UserId};
 use wf_talk::{Ask, Entry, FlowOf, Reply};
 
@@ -217,7 +216,7 @@ fn guess_user<'t>(p: &Policy, text: &'t [u8]) -> Option<(UserId, &'t [u8])> {
 
 // The user with a name.
 fn find_user(p: &Policy, name: &[u8]) -> Option<UserId> {
-    let name = Name::read(str::from_utf8(name).ok()?)?;
+    let name = Name::of_bytes(name)?;
     Some(UserId(p.roster().users().find(&name)?))
 }
 

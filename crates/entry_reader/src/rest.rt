@@ -3,7 +3,6 @@
 
 use crate::TextFault;
 use memchr::memchr;
-use std::str;
 use wf_names::Name;
 
 /// What of a text is still to be read.
@@ -38,7 +37,7 @@ impl<'t> Rest<'t> {
         let text = self.text.strip_prefix(b"\"")?;
         let end = memchr(b'"', text)?;
         self.text = &text[end + 1..];
-        Name::read(str::from_utf8(&text[..end]).ok()?)
+        Name::of_bytes(&text[..end])
     }
 
     /// Takes the number that comes next: some number, where it has too many digits.

@@ -36,7 +36,7 @@ abbrev pub CountsTake : {A : Type 0} → Result A Failed → ℕ → ℕ → Typ
 CountsTake (Ok a) before after = after ≡ before
 CountsTake (Err e) before after = (before ≤ after) × Rose before after
 
--- the first LF of some bytes stands at the place n
+-- the first LF among bytes stands at the place n
 pub record HasEndAt (bytes : List ℕ) (n : ℕ) : Type 0 where
   pub within : n < length bytes
   pub line : first_line bytes ≡ take (suc n) bytes

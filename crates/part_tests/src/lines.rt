@@ -112,7 +112,7 @@ fn are_low_trees_plain(alloc: Global, p: &Policy) -> Result<bool, AllocError> {
     Ok(!is_plain(alloc, p, high.as_str())? && is_line(alloc, p, high.as_str())?)
 }
 
-// A denial by a tree with so many nodes, each of one branch.
+// A denial by a tree of `nodes` nodes, each with one branch.
 fn tower(alloc: Global, nodes: usize) -> Result<String, AllocError> {
     let mut text = String::new(alloc);
     text.push_str(r#"{"stranded":"#)?;

@@ -47,16 +47,16 @@ part from end jobs = drop from (take end jobs)
 abbrev pub jobs_in : List Job → List ℕ → ℕ → List Job
 jobs_in jobs ends k = part (batch_start ends k) (end_of ends k) jobs
 
--- the next of so many entries stands in the batch with a number, or behind the last batch
+-- the entry behind n others stands in the batch with the number k, or behind the last batch
 pub record IsBatchOf (ends : List ℕ) (n k : ℕ) : Type 0 where
   pub known : k ≤ length ends
   pub begun : batch_start ends k ≤ n
   pub before : k < length ends → n < slice_index_or ends k 0
   pub behind : k ≡ length ends → n ≡ batch_start ends k
 
--- the entries are a legal history; the batches before this one are filled; each lane's entries of
--- this one answer its first jobs, in order, and what is answered again rests on entries of the
--- batch
+-- the entries are a legal history; the batches before the one with the number k are filled; each
+-- lane's entries of that one answer its first jobs, in order, and what is answered again rests on
+-- entries of the batch
 pub record IsSoundAudit (a : AuditShape) (k : ℕ) : Type 0 where
   pub order : AreInOrder LANE_LIMIT a.jobs a.batch_ends
   pub legal : IsLegal (opening_state a.opening) a.rounds a.entries
@@ -101,8 +101,8 @@ pub record HasMoved (jobs : List Job) (lane : ℕ) (before after : Cursor) : Typ
   pub moved : IsNextPlace (part before.start before.end jobs) lane
       (slice_index_or before.places lane 0 + 1) place
 
--- a cursor went on after an entry of a lane, with so many entries there: to the lane's next job, or
--- to the next batch
+-- a cursor went on after an entry of a lane, with n entries there: to the lane's next job, or to the
+-- next batch
 pub record HasMovedOn (jobs : List Job) (ends : List ℕ) (lane n : ℕ) (before after : Cursor) :
     Type 0 where
   pub within : n ≢ before.end → HasMoved jobs lane before after

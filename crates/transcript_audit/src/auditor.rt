@@ -59,7 +59,7 @@ impl Model for Auditor {
 
 impl Auditor {
     /// An audit before the first line: of a session that begins with this policy, has these jobs
-    /// with the ends of their batches, and answers a job again after so many lost rounds.
+    /// with the ends of their batches, and answers a job again after `rounds` lost rounds.
     pub fn new(
         alloc: Global,
         policy: Policy,

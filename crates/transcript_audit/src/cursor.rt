@@ -56,8 +56,8 @@ pub(crate) fn jobs_between(jobs: &[Job], start: u32, end: u32) -> &[Job]
     &jobs[start as usize..end as usize]
 }
 
-/// Goes on to a lane's next job, or to the next batch where there are as many entries as jobs up to
-/// the end of this one.
+/// Goes on to a lane's next job, or to the next batch where `count`, the number of entries, is that
+/// of the jobs up to the end of the batch.
 pub(crate) fn advance(cursor: &mut Cursor, jobs: &[Job], ends: &[u32], lane: u8, count: usize)
     requires known { lane < LANE_LIMIT }
     requires here { slice_index_or cursor.old.places lane 0

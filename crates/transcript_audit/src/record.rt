@@ -174,8 +174,8 @@ impl Record {
         (self.journal, self.jobs, self.ends)
     }
 
-    /// Whether so many entries of the batch behind a lane's last one count for what is asked, and
-    /// the last of all that count stands at a place.
+    /// Whether `rounds` entries of the batch behind a lane's last one count for what is asked, and
+    /// the last of all that count stands at `place`.
     pub fn rests(&self, lane: u8, ask: &Ask, rounds: u8, place: u32) -> bool
         requires { 1 ≤ rounds }
         ensures { result ≡ rests_on self.now.audit.entries (present_start self.now.audit)

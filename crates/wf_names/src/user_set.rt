@@ -133,7 +133,7 @@ fn no_words() -> [u64; USER_WORDS]
     [0; USER_WORDS]
 }
 
-// The word whose lowest bits are set, so many of them.
+// The word whose lowest `count` bits are set.
 fn low_bits(count: u16) -> u64
     requires { count < 64 }
     ensures { (k : ℕ) → has_bit result k ≡ nat_lt k count }
@@ -148,7 +148,7 @@ fn count_users(words: &[u64]) -> u32
     count_words(words) as u32
 }
 
-// The least user of some words whose number is not below `from`.
+// The least user in words whose number is not below `from`.
 fn next_in(words: &[u64], from: usize) -> Option<UserId>
     requires { length words.now ≡ USER_WORDS }
     ensures { MatchOption result ((v : ℕ) → from ≤ v → has_user words.now v ≡ false)

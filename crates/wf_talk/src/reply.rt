@@ -30,8 +30,8 @@ pub enum Reply {
     WhatIf(CaseList),
     /// The request was denied, and nothing has changed.
     Denied(Denial),
-    /// The request could not be decided, since what it rests on changed so many times while it
-    /// was being decided, for the last time by the entry at this place; nothing has changed.
+    /// The request could not be decided, since what it rests on changed in each of `rounds` rounds
+    /// of deciding it, for the last time by the entry at `at`; nothing has changed.
     Again { rounds: u8, at: u32 },
     /// An allocation was refused, and nothing has changed.
     NoMemory,

@@ -195,6 +195,6 @@ abbrev pub asked : Result Asked Bad → Asked
 asked (Ok a) = a
 asked (Err bad) = record { lane = 0; ask = ask.Bad bad }
 
--- what a line asks, and of which of so many lanes
+-- what a line asks, and of which of the lanes
 unfoldable pub asked_of : ℕ → List ℕ → Asked
 asked_of lanes line = asked (or_fault (value_of line) Syntax >>= request_in lanes)

@@ -64,7 +64,8 @@ pub(crate) fn trim_tree(
 ) -> Result<Refutation, AllocError>
     requires asked { CanBeAsked task.now.policy.now task.now.flow a.now }
     requires crew { IsCrewOf (asked task.now) crew.now }
-    requires refutes { IsTrue (refutes (asked task.now) a.now task.now.done.now (shape_of tree.now)) }
+    requires refutes { IsTrue (refutes (asked task.now) a.now task.now.done.now
+        (shape_of tree.now)) }
     ensures { IfOk result
         (IsTrimming (asked task.now) a.now task.now.done.now (shape_of tree.now)) }
 {
