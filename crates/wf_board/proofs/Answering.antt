@@ -13,7 +13,7 @@ use Rattle.case_record.specs.Cases.{CaseShape}
 use Rattle.grant_table.specs.declared.rows.Row.{Row}
 use Rattle.grant_table.specs.Cases.{CasesShape, case_in, change_row, open_count, with_case}
 use Rattle.wf_names.specs.declared.limits.TheConstants.{CASE_LIMIT, OPEN_CASE_LIMIT}
-use Rattle.denial_reasons.specs.Causes.{unless}
+use Rattle.admin_edits.specs.ClaimCauses.{unless}
 use Rattle.wf_talk.specs.declared.request.Ask.{Ask}
 use Rattle.wf_talk.specs.declared.reply.Reply.{Reply}
 use Rattle.wf_talk.specs.declared.reply.Reply.TheVariants as reply

@@ -11,7 +11,7 @@ use Rattle.case_record.specs.Cases.{CaseShape, assigned_of, finished_of, is_open
 use Rattle.case_record.proofs.Laws.{finished_of-at}
 use Rattle.grant_table.specs.declared.rows.Row.{Row}
 use Rattle.grant_table.specs.Cases.{case_in, plan_of, row_at}
-use Rattle.denial_reasons.specs.Causes.{assigned_with}
+use Rattle.admin_edits.specs.ClaimCauses.{assigned_with}
 use Rattle.wf_board.specs.Edition.{IsPlanOf}
 use Rattle.wf_board.specs.Found.{AreFound}
 use Rattle.wf_board.specs.Kept.{ArePlanned, IsPlanned}

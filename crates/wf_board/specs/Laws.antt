@@ -8,7 +8,7 @@ use Rattle.case_record.specs.Cases.{CaseShape, assigned_of, finished_case, finis
 use Rattle.case_record.specs.Cases.{state_at, with_state}
 use Rattle.case_record.specs.Order.{is_ready}
 use Rattle.wf_names.specs.declared.states.StepState.TheVariants.{Free, Held}
-use Rattle.denial_reasons.specs.Causes.{assigned_with}
+use Rattle.admin_edits.specs.ClaimCauses.{assigned_with}
 use Rattle.wf_talk.specs.declared.entry.Entry.{Entry}
 use Rattle.wf_talk.specs.declared.request.Request.TheVariants as request
 use Rattle.wf_talk.specs.declared.request.Ask.{Ask}

@@ -8,7 +8,7 @@ ghost use Rattle.policy_book.specs.Plans.{IsValidPlan};
 ghost use Rattle.policy_book.specs.Policies.{problem_of};
 ghost use Rattle.case_record.specs.Cases.{finished_of, state_at, with_phase, with_state, CaseShape};
 ghost use Rattle.grant_table.specs.Cases.{freed_row, withdrawn_row};
-ghost use Rattle.denial_reasons.specs.Causes.{assigned_with};
+ghost use Rattle.admin_edits.specs.ClaimCauses.{assigned_with};
 ghost use Rattle.wf_board.specs.declared.deed.Deed.TheVariants as deeds;
 ghost use Rattle.wf_board.specs.declared.verdict.Verdict.TheVariants as verdicts;
 ghost use Rattle.wf_talk.specs.declared.reply.Reply.TheVariants as replies;
