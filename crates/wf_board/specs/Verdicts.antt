@@ -124,6 +124,12 @@ abbrev pub HasUsed : Verdict → Answered → Type 0
 HasUsed v Needs = v ≡ verdict.Nothing
 HasUsed v (Done given) = IsMadeOf v given
 
+-- the board has used a verdict that was needed: it still needs one where none was given, and else
+-- what it answered is made of the verdict
+pub record UsesVerdict (v : Verdict) (given : Answered) : Type 0 where
+  pub needs : v ≡ verdict.Nothing → given ≡ Needs
+  pub made : HasUsed v given
+
 -- what the board answered shows a tree that is too large
 abbrev pub has_shown_large : Answered → Bool
 has_shown_large Needs = false

@@ -20,7 +20,7 @@ ghost use Rattle.wf_board.specs.Found.{AreFound, IsFound, IsOpenAt};
 ghost use Rattle.wf_board.specs.States.{is_full};
 ghost use Rattle.wf_board.specs.Steps.{face_of};
 ghost use Rattle.wf_board.specs.Taking.{full_or, keeps_policy, HasAnsweredAlone, HasAnsweredBy};
-ghost use Rattle.wf_board.specs.Taking.{HasChanged, HasTakenStep, IsKept, IsUsable};
+ghost use Rattle.wf_board.specs.Taking.{HasChanged, HasTakenStep, IsKept, IsUsable, LacksRoom};
 ghost use Rattle.wf_board.specs.Trees.{is_large, shows_large};
 ghost use Rattle.wf_board.specs.Verdicts.{is_opening, is_unusable, IsMadeOf, IsPlanFor, IsRight};
 ghost use Rattle.wf_board.specs.Verdicts.{IsStrandingFor, IsTreeFor};
@@ -207,9 +207,8 @@ fn plan_for(p: &Policy, cases: &mut Cases, deed: Deed, plan: Plan) -> Reply
     ensures made { needs_verdict (full_or (book_of p.now cases.old) deed) ≡ true
         → IsMadeOf (verdicts.Plan plan) result }
     ensures small { shows_large result ≡ false }
-    ensures memory { result ≡ replies.NoMemory
-        → (is_opening (full_or (book_of p.now cases.old) deed) ≡ true) × (cases.old.spare ≡ 0) }
-    ensures unchanged { result ≡ replies.NoMemory → cases.new ≡ cases.old }
+    ensures lacking { result ≡ replies.NoMemory
+        → LacksRoom cases.old cases.new (full_or (book_of p.now cases.old) deed) }
 {
     match deed {
         Deed::Open { flow } => open(p, cases, flow, plan),
