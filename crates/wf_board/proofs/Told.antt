@@ -3,7 +3,7 @@ use Rattle.std.proofs.Common.{◌≡◌, ℕ, ◌<◌, Bool, true, false, List, 
 use Rattle.std.specs.Prelude.{nat_eq}
 use Rattle.std.specs.Cmp.Lexicographic.{pointwise}
 use Rattle.std.proofs.lemmas.List.Quantifiers.{position-Some}
-use Rattle.basics.specs.Reading.{◌>>=◌, or_fault, check}
+use Rattle.basics.specs.Reading.{or_fault, check}
 use Rattle.wf_names.specs.States.{is_held, user_of}
 use Rattle.wf_names.specs.Table.{place_of}
 use Rattle.wf_names.specs.declared.states.StepState.{StepState}

@@ -16,7 +16,7 @@ use Rattle.wf_board.specs.declared.deed.Deed.TheVariants as deed
 use Rattle.wf_board.specs.declared.verdict.Verdict.TheVariants as verdict
 use Rattle.wf_board.specs.declared.verdict.Answered.TheVariants.{Done}
 use Rattle.wf_board.specs.States.{open_cases}
-use Rattle.wf_board.specs.Boards.{book_of, numbered, state_on}
+use Rattle.wf_board.specs.Boards.{numbered, state_on}
 use Rattle.wf_board.specs.Edition.{CanAllBeCompleted}
 use Rattle.wf_board.specs.Kept.{ArePlanned, EachRow, IsOfPolicy, IsPlanned}
 use Rattle.wf_board.specs.Steps.{Answers, state_after_decision}

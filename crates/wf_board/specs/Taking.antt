@@ -1,5 +1,5 @@
 -- Inside: how a board answers over its policy and its table of cases.
-use Rattle.std.specs.Prelude.{◌≡◌, ◌≢◌, ℕ, ◌+◌, ◌≤◌, Bool, false, true, List, Option, Result, Ok}
+use Rattle.std.specs.Prelude.{◌≡◌, ◌≢◌, ℕ, ◌+◌, ◌≤◌, Bool, false, true, List, Option, Result}
 use Rattle.std.specs.Prelude.{IsTrue}
 use Rattle.basics.specs.Reading.{◌>>=◌}
 use Rattle.refutation_tree.specs.Views.{shape_of}
@@ -16,7 +16,6 @@ use Rattle.wf_talk.specs.declared.reply.Denial.{Denial}
 use Rattle.admin_edits.specs.declared.amendment.Amendment.{Amendment}
 use Rattle.admin_edits.specs.Edits.{amended}
 use Rattle.wf_board.specs.declared.deed.Deed.{Deed}
-use Rattle.wf_board.specs.declared.deed.Deed.TheVariants as deed
 use Rattle.wf_board.specs.declared.verdict.Verdict.{Verdict}
 use Rattle.wf_board.specs.declared.verdict.Verdict.TheVariants as verdict
 use Rattle.wf_board.specs.declared.verdict.Answered.{Answered}

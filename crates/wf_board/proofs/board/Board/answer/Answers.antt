@@ -1,8 +1,7 @@
 use Rattle.std.proofs.Common.{◌≡◌, ◌≤◌, ◌+◌, true, subst}
 use Rattle.std.specs.Arc.{arc_value}
 use Rattle.wf_talk.specs.declared.reply.Reply.TheVariants as replies
-use Rattle.wf_board.specs.declared.verdict.Verdict.TheVariants as verdicts
-use Rattle.wf_board.specs.declared.verdict.Answered.TheVariants.{Done, Needs}
+use Rattle.wf_board.specs.declared.verdict.Answered.TheVariants.{Done}
 use Rattle.wf_board.specs.Boards.{state_on}
 use Rattle.wf_board.specs.Decisions.{decision_of, needs_verdict}
 use Rattle.wf_board.specs.Deeds.{LeavesBy}
