@@ -1,3 +1,4 @@
+pub mod ClaimCauses
 pub mod Edits
 pub mod Found
 pub mod Hurting

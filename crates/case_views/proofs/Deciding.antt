@@ -11,7 +11,7 @@ use Rattle.certificate_check.proofs.Assigned.{either, given, given_other, given_
 use Rattle.case_record.specs.Cases.{CaseShape, assigned_of, finished_of}
 use Rattle.wf_talk.specs.declared.reply.Denial.{Denial}
 use Rattle.wf_talk.specs.declared.reply.WorkItem.{WorkItem}
-use Rattle.denial_reasons.specs.Causes.{assigned_with}
+use Rattle.admin_edits.specs.ClaimCauses.{assigned_with}
 use Rattle.wsp_solver.specs.Searches.{HasSolved}
 use Rattle.wsp_solver.specs.declared.search.Outcome.{Outcome}
 use Rattle.wsp_solver.specs.declared.search.Outcome.TheVariants as outcome

@@ -4,7 +4,7 @@ ghost use Rattle.constraint_forms.specs.Assign.{no_steps, no_users};
 ghost use Rattle.policy_book.specs.Plans.{IsValidPlan};
 ghost use Rattle.policy_book.specs.Policies.{problem_of};
 ghost use Rattle.case_record.specs.Cases.{finished_of};
-ghost use Rattle.denial_reasons.specs.Causes.{assigned_with};
+ghost use Rattle.admin_edits.specs.ClaimCauses.{assigned_with};
 ghost use Rattle.wf_board.specs.Boards.{book_of};
 ghost use Rattle.wf_board.specs.Deeds.{DecidesDeed};
 ghost use Rattle.wf_board.specs.Found.{AreFound, IsAllowed, IsFound};

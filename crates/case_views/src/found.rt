@@ -5,7 +5,7 @@ ghost use Rattle.policy_book.specs.Policies.{problem_of};
 ghost use Rattle.policy_book.specs.Plans.{AreAssigned, IsValidPlan, IsWithin};
 ghost use Rattle.wf_names.specs.declared.limits.TheConstants.{STEP_LIMIT};
 ghost use Rattle.case_record.specs.Cases.{assigned_of, finished_of};
-ghost use Rattle.denial_reasons.specs.Causes.{assigned_with};
+ghost use Rattle.admin_edits.specs.ClaimCauses.{assigned_with};
 ghost use Rattle.wsp_solver.specs.Searches.{HasSolved};
 ghost use Rattle.wf_board.specs.Edition.{IsPlanOf};
 ghost use Rattle.wf_board.specs.Kept.{IsOfPolicy};

@@ -13,9 +13,9 @@ ghost use Rattle.case_views.specs.Granting.{TellsSteps, TellsWork};
 
 use crate::found::{Unfound, outcome_with};
 use crate::granted::Work;
+use admin_edits::has_cause;
 use case_record::Case;
 use constraint_forms::{Plan, StepSet};
-use denial_reasons::has_cause;
 use grant_table::{Cases, Row};
 use policy_book::Policy;
 use std::alloc::{AllocError, Global};

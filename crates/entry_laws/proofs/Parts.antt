@@ -25,7 +25,7 @@ use Rattle.certificate_check.proofs.Assigned.{none_not_some, same_some}
 use Rattle.case_record.specs.Cases.{CaseShape, assigned_of, state_at}
 use Rattle.case_record.specs.Steps.{all_steps}
 use Rattle.case_record.specs.Order.{first_missing_from}
-use Rattle.denial_reasons.specs.Causes.{assigned_with, first_falsified, permitted_roles}
+use Rattle.admin_edits.specs.ClaimCauses.{assigned_with, first_falsified, permitted_roles}
 use Rattle.wf_talk.specs.declared.request.Bad.{Bad}
 use Rattle.wf_talk.specs.declared.request.Bad.TheVariants as bad
 use Rattle.wf_board.specs.Kept.{IsOfPolicy}

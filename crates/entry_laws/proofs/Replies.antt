@@ -18,7 +18,7 @@ use Rattle.wf_talk.specs.declared.reply.Reply.TheVariants as reply
 use Rattle.wf_talk.specs.declared.reply.Denial.{Denial}
 use Rattle.wf_talk.specs.declared.reply.Denial.TheVariants as denial
 use Rattle.wf_talk.specs.Jobs.{IsNamedAsk}
-use Rattle.denial_reasons.specs.Causes.{assigned_with}
+use Rattle.admin_edits.specs.ClaimCauses.{assigned_with}
 use Rattle.admin_edits.specs.declared.amendment.Amendment.{Amendment}
 use Rattle.admin_edits.specs.Edits.{amended}
 use Rattle.wf_board.specs.declared.deed.Deed.{Deed}

@@ -19,7 +19,7 @@ use Rattle.wf_talk.specs.declared.request.Bad.TheVariants as bad
 use Rattle.wf_talk.specs.declared.reply.Denial.{Denial}
 use Rattle.wf_talk.specs.declared.reply.Denial.TheVariants as denial
 use Rattle.wf_talk.specs.Jobs.{IsNamedAsk, IsNamedBad}
-use Rattle.denial_reasons.specs.Causes.{assigned_with, first_cause, first_falsified, permitted_roles}
+use Rattle.admin_edits.specs.ClaimCauses.{assigned_with, first_cause, first_falsified, permitted_roles}
 use Rattle.admin_edits.specs.declared.amendment.Amendment.{Amendment}
 use Rattle.admin_edits.specs.declared.fault.EditCause.{EditCause}
 use Rattle.admin_edits.specs.declared.fault.EditCause.TheVariants as fault

@@ -172,7 +172,7 @@ impl Cases {
         }
     }
 
-    /// The same where it is kept.
+    /// The plan that is kept for a case, borrowed from the table; none where the case is not open.
     pub fn kept_plan(&self, c: CaseId) -> Option<&Plan>
         ensures plan { MatchOption result (plan_at self.now c ≡ None)
             (λ plan. plan_at self.now c ≡ Some plan.now) }

@@ -7,7 +7,7 @@ use Rattle.policy_book.specs.Policies.{problem_of}
 use Rattle.policy_book.specs.Plans.{IsWithin}
 use Rattle.case_record.specs.Cases.{CaseShape, finished_of}
 use Rattle.grant_table.specs.declared.rows.Row.{Row}
-use Rattle.denial_reasons.specs.Causes.{assigned_with}
+use Rattle.admin_edits.specs.ClaimCauses.{assigned_with}
 use Rattle.wf_talk.specs.declared.request.Ask.{Ask}
 use Rattle.wf_talk.specs.declared.reply.Denial.{Denial}
 use Rattle.wf_board.specs.declared.deed.Deed.{Deed}

@@ -1,5 +1,5 @@
 -- Each entry of a legal history decides exactly what was asked.
-use Rattle.std.proofs.Common.{◌≡◌, ℕ, zero, suc, ◌+◌, ◌<◌, ◌≤◌, ◌⊎◌, inl, inr, Bool, true, false, nat_eq, List, [], ◌∷◌, ◌++◌, length, take, Option, None, Some}
+use Rattle.std.proofs.Common.{◌≡◌, ℕ, zero, suc, ◌+◌, ◌<◌, ◌≤◌, ◌⊎◌, inl, inr, Bool, true, false, nat_eq, List, [], ◌∷◌, ◌++◌, take, None, Some}
 use Rattle.std.proofs.Common.{slice_get, Result, Ok, Err, if◌then◌else◌, append_assoc, append-nil, refl, sym, ap, subst, ◌∙◌, arith}
 use Rattle.std.specs.Option.{option_map}
 use Rattle.std.proofs.lemmas.Bool.Decides.{nat_tests}
@@ -29,12 +29,11 @@ use Rattle.wf_board.specs.declared.deed.Deed.{Deed}
 use Rattle.wf_board.specs.declared.deed.Deed.TheVariants as deed
 use Rattle.wf_board.specs.States.{Numbered, State, numbered_case, open_cases, opening_state}
 use Rattle.wf_board.specs.Edition.{CanBeCompleted, IsFirstStranded}
-use Rattle.wf_board.specs.Resolve.{on_edit}
 use Rattle.wf_board.specs.Decisions.{decision_of}
 use Rattle.wf_board.specs.Steps.{Answers, IsReplyTo, IsStep, with_edited}
-use Rattle.wf_board.specs.Histories.{EachAfter, IsLegal, IsRetry, IsRightAfter, state_after}
+use Rattle.wf_board.specs.Histories.{EachAfter, IsRetry, IsRightAfter, state_after}
 use Rattle.wf_board.specs.Kept.{AreCasesNumbered, AreNumberedFrom, IsSoundState, KeepsCompletable}
-use Rattle.wf_board.specs.Decided.{AreExact, IsChangeExact, IsDecision, IsDeniedByTree, IsEditExact, IsExact, IsGrantExact, IsLeastStranded, IsRefuted}
+use Rattle.wf_board.specs.Decided.{IsChangeExact, IsDeniedByTree, IsEditExact, IsExact, IsGrantExact, IsLeastStranded, IsRefuted}
 use Rattle.wf_board.specs.Laws.{HistoriesAreExact}
 use Rattle.wf_board.proofs.Amended.{open_can, same_case}
 use Rattle.wf_board.proofs.Exact.{finished_assigned, refuted_claim, well_formed_any}

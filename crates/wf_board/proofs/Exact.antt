@@ -18,7 +18,7 @@ use Rattle.case_record.proofs.Laws.{assigned_of-at, finished_of-at}
 use Rattle.wf_talk.specs.declared.reply.Reply.{Reply}
 use Rattle.wf_talk.specs.declared.reply.Reply.TheVariants as reply
 use Rattle.wf_talk.specs.declared.reply.Denial.TheVariants as denial
-use Rattle.denial_reasons.specs.Causes.{assigned_with}
+use Rattle.admin_edits.specs.ClaimCauses.{assigned_with}
 use Rattle.wf_board.specs.declared.deed.Deed.TheVariants as deed
 use Rattle.wf_board.specs.States.{Numbered, State, open_cases}
 use Rattle.wf_board.specs.Steps.{Answers, IsReplyTo}

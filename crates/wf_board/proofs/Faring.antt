@@ -3,7 +3,7 @@ use Rattle.std.proofs.Common.{◌≡◌, Bool, true, false, List, [], ◌∷◌,
 use Rattle.std.specs.Option.{option_map}
 use Rattle.basics.specs.Reading.{◌>>=◌, check, or_fault}
 use Rattle.wf_talk.specs.declared.reply.Denial.{Denial}
-use Rattle.denial_reasons.specs.Causes.{first_of, unless}
+use Rattle.admin_edits.specs.ClaimCauses.{first_of, unless}
 use Rattle.wf_board.specs.declared.deed.Deed.{Deed}
 use Rattle.wf_board.specs.Decisions.{unless_denied}
 

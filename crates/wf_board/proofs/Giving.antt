@@ -1,17 +1,17 @@
 -- A kept plan that gives a step to a user.
-use Rattle.std.proofs.Common.{◌≡◌, ℕ, ◌<◌, true, false, List, length, Option, None, Some, refl, sym, ap, subst, ◌∙◌, arith}
+use Rattle.std.proofs.Common.{◌≡◌, ℕ, true, false, List, Option, Some, sym, ap, subst, ◌∙◌, arith}
 use Rattle.wf_names.specs.States.{is_finished}
 use Rattle.wf_names.specs.declared.states.StepState.TheVariants.{Free}
 use Rattle.constraint_forms.specs.Assign.{is_member, planned}
 use Rattle.policy_book.specs.Shapes.{PolicyShape}
-use Rattle.policy_book.specs.Policies.{is_authorised, problem_of}
+use Rattle.policy_book.specs.Policies.{is_authorised}
 use Rattle.policy_book.specs.Plans.{IsValidPlan, Problem}
 use Rattle.certificate_check.proofs.Assigned.{either, given}
-use Rattle.case_record.specs.Cases.{CaseShape, assigned_of, finished_of, is_open, state_at}
+use Rattle.case_record.specs.Cases.{CaseShape, assigned_of, finished_of, state_at}
 use Rattle.case_record.proofs.Laws.{finished_of-at}
 use Rattle.grant_table.specs.declared.rows.Row.{Row}
 use Rattle.grant_table.specs.Cases.{case_in, plan_of, row_at}
-use Rattle.denial_reasons.specs.Causes.{assigned_with}
+use Rattle.admin_edits.specs.ClaimCauses.{assigned_with}
 use Rattle.wf_board.specs.Edition.{IsPlanOf}
 use Rattle.wf_board.specs.Found.{AreFound}
 use Rattle.wf_board.specs.Kept.{ArePlanned, IsPlanned}

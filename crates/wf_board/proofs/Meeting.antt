@@ -1,5 +1,5 @@
 -- A change of one pair matters to no plan that does not give steps to both users.
-use Rattle.std.proofs.Common.{◌≡◌, ◌≢◌, ◌==◌, ◌&&◌, ◌||◌, not, ℕ, zero, suc, ◌+◌, ◌<◌, Bool, true, false, List, [], ◌∷◌, length, Option, None, Some, Result, Ok}
+use Rattle.std.proofs.Common.{◌≡◌, ◌==◌, ◌&&◌, ◌||◌, not, ℕ, zero, suc, ◌+◌, ◌<◌, Bool, true, false, List, [], ◌∷◌, length, Option, None, Some, Ok}
 use Rattle.std.proofs.Common.{inl, inr, refl, sym, ap, subst, ◌∙◌, arith}
 use Rattle.std.specs.Prelude.{slice_get}
 use Rattle.std.specs.Option.{option_map}
@@ -17,7 +17,6 @@ use Rattle.constraint_forms.specs.declared.rule.Rule.{Rule}
 use Rattle.constraint_forms.specs.declared.rule.Rule.TheVariants.{Pair, SomeOf, AllOf, SomeTo, AllTo, AtMost, AtLeast}
 use Rattle.constraint_forms.specs.Assign.{is_member, planned}
 use Rattle.constraint_forms.specs.Rules.{Relating, IsRuleOf, all_from, any_from, is_satisfied}
-use Rattle.policy_book.specs.Policies.{any_below}
 use Rattle.policy_book.proofs.Counting.{any_below-at}
 use Rattle.admin_edits.specs.Edits.{pair_fault, unless_fault}
 use Rattle.admin_edits.proofs.Unhurt.{kind_other}

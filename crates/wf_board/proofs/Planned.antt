@@ -14,7 +14,7 @@ use Rattle.case_record.specs.Cases.{CaseShape, assigned_of, finished_case, finis
 use Rattle.grant_table.specs.declared.rows.Row.{Row}
 use Rattle.grant_table.specs.Cases.{CasesShape, case_in, only, change_row, finished_row, freed_row, held_row, open_rows, plan_while, row_at, with_case}
 use Rattle.grant_table.specs.Cases.{with_row, withdrawn_row}
-use Rattle.denial_reasons.specs.Causes.{assigned_with}
+use Rattle.admin_edits.specs.ClaimCauses.{assigned_with}
 use Rattle.wf_board.specs.Boards.{state_on}
 use Rattle.wf_board.specs.Found.{AreFound, IsOpenAt}
 use Rattle.wf_board.specs.Kept.{ArePlanned, IsOfPolicy, IsPlanned}

@@ -1,5 +1,5 @@
 -- Which plans a board keeps after a reply.
-use Rattle.std.proofs.Common.{◌≡◌, ◌≢◌, ℕ, inl, inr, Bool, List, [], ◌∷◌, map, Option, Some, Result, Ok, Err, if◌then◌else◌, refl, sym, ap}
+use Rattle.std.proofs.Common.{◌≡◌, ◌≢◌, ◌≤◌, ◌+◌, ℕ, inl, inr, Bool, List, [], ◌∷◌, map, Option, Some, Result, Ok, Err, if◌then◌else◌, refl, sym, ap}
 use Rattle.std.proofs.Common.{subst, ◌∙◌}
 use Rattle.basics.proofs.Booleans.{bool_cases}
 use Rattle.policy_book.specs.Shapes.{PolicyShape}
@@ -19,10 +19,11 @@ use Rattle.wf_board.specs.declared.verdict.Answered.TheVariants.{Done, Needs}
 use Rattle.wf_board.specs.States.{open_cases}
 use Rattle.wf_board.specs.Boards.{BoardShape, EditionShape, book_of, numbered}
 use Rattle.wf_board.specs.Decisions.{decision_aside, decision_of}
+use Rattle.wf_board.specs.Deeds.{LeavesBy}
 use Rattle.wf_board.specs.Edition.{ArePlansOf}
-use Rattle.wf_board.specs.KeptPlans.{KeepsPlans, KeepsPlansBy, kept_plans, rows_after}
+use Rattle.wf_board.specs.KeptPlans.{KeepsPlans, kept_plans, rows_after}
 use Rattle.wf_board.specs.Taking.{HasRowsAfter, board_of}
-use Rattle.wf_board.specs.Verdicts.{IsEditionFor}
+use Rattle.wf_board.specs.Verdicts.{IsEditionFor, room_used}
 use Rattle.wf_board.proofs.Amended.{edition_change, with_plans}
 
 -- ---- nothing changes
@@ -57,11 +58,17 @@ keeps_rows p before after edits what v given other rows = record {
   edited = λ edition is accepted. absurd (other edition is);
 }
 
-pub keeps_by : (p : PolicyShape) (before after : CasesShape) (edits : ℕ) (what : Ask) (v : Verdict) (given : Answered) →
+-- what is left besides, where the table is as it was after want of memory and only an opening takes room
+pub leaves_by : (p : PolicyShape) (before after : CasesShape) (edits : ℕ) (what : Ask) (v : Verdict) (given : Answered) →
     ((edition : EditionShape) → v ≢ verdict.Edited edition) →
-    HasRowsAfter p before after (decision_of (book_of p before) what) given → KeepsPlansBy (board_of p before edits) (board_of p after edits) what v given
-keeps_by p before after edits what v Needs other rows = tt
-keeps_by p before after edits what v (Done given) other rows = keeps_rows p before after edits what v given other rows
+    HasRowsAfter p before after (decision_of (book_of p before) what) given → (given ≡ Done reply.NoMemory → after ≡ before) →
+    before.spare ≤ after.spare + room_used given → LeavesBy (board_of p before edits) (board_of p after edits) what v given
+leaves_by p before after edits what v Needs other rows lacking room = tt
+leaves_by p before after edits what v (Done given) other rows lacking room = record {
+  plans = keeps_rows p before after edits what v given other rows;
+  lacking = λ short. ap (λ (t : CasesShape). board_of p t edits) (lacking (ap Done short));
+  spare = room;
+}
 
 -- ---- an edit
 

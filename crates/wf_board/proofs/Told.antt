@@ -3,7 +3,7 @@ use Rattle.std.proofs.Common.{◌≡◌, ℕ, ◌<◌, Bool, true, false, List, 
 use Rattle.std.specs.Prelude.{nat_eq}
 use Rattle.std.specs.Cmp.Lexicographic.{pointwise}
 use Rattle.std.proofs.lemmas.List.Quantifiers.{position-Some}
-use Rattle.basics.specs.Reading.{◌>>=◌, or_fault, check}
+use Rattle.basics.specs.Reading.{or_fault, check}
 use Rattle.wf_names.specs.States.{is_held, user_of}
 use Rattle.wf_names.specs.Table.{place_of}
 use Rattle.wf_names.specs.declared.states.StepState.{StepState}
@@ -20,7 +20,7 @@ use Rattle.wf_talk.specs.declared.reply.Denial.TheVariants.{Closed, NoCase, NoFl
 use Rattle.admin_edits.specs.Edits.{amendment_of, is_admin}
 use Rattle.admin_edits.specs.declared.amendment.Amendment.{Amendment}
 use Rattle.admin_edits.specs.declared.fault.EditCause.{EditCause}
-use Rattle.denial_reasons.specs.Causes.{first_cause, first_of, unless}
+use Rattle.admin_edits.specs.ClaimCauses.{first_cause, first_of, unless}
 use Rattle.wf_board.specs.declared.deed.Deed.{Deed}
 use Rattle.wf_board.specs.declared.deed.Deed.TheVariants as deed
 use Rattle.wf_board.specs.States.{Book, numbered_case, flow_named, step_named, user_named}

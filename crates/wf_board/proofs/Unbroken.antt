@@ -1,6 +1,6 @@
 -- A valid plan that a change does not make invalid stays valid.
 use Rattle.std.proofs.Common.{◌≡◌, ◌≢◌, ◌==◌, ◌&&◌, ◌||◌, not, ℕ, zero, suc, ◌+◌, ◌<◌, Bool, true, false, List, [], ◌∷◌, length, take, drop, get_or, Option}
-use Rattle.std.proofs.Common.{None, Some, ◌⊎◌, inl, inr, refl, sym, ap, subst, ◌∙◌, arith, length-append}
+use Rattle.std.proofs.Common.{Some, inl, inr, refl, sym, ap, subst, ◌∙◌, arith, length-append}
 use Rattle.std.specs.Prelude.{slice_get}
 use Rattle.std.specs.FinSet as set
 use Rattle.std.proofs.lemmas.Bool.Decides.{eqb_tells}
@@ -15,7 +15,7 @@ use Rattle.constraint_forms.specs.Assign.{is_member, planned}
 use Rattle.constraint_forms.specs.Rules.{is_satisfied, reads, IsRuleOf}
 use Rattle.constraint_forms.proofs.Reading.{none_read}
 use Rattle.policy_book.specs.Shapes.{PolicyShape, WorkflowShape}
-use Rattle.policy_book.specs.Policies.{any_below, flow_at, is_authorised, problem_of, with_flow, with_permits, with_roster}
+use Rattle.policy_book.specs.Policies.{any_below, flow_at, is_authorised, problem_of, with_flow, with_roster}
 use Rattle.policy_book.specs.Facts.{IsSoundPolicy}
 use Rattle.policy_book.specs.Plans.{IsValidPlan}
 use Rattle.policy_book.proofs.Counting.{any_below-at}

@@ -1,5 +1,5 @@
 -- Under a change that makes no plan invalid the plans stay.
-use Rattle.std.proofs.Common.{◌≡◌, ℕ, ◌+◌, Bool, true, false, List, [], ◌∷◌, map, Option, None, Some, if◌then◌else◌, refl, sym, subst}
+use Rattle.std.proofs.Common.{◌≡◌, ℕ, ◌+◌, Bool, true, false, List, [], ◌∷◌, map, Option, None, Some, if◌then◌else◌, refl, sym, subst, arith}
 use Rattle.policy_book.specs.Shapes.{PolicyShape}
 use Rattle.case_record.specs.Cases.{CaseShape, assigned_of, finished_of, is_open}
 use Rattle.grant_table.specs.declared.rows.Row.{Row}
@@ -16,11 +16,11 @@ use Rattle.wf_board.specs.declared.deed.Deed.TheVariants as deed
 use Rattle.wf_board.specs.declared.verdict.Verdict.TheVariants as verdict
 use Rattle.wf_board.specs.declared.verdict.Answered.TheVariants.{Done}
 use Rattle.wf_board.specs.States.{open_cases}
-use Rattle.wf_board.specs.Boards.{book_of, numbered, state_on}
+use Rattle.wf_board.specs.Boards.{numbered, state_on}
 use Rattle.wf_board.specs.Edition.{CanAllBeCompleted}
 use Rattle.wf_board.specs.Kept.{ArePlanned, EachRow, IsOfPolicy, IsPlanned}
 use Rattle.wf_board.specs.Steps.{Answers, state_after_decision}
-use Rattle.wf_board.specs.Deeds.{IsUndecided, is_harmless}
+use Rattle.wf_board.specs.Deeds.{HasSettled, IsUndecided, is_harmless}
 use Rattle.wf_board.specs.Taking.{IsKept, KeepsAll, board_of}
 use Rattle.wf_board.specs.Verdicts.{HasAnswered}
 use Rattle.wf_board.proofs.Amended.{of_policy_amended}
@@ -85,3 +85,21 @@ unbroken_taken p q t edits what a kept is keeps =
       subst (λ r. Answers s r given × (state_on (board_of (amended p a) t (edits + 1)) ≡ state_after_decision s r given)) (sym is.decided)
           ((refl, planned_complete (amended p a) t.rows planned), refl),
     )
+
+-- what a board then leaves: it keeps its plans and its room
+pub change_settled : (p q : PolicyShape) (t : CasesShape) (edits : ℕ) (what : Ask) →
+    HasAnswered (board_of p t edits) (board_of q t (edits + 1)) what verdict.Nothing (Done (reply.Edited (edits + 1))) →
+    HasSettled (board_of p t edits) (board_of q t (edits + 1)) what verdict.Nothing (reply.Edited (edits + 1))
+change_settled p q t edits what answered = record {
+  step = answered.0;
+  small = refl;
+  next = answered.1;
+  left = record {
+    plans = record {
+      rows = λ same. let apart : true ≡ false = same in cc;
+      edited = λ edition is accepted. cc;
+    };
+    lacking = λ short. cc;
+    spare = omega arith;
+  };
+}

@@ -9,7 +9,7 @@ use Rattle.case_record.specs.Cases.{CaseShape, assigned_of, finished_case, finis
 use Rattle.case_record.proofs.Laws.{assigned_of-at, assigned_of-finish, assigned_of-hold, assigned_of-release, blank_at, finished_of-finish, finished_of-hold}
 use Rattle.case_record.proofs.Laws.{finished_of-release}
 use Rattle.certificate_check.proofs.Assigned.{none_not_some}
-use Rattle.denial_reasons.specs.Causes.{assigned_with}
+use Rattle.admin_edits.specs.ClaimCauses.{assigned_with}
 
 -- nobody has a step of a fresh case
 pub fresh_user : (flow n s : ℕ) → user_at (assigned_of (fresh_case flow n)) s ≡ None

@@ -3,7 +3,7 @@ use Rattle.std.proofs.Common.{◌≡◌, ℕ, inl, inr, Bool, true, false, List,
 use Rattle.basics.specs.Reading.{◌>>=◌, or_fault, check}
 use Rattle.wf_names.specs.States.{is_held}
 use Rattle.case_record.specs.Cases.{CaseShape, is_open, state_at}
-use Rattle.denial_reasons.specs.Causes.{unless}
+use Rattle.admin_edits.specs.ClaimCauses.{unless}
 use Rattle.wf_talk.specs.declared.request.Request.TheVariants as request
 use Rattle.wf_talk.specs.declared.request.Ask.{Ask}
 use Rattle.wf_talk.specs.declared.request.Ask.TheVariants as ask

@@ -10,7 +10,7 @@ use Rattle.policy_book.specs.Plans.{IsValidPlan, IsWithin}
 use Rattle.certificate_check.proofs.Assigned.{given, same_some}
 use Rattle.case_record.specs.Cases.{CaseShape, assigned_of, finished_of, state_at}
 use Rattle.case_record.proofs.Laws.{assigned_of-at}
-use Rattle.denial_reasons.specs.Causes.{assigned_with}
+use Rattle.admin_edits.specs.ClaimCauses.{assigned_with}
 use Rattle.wf_board.specs.Kept.{IsOfPolicy}
 
 has_step : (states : List StepState) (s u : ℕ) → user_of (slice_index_or states s Free) ≡ Some u → s < length states

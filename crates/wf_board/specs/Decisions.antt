@@ -11,8 +11,8 @@ use Rattle.wf_talk.specs.declared.request.Ask.{Ask}
 use Rattle.wf_talk.specs.declared.request.Ask.TheVariants as ask
 use Rattle.wf_talk.specs.declared.reply.Denial.{Denial}
 use Rattle.wf_talk.specs.declared.reply.Denial.TheVariants.{Retired, Full, NotHeld}
-use Rattle.denial_reasons.specs.Causes as causes
-use Rattle.denial_reasons.specs.Causes.{first_cause, unless}
+use Rattle.admin_edits.specs.ClaimCauses as causes
+use Rattle.admin_edits.specs.ClaimCauses.{first_cause, unless}
 use Rattle.wf_board.specs.declared.deed.Deed.{Deed}
 use Rattle.wf_board.specs.declared.deed.Deed.TheVariants as deed
 use Rattle.wf_board.specs.States.{Book, is_full}

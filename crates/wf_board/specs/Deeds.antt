@@ -1,7 +1,9 @@
 -- A deed on which a verdict is still needed, and verdicts on deeds.
-use Rattle.std.specs.Prelude.{◌≡◌, ◌≢◌, ◌&&◌, not, Bool, true, false, Result, Ok, Err}
+use Rattle.std.specs.Prelude.{◌≡◌, ◌≢◌, ◌≤◌, ◌+◌, ◌&&◌, not, Bool, true, false, Result, Ok, Err}
 use Rattle.wf_talk.specs.declared.request.Ask.{Ask}
 use Rattle.wf_talk.specs.declared.reply.Denial.{Denial}
+use Rattle.wf_talk.specs.declared.reply.Reply.{Reply}
+use Rattle.wf_talk.specs.declared.reply.Reply.TheVariants as reply
 use Rattle.admin_edits.specs.declared.amendment.Amendment.{Amendment}
 use Rattle.admin_edits.specs.declared.amendment.Amendment.TheVariants as amend
 use Rattle.wf_board.specs.declared.deed.Deed.{Deed}
@@ -18,7 +20,9 @@ use Rattle.wf_board.specs.States.{Book}
 use Rattle.wf_board.specs.Boards.{BoardShape, book_of, state_on}
 use Rattle.wf_board.specs.Decisions.{decision_aside, decision_of, needs_plan, needs_verdict}
 use Rattle.wf_board.specs.Found.{IsFound}
-use Rattle.wf_board.specs.Steps.{state_after_step}
+use Rattle.wf_board.specs.KeptPlans.{KeepsPlans}
+use Rattle.wf_board.specs.Steps.{IsStep, room_taken, state_after_step}
+use Rattle.wf_board.specs.Trees.{shows_large}
 use Rattle.wf_board.specs.Verdicts.{IsDecided, IsEditionFor, IsPlanFor, IsStrandingFor, IsTreeFor}
 use Rattle.wf_board.specs.Verdicts.{IsViewFor}
 
@@ -91,3 +95,25 @@ HasStepped before after what (Done given) =
     × (needs_verdict (decision_of (state_on before).book what) ≡ false))
 HasStepped before after what (Undecided d) = IsUndecided before.policy before.cases what d ×
     (after ≡ before)
+
+-- what a reply leaves of a board besides its state: the plans of the deed or of the verdict; the
+-- whole board after want of memory; and all room but what the reply takes
+pub record Leaves (before after : BoardShape) (what : Ask) (v : Verdict) (given : Reply)
+    : Type 0 where
+  pub plans : KeepsPlans before after what v given
+  pub lacking : given ≡ reply.NoMemory → after ≡ before
+  pub spare : before.cases.spare ≤ after.cases.spare + room_taken given
+
+-- so it does where it has answered
+abbrev pub LeavesBy : BoardShape → BoardShape → Ask → Verdict → Answered → Type 0
+LeavesBy before after what v answered.Needs = Unit {0}
+LeavesBy before after what v (answered.Done given) = Leaves before after what v given
+
+-- a deed that was left to decide has got its reply, which is a step and shows no tree that is too
+-- large
+pub record HasSettled (before after : BoardShape) (what : Ask) (v : Verdict) (given : Reply)
+    : Type 0 where
+  pub step : IsStep (state_on before) what given
+  pub small : shows_large given ≡ false
+  pub next : state_on after ≡ state_after_step (state_on before) what given
+  pub left : Leaves before after what v given

@@ -5,7 +5,7 @@ use Rattle.policy_book.specs.Policies.{flow_at, is_authorised, problem_of}
 use Rattle.policy_book.specs.Plans.{IsCompletable}
 use Rattle.case_record.specs.Cases.{CaseShape, finished_of, is_open}
 use Rattle.case_record.specs.Order.{is_ready}
-use Rattle.denial_reasons.specs.Causes.{assigned_with}
+use Rattle.admin_edits.specs.ClaimCauses.{assigned_with}
 use Rattle.wf_board.specs.States.{Book, numbered_case, step_named, user_named}
 
 -- the case of a claim is open, and its step and its user are there

@@ -1,14 +1,13 @@
 -- Laws of sessions.
-use Rattle.std.specs.Prelude.{◌≡◌, ◌↔◌, ℕ, true, List, [], take, Some, Ok, IsTrue}
+use Rattle.std.specs.Prelude.{◌≡◌, ◌↔◌, ℕ, List, [], take, Ok}
 use Rattle.policy_book.specs.Shapes.{PolicyShape}
 use Rattle.policy_book.specs.Facts.{IsSoundPolicy}
-use Rattle.policy_book.specs.Policies.{flow_at, is_authorised, problem_of}
+use Rattle.policy_book.specs.Policies.{problem_of}
 use Rattle.policy_book.specs.Plans.{IsCompletable, IsValidPlan}
-use Rattle.case_record.specs.Cases.{CaseShape, assigned_of, finished_case, finished_of, is_open}
+use Rattle.case_record.specs.Cases.{CaseShape, assigned_of, finished_case, finished_of}
 use Rattle.case_record.specs.Cases.{state_at, with_state}
-use Rattle.case_record.specs.Order.{is_ready}
 use Rattle.wf_names.specs.declared.states.StepState.TheVariants.{Free, Held}
-use Rattle.denial_reasons.specs.Causes.{assigned_with}
+use Rattle.admin_edits.specs.ClaimCauses.{assigned_with}
 use Rattle.wf_talk.specs.declared.entry.Entry.{Entry}
 use Rattle.wf_talk.specs.declared.request.Request.TheVariants as request
 use Rattle.wf_talk.specs.declared.request.Ask.{Ask}
@@ -21,8 +20,7 @@ use Rattle.refutation_tree.specs.declared.tree.Tree.TheVariants as tree
 use Rattle.wf_board.specs.declared.deed.Deed.TheVariants as deed
 use Rattle.admin_edits.specs.declared.amendment.Amendment.{Amendment}
 use Rattle.admin_edits.specs.Edits.{amended}
-use Rattle.wf_board.specs.States.{Book, State, numbered_case, open_cases, opening_state, step_named}
-use Rattle.wf_board.specs.States.{user_named}
+use Rattle.wf_board.specs.States.{State, open_cases, opening_state}
 use Rattle.wf_board.specs.Edition.{CanAllBeCompleted}
 use Rattle.wf_board.specs.Decisions.{decision_of}
 use Rattle.wf_board.specs.Steps.{IsStep, state_after_step}

@@ -1,5 +1,5 @@
 -- Inside: how a board answers over its policy and its table of cases.
-use Rattle.std.specs.Prelude.{◌≡◌, ◌≢◌, ℕ, ◌+◌, ◌≤◌, Bool, false, true, List, Option, Result, Ok}
+use Rattle.std.specs.Prelude.{◌≡◌, ◌≢◌, ℕ, ◌+◌, ◌≤◌, Bool, false, true, List, Option, Result}
 use Rattle.std.specs.Prelude.{IsTrue}
 use Rattle.basics.specs.Reading.{◌>>=◌}
 use Rattle.refutation_tree.specs.Views.{shape_of}
@@ -16,7 +16,6 @@ use Rattle.wf_talk.specs.declared.reply.Denial.{Denial}
 use Rattle.admin_edits.specs.declared.amendment.Amendment.{Amendment}
 use Rattle.admin_edits.specs.Edits.{amended}
 use Rattle.wf_board.specs.declared.deed.Deed.{Deed}
-use Rattle.wf_board.specs.declared.deed.Deed.TheVariants as deed
 use Rattle.wf_board.specs.declared.verdict.Verdict.{Verdict}
 use Rattle.wf_board.specs.declared.verdict.Verdict.TheVariants as verdict
 use Rattle.wf_board.specs.declared.verdict.Answered.{Answered}
@@ -28,7 +27,8 @@ use Rattle.wf_board.specs.Decisions.{cause_aside, cause_full, decision_of, needs
 use Rattle.wf_board.specs.Decisions.{takes_memory, unless_denied}
 use Rattle.wf_board.specs.Steps.{Answers, room_taken, state_after_decision, with_changed}
 use Rattle.wf_board.specs.Kept.{AreNumbered, ArePlanned, EachRow, IsPlanned}
-use Rattle.wf_board.specs.Verdicts.{HasAnswered, HasUsed, MayLackMemory, is_unusable, room_used}
+use Rattle.wf_board.specs.Verdicts.{HasAnswered, HasUsed, MayLackMemory, is_opening, is_unusable}
+use Rattle.wf_board.specs.Verdicts.{room_used}
 
 -- what a board keeps of its table
 pub record IsKept (p : PolicyShape) (t : CasesShape) : Type 0 where
@@ -80,6 +80,12 @@ pub record HasTakenStep (p : PolicyShape) (before after : CasesShape)
       (state_on (board_of p before edits)) decision given
   pub rows : after.rows ≡ rows_after p before decision given
   pub room : before.spare ≤ after.spare + room_taken given
+
+-- a case was to be opened, there was no room for it, and nothing has changed
+pub record LacksRoom (before after : CasesShape) (decision : Result Deed Denial) : Type 0 where
+  pub opening : is_opening decision ≡ true
+  pub none : before.spare ≡ 0
+  pub unchanged : after ≡ before
 
 -- one case was changed, and its row so
 pub record HasChanged (p : PolicyShape) (before after : CasesShape) (n : ℕ) (row : Row → Row)

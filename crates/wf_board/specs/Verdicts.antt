@@ -17,7 +17,7 @@ use Rattle.wf_talk.specs.declared.reply.Reply.TheVariants as reply
 use Rattle.wf_talk.specs.declared.reply.Denial.{Denial}
 use Rattle.wf_talk.specs.declared.reply.Denial.TheVariants as denial
 use Rattle.refutation_tree.specs.declared.tree.Tree.{Tree}
-use Rattle.denial_reasons.specs.Causes.{assigned_with}
+use Rattle.admin_edits.specs.ClaimCauses.{assigned_with}
 use Rattle.admin_edits.specs.Edits.{amended}
 use Rattle.wf_board.specs.declared.deed.Deed.{Deed}
 use Rattle.wf_board.specs.declared.deed.Deed.TheVariants as deed
@@ -123,6 +123,12 @@ IsMadeOf v given = ⊥
 abbrev pub HasUsed : Verdict → Answered → Type 0
 HasUsed v Needs = v ≡ verdict.Nothing
 HasUsed v (Done given) = IsMadeOf v given
+
+-- the board has used a verdict that was needed: it still needs one where none was given, and else
+-- what it answered is made of the verdict
+pub record UsesVerdict (v : Verdict) (given : Answered) : Type 0 where
+  pub needs : v ≡ verdict.Nothing → given ≡ Needs
+  pub made : HasUsed v given
 
 -- what the board answered shows a tree that is too large
 abbrev pub has_shown_large : Answered → Bool

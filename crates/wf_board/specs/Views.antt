@@ -7,7 +7,7 @@ use Rattle.policy_book.specs.Policies.{problem_of}
 use Rattle.policy_book.specs.Plans.{IsCompletable}
 use Rattle.case_record.specs.Cases.{CaseShape, finished_of}
 use Rattle.wf_talk.specs.declared.reply.WorkItem.{WorkItem}
-use Rattle.denial_reasons.specs.Causes.{assigned_with, first_cause}
+use Rattle.admin_edits.specs.ClaimCauses.{assigned_with, first_cause}
 use Rattle.wf_board.specs.States.{Book, Numbered, open_cases}
 use Rattle.wf_board.specs.Edition.{CanBeCompleted}
 

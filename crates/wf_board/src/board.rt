@@ -6,18 +6,17 @@ ghost use Rattle.wf_board.specs.Admission.{HasAdmittedStep};
 ghost use Rattle.wf_board.specs.Admit.{HasVerdict, MayLackMemoryFor};
 ghost use Rattle.wf_board.specs.Boards.{book_of, state_on};
 ghost use Rattle.wf_board.specs.Decisions.{decision_aside, decision_of, needs_plan, needs_verdict};
-ghost use Rattle.wf_board.specs.Deeds.{answered_of, is_over_open, FitsDeed, HasStepped};
-ghost use Rattle.wf_board.specs.Deeds.{IsUndecided};
+ghost use Rattle.wf_board.specs.Deeds.{answered_of, is_over_open, FitsDeed, HasSettled};
+ghost use Rattle.wf_board.specs.Deeds.{HasStepped, IsUndecided, Leaves, LeavesBy};
 ghost use Rattle.wf_board.specs.Found.{IsAllowed, IsFound};
 ghost use Rattle.wf_board.specs.KeptPlans.{kept_plans, KeepsPlans, KeepsPlansBy};
 ghost use Rattle.wf_board.specs.Kept.{AreNumbered, ArePlanned, IsSoundState, KeepsCompletable};
 ghost use Rattle.wf_board.specs.States.{opening_state};
 ghost use Rattle.wf_board.specs.Steps.{room_taken, state_after_step, IsStep};
 ghost use Rattle.wf_board.specs.Taking.{keeps_policy, KeepsAll};
-ghost use Rattle.wf_board.specs.Trees.{shows_large};
-ghost use Rattle.wf_board.specs.Verdicts.{has_shown_large, HasAnswered, HasUsed, IsCertified};
-ghost use Rattle.wf_board.specs.Verdicts.{IsDecided, IsEditionFor, IsPlanFor, IsRight};
-ghost use Rattle.wf_board.specs.Verdicts.{MayLackMemory, room_used, snap_of, snap_rows};
+ghost use Rattle.wf_board.specs.Verdicts.{has_shown_large, HasAnswered, IsCertified, IsDecided};
+ghost use Rattle.wf_board.specs.Verdicts.{IsEditionFor, IsPlanFor, IsRight, MayLackMemory};
+ghost use Rattle.wf_board.specs.Verdicts.{room_used, snap_of, snap_rows, UsesVerdict};
 
 use crate::admit::admit;
 use crate::certified::accepts;
@@ -100,17 +99,13 @@ impl Board {
         requires right { IsRight (state_on self.old).book ask.now verdict }
         requires few { self.old.edits < 4294967295 }
         ensures answered { HasAnswered self.old self.new ask.now verdict result }
-        ensures needs { needs_verdict (decision_of (state_on self.old).book ask.now) ≡ true
-            → verdict ≡ Verdict.Nothing → result ≡ Answered.Needs }
-        ensures made { needs_verdict (decision_of (state_on self.old).book ask.now) ≡ true
-            → HasUsed verdict result }
+        ensures used { needs_verdict (decision_of (state_on self.old).book ask.now) ≡ true
+            → UsesVerdict verdict result }
         ensures memory { result ≡ Answered.Done Reply.NoMemory
             → MayLackMemory self.old ask.now verdict }
         ensures small { has_shown_large result ≡ false }
-        ensures lacking { result ≡ Answered.Done Reply.NoMemory → self.new ≡ self.old }
-        ensures plans { KeepsPlansBy self.old self.new ask.now verdict result }
+        ensures left { LeavesBy self.old self.new ask.now verdict result }
         ensures room { self.old.cases.spare ≤ self.new.cases.spare + 1 }
-        ensures spare { self.old.cases.spare ≤ self.new.cases.spare + room_used result }
     {
         match verdict {
             Verdict::Edited(edition) => Answered::Done(Reply::Edited {
@@ -266,11 +261,9 @@ impl Board {
         requires right { IsRight (state_on self.old).book ask.now verdict }
         requires few { self.old.edits < 4294967295 }
         ensures decided { IsDecided self.old ask.now verdict result }
-        ensures plans { KeepsPlans self.old self.new ask.now verdict result }
         ensures next { state_on self.new ≡ state_after_step (state_on self.old) ask.now result }
-        ensures lacking { result ≡ Reply.NoMemory → self.new ≡ self.old }
+        ensures left { Leaves self.old self.new ask.now verdict result }
         ensures room { self.old.cases.spare ≤ self.new.cases.spare + 1 }
-        ensures spare { self.old.cases.spare ≤ self.new.cases.spare + room_taken result }
     {
         match verdict {
             Verdict::Nothing => self.decide_anew(alloc, decider, ask),
@@ -286,11 +279,9 @@ impl Board {
         requires ready { V.ready decider.now }
         requires few { self.old.edits < 4294967295 }
         ensures decided { IsDecided self.old ask.now Verdict.Nothing result }
-        ensures plans { KeepsPlans self.old self.new ask.now Verdict.Nothing result }
         ensures next { state_on self.new ≡ state_after_step (state_on self.old) ask.now result }
-        ensures lacking { result ≡ Reply.NoMemory → self.new ≡ self.old }
+        ensures left { Leaves self.old self.new ask.now Verdict.Nothing result }
         ensures room { self.old.cases.spare ≤ self.new.cases.spare + 1 }
-        ensures spare { self.old.cases.spare ≤ self.new.cases.spare + room_taken result }
     {
         match self.step(alloc, ask) {
             Stepped::Done(reply) => reply,
@@ -319,13 +310,8 @@ impl Board {
         requires ready { V.ready decider.now }
         requires undecided { IsUndecided self.old.policy self.old.cases ask.now deed }
         requires few { self.old.edits < 4294967295 }
-        ensures step { IsStep (state_on self.old) ask.now result }
-        ensures small { shows_large result ≡ false }
-        ensures next { state_on self.new ≡ state_after_step (state_on self.old) ask.now result }
-        ensures plans { KeepsPlans self.old self.new ask.now Verdict.Nothing result }
-        ensures lacking { result ≡ Reply.NoMemory → self.new ≡ self.old }
+        ensures settled { HasSettled self.old self.new ask.now Verdict.Nothing result }
         ensures room { self.old.cases.spare ≤ self.new.cases.spare + 1 }
-        ensures spare { self.old.cases.spare ≤ self.new.cases.spare + room_taken result }
     {
         match deed {
             Deed::Change { amendment } => self.settle_change(alloc, decider, ask, amendment),
@@ -346,13 +332,8 @@ impl Board {
         requires undecided { IsUndecided self.old.policy self.old.cases
             ask.now (Deed.Change change) }
         requires few { self.old.edits < 4294967295 }
-        ensures step { IsStep (state_on self.old) ask.now result }
-        ensures small { shows_large result ≡ false }
-        ensures next { state_on self.new ≡ state_after_step (state_on self.old) ask.now result }
-        ensures plans { KeepsPlans self.old self.new ask.now Verdict.Nothing result }
-        ensures lacking { result ≡ Reply.NoMemory → self.new ≡ self.old }
+        ensures settled { HasSettled self.old self.new ask.now Verdict.Nothing result }
         ensures room { self.old.cases.spare ≤ self.new.cases.spare + 1 }
-        ensures spare { self.old.cases.spare ≤ self.new.cases.spare + room_taken result }
     {
         match self.unbroken(alloc, &change) {
             Ok(kept) => self.settle_kept(alloc, decider, ask, change, kept),
@@ -390,13 +371,8 @@ impl Board {
         requires kept { IfSome kept
             (λ q. KeepsAll self.old.policy change self.old.cases.rows (arc_value q)) }
         requires few { self.old.edits < 4294967295 }
-        ensures step { IsStep (state_on self.old) ask.now result }
-        ensures small { shows_large result ≡ false }
-        ensures next { state_on self.new ≡ state_after_step (state_on self.old) ask.now result }
-        ensures plans { KeepsPlans self.old self.new ask.now Verdict.Nothing result }
-        ensures lacking { result ≡ Reply.NoMemory → self.new ≡ self.old }
+        ensures settled { HasSettled self.old self.new ask.now Verdict.Nothing result }
         ensures room { self.old.cases.spare ≤ self.new.cases.spare + 1 }
-        ensures spare { self.old.cases.spare ≤ self.new.cases.spare + room_taken result }
     {
         match kept {
             Some(after) => self.change(ask, change, after),
@@ -409,13 +385,8 @@ impl Board {
         requires ready { V.ready decider.now }
         requires undecided { IsUndecided self.old.policy self.old.cases ask.now deed }
         requires few { self.old.edits < 4294967295 }
-        ensures step { IsStep (state_on self.old) ask.now result }
-        ensures small { shows_large result ≡ false }
-        ensures next { state_on self.new ≡ state_after_step (state_on self.old) ask.now result }
-        ensures plans { KeepsPlans self.old self.new ask.now Verdict.Nothing result }
-        ensures lacking { result ≡ Reply.NoMemory → self.new ≡ self.old }
+        ensures settled { HasSettled self.old self.new ask.now Verdict.Nothing result }
         ensures room { self.old.cases.spare ≤ self.new.cases.spare + 1 }
-        ensures spare { self.old.cases.spare ≤ self.new.cases.spare + room_taken result }
     {
         let found = self.verdict(alloc, decider, &deed);
         self.take(ask, deed, found)
@@ -427,13 +398,8 @@ impl Board {
         requires fits { FitsDeed (state_on self.old).book deed verdict }
         requires given { verdict ≢ Verdict.Nothing }
         requires few { self.old.edits < 4294967295 }
-        ensures step { IsStep (state_on self.old) ask.now result }
-        ensures small { shows_large result ≡ false }
-        ensures next { state_on self.new ≡ state_after_step (state_on self.old) ask.now result }
-        ensures plans { KeepsPlans self.old self.new ask.now verdict result }
-        ensures lacking { result ≡ Reply.NoMemory → self.new ≡ self.old }
+        ensures settled { HasSettled self.old self.new ask.now verdict result }
         ensures room { self.old.cases.spare ≤ self.new.cases.spare + 1 }
-        ensures spare { self.old.cases.spare ≤ self.new.cases.spare + room_taken result }
     {
         match verdict {
             Verdict::Edited(edition) => Reply::Edited {
@@ -477,10 +443,7 @@ impl Board {
             ask.now (Deed.Change change) }
         requires kept { KeepsAll self.old.policy change self.old.cases.rows (arc_value after) }
         requires few { self.old.edits < 4294967295 }
-        ensures step { IsStep (state_on self.old) ask.now result }
-        ensures small { shows_large result ≡ false }
-        ensures next { state_on self.new ≡ state_after_step (state_on self.old) ask.now result }
-        ensures plans { KeepsPlans self.old self.new ask.now Verdict.Nothing result }
+        ensures settled { HasSettled self.old self.new ask.now Verdict.Nothing result }
         ensures taken { result ≡ Reply.Edited (self.old.edits + 1) }
         ensures spare { self.new.cases.spare ≡ self.old.cases.spare }
     {

@@ -6,7 +6,7 @@ ghost use Rattle.policy_book.specs.Plans.{IsValidPlan, IsWithin};
 ghost use Rattle.policy_book.specs.Policies.{problem_of};
 ghost use Rattle.policy_book.specs.Refuting.{refutes};
 ghost use Rattle.case_record.specs.Cases.{assigned_of, finished_of};
-ghost use Rattle.denial_reasons.specs.Causes.{assigned_with};
+ghost use Rattle.admin_edits.specs.ClaimCauses.{assigned_with};
 ghost use Rattle.wf_board.specs.Boards.{book_of};
 ghost use Rattle.wf_board.specs.Found.{AreFound, IsFound};
 ghost use Rattle.wf_board.specs.Kept.{ArePlanned};

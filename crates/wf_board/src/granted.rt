@@ -6,7 +6,7 @@ ghost use Rattle.policy_book.specs.Plans.{IsValidPlan, IsWithin};
 ghost use Rattle.policy_book.specs.Policies.{problem_of};
 ghost use Rattle.policy_book.specs.Refuting.{refutes};
 ghost use Rattle.case_record.specs.Cases.{finished_of};
-ghost use Rattle.denial_reasons.specs.Causes.{assigned_with};
+ghost use Rattle.admin_edits.specs.ClaimCauses.{assigned_with};
 ghost use Rattle.wf_talk.specs.declared.reply.Reply.TheVariants as replies;
 ghost use Rattle.wf_board.specs.declared.deed.Deed.TheVariants as deeds;
 ghost use Rattle.wf_board.specs.Admission.{HasAdmitted};

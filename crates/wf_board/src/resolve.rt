@@ -24,8 +24,7 @@ use policy_book::Policy;
 use wf_names::{CaseId, Name, StepId, UserId};
 use wf_talk::{Ask, Denial, Edit, Request};
 
-/// What a line asks, or the first of its names and numbers that is nothing; of an edit its first
-/// fault of any kind.
+/// What a line asks, or why it is nothing.
 pub(crate) fn resolve(p: &Policy, cases: &Cases, ask: &Ask) -> Result<Deed, Denial>
     requires { ArePlanned p.now cases.now.rows }
     ensures deed { result ≡ resolve (book_of p.now cases.now) ask.now }
@@ -37,6 +36,8 @@ pub(crate) fn resolve(p: &Policy, cases: &Cases, ask: &Ask) -> Result<Deed, Deni
     }
 }
 
+/// What a request asks, or the first of its names and numbers that is nothing; of an edit its first
+/// fault of any kind.
 fn resolve_request(p: &Policy, cases: &Cases, request: &Request) -> Result<Deed, Denial>
     requires { ArePlanned p.now cases.now.rows }
     ensures deed { result ≡ resolve_request (book_of p.now cases.now) request.now }
@@ -47,45 +48,9 @@ fn resolve_request(p: &Policy, cases: &Cases, request: &Request) -> Result<Deed,
             Some(flow) => Ok(Deed::Open { flow }),
             None => Err(Denial::NoFlow),
         },
-        Request::Claim {
-            case: number,
-            step,
-            user,
-        } => {
-            let (case, step, user) = on_step(p, cases, *number, step, user)?;
-            Ok(Deed::Claim {
-                number: *number,
-                case: *case,
-                step,
-                user,
-            })
-        }
-        Request::Finish {
-            case: number,
-            step,
-            user,
-        } => {
-            let (case, step, user) = on_step(p, cases, *number, step, user)?;
-            Ok(Deed::Finish {
-                number: *number,
-                case: *case,
-                step,
-                user,
-            })
-        }
-        Request::GiveBack {
-            case: number,
-            step,
-            user,
-        } => {
-            let (case, step, user) = on_step(p, cases, *number, step, user)?;
-            Ok(Deed::GiveBack {
-                number: *number,
-                case: *case,
-                step,
-                user,
-            })
-        }
+        Request::Claim { case, step, user } => claim(p, cases, *case, step, user),
+        Request::Finish { case, step, user } => finish(p, cases, *case, step, user),
+        Request::GiveBack { case, step, user } => give_back(p, cases, *case, step, user),
         Request::Release {
             by,
             case: number,
@@ -108,6 +73,54 @@ fn resolve_request(p: &Policy, cases: &Cases, request: &Request) -> Result<Deed,
             Ok(Deed::WhatIf { amendment })
         }
     }
+}
+
+/// A free step of an open case given to a user.
+fn claim(p: &Policy, cases: &Cases, n: CaseId, step: &Name, user: &Name) -> Result<Deed, Denial>
+    requires { ArePlanned p.now cases.now.rows }
+    ensures deed { result ≡ resolve_request (book_of p.now cases.now)
+        (requests.Claim n step.now user.now) }
+    ensures found { IfOk result (IsFound p.now cases.now.rows) }
+{
+    let (case, step, user) = on_step(p, cases, n, step, user)?;
+    Ok(Deed::Claim {
+        number: n,
+        case: *case,
+        step,
+        user,
+    })
+}
+
+/// A step of an open case finished by a user.
+fn finish(p: &Policy, cases: &Cases, n: CaseId, step: &Name, user: &Name) -> Result<Deed, Denial>
+    requires { ArePlanned p.now cases.now.rows }
+    ensures deed { result ≡ resolve_request (book_of p.now cases.now)
+        (requests.Finish n step.now user.now) }
+    ensures found { IfOk result (IsFound p.now cases.now.rows) }
+{
+    let (case, step, user) = on_step(p, cases, n, step, user)?;
+    Ok(Deed::Finish {
+        number: n,
+        case: *case,
+        step,
+        user,
+    })
+}
+
+/// A step of an open case given back by a user.
+fn give_back(p: &Policy, cases: &Cases, n: CaseId, step: &Name, user: &Name) -> Result<Deed, Denial>
+    requires { ArePlanned p.now cases.now.rows }
+    ensures deed { result ≡ resolve_request (book_of p.now cases.now)
+        (requests.GiveBack n step.now user.now) }
+    ensures found { IfOk result (IsFound p.now cases.now.rows) }
+{
+    let (case, step, user) = on_step(p, cases, n, step, user)?;
+    Ok(Deed::GiveBack {
+        number: n,
+        case: *case,
+        step,
+        user,
+    })
 }
 
 /// A step taken from its holder, if an administrator asks for it.

@@ -1,6 +1,7 @@
 //! Takes the denials of edits that somebody else gave.
 ghost use Rattle.std.specs.Prelude.{◌≡◌, ◌≢◌, ◌↔◌, Ok, true, IfOk};
 ghost use Rattle.refutation_tree.specs.Views.{shape_of};
+ghost use Rattle.refutation_tree.specs.declared.tree.Tree.{Tree};
 ghost use Rattle.policy_book.specs.Policies.{problem_of};
 ghost use Rattle.policy_book.specs.Refuting.{refutes};
 ghost use Rattle.case_record.specs.Cases.{assigned_of, finished_of};
@@ -84,9 +85,10 @@ fn admit_strands(
     ensures { HasAdmitted p.now cases.now cases.now (Ok (deeds.Change a))
         (replies.Denied denial.now) result }
 {
+    let _ = shown;
     match denial {
         Denial::Strands { case, flow, tree } => {
-            admit_strands_of(p, cases, a, *case, *flow, tree, n, shown)
+            admit_strands_of(p, cases, a, *case, *flow, tree, n)
         }
         _ => Err(AdmitFault::NotStep),
     }
@@ -102,15 +104,14 @@ fn admit_strands_of(
     flow: FlowId,
     tree: &Tree,
     n: CaseId,
-    shown: &Tree,
 ) -> Result<(), AdmitFault>
     requires kept { IsKept p.now cases.now }
     requires allowed { IsAllowed p.now a }
-    requires stranded { IsStrandingFor (book_of p.now cases.now) (Ok (deeds.Change a)) n shown.now }
+    requires stranded { (shown : Tree)
+        × IsStrandingFor (book_of p.now cases.now) (Ok (deeds.Change a)) n shown }
     ensures { HasAdmitted p.now cases.now cases.now (Ok (deeds.Change a))
         (replies.Denied (denials.Strands named flow tree.now)) result }
 {
-    let _ = shown;
     let _sound = p.admin();
     let _ascending = cases.live();
     let Some(case) = cases.case(n) else {

@@ -8,7 +8,7 @@ ghost use Rattle.policy_book.specs.Plans.{IsValidPlan};
 ghost use Rattle.policy_book.specs.Policies.{problem_of};
 ghost use Rattle.case_record.specs.Cases.{finished_of, state_at, with_phase, with_state, CaseShape};
 ghost use Rattle.grant_table.specs.Cases.{freed_row, withdrawn_row};
-ghost use Rattle.denial_reasons.specs.Causes.{assigned_with};
+ghost use Rattle.admin_edits.specs.ClaimCauses.{assigned_with};
 ghost use Rattle.wf_board.specs.declared.deed.Deed.TheVariants as deeds;
 ghost use Rattle.wf_board.specs.declared.verdict.Verdict.TheVariants as verdicts;
 ghost use Rattle.wf_talk.specs.declared.reply.Reply.TheVariants as replies;
@@ -20,7 +20,7 @@ ghost use Rattle.wf_board.specs.Found.{AreFound, IsFound, IsOpenAt};
 ghost use Rattle.wf_board.specs.States.{is_full};
 ghost use Rattle.wf_board.specs.Steps.{face_of};
 ghost use Rattle.wf_board.specs.Taking.{full_or, keeps_policy, HasAnsweredAlone, HasAnsweredBy};
-ghost use Rattle.wf_board.specs.Taking.{HasChanged, HasTakenStep, IsKept, IsUsable};
+ghost use Rattle.wf_board.specs.Taking.{HasChanged, HasTakenStep, IsKept, IsUsable, LacksRoom};
 ghost use Rattle.wf_board.specs.Trees.{is_large, shows_large};
 ghost use Rattle.wf_board.specs.Verdicts.{is_opening, is_unusable, IsMadeOf, IsPlanFor, IsRight};
 ghost use Rattle.wf_board.specs.Verdicts.{IsStrandingFor, IsTreeFor};
@@ -207,9 +207,8 @@ fn plan_for(p: &Policy, cases: &mut Cases, deed: Deed, plan: Plan) -> Reply
     ensures made { needs_verdict (full_or (book_of p.now cases.old) deed) ≡ true
         → IsMadeOf (verdicts.Plan plan) result }
     ensures small { shows_large result ≡ false }
-    ensures memory { result ≡ replies.NoMemory
-        → (is_opening (full_or (book_of p.now cases.old) deed) ≡ true) × (cases.old.spare ≡ 0) }
-    ensures unchanged { result ≡ replies.NoMemory → cases.new ≡ cases.old }
+    ensures lacking { result ≡ replies.NoMemory
+        → LacksRoom cases.old cases.new (full_or (book_of p.now cases.old) deed) }
 {
     match deed {
         Deed::Open { flow } => open(p, cases, flow, plan),

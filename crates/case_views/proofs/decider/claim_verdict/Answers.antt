@@ -1,6 +1,6 @@
 use Rattle.policy_book.specs.Policies.{problem_of}
 use Rattle.case_record.specs.Cases.{finished_of}
-use Rattle.denial_reasons.specs.Causes.{assigned_with}
+use Rattle.admin_edits.specs.ClaimCauses.{assigned_with}
 use Rattle.case_views.specs.Deciding.{DecidesFor}
 use Rattle.wf_board.proofs.Giving.{kept_valid}
 use Rattle.case_views.proofs.Deciding.{unfound_is, verdict_decides}

@@ -2,7 +2,7 @@ use Rattle.std.proofs.Common.{ℕ, List, Option, None, Some, IfSome, Ok, sym, su
 use Rattle.policy_book.specs.Policies.{problem_of}
 use Rattle.policy_book.specs.Plans.{IsValidPlan}
 use Rattle.case_record.specs.Cases.{CaseShape, finished_of}
-use Rattle.denial_reasons.specs.Causes.{assigned_with}
+use Rattle.admin_edits.specs.ClaimCauses.{assigned_with}
 use Rattle.wf_board.specs.declared.deed.Deed.TheVariants as deed
 use Rattle.wf_board.specs.Boards.{book_of}
 use Rattle.wf_board.specs.States.{Book}

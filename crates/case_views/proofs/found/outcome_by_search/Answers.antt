@@ -1,7 +1,7 @@
 use Rattle.std.proofs.Common.{◌≡◌, IfOk, arith}
 use Rattle.policy_book.specs.Policies.{problem_of}
 use Rattle.wsp_solver.specs.Searches.{HasSolved}
-use Rattle.denial_reasons.specs.Causes.{assigned_with}
+use Rattle.admin_edits.specs.ClaimCauses.{assigned_with}
 use Rattle.case_record.specs.Cases.{finished_of}
 use Rattle.case_views.proofs.Deciding.{search_assigned, search_within}
 use Rattle.case_views.proofs.Editing.{said_same}

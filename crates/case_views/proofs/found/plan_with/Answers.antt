@@ -4,7 +4,7 @@ use Rattle.constraint_forms.specs.Assign.{planned}
 use Rattle.policy_book.specs.Policies.{problem_of}
 use Rattle.policy_book.specs.Plans.{IsValidPlan}
 use Rattle.case_record.specs.Cases.{assigned_of, finished_of}
-use Rattle.denial_reasons.specs.Causes.{assigned_with}
+use Rattle.admin_edits.specs.ClaimCauses.{assigned_with}
 use Rattle.wf_board.proofs.Giving.{valid_with}
 use Rattle.case_views.proofs.Deciding.{kept_length}
 use Rattle.case_views.proofs.found.plan_with.Goals as goal

@@ -1,4 +1,4 @@
-use Rattle.std.proofs.Common.{sym, subst, ap, ◌∙◌}
+use Rattle.std.proofs.Common.{sym, subst}
 use Rattle.grant_table.specs.Cases.{CasesShape}
 use Rattle.wf_board.specs.Boards.{book_of}
 use Rattle.wf_board.specs.Deeds.{FitsDeed}

@@ -1,4 +1,4 @@
-use Rattle.std.proofs.Common.{◌≡◌, false, sym, subst, ap, ◌∙◌}
+use Rattle.std.proofs.Common.{sym, subst, ap, ◌∙◌}
 use Rattle.wf_board.specs.Breaking.{breaks, HasPlanFor}
 use Rattle.wf_board.specs.Edition.{IsPlanOf}
 use Rattle.wf_board.proofs.Unbroken.{has_plan, names_step, unbroken}

@@ -2,7 +2,7 @@ use Rattle.std.proofs.Common.{◌≡◌, Some, slice_set, sym, ap, subst, ◌∙
 use Rattle.policy_book.specs.Plans.{IsWithin}
 use Rattle.policy_book.specs.Policies.{problem_of}
 use Rattle.case_record.specs.Cases.{finished_of}
-use Rattle.denial_reasons.specs.Causes.{assigned_with}
+use Rattle.admin_edits.specs.ClaimCauses.{assigned_with}
 use Rattle.wf_board.proofs.Certificates.{certificate_same, claim_within}
 use Rattle.wf_board.proofs.certified.decides_claim.Goals as goal
 

@@ -1,5 +1,5 @@
 use Rattle.case_record.specs.Cases.{finished_of}
-use Rattle.denial_reasons.specs.Causes.{assigned_with}
+use Rattle.admin_edits.specs.ClaimCauses.{assigned_with}
 use Rattle.wf_board.specs.declared.verdict.Verdict.TheVariants as verdicts
 use Rattle.wf_board.proofs.Certificates.{certificate_same}
 use Rattle.wf_board.proofs.granted.is_claim_plan.Goals as goal

@@ -5,13 +5,13 @@ use Rattle.wf_board.proofs.strands.admit_strands_of.Goals as goal
 
 pub unreachable-requires : goal.unreachable-requires
 unreachable-requires c =
-    stranded_exists c.args.p.now c.args.cases.now c.args.a c.args.n c.args.shown.now c.live-ascending.ensures.kept.ascend c.requires.stranded
+    stranded_exists c.args.p.now c.args.cases.now c.args.a c.args.n c.requires.stranded.0 c.live-ascending.ensures.kept.ascend c.requires.stranded.1
     c.in_default.ensures
 
 pub returns-then-not-is_named : goal.returns-then-not-is_named
 returns-then-not-is_named c =
-    let here = stranded_here c.args.p.now c.args.cases.now c.args.a c.args.n c.args.shown.now c.in-Some.case.now c.admin-sound.ensures.sound
-    c.requires.allowed c.live-ascending.ensures.kept.ascend c.requires.stranded c.in-Some.ensures in (
+    let here = stranded_here c.args.p.now c.args.cases.now c.args.a c.args.n c.requires.stranded.0 c.in-Some.case.now c.admin-sound.ensures.sound
+    c.requires.allowed c.live-ascending.ensures.kept.ascend c.requires.stranded.1 c.in-Some.ensures in (
       refl,
       λ edits step.
           let only = here.only edits c.args.named c.args.flow c.args.tree.now step in
@@ -25,8 +25,8 @@ is_tree_after-requires-clause-known c =
 
 pub returns : goal.returns
 returns c =
-    let here = stranded_here c.args.p.now c.args.cases.now c.args.a c.args.n c.args.shown.now c.in-Some.case.now c.admin-sound.ensures.sound
-    c.requires.allowed c.live-ascending.ensures.kept.ascend c.requires.stranded c.in-Some.ensures in
+    let here = stranded_here c.args.p.now c.args.cases.now c.args.a c.args.n c.requires.stranded.0 c.in-Some.case.now c.admin-sound.ensures.sound
+    c.requires.allowed c.live-ascending.ensures.kept.ascend c.requires.stranded.1 c.in-Some.ensures in
     let named = c.is_named.ensures.0 c.if-not-is_named.false in
     strands_admitted c.args.p.now c.args.cases.now c.args.a c.args.n c.in-Some.case.now c.args.named c.args.flow c.args.tree.now
     c.in_ok-is_tree_after.field-0 c.when.result

@@ -1,15 +1,14 @@
-use Rattle.std.proofs.Common.{◌≡◌, ◌≤◌, ◌+◌, true, subst, ap, ◌∙◌}
+use Rattle.std.proofs.Common.{◌≡◌, ◌≤◌, ◌+◌, true, subst}
 use Rattle.std.specs.Arc.{arc_value}
 use Rattle.wf_talk.specs.declared.reply.Reply.TheVariants as replies
-use Rattle.wf_board.specs.declared.verdict.Verdict.TheVariants as verdicts
-use Rattle.wf_board.specs.declared.verdict.Answered.TheVariants.{Done, Needs}
+use Rattle.wf_board.specs.declared.verdict.Answered.TheVariants.{Done}
 use Rattle.wf_board.specs.Boards.{state_on}
 use Rattle.wf_board.specs.Decisions.{decision_of, needs_verdict}
+use Rattle.wf_board.specs.Deeds.{LeavesBy}
 use Rattle.wf_board.specs.Taking.{board_of, HasAnsweredBy}
-use Rattle.wf_board.specs.Verdicts.{HasAnswered, HasUsed, MayLackMemory, room_used}
-use Rattle.wf_board.specs.KeptPlans.{KeepsPlansBy}
+use Rattle.wf_board.specs.Verdicts.{HasAnswered, MayLackMemory, UsesVerdict}
 use Rattle.wf_board.proofs.Answering.{one_at_most}
-use Rattle.wf_board.proofs.PlansKept.{keeps_by}
+use Rattle.wf_board.proofs.PlansKept.{leaves_by}
 use Rattle.wf_board.proofs.Small.{answered_small}
 use Rattle.wf_board.proofs.board.Board.answer.Goals as goal
 
@@ -25,16 +24,13 @@ returns-in_default c =
     record {
       answered = subst (λ b. HasAnswered b (board_of (arc_value c.self.inside.policy) c.answer.new.cases edits) what c.args.verdict given) c.self.view_is
           (by.answered edits);
-      needs = subst (λ b. needs_verdict (decision_of (state_on b).book what) ≡ true → c.args.verdict ≡ verdicts.Nothing → given ≡ Needs) c.self.view_is
-          by.needs;
-      made = subst (λ b. needs_verdict (decision_of (state_on b).book what) ≡ true → HasUsed c.args.verdict given) c.self.view_is by.made;
+      used = subst (λ b. needs_verdict (decision_of (state_on b).book what) ≡ true → UsesVerdict c.args.verdict given) c.self.view_is
+          (λ needed. record { needs = by.needs needed; made = by.made needed });
       memory = subst (λ b. given ≡ Done replies.NoMemory → MayLackMemory b what c.args.verdict) c.self.view_is (by.memory edits);
       small = answered_small (board_of (arc_value c.self.inside.policy) c.self.inside.cases edits)
           (board_of (arc_value c.self.inside.policy) c.answer.new.cases edits) what c.args.verdict given (by.answered edits) by.made;
-      plans = subst (λ b. KeepsPlansBy b (board_of (arc_value c.self.inside.policy) c.answer.new.cases edits) what c.args.verdict given) c.self.view_is
-          (keeps_by _ _ _ edits what c.args.verdict given c.in_default.not-Edited by.rows);
-      lacking = λ short. ap (λ (t : _). board_of (arc_value c.self.inside.policy) t edits) (by.lacking short) ∙ c.self.view_is;
+      left = subst (λ b. LeavesBy b (board_of (arc_value c.self.inside.policy) c.answer.new.cases edits) what c.args.verdict given) c.self.view_is
+          (leaves_by _ _ _ edits what c.args.verdict given c.in_default.not-Edited by.rows by.lacking by.room);
       room = subst (λ b. b.cases.spare ≤ c.answer.new.cases.spare + 1) c.self.view_is
           (one_at_most c.self.inside.cases.spare c.answer.new.cases.spare given by.room);
-      spare = subst (λ b. b.cases.spare ≤ c.answer.new.cases.spare + room_used given) c.self.view_is by.room;
     }

@@ -6,7 +6,7 @@ use Rattle.constraint_forms.specs.declared.rule.Rule.{Rule}
 use Rattle.constraint_forms.specs.Rules.{Relating, is_falsified}
 use Rattle.policy_book.specs.Refuting.{passing}
 use Rattle.policy_book.proofs.Passing.{passing_at}
-use Rattle.denial_reasons.specs.Causes.{first_falsified}
+use Rattle.admin_edits.specs.ClaimCauses.{first_falsified}
 
 -- one rule of the search, of which the first has the number n
 searched : (related : Relating) (users : ℕ → Option ℕ) (n : ℕ) (rules : List Rule) (k : ℕ) (rule : Rule) → slice_get rules k ≡ Some rule →

@@ -2,10 +2,10 @@ use Rattle.std.proofs.Common.{◌≡◌, ◌<◌, ◌++◌, ◌-◌, ◌+◌, �
 use Rattle.std.specs.FinSet as set
 use Rattle.policy_book.specs.Policies.{flow_at}
 use Rattle.policy_book.specs.Refuting.{passing}
-use Rattle.denial_reasons.specs.Causes.{permitted_roles}
-use Rattle.denial_reasons.proofs.Searches.{fails, passes}
-use Rattle.denial_reasons.proofs.cause.permitted_roles.Goals as goal
-use Rattle.denial_reasons.proofs.cause.permitted_roles.Goals.{then-permits+in_ok-push, else-permits}
+use Rattle.admin_edits.specs.ClaimCauses.{permitted_roles}
+use Rattle.admin_edits.proofs.Searches.{fails, passes}
+use Rattle.admin_edits.proofs.claim_cause.permitted_roles.Goals as goal
+use Rattle.admin_edits.proofs.claim_cause.permitted_roles.Goals.{then-permits+in_ok-push, else-permits}
 
 pub roles-preserved : goal.roles-preserved
 roles-preserved c =

@@ -2,8 +2,8 @@
 ghost use Rattle.std.specs.Prelude.{◌≡◌, ◌<◌, true, length, is_some, IfOk, OnErr};
 ghost use Rattle.constraint_forms.specs.Assign.{user_at};
 ghost use Rattle.policy_book.specs.Policies.{flow_at, problem_of};
-ghost use Rattle.denial_reasons.specs.Causes.{assigned_with, first_cause, first_falsified};
-ghost use Rattle.denial_reasons.specs.Causes.{permitted_roles, takes_memory};
+ghost use Rattle.admin_edits.specs.ClaimCauses.{assigned_with, first_cause, first_falsified};
+ghost use Rattle.admin_edits.specs.ClaimCauses.{permitted_roles, takes_memory};
 
 use case_record::Case;
 use constraint_forms::{Assign, falsified};

@@ -1,8 +1,8 @@
 use Rattle.std.proofs.Common.{sym, ◌∙◌}
 use Rattle.constraint_forms.specs.Assign.{user_at}
 use Rattle.policy_book.specs.Policies.{problem_of}
-use Rattle.denial_reasons.proofs.Searches.{found_rule, passed_rule}
-use Rattle.denial_reasons.proofs.cause.first_falsified.Goals as goal
+use Rattle.admin_edits.proofs.Searches.{found_rule, passed_rule}
+use Rattle.admin_edits.proofs.claim_cause.first_falsified.Goals as goal
 
 pub returns-then-falsified : goal.returns-then-falsified
 returns-then-falsified c =

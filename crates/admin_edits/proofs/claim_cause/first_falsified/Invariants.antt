@@ -1,8 +1,8 @@
 use Rattle.std.proofs.Common.{◌≡◌, drop}
 use Rattle.constraint_forms.specs.Assign.{user_at}
 use Rattle.policy_book.specs.Policies.{flow_at, problem_of}
-use Rattle.denial_reasons.specs.Causes.{first_falsified}
-use Rattle.denial_reasons.proofs.cause.first_falsified.Given as goal
+use Rattle.admin_edits.specs.ClaimCauses.{first_falsified}
+use Rattle.admin_edits.proofs.claim_cause.first_falsified.Given as goal
 
 abbrev pub invariant-rules : goal.invariant-rules
 invariant-rules l =

@@ -2,8 +2,8 @@ use Rattle.std.proofs.Common.{◌≡◌, ◌++◌, ◌-◌, length}
 use Rattle.std.specs.FinSet as set
 use Rattle.policy_book.specs.Policies.{flow_at}
 use Rattle.policy_book.specs.Refuting.{passing}
-use Rattle.denial_reasons.specs.Causes.{permitted_roles}
-use Rattle.denial_reasons.proofs.cause.permitted_roles.Given as goal
+use Rattle.admin_edits.specs.ClaimCauses.{permitted_roles}
+use Rattle.admin_edits.proofs.claim_cause.permitted_roles.Given as goal
 
 abbrev pub invariant-roles : goal.invariant-roles
 invariant-roles l =
