@@ -1,265 +1,276 @@
--- What is read of the requests about a step as they are mostly written: their tokens are those of which they are a print,
--- with blanks, and the value of those is known.
-use Rattle.std.proofs.Common.{◌≡◌, ℕ, ◌<◌, ◌≤◌, ◌^◌, List, [], ◌∷◌, ◌++◌, refl, sym, ap, subst, ◌∙◌, arith, rules, append_assoc, le-leb, lt-ltb, true, Ok, inl}
-use Rattle.std.proofs.Common.{inr, Option, Some, option_and_then, option_map, decimal, map, false}
-use Rattle.std.specs.Prelude.{zero, suc, nat_lt, codes, slice_index, IsUtf8}
-use Rattle.std.specs.List.{list_all}
-use Rattle.std.proofs.lemmas.Grind.{common_steps}
+-- What is read of the requests about a step as they are mostly written: the rest of a line is read on from the members that
+-- are known, a part at a time.
+use Rattle.std.proofs.Common.{◌≡◌, ℕ, ◌-◌, ◌<◌, ◌≤◌, ◌^◌, List, [], ◌∷◌, ◌++◌, length, Bool, true, false, Option, Some, None, option_map, Ok, Ordering}
+use Rattle.std.proofs.Common.{Less, Greater, refl, sym, ap, subst, ◌∙◌, arith, append_assoc, le-leb, decimal, nat_cmp, take_all, drop, take, get_or}
+use Rattle.std.specs.Prelude.{codes, IsUtf8, IsTrue, is_some, unwrap_or}
+use Rattle.std.specs.Cmp.Lexicographic.{slice_cmp}
 use Rattle.std.proofs.lemmas.Fmt.{IsAscii-decimal}
 use Rattle.std.proofs.lemmas.Str.{IsUtf8-append, IsUtf8-from_ascii}
 use Rattle.json.specs.Token.{Token, begin_object, end_object, key, string, number}
-use Rattle.json.specs.Json as json
-use Rattle.json.specs.Print.{escape, escape_byte, ArePrintable}
+use Rattle.json.specs.Json.{members, value}
+use Rattle.json.specs.Lex.{tokens}
+use Rattle.json.specs.Print.{escape, separator, token_text, ends, IsPrintable, ArePrintable}
 use Rattle.json.specs.Spaced.{IsGap, AreGaps, print_spaced}
+use Rattle.json.proofs.Grammar.{value_is}
 use Rattle.json.proofs.Printed.Tokens.{tokens-print_spaced}
 use Rattle.json.proofs.Printed.Decimals.{IsNumber-decimal}
+use Rattle.json.proofs.Printed.Utf8.{IsUtf8-are_ascii, IsUtf8-IsGap}
 use Rattle.serde_json.specs.Data as v
-use Rattle.serde_json.specs.Data.{Data, object, no_members, member, unsigned, put}
-use Rattle.serde_json.specs.Read.{read, of_json, number_of, max_depth}
+use Rattle.serde_json.specs.Data.{Data, Members, no_members, member, object, put}
+use Rattle.serde_json.specs.Read.{of_json, of_members, converted}
 use Rattle.serde_json.proofs.Numbers.{number_of-decimal}
+use Rattle.basics.specs.Reading.{◌>>=◌, or_fault}
 use Rattle.wf_names.specs.Names.{is_name}
+use Rattle.wf_names.proofs.NameForms.{name_utf8}
+use Rattle.wf_talk.specs.declared.request.Request.{Request}
+use Rattle.wf_talk.specs.declared.request.Request.TheVariants.{Claim, Finish, GiveBack}
+use Rattle.wf_talk.specs.declared.request.Bad.TheVariants.{Syntax}
 use Rattle.wf_talk.specs.declared.request.Ask.TheVariants as ask
-use Rattle.wire_json.specs.declared.plain.Style.{Style}
-use Rattle.wire_json.specs.declared.plain.Style.TheVariants as style
 use Rattle.wire_json.specs.declared.plain.Act.{Act}
 use Rattle.wire_json.specs.declared.plain.Act.TheVariants as act
+use Rattle.wire_json.specs.declared.plain.Known.{Known}
 use Rattle.wire_json.specs.Requests.{request_in, request_by, asked, asked_of, case, step, user}
+use Rattle.wire_json.specs.declared.request.Asked.{Asked}
 use Rattle.wire_json.specs.Values.{value_of}
-use Rattle.wire_json.specs.Plain.{front, to_step, to_user, to_lane, plain_text, lane_text, EndsWithLane, request_of}
+use Rattle.wire_json.specs.Flats.{whole}
+use Rattle.wire_json.specs.Plain.{word, request_of, lane_known, member_if, at_keys, number_data, known_members, Spaced, bare, IsRest, joint, ReadsPart, ReadsValue}
 use Rattle.wire_json.proofs.Values.{value_of_utf8}
 use Rattle.wire_json.proofs.Texts.{name_stays}
+use Rattle.wire_json.proofs.Flats.{member_read, members_over, object_read}
 
-abbrev word : Act → List ℕ
-word act.Claim = codes "claim"
-word act.Finish = codes "finish"
-word act.GiveBack = codes "give_back"
+-- ---- a member more
 
-abbrev lane : List ℕ
-lane = codes "lane"
+-- a member goes behind those with lesser keys, and before those with greater ones
+behind : (k l : List ℕ) (d : Data) (o : Option Data) (ms : Members) → slice_cmp nat_cmp k l ≡ Greater → put k d (member_if l o ms) ≡ member_if l o (put k d ms)
+behind k l d None ms is = refl
+behind k l d (Some e) ms is = rw is refl
 
--- ---- the text is a print of tokens
+before : (k l : List ℕ) (d : Data) (o : Option Data) (ms : Members) → slice_cmp nat_cmp k l ≡ Less → put k d ms ≡ member k d ms
+    → put k d (member_if l o ms) ≡ member k d (member_if l o ms)
+before k l d None ms is h = h
+before k l d (Some e) ms is h = rw is refl
 
--- the blanks behind a colon or a comma
-abbrev gap : Style → List ℕ
-gap style.Tight = []
-gap style.Spaced = 32 ∷ []
+module _ (c d l s u : Option Data) (x : Data) where
+  put_user : put user x (at_keys c d l s None) ≡ at_keys c d l s (Some x)
+  put_user =
+      behind user case x c _ refl
+      ∙ ap (member_if case c) (behind user (codes "do") x d _ refl
+      ∙ ap (member_if (codes "do") d) (behind user (codes "lane") x l _ refl
+      ∙ ap (member_if (codes "lane") l) (behind user step x s no_members refl)))
 
-gap_is : (st : Style) → IsGap (gap st)
-gap_is style.Tight = tt
-gap_is style.Spaced = (inl refl, tt)
+  put_step : put step x (at_keys c d l None u) ≡ at_keys c d l (Some x) u
+  put_step =
+      behind step case x c _ refl
+      ∙ ap (member_if case c) (behind step (codes "do") x d _ refl
+      ∙ ap (member_if (codes "do") d) (behind step (codes "lane") x l _ refl
+      ∙ ap (member_if (codes "lane") l) (before step user x u no_members refl refl)))
 
--- tokens, each with the blanks before it
-abbrev Spaced : Type 0
-Spaced = List (List ℕ × Token)
+  put_lane : put (codes "lane") x (at_keys c d None s u) ≡ at_keys c d (Some x) s u
+  put_lane =
+      let k = codes "lane" in
+      behind k case x c _ refl
+      ∙ ap (member_if case c) (behind k (codes "do") x d _ refl
+      ∙ ap (member_if (codes "do") d) (before k step x s _ refl (before k user x u no_members refl refl)))
 
-abbrev bare : Spaced → List Token
-bare ps = map (λ p. p.1) ps
+  put_do : put (codes "do") x (at_keys c None l s u) ≡ at_keys c (Some x) l s u
+  put_do =
+      let k = codes "do" in
+      behind k case x c _ refl
+      ∙ ap (member_if case c) (before k (codes "lane") x l _ refl (before k step x s _ refl (before k user x u no_members refl refl)))
 
-abbrev spaced_to : Style → Act → ℕ → List ℕ → List ℕ → Spaced → Spaced
-spaced_to st a n s u ps =
-    ([], begin_object) ∷ ([], key (codes "do")) ∷ (gap st, string (word a)) ∷ (gap st, key case) ∷ (gap st, number (decimal n)) ∷ (
-      gap st,
-      key step,
-    ) ∷ (gap st, string s) ∷ (gap st, key user) ∷ (gap st, string u) ∷ ps
+  put_case : put case x (at_keys None d l s u) ≡ at_keys (Some x) d l s u
+  put_case =
+      before case (codes "do") x d _ refl
+      (before case (codes "lane") x l _ refl (before case step x s _ refl (before case user x u no_members refl refl)))
 
-abbrev end_spaced : Spaced
-end_spaced = ([], end_object) ∷ []
+-- ---- the rest of a line
 
-abbrev lane_spaced : Style → ℕ → Spaced
-lane_spaced st l = (gap st, key lane) ∷ (gap st, number (decimal l)) ∷ ([], end_object) ∷ []
+-- a brace alone
+pub rest_over : (known : Members) → IsRest true known (125 ∷ []) known
+unfolding print_spaced ArePrintable
+rest_over known = record {
+  tokens = ([], end_object) ∷ [];
+  is = refl;
+  gaps = (tt, tt);
+  printable = (tt, tt);
+  utf8 = IsUtf8-are_ascii _ refl;
+  reading = λ n enough. members_over (value 126) known n (end_object ∷ []) [] enough refl;
+}
 
-gaps_to : (st : Style) (a : Act) (n : ℕ) (s u : List ℕ) (ps : Spaced) → AreGaps ps → AreGaps (spaced_to st a n s u ps)
-gaps_to st a n s u ps h = let g = gap_is st in (tt, (tt, (g, (g, (g, (g, (g, (g, (g, h)))))))))
-
-gaps_end : AreGaps end_spaced
-gaps_end = (tt, tt)
-
-gaps_lane : (st : Style) (l : ℕ) → AreGaps (lane_spaced st l)
-gaps_lane st l = let g = gap_is st in (g, (g, (tt, tt)))
-
-abbrev tokens_to : Act → ℕ → List ℕ → List ℕ → List Token → List Token
-tokens_to a n s u ts =
-    begin_object ∷ key (codes "do") ∷ string (word a) ∷ key case ∷ number (decimal n) ∷ key step ∷ string s ∷ key user ∷ string u ∷ ts
-
-abbrev end_tokens : List Token
-end_tokens = end_object ∷ []
-
-abbrev lane_tokens : ℕ → List Token
-lane_tokens l = key lane ∷ number (decimal l) ∷ end_object ∷ []
-
-printable : (a : Act) (n : ℕ) (s u : List ℕ) → n < 2 ^ 64 → ArePrintable (tokens_to a n s u end_tokens)
-unfolding ArePrintable
-printable a n s u h = search (rules, IsNumber-decimal)
-
-printable_lane : (a : Act) (n : ℕ) (s u : List ℕ) (l : ℕ) → n < 2 ^ 64 → l < 2 ^ 64 → ArePrintable (tokens_to a n s u (lane_tokens l))
-unfolding ArePrintable
-printable_lane a n s u l h k = search (rules, IsNumber-decimal)
+-- the line as a whole
+pub line_read : (line rest : List ℕ) (all : Members) → line ≡ 123 ∷ rest → IsRest false no_members rest all → value_of line ≡ Some (object all)
+unfolding print_spaced ArePrintable
+line_read line rest all is r =
+    let ps : Spaced = ([], begin_object) ∷ r.tokens in
+    let printed : line ≡ print_spaced false ps = is ∙ ap (λ x. 123 ∷ x) r.is in
+    let utf8 : IsUtf8 line = subst IsUtf8 (sym is) (IsUtf8-append (123 ∷ []) rest (IsUtf8-are_ascii _ refl) r.utf8) in
+    value_of_utf8 line line (object all) refl utf8
+    (ap (λ x. whole (value 127 (tokens x))) printed ∙ ap (λ ts. whole (value 127 ts)) (tokens-print_spaced ps (tt, r.gaps) (tt, r.printable))
+    ∙ object_read (bare r.tokens) all (r.reading (length (bare r.tokens)) (omega arith)))
 
 closed : (s rest : List ℕ) → escape s ≡ s → (escape s ++ 34 ∷ []) ++ rest ≡ s ++ 34 ∷ rest
 closed s rest e = ap (λ x. (x ++ 34 ∷ []) ++ rest) e ∙ append_assoc s (34 ∷ []) rest
 
-names_closed : (st : Style) (s u rest : List ℕ) → escape s ≡ s → escape u ≡ u
-    → (escape s ++ 34 ∷ []) ++ (to_user st ++ ((escape u ++ 34 ∷ []) ++ rest)) ≡ s ++ 34 ∷ (to_user st ++ (u ++ 34 ∷ rest))
-names_closed st s u rest es eu = closed s _ es ∙ ap (λ x. s ++ 34 ∷ (to_user st ++ x)) (closed u rest eu)
+key_closed : (k rest : List ℕ) → escape k ≡ k → ((escape k ++ 34 ∷ []) ++ 58 ∷ []) ++ rest ≡ k ++ 34 ∷ 58 ∷ rest
+key_closed k rest e = append_assoc (escape k ++ 34 ∷ []) (58 ∷ []) rest ∙ closed k (58 ∷ rest) e
 
-printed : (st : Style) (a : Act) (n : ℕ) (s u : List ℕ) (ps : Spaced) → escape s ≡ s → escape u ≡ u
-    → print_spaced false (spaced_to st a n s u ps) ≡ front st a ++ (decimal n ++ (to_step st ++ (s ++ 34 ∷ (to_user st ++ (u ++ 34 ∷ print_spaced true ps)))))
-unfolding print_spaced escape_byte
-printed style.Tight act.Claim n s u ps es eu =
-    ap (λ x. front style.Tight act.Claim ++ (decimal n ++ (to_step style.Tight ++ x))) (names_closed style.Tight s u _ es eu)
-printed style.Tight act.Finish n s u ps es eu =
-    ap (λ x. front style.Tight act.Finish ++ (decimal n ++ (to_step style.Tight ++ x))) (names_closed style.Tight s u _ es eu)
-printed style.Tight act.GiveBack n s u ps es eu =
-    ap (λ x. front style.Tight act.GiveBack ++ (decimal n ++ (to_step style.Tight ++ x))) (names_closed style.Tight s u _ es eu)
-printed style.Spaced act.Claim n s u ps es eu =
-    ap (λ x. front style.Spaced act.Claim ++ (decimal n ++ (to_step style.Spaced ++ x))) (names_closed style.Spaced s u _ es eu)
-printed style.Spaced act.Finish n s u ps es eu =
-    ap (λ x. front style.Spaced act.Finish ++ (decimal n ++ (to_step style.Spaced ++ x))) (names_closed style.Spaced s u _ es eu)
-printed style.Spaced act.GiveBack n s u ps es eu =
-    ap (λ x. front style.Spaced act.GiveBack ++ (decimal n ++ (to_step style.Spaced ++ x))) (names_closed style.Spaced s u _ es eu)
+joint_utf8 : (b : Bool) (gap : List ℕ) → IsGap gap → IsUtf8 (joint b gap)
+joint_utf8 true gap h = IsUtf8-append (44 ∷ []) gap (IsUtf8-are_ascii _ refl) (IsUtf8-IsGap gap h)
+joint_utf8 false gap h = IsUtf8-IsGap gap h
 
-printed_lane : (st : Style) (l : ℕ) → print_spaced true (lane_spaced st l) ≡ lane_text st l
-unfolding print_spaced escape_byte
-printed_lane style.Tight l = refl
-printed_lane style.Spaced l = refl
+-- one part before a rest
+module _ (k : List ℕ) (t : Token) (d : Data) (vt : List ℕ) (named : IsTrue (is_name k)) (text_is : token_text t ≡ vt) (ended : ends t ≡ true)
+    (printed : IsPrintable t) (vu : IsUtf8 vt) (read : (ts : List Token) → converted of_json (value 126 (t ∷ ts)) ≡ Some (d, ts)) where
+  part_text : (b : Bool) (gap between rest : List ℕ) (ps : Spaced) → rest ≡ print_spaced true ps
+      → joint b gap ++ 34 ∷ (k ++ 34 ∷ 58 ∷ (between ++ (vt ++ rest))) ≡ print_spaced b ((gap, key k) ∷ (between, t) ∷ ps)
+  unfolding print_spaced
+  part_text b gap between rest ps is =
+      append_assoc (separator b (key k)) gap _
+      ∙ ap (λ x. separator b (key k) ++ (gap ++ 34 ∷ x))
+      (ap (λ x. k ++ 34 ∷ 58 ∷ (between ++ (vt ++ x))) is
+      ∙ ap (λ x. k ++ 34 ∷ 58 ∷ (between ++ (x ++ print_spaced true ps))) (sym text_is)
+      ∙ ap (λ x. k ++ 34 ∷ 58 ∷ (between ++ (token_text t ++ print_spaced x ps))) (sym ended)
+      ∙ sym (key_closed k _ (name_stays k named)))
 
-printed_end : print_spaced true end_spaced ≡ 125 ∷ []
-unfolding print_spaced escape_byte
-printed_end = refl
+  part_utf8 : (b : Bool) (gap between rest : List ℕ) → IsGap gap → IsGap between → IsUtf8 rest
+      → IsUtf8 (joint b gap ++ 34 ∷ (k ++ 34 ∷ 58 ∷ (between ++ (vt ++ rest))))
+  part_utf8 b gap between rest g h u =
+      IsUtf8-append (joint b gap) _ (joint_utf8 b gap g)
+      (IsUtf8-append (34 ∷ []) _ (IsUtf8-are_ascii _ refl)
+      (IsUtf8-append k _ (name_utf8 k named)
+      (IsUtf8-append (34 ∷ 58 ∷ []) _ (IsUtf8-are_ascii _ refl) (IsUtf8-append between _ (IsUtf8-IsGap between h) (IsUtf8-append vt rest vu u)))))
 
--- ---- the value of the tokens
+  part_read : (old new : Known) (text rest : List ℕ) → text ≡ vt ++ rest → known_members new ≡ put k d (known_members old) → ReadsValue k text old new rest
+  unfolding ArePrintable
+  part_read old new text rest is more between h b gap all g r = record {
+    tokens = (gap, key k) ∷ (between, t) ∷ r.tokens;
+    is = ap (λ x. joint b gap ++ 34 ∷ (k ++ 34 ∷ 58 ∷ (between ++ x))) is ∙ part_text b gap between rest r.tokens r.is;
+    gaps = (g, (h, r.gaps));
+    printable = (tt, (printed, r.printable));
+    utf8 = subst (λ x. IsUtf8 (joint b gap ++ 34 ∷ (k ++ 34 ∷ 58 ∷ (between ++ x)))) (sym is) (part_utf8 b gap between rest g h r.utf8);
+    reading = λ n enough. member_read (value 126) (known_members old) n k _ (t ∷ bare r.tokens) (bare r.tokens) d (omega arith) refl (read (bare r.tokens))
+        ∙ ap (λ ms. converted (λ js. of_members js ms) (members (value 126) (n - 1) (bare r.tokens))) (sym more) ∙ r.reading (n - 1) (omega arith);
+  }
 
-abbrev put_in : List ℕ → List ℕ → List ℕ → Data → v.Members
-put_in w s u x = put user (v.string u) (put step (v.string s) (put case x (put (codes "do") (v.string w) no_members)))
+name_read : (k s : List ℕ) (old new : Known) (text rest : List ℕ) → IsTrue (is_name k) → IsTrue (is_name s) → text ≡ 34 ∷ (s ++ 34 ∷ rest)
+    → known_members new ≡ put k (v.string s) (known_members old) → ReadsValue k text old new rest
+name_read k s old new text rest named form is more =
+    part_read k (string s) (v.string s) (34 ∷ (s ++ 34 ∷ [])) named (ap (λ x. 34 ∷ (x ++ 34 ∷ [])) (name_stays s form)) refl tt
+    (IsUtf8-append (34 ∷ []) _ (IsUtf8-are_ascii _ refl) (IsUtf8-append s (34 ∷ []) (name_utf8 s form) (IsUtf8-are_ascii _ refl)))
+    (λ ts. ap (converted of_json) (value_is 126 (string s ∷ ts))) old new text rest
+    (is ∙ ap (λ x. 34 ∷ x) (sym (append_assoc s (34 ∷ []) rest))) more
 
-abbrev without_lane : List ℕ → ℕ → List ℕ → List ℕ → Data
-without_lane w n s u =
-    object (member case (v.number (unsigned n)) (member (codes "do") (v.string w) (member step (v.string s) (member user (v.string u) no_members))))
+number_read : (k : List ℕ) (n : ℕ) (old new : Known) (text rest : List ℕ) → IsTrue (is_name k) → n < 65536 → text ≡ decimal n ++ rest
+    → known_members new ≡ put k (number_data n) (known_members old) → ReadsValue k text old new rest
+number_read k n old new text rest named small is more =
+    let h : n < 2 ^ 64 = omega arith in
+    part_read k (number (decimal n)) (number_data n) (decimal n) named refl refl (IsNumber-decimal n h)
+    (IsUtf8-from_ascii (decimal n) (IsAscii-decimal n h))
+    (λ ts. ap (converted of_json) (value_is 126 (number (decimal n) ∷ ts))
+    ∙ ap (λ o. option_map (λ d. (d, ts)) (option_map v.number o)) (number_of-decimal n h)) old new text rest is more
 
-abbrev with_lane : List ℕ → ℕ → List ℕ → List ℕ → ℕ → Data
-with_lane w n s u l =
-    object (member case (v.number (unsigned n))
-    (member (codes "do") (v.string w) (member lane (v.number (unsigned l)) (member step (v.string s) (member user (v.string u) no_members)))))
+none : {A : Type 0} (o : Option A) → is_some o ≡ false → o ≡ None
+none None h = refl
+none (Some a) h = cc
 
-abbrev read_tokens : List Token → Option Data
-read_tokens ts = option_and_then of_json (option_and_then (λ p. json.if_last p.0 p.1) (json.value max_depth ts))
+-- ---- a part at each key
 
-value_without : (a : Act) (n : ℕ) (s u : List ℕ) → n < 2 ^ 64 → read_tokens (tokens_to a n s u end_tokens) ≡ Some (without_lane (word a) n s u)
-unfolding json.value json.members
-value_without a n s u h =
-    ap (λ o. option_map object (option_and_then (λ x. Some (put_in (word a) s u x)) (option_map v.number o))) (number_of-decimal n h)
+same : (a b c d e : Option Data) (k : Known) → a ≡ option_map number_data k.case → b ≡ option_map (λ x. v.string (word x)) k.act
+    → c ≡ option_map number_data k.lane → d ≡ option_map v.string k.step → e ≡ option_map v.string k.user → at_keys a b c d e ≡ known_members k
+same a b c d e k h1 h2 h3 h4 h5 = rw (h1, h2, h3, h4, h5) refl
 
-value_with : (a : Act) (n : ℕ) (s u : List ℕ) (l : ℕ) → n < 2 ^ 64 → l < 2 ^ 64 →
-    read_tokens (tokens_to a n s u (lane_tokens l)) ≡ Some (with_lane (word a) n s u l)
-unfolding json.value json.members
-value_with a n s u l h k =
-    ap (λ o. option_map object (option_and_then (λ x. option_and_then (λ y. Some (put lane y (put_in (word a) s u x)))
-    (option_map v.number (number_of (decimal l)))) (option_map v.number o))) (number_of-decimal n h)
-    ∙ ap (λ o. option_map object (option_and_then (λ y. Some (put lane y (put_in (word a) s u (v.number (unsigned n))))) (option_map v.number o)))
-    (number_of-decimal l k)
+word_form : (a : Act) → IsTrue (is_name (word a))
+unfolding is_name
+word_form act.Claim = refl
+word_form act.Finish = refl
+word_form act.GiveBack = refl
 
-value_read : (line : List ℕ) (ps : Spaced) (d : Data) → IsUtf8 line → line ≡ print_spaced false ps → AreGaps ps → ArePrintable (bare ps) →
-    read_tokens (bare ps) ≡ Some d → value_of line ≡ Some d
-value_read line ps d utf8 is gaps h e = value_of_utf8 line line d refl utf8 (ap read is ∙ ap read_tokens (tokens-print_spaced ps gaps h) ∙ e)
+module _ (old : Known) (text rest : List ℕ) where
+  abbrev at_case : Option Data
+  at_case = option_map number_data old.case
 
--- ---- what the value asks
+  abbrev at_do : Option Data
+  at_do = option_map (λ x. v.string (word x)) old.act
 
-requested : (a : Act) (lanes n : ℕ) (s u : List ℕ) → n ≤ 65535 → is_name s ≡ true → is_name u ≡ true
-    → request_in lanes (without_lane (word a) n s u) ≡ Ok (record { lane = 0; ask = ask.Request (request_of a n s u) })
+  abbrev at_lane : Option Data
+  at_lane = option_map number_data old.lane
+
+  abbrev at_step : Option Data
+  at_step = option_map v.string old.step
+
+  abbrev at_user : Option Data
+  at_user = option_map v.string old.user
+
+  pub act_read : (a : Act) → is_some old.act ≡ false → text ≡ 34 ∷ (word a ++ 34 ∷ rest) → ReadsValue (codes "do") text old (record old { act = Some a }) rest
+  unfolding is_name
+  act_read a h is =
+      name_read (codes "do") (word a) old (record old { act = Some a }) text rest refl (word_form a) is
+      (sym (put_do at_case None at_lane at_step at_user (v.string (word a)))
+      ∙ ap (λ o. put (codes "do") (v.string (word a)) (at_keys at_case (option_map (λ x. v.string (word x)) o) at_lane at_step at_user)) (sym (none old.act h)))
+
+  pub case_read : (n : ℕ) → is_some old.case ≡ false → n < 65536 → text ≡ decimal n ++ rest
+      → ReadsValue case text old (record old { case = Some n }) rest
+  unfolding is_name
+  case_read n h small is =
+      number_read case n old (record old { case = Some n }) text rest refl small is
+      (sym (put_case None at_do at_lane at_step at_user (number_data n))
+      ∙ ap (λ o. put case (number_data n) (at_keys (option_map number_data o) at_do at_lane at_step at_user)) (sym (none old.case h)))
+
+  pub lane_read : (n : ℕ) → is_some old.lane ≡ false → n < 65536 → text ≡ decimal n ++ rest
+      → ReadsValue (codes "lane") text old (record old { lane = Some n }) rest
+  unfolding is_name
+  lane_read n h small is =
+      number_read (codes "lane") n old (record old { lane = Some n }) text rest refl small is
+      (sym (put_lane at_case at_do None at_step at_user (number_data n))
+      ∙ ap (λ o. put (codes "lane") (number_data n) (at_keys at_case at_do (option_map number_data o) at_step at_user)) (sym (none old.lane h)))
+
+  pub step_read : (s : List ℕ) → is_some old.step ≡ false → IsTrue (is_name s) → text ≡ 34 ∷ (s ++ 34 ∷ rest)
+      → ReadsValue step text old (record old { step = Some s }) rest
+  unfolding is_name
+  step_read s h form is =
+      name_read step s old (record old { step = Some s }) text rest refl form is
+      (sym (put_step at_case at_do at_lane None at_user (v.string s))
+      ∙ ap (λ o. put step (v.string s) (at_keys at_case at_do at_lane (option_map v.string o) at_user)) (sym (none old.step h)))
+
+  pub user_read : (s : List ℕ) → is_some old.user ≡ false → IsTrue (is_name s) → text ≡ 34 ∷ (s ++ 34 ∷ rest)
+      → ReadsValue user text old (record old { user = Some s }) rest
+  unfolding is_name
+  user_read s h form is =
+      name_read user s old (record old { user = Some s }) text rest refl form is
+      (sym (put_user at_case at_do at_lane at_step None (v.string s))
+      ∙ ap (λ o. put user (v.string s) (at_keys at_case at_do at_lane at_step (option_map v.string o))) (sym (none old.user h)))
+
+-- ---- what the members ask
+
+abbrev pub asks : ℕ → Request → Asked
+asks l r = record { lane = l; ask = ask.Request r }
+
+requested : (a : Act) (lanes n : ℕ) (s u : List ℕ) (o : Option ℕ) (l : ℕ) → n ≤ 65535 → IsTrue (is_name s) → IsTrue (is_name u) → lane_known lanes o ≡ Some l
+    → request_in lanes (object (at_keys (Some (number_data n)) (Some (v.string (word a))) (option_map number_data o) (Some (v.string s)) (Some (v.string u))))
+    ≡ Ok (asks l (request_of a n s u))
 unfolding request_in request_by
-requested act.Claim lanes n s u h hs hu = rw (le-leb n 65535 h, hs, hu)
-requested act.Finish lanes n s u h hs hu = rw (le-leb n 65535 h, hs, hu)
-requested act.GiveBack lanes n s u h hs hu = rw (le-leb n 65535 h, hs, hu)
+requested act.Claim lanes n s u None l h hs hu is = rw (le-leb n 65535 h, hs, hu) (ap (λ o. Ok (asks (unwrap_or o 0) (Claim n s u))) is)
+requested act.Finish lanes n s u None l h hs hu is = rw (le-leb n 65535 h, hs, hu) (ap (λ o. Ok (asks (unwrap_or o 0) (Finish n s u))) is)
+requested act.GiveBack lanes n s u None l h hs hu is = rw (le-leb n 65535 h, hs, hu) (ap (λ o. Ok (asks (unwrap_or o 0) (GiveBack n s u))) is)
+requested act.Claim lanes n s u (Some m) l h hs hu is = rw (is, le-leb n 65535 h, hs, hu) refl
+requested act.Finish lanes n s u (Some m) l h hs hu is = rw (is, le-leb n 65535 h, hs, hu) refl
+requested act.GiveBack lanes n s u (Some m) l h hs hu is = rw (is, le-leb n 65535 h, hs, hu) refl
 
-requested_of : (a : Act) (lanes n : ℕ) (s u : List ℕ) (l : ℕ) → n ≤ 65535 → is_name s ≡ true → is_name u ≡ true → l < lanes
-    → request_in lanes (with_lane (word a) n s u l) ≡ Ok (record { lane = l; ask = ask.Request (request_of a n s u) })
-unfolding request_in request_by
-requested_of act.Claim lanes n s u l h hs hu below = rw (lt-ltb l lanes below, le-leb n 65535 h, hs, hu)
-requested_of act.Finish lanes n s u l h hs hu below = rw (lt-ltb l lanes below, le-leb n 65535 h, hs, hu)
-requested_of act.GiveBack lanes n s u l h hs hu below = rw (lt-ltb l lanes below, le-leb n 65535 h, hs, hu)
+pub known_asked : (k : Known) (lanes : ℕ) (a : Act) (n : ℕ) (s u : List ℕ) (l : ℕ) → k.act ≡ Some a → k.case ≡ Some n → k.step ≡ Some s → k.user ≡ Some u
+    → n < 65536 → IsTrue (is_name s) → IsTrue (is_name u) → lane_known lanes k.lane ≡ Some l
+    → asks l (request_of a n s u) ≡ asked (request_in lanes (object (known_members k)))
+known_asked k lanes a n s u l is_act is_case is_step is_user small hs hu is =
+    ap asked (sym (requested a lanes n s u k.lane l (omega arith) hs hu is))
+    ∙ ap (λ ms. asked (request_in lanes (object ms))) (same (Some (number_data n)) (Some (v.string (word a))) (option_map number_data k.lane) (Some (v.string s))
+    (Some (v.string u)) k (ap (option_map number_data) (sym is_case)) (ap (option_map (λ x. v.string (word x))) (sym is_act)) refl
+    (ap (option_map v.string) (sym is_step)) (ap (option_map v.string) (sym is_user)))
 
--- ---- what the line asks
+pub line_asked : (lanes : ℕ) (line : List ℕ) (ms : Members) → value_of line ≡ Some (object ms) → asked (request_in lanes (object ms)) ≡ asked_of lanes line
+unfolding asked_of
+line_asked lanes line ms read = ap (λ o. asked (or_fault o Syntax >>= request_in lanes)) (sym read)
 
--- the text of a line that was read in parts
-pub plain_parts : (st : Style) (a : Act) (n : ℕ) (s u line r1 r2 r3 s' r4 after_s r5 u' rest after_u : List ℕ)
-    → line ≡ front st a ++ r1 → r1 ≡ decimal n ++ r2 → r2 ≡ to_step st ++ r3 → r3 ≡ s' ++ 34 ∷ after_s → s ≡ s' → r4 ≡ after_s → r4 ≡ to_user st ++ r5 →
-    r5 ≡ u' ++ 34 ∷ after_u → u ≡ u' → rest ≡ after_u
-    → line ≡ plain_text st a n s u rest
-plain_parts st a n s u line r1 r2 r3 s' r4 after_s r5 u' rest after_u e1 e2 e3 e4 e5 e6 e7 e8 e9 e10 = cc
+-- ---- a blank at the front
 
-text_utf8 : (bs : List ℕ) → list_all (λ b. nat_lt b 128) bs ≡ true → IsUtf8 bs
-text_utf8 bs h = IsUtf8-from_ascii bs (all_ascii bs h)
-  where
-    all_ascii : (bs : List ℕ) → list_all (λ b. nat_lt b 128) bs ≡ true → (i : ℕ) → slice_index bs i < 128
-    all_ascii [] h i = omega arith
-    all_ascii (b ∷ bs) h zero = grind (arith, common_steps)
-    all_ascii (b ∷ bs) h (suc i) = grind (arith, common_steps, all_ascii bs)
-
-front_utf8 : (st : Style) (a : Act) → IsUtf8 (front st a)
-front_utf8 style.Tight act.Claim = text_utf8 (front style.Tight act.Claim) refl
-front_utf8 style.Tight act.Finish = text_utf8 (front style.Tight act.Finish) refl
-front_utf8 style.Tight act.GiveBack = text_utf8 (front style.Tight act.GiveBack) refl
-front_utf8 style.Spaced act.Claim = text_utf8 (front style.Spaced act.Claim) refl
-front_utf8 style.Spaced act.Finish = text_utf8 (front style.Spaced act.Finish) refl
-front_utf8 style.Spaced act.GiveBack = text_utf8 (front style.Spaced act.GiveBack) refl
-
-to_step_utf8 : (st : Style) → IsUtf8 (to_step st)
-to_step_utf8 style.Tight = text_utf8 (to_step style.Tight) refl
-to_step_utf8 style.Spaced = text_utf8 (to_step style.Spaced) refl
-
-to_user_utf8 : (st : Style) → IsUtf8 (to_user st)
-to_user_utf8 style.Tight = text_utf8 (to_user style.Tight) refl
-to_user_utf8 style.Spaced = text_utf8 (to_user style.Spaced) refl
-
-to_lane_utf8 : (st : Style) → IsUtf8 (to_lane st)
-to_lane_utf8 style.Tight = text_utf8 (to_lane style.Tight) refl
-to_lane_utf8 style.Spaced = text_utf8 (to_lane style.Spaced) refl
-
-decimal_utf8 : (n : ℕ) → n < 65536 → IsUtf8 (decimal n)
-decimal_utf8 n h = IsUtf8-from_ascii (decimal n) (IsAscii-decimal n (omega arith))
-
-plain_utf8 : (st : Style) (a : Act) (n : ℕ) (s u rest : List ℕ) → n < 65536 → IsUtf8 s → IsUtf8 u → IsUtf8 rest → IsUtf8 (plain_text st a n s u rest)
-plain_utf8 st a n s u rest h us uu ur =
-    let quote = text_utf8 (34 ∷ []) refl in
-    IsUtf8-append (front st a) _ (front_utf8 st a)
-    (IsUtf8-append (decimal n) _ (decimal_utf8 n h)
-    (IsUtf8-append (to_step st) _ (to_step_utf8 st)
-    (IsUtf8-append s _ us
-    (IsUtf8-append (34 ∷ []) _ quote
-    (IsUtf8-append (to_user st) _ (to_user_utf8 st)
-    (IsUtf8-append u _ uu (IsUtf8-append (34 ∷ []) rest quote ur)))))))
-
-end_utf8 : IsUtf8 (125 ∷ [])
-end_utf8 = text_utf8 (125 ∷ []) refl
-
-lane_utf8 : (st : Style) (l : ℕ) → l < 65536 → IsUtf8 (lane_text st l)
-lane_utf8 st l h = IsUtf8-append (to_lane st) _ (to_lane_utf8 st) (IsUtf8-append (decimal l) _ (decimal_utf8 l h) end_utf8)
-
-module _ (lanes : ℕ) (st : Style) (a : Act) (n : ℕ) (s u line rest : List ℕ) (few : lanes < 256) (small : n < 65536) (hs : is_name s ≡ true)
-    (hu : is_name u ≡ true) (us : IsUtf8 s) (uu : IsUtf8 u) (is : line ≡ plain_text st a n s u rest) where
-  print_is : (ps : Spaced) → rest ≡ print_spaced true ps → line ≡ print_spaced false (spaced_to st a n s u ps)
-  print_is ps e = is ∙ ap (plain_text st a n s u) e ∙ sym (printed st a n s u ps (name_stays s hs) (name_stays u hu))
-
-  line_utf8 : IsUtf8 rest → IsUtf8 line
-  line_utf8 ur = subst IsUtf8 (sym is) (plain_utf8 st a n s u rest small us uu ur)
-
-  first_lane : rest ≡ 125 ∷ [] → asked_of lanes line ≡ record { lane = 0; ask = ask.Request (request_of a n s u) }
-  unfolding asked_of
-  first_lane e =
-      let h : n < 2 ^ 64 = omega arith in
-      rw (value_read line _ _ (line_utf8 (subst IsUtf8 (sym e) end_utf8)) (print_is end_spaced (e ∙ sym printed_end))
-      (gaps_to st a n s u end_spaced gaps_end) (printable a n s u h) (value_without a n s u h))
-      (ap asked (requested a lanes n s u (omega arith) hs hu))
-
-  named_lane : (l : ℕ) → rest ≡ lane_text st l → l < lanes → asked_of lanes line ≡ record { lane = l; ask = ask.Request (request_of a n s u) }
-  unfolding asked_of
-  named_lane l e below =
-      let h : n < 2 ^ 64 = omega arith in
-      let k : l < 2 ^ 64 = omega arith in
-      rw (value_read line _ _ (line_utf8 (subst IsUtf8 (sym e) (lane_utf8 st l (omega arith)))) (print_is (lane_spaced st l) (e ∙ sym (printed_lane st l)))
-      (gaps_to st a n s u (lane_spaced st l) (gaps_lane st l)) (printable_lane a n s u l h k) (value_with a n s u l h k))
-      (ap asked (requested_of a lanes n s u l (omega arith) hs hu below))
-
-  pub asked_plainly : (l : ℕ) → EndsWithLane st lanes l rest → record { lane = l; ask = ask.Request (request_of a n s u) } ≡ asked_of lanes line
-  asked_plainly l (inl first) = ap (λ x. record { lane = x; ask = ask.Request (request_of a n s u) }) first.1 ∙ sym (first_lane first.0)
-  asked_plainly l (inr named) = sym (named_lane l named.0 named.1)
+pub blank_first : (rest : List ℕ) → 0 < length rest → get_or rest 0 0 ≡ 32 → rest ≡ 32 ∷ take (length rest - 1) (drop 1 rest)
+blank_first [] h e = absurd (omega arith)
+blank_first (b ∷ bs) h e = ap (λ x. x ∷ bs) e ∙ ap (λ ys. 32 ∷ ys) (sym (take_all (length (b ∷ bs) - 1) bs (omega arith)))

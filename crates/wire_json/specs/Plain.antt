@@ -1,52 +1,90 @@
--- Inside: the requests about a step as they are mostly written: without blanks, or with one behind
--- each colon and comma, their keys in the order in which they are checked, and the lane last, if it
--- is there.
-use Rattle.std.specs.Prelude.{◌≡◌, ◌⊎◌, ℕ, ◌<◌, decimal, List, [], ◌∷◌, ◌++◌, codes}
+-- Inside: the requests about a step as they are mostly written: their keys in any order, each once,
+-- and no blanks but for one behind a colon or a comma.
+use Rattle.std.specs.Prelude.{◌≡◌, ℕ, nat_lt, ◌≤◌, List, [], ◌∷◌, ◌++◌, codes, map, length}
+use Rattle.std.specs.Prelude.{IsUtf8, Bool, true, Option, Some, None, option_map, if◌then◌else◌}
+use Rattle.json.specs.Token.{Token, key}
+use Rattle.json.specs.Json.{members, value}
+use Rattle.json.specs.Print.{separator, ArePrintable}
+use Rattle.json.specs.Spaced.{IsGap, AreGaps, print_spaced}
+use Rattle.serde_json.specs.Data.{Data, Members, no_members, member, string, number, unsigned}
+use Rattle.serde_json.specs.Read.{of_members, converted}
 use Rattle.wf_talk.specs.declared.request.Request.{Request}
 use Rattle.wf_talk.specs.declared.request.Request.TheVariants.{Claim, Finish, GiveBack}
-use Rattle.wire_json.specs.declared.plain.Style.{Style}
-use Rattle.wire_json.specs.declared.plain.Style.TheVariants as style
 use Rattle.wire_json.specs.declared.plain.Act.{Act}
 use Rattle.wire_json.specs.declared.plain.Act.TheVariants as act
+use Rattle.wire_json.specs.declared.plain.Known.{Known}
 
--- up to the number of the case
-abbrev pub front : Style → Act → List ℕ
-front style.Tight act.Claim = codes "{\"do\":\"claim\",\"case\":"
-front style.Tight act.Finish = codes "{\"do\":\"finish\",\"case\":"
-front style.Tight act.GiveBack = codes "{\"do\":\"give_back\",\"case\":"
-front style.Spaced act.Claim = codes "{\"do\": \"claim\", \"case\": "
-front style.Spaced act.Finish = codes "{\"do\": \"finish\", \"case\": "
-front style.Spaced act.GiveBack = codes "{\"do\": \"give_back\", \"case\": "
-
-abbrev pub to_step : Style → List ℕ
-to_step style.Tight = codes ",\"step\":\""
-to_step style.Spaced = codes ", \"step\": \""
-
-abbrev pub to_user : Style → List ℕ
-to_user style.Tight = codes ",\"user\":\""
-to_user style.Spaced = codes ", \"user\": \""
-
--- the text up to the end of the user's name, and what follows
-abbrev pub plain_text : Style → Act → ℕ → List ℕ → List ℕ → List ℕ → List ℕ
-plain_text st a n s u rest =
-    front st a ++ (decimal n ++ (to_step st ++ (s ++ 34 ∷ (to_user st ++ (u ++ 34 ∷ rest)))))
-
-abbrev pub to_lane : Style → List ℕ
-to_lane style.Tight = codes ",\"lane\":"
-to_lane style.Spaced = codes ", \"lane\": "
-
--- what follows where a lane is named
-abbrev pub lane_text : Style → ℕ → List ℕ
-lane_text st lane = to_lane st ++ (decimal lane ++ 125 ∷ [])
-
--- what follows is the end, and the lane is the first; or it names the lane, which is below their
--- number
-abbrev pub EndsWithLane : Style → ℕ → ℕ → List ℕ → Type 0
-EndsWithLane st lanes lane rest = ((rest ≡ 125 ∷ []) × (lane ≡ 0)) ⊎
-    ((rest ≡ lane_text st lane) × (lane < lanes))
+-- the word at the key do
+abbrev pub word : Act → List ℕ
+word act.Claim = codes "claim"
+word act.Finish = codes "finish"
+word act.GiveBack = codes "give_back"
 
 -- what is asked of a step
 abbrev pub request_of : Act → ℕ → List ℕ → List ℕ → Request
 request_of act.Claim n s u = Claim n s u
 request_of act.Finish n s u = Finish n s u
 request_of act.GiveBack n s u = GiveBack n s u
+
+-- the lane, which is below their number; the first one where none is known
+abbrev pub lane_known : ℕ → Option ℕ → Option ℕ
+lane_known lanes None = Some 0
+lane_known lanes (Some n) = if nat_lt n lanes then Some n else None
+
+-- members with one more in front of them, where its value is known
+abbrev pub member_if : List ℕ → Option Data → Members → Members
+member_if k None ms = ms
+member_if k (Some d) ms = member k d ms
+
+-- the members at the five keys, in the order of these
+abbrev pub at_keys : Option Data → Option Data → Option Data → Option Data → Option Data → Members
+at_keys case doing lane step user =
+    let names = member_if (codes "step") step (member_if (codes "user") user no_members) in
+    member_if (codes "case") case (member_if (codes "do") doing (member_if (codes "lane") lane names))
+
+abbrev pub number_data : ℕ → Data
+number_data n = number (unsigned n)
+
+-- the members of which the values are known
+abbrev pub known_members : Known → Members
+known_members k =
+    at_keys (option_map number_data k.case) (option_map (λ a. string (word a)) k.act)
+    (option_map number_data k.lane) (option_map string k.step) (option_map string k.user)
+
+-- the tokens of a text, each with the blanks before it
+abbrev pub Spaced : Type 0
+Spaced = List (List ℕ × Token)
+
+abbrev pub bare : Spaced → List Token
+bare ps = map (λ p. p.1) ps
+
+-- the rest of the text of an object: behind the members that are known, or at the start of all, it
+-- goes on up to the end, and the object has all these members then
+pub record IsRest (behind : Bool) (known : Members) (text : List ℕ) (all : Members) : Type 0 where
+  pub tokens : Spaced
+  pub is : text ≡ print_spaced behind tokens
+  pub gaps : AreGaps tokens
+  pub printable : ArePrintable (bare tokens)
+  pub utf8 : IsUtf8 text
+  pub reading : (n : ℕ) → length (bare tokens) ≤ n →
+      converted (λ ms. of_members ms known) (members (value 126) n (bare tokens)) ≡ Some (all, [])
+
+-- what stands before a key
+abbrev pub joint : Bool → List ℕ → List ℕ
+joint behind gap = separator behind (key []) ++ gap
+
+-- a text begins with a part, by which what was known before becomes what is known then
+abbrev pub ReadsPart : List ℕ → Known → Known → List ℕ → Type 0
+ReadsPart text old new rest =
+    (behind : Bool) (gap : List ℕ) (all : Members) → IsGap gap
+    → IsRest true (known_members new) rest all
+    → IsRest behind (known_members old) (joint behind gap ++ text) all
+
+-- a text begins with the value of a part, of which the key was read
+abbrev pub ReadsValue : List ℕ → List ℕ → Known → Known → List ℕ → Type 0
+ReadsValue k text old new rest =
+    (gap : List ℕ) → IsGap gap → ReadsPart (34 ∷ (k ++ 34 ∷ 58 ∷ (gap ++ text))) old new rest
+
+-- a text begins with some bytes and blanks
+abbrev pub IsSpaced : List ℕ → List ℕ → List ℕ → Type 0
+IsSpaced front text rest = (gap : List ℕ) × IsGap gap × (text ≡ front ++ (gap ++ rest))

@@ -1,16 +1,14 @@
 //! Reading a request about a step without making a value of its line.
-ghost use Rattle.std.specs.Prelude.{◌≡◌, ◌<◌, ◌+◌, ◌∷◌, [], ◌++◌, length, take, drop, decimal};
-ghost use Rattle.std.specs.Prelude.{IfSome, IsTrue, true};
-ghost use Rattle.std.specs.Str.{IsUtf8};
-ghost use Rattle.wf_names.specs.Names.{is_name};
-ghost use Rattle.wire_json.specs.declared.plain.Style.TheVariants as Style;
+ghost use Rattle.std.specs.Prelude.{◌≡◌, ◌<◌, ◌+◌, ◌∷◌, [], ◌++◌, length, take, drop, decimal, codes};
+ghost use Rattle.std.specs.Prelude.{IfSome, Some, true};
+ghost use Rattle.serde_json.specs.Data.{object};
 ghost use Rattle.wire_json.specs.Requests as read;
-ghost use Rattle.wire_json.specs.Plain.{front, to_step, to_user, to_lane, request_of, EndsWithLane};
+ghost use Rattle.wire_json.specs.Plain.{request_of, word, known_members, lane_known};
+ghost use Rattle.wire_json.specs.Plain.{IsSpaced, ReadsValue, ReadsPart};
 
 use crate::Asked;
 use itoa::Buffer;
 use memchr::memchr;
-use std::str;
 use wf_names::{CaseId, Name};
 use wf_talk::{Ask, Request};
 
@@ -22,71 +20,143 @@ pub(crate) enum Act {
     GiveBack,
 }
 
-/// Which blanks a line has.
+/// What stands at the keys of a line, as far as it was read.
 #[derive(Clone, Copy)]
-pub(crate) enum Style {
-    Tight,
-    /// One behind each colon and comma.
-    Spaced,
+pub(crate) struct Known {
+    act: Option<Act>,
+    case: Option<u16>,
+    lane: Option<u16>,
+    step: Option<Name>,
+    user: Option<Name>,
 }
 
-/// What a line asks that is a claim, a finish or a return as most are written: without blanks or
-/// with one behind each colon and comma, its keys in the order in which they are checked, and its
-/// lane last or left out. None says nothing.
+/// What a line asks that is a claim, a finish or a return as most are written: its keys, in any
+/// order, each come once, and it has no blanks but for one behind a colon or a comma. None says
+/// nothing.
 pub(crate) fn read_plain(line: &[u8], lanes: u8) -> Option<Asked>
     ensures { IfSome result (λ asked. asked ≡ read.asked_of lanes line.now) }
 {
-    if let Some((act, rest)) = take_tight(line) {
-        return read_rest(line, Style::Tight, act, rest, lanes);
+    let mut known = Known {
+        act: None,
+        case: None,
+        lane: None,
+        step: None,
+        user: None,
+    };
+    let mut rest = take(line, b"{")?;
+    // There are five keys.
+    'parts: for _ in 0..5 {
+        rest = read_part(rest, &mut known)?;
+        if is_end(rest) {
+            return known.asked(lanes);
+        }
+        rest = take_spaced(rest, b",")?;
     }
-    let (act, rest) = take_spaced(line)?;
-    read_rest(line, Style::Spaced, act, rest, lanes)
+    None
 }
 
-// What a line asks, of which what it asks of a step is read.
-fn read_rest(line: &[u8], style: Style, act: Act, rest: &[u8], lanes: u8) -> Option<Asked>
-    requires { line.now ≡ front style act ++ rest.now }
-    ensures { IfSome result (λ asked. asked ≡ read.asked_of lanes line.now) }
+// Reads a key and its value, and gives what follows them.
+fn read_part<'t>(text: &'t [u8], known: &mut Known) -> Option<&'t [u8]>
+    ensures { IfSome result (λ rest. ReadsPart text.now known.old known.new rest.now) }
 {
-    let (case, rest) = take_number(rest)?;
-    let rest = take(rest, style.to_step())?;
-    let end = name_len(rest)?;
-    let step = name_of(&rest[..end])?;
-    let rest = take(past(rest, end), style.to_user())?;
-    let end = name_len(rest)?;
-    let user = name_of(&rest[..end])?;
-    let lane = lane_of(style, past(rest, end), lanes)?;
-    Some(Asked {
-        lane,
-        ask: Ask::Request(act.request(CaseId(case), step, user)),
-    })
+    match *text.get(1)? {
+        b'd' => known.read_act(take_spaced(text, b"\"do\":")?),
+        b'c' => known.read_case(take_spaced(text, b"\"case\":")?),
+        b's' => known.read_step(take_spaced(text, b"\"step\":")?),
+        b'u' => known.read_user(take_spaced(text, b"\"user\":")?),
+        b'l' => known.read_lane(take_spaced(text, b"\"lane\":")?),
+        _ => None,
+    }
 }
 
-impl Style {
-    fn to_step(self) -> &'static [u8]
-        ensures { result.now ≡ to_step self }
+impl Known {
+    // Reads the value at the key do, and gives what follows it.
+    fn read_act<'t>(&mut self, text: &'t [u8]) -> Option<&'t [u8]>
+        ensures { IfSome result (λ rest. ReadsValue (codes "do") text.now self.old self.new
+            rest.now) }
     {
-        match self {
-            Style::Tight => b",\"step\":\"",
-            Style::Spaced => b", \"step\": \"",
+        if self.act.is_some() {
+            return None;
         }
+        let (act, rest) = take_act(text)?;
+        self.act = Some(act);
+        Some(rest)
     }
 
-    fn to_user(self) -> &'static [u8]
-        ensures { result.now ≡ to_user self }
+    // Reads the value at the key case, and gives what follows it.
+    fn read_case<'t>(&mut self, text: &'t [u8]) -> Option<&'t [u8]>
+        ensures { IfSome result (λ rest. ReadsValue read.case text.now self.old self.new rest.now) }
     {
-        match self {
-            Style::Tight => b",\"user\":\"",
-            Style::Spaced => b", \"user\": \"",
+        if self.case.is_some() {
+            return None;
         }
+        let (case, rest) = take_number(text)?;
+        self.case = Some(case);
+        Some(rest)
     }
 
-    fn to_lane(self) -> &'static [u8]
-        ensures { result.now ≡ to_lane self }
+    // Reads the value at the key lane, and gives what follows it.
+    fn read_lane<'t>(&mut self, text: &'t [u8]) -> Option<&'t [u8]>
+        ensures { IfSome result (λ rest. ReadsValue (codes "lane") text.now self.old self.new
+            rest.now) }
     {
-        match self {
-            Style::Tight => b",\"lane\":",
-            Style::Spaced => b", \"lane\": ",
+        if self.lane.is_some() {
+            return None;
+        }
+        let (lane, rest) = take_number(text)?;
+        self.lane = Some(lane);
+        Some(rest)
+    }
+
+    // Reads the value at the key step, and gives what follows it.
+    fn read_step<'t>(&mut self, text: &'t [u8]) -> Option<&'t [u8]>
+        ensures { IfSome result (λ rest. ReadsValue read.step text.now self.old self.new rest.now) }
+    {
+        if self.step.is_some() {
+            return None;
+        }
+        let (bytes, rest) = take_quoted(text)?;
+        self.step = Some(Name::of_bytes(bytes)?);
+        Some(rest)
+    }
+
+    // Reads the value at the key user, and gives what follows it.
+    fn read_user<'t>(&mut self, text: &'t [u8]) -> Option<&'t [u8]>
+        ensures { IfSome result (λ rest. ReadsValue read.user text.now self.old self.new rest.now) }
+    {
+        if self.user.is_some() {
+            return None;
+        }
+        let (bytes, rest) = take_quoted(text)?;
+        self.user = Some(Name::of_bytes(bytes)?);
+        Some(rest)
+    }
+
+    // What is asked, where all is known that a request about a step needs.
+    fn asked(&self, lanes: u8) -> Option<Asked>
+        ensures { IfSome result (λ asked. asked
+            ≡ read.asked (read.request_in lanes (object (known_members self.now)))) }
+    {
+        let act = self.act?;
+        let case = case_id(self.case?);
+        let step = self.step?;
+        let user = self.user?;
+        let lane = self.lane_below(lanes)?;
+        let (_step, _user) = (step.as_str(), user.as_str());
+        Some(Asked {
+            lane,
+            ask: Ask::Request(act.request(case, step, user)),
+        })
+    }
+
+    // The lane, which is the first one where none is named.
+    fn lane_below(&self, lanes: u8) -> Option<u8>
+        ensures { IfSome result (λ n. lane_known lanes self.now.lane ≡ Some n) }
+    {
+        match self.lane {
+            None => Some(0),
+            Some(lane) if lane < lanes as u16 => Some(lane as u8),
+            Some(_) => None,
         }
     }
 }
@@ -104,48 +174,35 @@ impl Act {
     }
 }
 
-// What is asked, at the front of a text without blanks, and what follows up to the number of the
-// case.
-fn take_tight(text: &[u8]) -> Option<(Act, &[u8])>
-    ensures { IfSome result (λ p. text.now ≡ front Style.Tight p.0 ++ p.1.now) }
+// The case of a number.
+fn case_id(n: u16) -> CaseId
+    ensures case { result ≡ n }
+    ensures small { n < 65536 }
 {
-    if let Some(rest) = take(text, b"{\"do\":\"claim\",\"case\":") {
+    CaseId(n)
+}
+
+// What the word at the front of a text asks, and what follows it.
+fn take_act(text: &[u8]) -> Option<(Act, &[u8])>
+    ensures { IfSome result (λ p. text.now ≡ 34 ∷ (word p.0 ++ 34 ∷ p.1.now)) }
+{
+    if let Some(rest) = take(text, b"\"claim\"") {
         return Some((Act::Claim, rest));
     }
-    if let Some(rest) = take(text, b"{\"do\":\"finish\",\"case\":") {
+    if let Some(rest) = take(text, b"\"finish\"") {
         return Some((Act::Finish, rest));
     }
-    let rest = take(text, b"{\"do\":\"give_back\",\"case\":")?;
+    let rest = take(text, b"\"give_back\"")?;
     Some((Act::GiveBack, rest))
 }
 
-// The same of a text with blanks.
-fn take_spaced(text: &[u8]) -> Option<(Act, &[u8])>
-    ensures { IfSome result (λ p. text.now ≡ front Style.Spaced p.0 ++ p.1.now) }
+// What stands in quotes at the front of a text, without an escape, and what follows it.
+fn take_quoted(text: &[u8]) -> Option<(&[u8], &[u8])>
+    ensures { IfSome result (λ p. text.now ≡ 34 ∷ (p.0.now ++ 34 ∷ p.1.now)) }
 {
-    if let Some(rest) = take(text, b"{\"do\": \"claim\", \"case\": ") {
-        return Some((Act::Claim, rest));
-    }
-    if let Some(rest) = take(text, b"{\"do\": \"finish\", \"case\": ") {
-        return Some((Act::Finish, rest));
-    }
-    let rest = take(text, b"{\"do\": \"give_back\", \"case\": ")?;
-    Some((Act::GiveBack, rest))
-}
-
-// The lane at the end of a text: the first one where none is named.
-fn lane_of(style: Style, text: &[u8], lanes: u8) -> Option<u8>
-    ensures { IfSome result (λ lane. EndsWithLane style lanes lane text.now) }
-{
-    if is_end(text) {
-        return Some(0);
-    }
-    let (lane, rest) = take_number(take(text, style.to_lane())?)?;
-    if is_end(rest) && lane < lanes as u16 {
-        Some(lane as u8)
-    } else {
-        None
-    }
+    let rest = take(text, b"\"")?;
+    let end = quote_at(rest)?;
+    Some((&rest[..end], &rest[end + 1..]))
 }
 
 // Whether all that is left of a text is the brace at its end.
@@ -156,31 +213,11 @@ fn is_end(text: &[u8]) -> bool
 }
 
 // How long a text is up to its first quote.
-fn name_len(text: &[u8]) -> Option<usize>
+fn quote_at(text: &[u8]) -> Option<usize>
     ensures within { IfSome result (λ n. n < length text.now) }
     ensures quote { IfSome result (λ n. text.now ≡ take n text.now ++ 34 ∷ drop (n + 1) text.now) }
 {
     memchr(b'"', text)
-}
-
-// What follows a byte.
-fn past(text: &[u8], at: usize) -> &[u8]
-    requires { at < length text.now }
-    ensures { result.now ≡ drop (at + 1) text.now }
-{
-    &text[at + 1..]
-}
-
-// The name that bytes are.
-fn name_of(bytes: &[u8]) -> Option<Name>
-    ensures value { IfSome result (λ n. n ≡ bytes.now) }
-    ensures form { IfSome result (λ n. IsTrue (is_name n)) }
-    ensures utf8 { IfSome result (λ n. IsUtf8 n) }
-{
-    match str::from_utf8(bytes) {
-        Ok(text) => Name::read(text),
-        Err(_) => None,
-    }
 }
 
 // The number at the front of a text, without a zero at its front, and what follows it.
@@ -224,4 +261,16 @@ fn take<'t>(text: &'t [u8], front: &[u8]) -> Option<&'t [u8]>
         }
     }
     Some(&text[front.len()..])
+}
+
+// What follows some bytes at the front of a text, and a blank behind them, where there is one.
+#[inline(always)]
+fn take_spaced<'t>(text: &'t [u8], front: &[u8]) -> Option<&'t [u8]>
+    ensures { IfSome result (λ rest. IsSpaced front.now text.now rest.now) }
+{
+    let rest = take(text, front)?;
+    if !rest.is_empty() && rest[0] == b' ' {
+        return Some(&rest[1..]);
+    }
+    Some(rest)
 }
