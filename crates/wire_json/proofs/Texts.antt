@@ -67,7 +67,7 @@ item_added data_of xs i x old new whole later within is e here =
     one_more old new later (data_of x) (items_of (map data_of (drop (i + 1) xs))) e
     ∙ ap (λ ys. old ++ items_text later (items_of (map data_of ys))) (sym next) ∙ here
 
-all_dropped : {A : Type 0} (xs : List A) (i : ℕ) → length xs ≤ i → drop i xs ≡ []
+pub all_dropped : {A : Type 0} (xs : List A) (i : ℕ) → length xs ≤ i → drop i xs ≡ []
 all_dropped [] zero h = refl
 all_dropped [] (suc i) h = refl
 all_dropped (x ∷ xs) zero h = absurd (omega (arith, h))

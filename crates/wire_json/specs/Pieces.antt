@@ -1,7 +1,10 @@
--- Inside: the pieces in which an entry is written.
+-- Inside: the pieces in which entries and trees are written.
 use Rattle.std.specs.Prelude.{ℕ, List, [], ◌∷◌, ◌++◌, codes, decimal}
 use Rattle.json.specs.Print.{quoted}
+use Rattle.serde_json.specs.Data.{Data}
+use Rattle.serde_json.specs.Written.{compact_text}
 use Rattle.wf_talk.specs.declared.entry.Entry.{Entry}
+use Rattle.wire_json.specs.Entries.{plan_data}
 
 -- what stands before the reply
 abbrev pub head_text : Entry → List ℕ
@@ -10,3 +13,11 @@ head_text e =
     ++ 44 ∷ (quoted (codes "lane") ++ 58 ∷ (decimal e.lane
     ++ 44 ∷ (quoted (codes "line") ++ 58 ∷ (decimal e.line
     ++ 44 ∷ (quoted (codes "reply") ++ 58 ∷ [])))))))
+
+-- how a line ends that gives a plan, from the plan's key on
+abbrev pub plan_ending : List (List ℕ) → List ℕ → List ℕ
+plan_ending users plan = codes "\"plan\":" ++ (compact_text (plan_data users plan) ++ codes "}}}\n")
+
+-- a branch, whose user has a text behind it
+abbrev pub pair_text : Data → List ℕ → List ℕ
+pair_text user kid = 91 ∷ (compact_text user ++ 44 ∷ (kid ++ 93 ∷ []))

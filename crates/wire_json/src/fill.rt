@@ -4,10 +4,14 @@ ghost use Rattle.std.specs.Prelude.{slice_index_or};
 ghost use Rattle.wf_names.specs.declared.limits.TheConstants.{NAME_LIMIT};
 ghost use Rattle.serde_json.specs.Written.{compact_text};
 ghost use Rattle.json.specs.Print.{escape};
-ghost use Rattle.wire_json.specs.Entries.{named};
+ghost use Rattle.wire_json.specs.Entries.{named, plan_data};
 
 use itoa::write_digits;
-use wf_names::{Name, NameTable};
+use policy_book::Plan;
+use wf_names::{NAME_LIMIT, Name, NameTable, STEP_LIMIT, StepId};
+
+/// The room that the names of a plan's users need, each in quotes and with a comma.
+pub(crate) const PLAN_ROOM: usize = STEP_LIMIT * (NAME_LIMIT + 3) + 2;
 
 /// Puts a byte before those from `end` on; where it stands.
 #[inline(always)]
@@ -49,6 +53,7 @@ pub(crate) fn put_number(cells: &mut [u8], end: usize, before: &[u8], n: u32) ->
 
 /// Puts a comma and the name with a number, as text, before the bytes from `end` on; where they
 /// start. The text is empty where there is no such name.
+#[inline(always)]
 pub(crate) fn put_name(cells: &mut [u8], end: usize, names: &NameTable, n: u16) -> usize
     requires room { NAME_LIMIT + 3 ≤ end }
     requires within { end ≤ length cells.old }
@@ -57,10 +62,23 @@ pub(crate) fn put_name(cells: &mut [u8], end: usize, names: &NameTable, n: u16) 
     ensures written { drop result cells.new
         ≡ 44 ∷ (compact_text (named names.now.names n) ++ drop end cells.old) }
 {
+    let opening = put_quoted(cells, end, names, n);
+    put_byte(cells, opening, b',')
+}
+
+/// Puts the name with a number, as text, before the bytes from `end` on; where it starts. The text
+/// is empty where there is no such name.
+pub(crate) fn put_quoted(cells: &mut [u8], end: usize, names: &NameTable, n: u16) -> usize
+    requires room { NAME_LIMIT + 2 ≤ end }
+    requires within { end ≤ length cells.old }
+    ensures start { result ≤ end }
+    ensures short { end ≤ result + (NAME_LIMIT + 2) }
+    ensures written { drop result cells.new
+        ≡ compact_text (named names.now.names n) ++ drop end cells.old }
+{
     let closing = put_byte(cells, end, b'"');
     let bare = put_unquoted(cells, closing, names, n);
-    let opening = put_byte(cells, bare, b'"');
-    put_byte(cells, opening, b',')
+    put_byte(cells, bare, b'"')
 }
 
 // Puts the name with a number, or nothing where there is none.
@@ -90,4 +108,39 @@ fn put_bare(cells: &mut [u8], end: usize, name: &Name) -> usize
     ensures written { drop result cells.new ≡ escape name.now ++ drop end cells.old }
 {
     put_bytes(cells, end, name.as_str().as_bytes())
+}
+
+/// Puts the names of a plan's users before the bytes from `end` on; where they start.
+pub(crate) fn put_plan(cells: &mut [u8], end: usize, users: &NameTable, plan: &Plan) -> usize
+    requires room { PLAN_ROOM ≤ end }
+    requires within { end ≤ length cells.old }
+    ensures start { result ≤ end }
+    ensures short { end ≤ result + PLAN_ROOM }
+    ensures written { drop result cells.new
+        ≡ compact_text (plan_data users.now.names plan.now) ++ drop end cells.old }
+{
+    if plan.len() == 0 {
+        put_bytes(cells, end, b"[]")
+    } else {
+        put_users(cells, end, users, plan)
+    }
+}
+
+// Puts the names of a plan's users, of whom there are some.
+fn put_users(cells: &mut [u8], end: usize, users: &NameTable, plan: &Plan) -> usize
+    requires some { 0 < length plan.now }
+    requires room { PLAN_ROOM ≤ end }
+    requires within { end ≤ length cells.old }
+    ensures start { result ≤ end }
+    ensures short { end ≤ result + PLAN_ROOM }
+    ensures written { drop result cells.new
+        ≡ compact_text (plan_data users.now.names plan.now) ++ drop end cells.old }
+{
+    let count = plan.len();
+    let mut start = put_byte(cells, end, b']');
+    'users: for s in 0..count {
+        start = put_name(cells, start, users, plan.at(StepId(count - 1 - s)).0);
+    }
+    // The comma of the first name gives way to the bracket.
+    put_byte(cells, start + 1, b'[')
 }

@@ -19,6 +19,7 @@ mod tree_text;
 mod value;
 mod views;
 mod word;
+mod writer;
 
 pub use absences::{write_absence, write_family};
 pub use finding::{push_plan_line, push_tree_line};
@@ -26,3 +27,4 @@ pub use reply::push_line;
 pub use request::{Asked, RequestReader, read_request};
 pub use tree::tree_value;
 pub use value::read_value;
+pub use writer::LineWriter;

@@ -1,5 +1,5 @@
 //! Writing entries.
-ghost use Rattle.std.specs.Prelude.{◌≡◌, ◌++◌, codes, map, OnOk};
+ghost use Rattle.std.specs.Prelude.{◌≡◌, ◌≤◌, ◌++◌, codes, length, map, OnOk};
 ghost use Rattle.serde_json.specs.Data.{boolean, number, unsigned, array};
 ghost use Rattle.serde_json.specs.View.{items_of};
 ghost use Rattle.serde_json.specs.Written.{comma_if, compact_text};
@@ -20,26 +20,28 @@ use std::alloc::AllocError;
 use wf_names::{CaseId, FlowId, Name, Phase, StepState};
 use wf_talk::{Bad, Denial, Entry, Face, Reply, States};
 
-// The room that an entry's numbers and their keys need.
-const HEAD_ROOM: usize = 64;
+// The room that an entry's numbers and their keys need, with a short reply behind them.
+const HEAD_ROOM: usize = 96;
 
 /// Adds the line that is written for an entry.
 #[tactic(auto, unfolding(crate::specs::Replies::entry_text))]
 pub fn push_line(out: &mut Vec<u8>, p: &Policy, e: &Entry) -> Result<(), AllocError>
     ensures { OnOk result (out.new.items ≡ out.old.items ++ entry_text p.now e.now) }
 {
-    push_head(out, e)?;
+    push_head(out, e, b"")?;
     push_reply(out, p, &e.reply)?;
     push(out, b"}\n")?;
     Ok(())
 }
 
-// Adds what stands before the reply.
-fn push_head(out: &mut Vec<u8>, e: &Entry) -> Result<(), AllocError>
-    ensures { OnOk result (out.new.items ≡ out.old.items ++ head_text e.now) }
+/// Adds what stands before the reply, and bytes behind it.
+pub(crate) fn push_head(out: &mut Vec<u8>, e: &Entry, after: &[u8]) -> Result<(), AllocError>
+    requires { length after.now ≤ 32 }
+    ensures { OnOk result (out.new.items ≡ out.old.items ++ (head_text e.now ++ after.now)) }
 {
     let mut cells = [0; HEAD_ROOM];
-    let reply = put_bytes(&mut cells, HEAD_ROOM, b",\"reply\":");
+    let behind = put_bytes(&mut cells, HEAD_ROOM, after);
+    let reply = put_bytes(&mut cells, behind, b",\"reply\":");
     let line = put_number(&mut cells, reply, b",\"line\":", e.line);
     let lane = put_number(&mut cells, line, b",\"lane\":", e.lane as u32);
     let at = put_number(&mut cells, lane, b"{\"at\":", e.at);

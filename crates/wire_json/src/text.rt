@@ -1,18 +1,15 @@
 //! Writing the parts of a line.
-ghost use Rattle.std.specs.Prelude.{◌≡◌, ◌<◌, ◌++◌, length, decimal, IsTrue, OnOk};
+ghost use Rattle.std.specs.Prelude.{◌≡◌, ◌≤◌, ◌<◌, ◌++◌, drop, length, decimal, IsTrue, OnOk};
 ghost use Rattle.serde_json.specs.Written.{comma_if, compact_text};
 ghost use Rattle.json.specs.Print.{quoted};
 ghost use Rattle.wf_names.specs.Names.{is_name};
 ghost use Rattle.wire_json.specs.Entries.{named, names_data, plan_data};
 
-use crate::fill::{put_byte, put_name};
+use crate::fill::{PLAN_ROOM, put_plan};
 use itoa::Buffer;
 use policy_book::Plan;
 use std::alloc::AllocError;
-use wf_names::{CaseId, NAME_LIMIT, Name, NameTable, RoleId, STEP_LIMIT, StepId};
-
-// The room that the names of a plan's users need, each in quotes and with a comma.
-const PLAN_ROOM: usize = STEP_LIMIT * (NAME_LIMIT + 3) + 2;
+use wf_names::{CaseId, Name, NameTable, RoleId};
 
 /// Adds bytes.
 #[inline(always)]
@@ -20,6 +17,15 @@ pub(crate) fn push(out: &mut Vec<u8>, bytes: &[u8]) -> Result<(), AllocError>
     ensures { OnOk result (out.new.items ≡ out.old.items ++ bytes.now) }
 {
     out.extend_from_slice(bytes)
+}
+
+/// Adds the bytes of cells from `start` on.
+pub(crate) fn push_from(out: &mut Vec<u8>, cells: &[u8], start: usize) -> Result<(), AllocError>
+    requires { start ≤ length cells.now }
+    ensures { OnOk result (out.new.items ≡ out.old.items ++ drop start cells.now) }
+{
+    push(out, &cells[start..])?;
+    Ok(())
 }
 
 /// Adds bytes and the digits of a number.
@@ -91,28 +97,9 @@ pub(crate) fn push_plan(out: &mut Vec<u8>, users: &NameTable, plan: &Plan) -> Re
     ensures { OnOk result (out.new.items ≡ out.old.items ++ compact_text
         (plan_data users.now.names plan.now)) }
 {
-    if plan.len() == 0 {
-        push(out, b"[]")
-    } else {
-        push_users(out, users, plan)
-    }
-}
-
-// Adds the names of a plan's users, of whom there are some.
-fn push_users(out: &mut Vec<u8>, users: &NameTable, plan: &Plan) -> Result<(), AllocError>
-    requires { 0 < length plan.now }
-    ensures { OnOk result (out.new.items ≡ out.old.items ++ compact_text
-        (plan_data users.now.names plan.now)) }
-{
     let mut cells = [0; PLAN_ROOM];
-    let count = plan.len();
-    let mut start = put_byte(&mut cells, PLAN_ROOM, b']');
-    'users: for s in 0..count {
-        start = put_name(&mut cells, start, users, plan.at(StepId(count - 1 - s)).0);
-    }
-    // The comma of the first name gives way to the bracket.
-    let whole = put_byte(&mut cells, start + 1, b'[');
-    push(out, &cells[whole..])?;
+    let start = put_plan(&mut cells, PLAN_ROOM, users, plan);
+    push(out, &cells[start..])?;
     Ok(())
 }
 

@@ -1,18 +1,25 @@
 //! Writing trees that refute, without making a value of them.
-ghost use Rattle.std.specs.Prelude.{◌≡◌, ◌++◌, ◌∷◌, [], codes, OnOk};
+ghost use Rattle.std.specs.Prelude.{◌≡◌, ◌≤◌, ◌+◌, ◌++◌, ◌∷◌, [], codes, decimal, drop, length};
+ghost use Rattle.std.specs.Prelude.{OnOk};
+ghost use Rattle.wf_names.specs.declared.limits.TheConstants.{NAME_LIMIT};
 ghost use Rattle.serde_json.specs.Data.{array};
 ghost use Rattle.serde_json.specs.View.{items_of};
 ghost use Rattle.serde_json.specs.Written.{comma_if, compact_text};
 ghost use Rattle.refutation_tree.specs.Views.{kids_of_items, shape_of};
-ghost use Rattle.wire_json.specs.Entries.{single, user_data};
-ghost use Rattle.wire_json.specs.Trees.{branch_data, branches_data, kid_data, node_data, tree_data};
+ghost use Rattle.wire_json.specs.Entries.{named, user_data};
+ghost use Rattle.wire_json.specs.Pieces.{pair_text};
+ghost use Rattle.wire_json.specs.Trees.{branch_data, branches_data, node_data, tree_data};
 
 use crate::denial::{push_rule, push_step, push_step_in};
-use crate::text::{push, push_comma, push_name, push_name_in};
+use crate::fill::{put_byte, put_bytes, put_number, put_quoted};
+use crate::text::push;
 use policy_book::Policy;
 use refutation_tree::{Branch, Kid, Tree};
 use std::alloc::AllocError;
-use wf_names::{FlowId, StepId, UserId};
+use wf_names::{FlowId, NAME_LIMIT, NameTable, StepId, UserId};
+
+// The room that a branch needs whose tree is a leaf.
+const LEAF_ROOM: usize = 2 * NAME_LIMIT + 32;
 
 /// Adds a tree over a workflow's steps. A number that names no user or step of the policy is
 /// written as an empty text.
@@ -70,16 +77,17 @@ fn push_branches(
     let mut later = false;
     push(out, b"[")?;
     'branches: for branch in branches {
-        push_branch_next(out, later, p, f, branch)?;
+        push_branch(out, later, p, f, branch)?;
         later = true;
     }
     push(out, b"]")?;
     Ok(())
 }
 
-// Adds one more branch.
+// Adds one more branch: the user, and the tree or the leaf that names a twin.
+#[tactic(auto, unfolding(json::specs::Print::escape_byte))]
 #[cycle(push_tree)]
-fn push_branch_next(
+fn push_branch(
     out: &mut Vec<u8>,
     later: bool,
     p: &Policy,
@@ -89,46 +97,105 @@ fn push_branch_next(
     ensures { OnOk result (out.new.items ≡ out.old.items ++
         (comma_if later ++ compact_text (branch_data p.now f branch.now))) }
 {
-    push_comma(out, later)?;
-    push_branch(out, p, f, branch)?;
-    Ok(())
+    let users = p.roster().users();
+    match &branch.kid {
+        Kid::Tree(Tree::Rule(k)) => push_ruled(out, later, users, branch.user, *k),
+        Kid::Tree(tree) => push_subtree(out, later, p, f, branch.user, tree),
+        Kid::Twin(twin) => push_twin(out, later, users, branch.user, *twin),
+    }
 }
 
-// Adds the user and the tree of a branch, or the leaf that names a twin.
+// Adds one more branch, with a tree.
 #[cycle(push_tree)]
-fn push_branch(out: &mut Vec<u8>, p: &Policy, f: FlowId, branch: &Branch) -> Result<(), AllocError>
-    ensures { OnOk result (out.new.items ≡ out.old.items ++ compact_text
-        (branch_data p.now f branch.now)) }
+fn push_subtree(
+    out: &mut Vec<u8>,
+    later: bool,
+    p: &Policy,
+    f: FlowId,
+    u: UserId,
+    tree: &Tree,
+) -> Result<(), AllocError>
+    ensures { OnOk result (out.new.items ≡ out.old.items ++ (comma_if later ++ pair_text
+        (user_data p.now u) (compact_text (tree_data p.now f (shape_of tree.now))))) }
 {
-    push_user_in(out, b"[", p, branch.user, b",")?;
-    push_kid(out, p, f, &branch.kid)?;
+    push_front(out, later, p.roster().users(), u)?;
+    push_tree(out, p, f, tree)?;
     push(out, b"]")?;
     Ok(())
 }
 
-// Adds a tree, or the leaf that names a twin.
-#[tactic(auto, unfolding(json::specs::Print::escape_byte))]
-#[cycle(push_tree)]
-fn push_kid(out: &mut Vec<u8>, p: &Policy, f: FlowId, kid: &Kid) -> Result<(), AllocError>
-    ensures { OnOk result (out.new.items ≡ out.old.items ++ compact_text
-        (kid_data p.now f kid.now)) }
+// Adds what stands before the tree of one more branch.
+fn push_front(
+    out: &mut Vec<u8>,
+    later: bool,
+    users: &NameTable,
+    u: UserId,
+) -> Result<(), AllocError>
+    ensures { OnOk result (out.new.items ≡ out.old.items ++ (comma_if later
+        ++ 91 ∷ (compact_text (named users.now.names u) ++ 44 ∷ []))) }
 {
-    match kid {
-        Kid::Tree(tree) => push_tree(out, p, f, tree),
-        Kid::Twin(twin) => push_user_in(out, b"{\"twin\":", p, *twin, b"}"),
-    }
+    let mut cells = [0; LEAF_ROOM];
+    let comma = put_byte(&mut cells, LEAF_ROOM, b',');
+    let start = put_front(&mut cells, comma, later, users, u);
+    push(out, &cells[start..])?;
+    Ok(())
 }
 
-// Adds the name of a user between bytes.
-fn push_user_in(
+// Adds one more branch, whose tree is a falsified rule.
+fn push_ruled(
     out: &mut Vec<u8>,
-    before: &[u8],
-    p: &Policy,
+    later: bool,
+    users: &NameTable,
     u: UserId,
-    after: &[u8],
+    k: u8,
 ) -> Result<(), AllocError>
-    ensures { OnOk result (out.new.items ≡ out.old.items ++
-        (before.now ++ (compact_text (user_data p.now u) ++ after.now))) }
+    ensures { OnOk result (out.new.items ≡ out.old.items ++ (comma_if later ++ pair_text
+        (named users.now.names u) (codes "{\"rule\":" ++ (decimal k ++ 125 ∷ [])))) }
 {
-    push_name_in(out, before, p.roster().users(), u.0, after)
+    let mut cells = [0; LEAF_ROOM];
+    let end = put_bytes(&mut cells, LEAF_ROOM, b"}]");
+    let rule = put_number(&mut cells, end, b",{\"rule\":", k as u32);
+    let start = put_front(&mut cells, rule, later, users, u);
+    push(out, &cells[start..])?;
+    Ok(())
+}
+
+// Adds one more branch, with the leaf that names a twin.
+fn push_twin(
+    out: &mut Vec<u8>,
+    later: bool,
+    users: &NameTable,
+    u: UserId,
+    twin: UserId,
+) -> Result<(), AllocError>
+    ensures { OnOk result (out.new.items ≡ out.old.items ++ (comma_if later ++ pair_text
+        (named users.now.names u)
+        (codes "{\"twin\":" ++ (compact_text (named users.now.names twin) ++ 125 ∷ [])))) }
+{
+    let mut cells = [0; LEAF_ROOM];
+    let end = put_bytes(&mut cells, LEAF_ROOM, b"}]");
+    let name = put_quoted(&mut cells, end, users, twin.0);
+    let leaf = put_bytes(&mut cells, name, b",{\"twin\":");
+    let start = put_front(&mut cells, leaf, later, users, u);
+    push(out, &cells[start..])?;
+    Ok(())
+}
+
+// Puts what a branch begins with before the bytes from `end` on, and a comma before it where
+// another stands there; where they start.
+#[inline(always)]
+fn put_front(cells: &mut [u8], end: usize, later: bool, users: &NameTable, u: UserId) -> usize
+    requires room { NAME_LIMIT + 4 ≤ end }
+    requires within { end ≤ length cells.old }
+    ensures start { result ≤ end }
+    ensures written { drop result cells.new ≡ comma_if later
+        ++ 91 ∷ (compact_text (named users.now.names u) ++ drop end cells.old) }
+{
+    let name = put_quoted(cells, end, users, u.0);
+    let bracket = put_byte(cells, name, b'[');
+    if later {
+        put_byte(cells, bracket, b',')
+    } else {
+        bracket
+    }
 }
