@@ -1,6 +1,6 @@
 -- What is read of the requests about a step as they are mostly written: the rest of a line is read on from the members that
 -- are known, a part at a time.
-use Rattle.std.proofs.Common.{◌≡◌, ℕ, ◌-◌, ◌<◌, ◌≤◌, ◌^◌, List, [], ◌∷◌, ◌++◌, length, Bool, true, false, Option, Some, None, option_map, Ok, Ordering}
+use Rattle.std.proofs.Common.{◌≡◌, ℕ, ◌-◌, ◌<◌, ◌≤◌, ◌^◌, List, [], ◌∷◌, ◌++◌, length, Bool, true, false, Option, Some, None, option_map, Ok}
 use Rattle.std.proofs.Common.{Less, Greater, refl, sym, ap, subst, ◌∙◌, arith, append_assoc, le-leb, decimal, nat_cmp, take_all, drop, take, get_or}
 use Rattle.std.specs.Prelude.{codes, IsUtf8, IsTrue, is_some, unwrap_or}
 use Rattle.std.specs.Cmp.Lexicographic.{slice_cmp}
@@ -10,7 +10,7 @@ use Rattle.json.specs.Token.{Token, begin_object, end_object, key, string, numbe
 use Rattle.json.specs.Json.{members, value}
 use Rattle.json.specs.Lex.{tokens}
 use Rattle.json.specs.Print.{escape, separator, token_text, ends, IsPrintable, ArePrintable}
-use Rattle.json.specs.Spaced.{IsGap, AreGaps, print_spaced}
+use Rattle.json.specs.Spaced.{IsGap, print_spaced}
 use Rattle.json.proofs.Grammar.{value_is}
 use Rattle.json.proofs.Printed.Tokens.{tokens-print_spaced}
 use Rattle.json.proofs.Printed.Decimals.{IsNumber-decimal}
@@ -33,7 +33,7 @@ use Rattle.wire_json.specs.Requests.{request_in, request_by, asked, asked_of, ca
 use Rattle.wire_json.specs.declared.request.Asked.{Asked}
 use Rattle.wire_json.specs.Values.{value_of}
 use Rattle.wire_json.specs.Flats.{whole}
-use Rattle.wire_json.specs.Plain.{word, request_of, lane_known, member_if, at_keys, number_data, known_members, Spaced, bare, IsRest, joint, ReadsPart, ReadsValue}
+use Rattle.wire_json.specs.Plain.{word, request_of, lane_known, member_if, at_keys, number_data, known_members, Spaced, bare, IsRest, joint, ReadsValue}
 use Rattle.wire_json.proofs.Values.{value_of_utf8}
 use Rattle.wire_json.proofs.Texts.{name_stays}
 use Rattle.wire_json.proofs.Flats.{member_read, members_over, object_read}

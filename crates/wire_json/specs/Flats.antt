@@ -7,6 +7,7 @@ use Rattle.serde_json.specs.Read.{of_json, of_members, converted}
 use Rattle.serde_json.specs.Find.{as_object}
 use Rattle.wire_json.specs.declared.flat.Flat.{Flat}
 use Rattle.wire_json.specs.declared.flat.Flat.TheVariants.{Parts, NoObject, NoJson, Other}
+use Rattle.wire_json.specs.declared.flat.Part.{Part}
 use Rattle.wire_json.specs.Objects.{members_of}
 
 -- the value that was read, where nothing follows it
@@ -17,9 +18,9 @@ whole o = option_and_then of_json (option_and_then (λ p. if_last p.0 p.1) o)
 abbrev pub rest_of : List Token → Option (Members × List Token)
 rest_of ts = converted (λ ms. of_members ms no_members) (members (value 126) (length ts) ts)
 
--- what was found is what a text reads as
-abbrev pub IsFlat : Flat → Option Data → Type 0
-IsFlat (Parts ps) o = o ≡ Some (object (members_of ps.items))
-IsFlat NoObject o = (d : Data) × (o ≡ Some d) × (as_object d ≡ None)
-IsFlat NoJson o = o ≡ None
-IsFlat Other o = Unit {0}
+-- what was found, and the parts of an object, are what a text reads as
+abbrev pub IsFlat : Flat → List Part → Option Data → Type 0
+IsFlat Parts ps o = o ≡ Some (object (members_of ps))
+IsFlat NoObject ps o = (d : Data) × (o ≡ Some d) × (as_object d ≡ None)
+IsFlat NoJson ps o = o ≡ None
+IsFlat Other ps o = Unit {0}

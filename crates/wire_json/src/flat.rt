@@ -8,6 +8,7 @@ ghost use Rattle.json.specs.Json.{Json, value, read_key};
 ghost use Rattle.serde_json.specs.Data.{Data};
 ghost use Rattle.serde_json.specs.Read.{read, of_json, converted, max_depth};
 ghost use Rattle.serde_json.specs.Find.{get_member, as_object};
+ghost use Rattle.wire_json.specs.declared.flat.Part.{Part as SpecPart};
 ghost use Rattle.wire_json.specs.Objects.{worth_data, members_of};
 ghost use Rattle.wire_json.specs.Flats.{whole, rest_of, IsFlat};
 
@@ -48,10 +49,10 @@ impl Default for Part<'_> {
 pub(crate) type Parts<'t> = ArrayVec<Part<'t>, 8>;
 
 /// What a text is.
-#[derive(Drop)]
-pub(crate) enum Flat<'t> {
-    /// An object of a few texts and small numbers, by its parts.
-    Parts(Parts<'t>),
+#[derive(Clone, Copy)]
+pub(crate) enum Flat {
+    /// An object of a few texts and small numbers, of which the parts are known.
+    Parts,
     /// A value that is no object.
     NoObject,
     /// No JSON.
@@ -69,12 +70,17 @@ pub(crate) enum Unread {
     Other,
 }
 
-/// What a text is, read without making a value of it.
-pub(crate) fn read_flat<'t>(text: &'t str, scratch: &'t mut Scratch) -> Result<Flat<'t>, AllocError>
-    ensures { IfOk result (λ flat. IsFlat flat (read text.now)) }
+/// What a text is, read without making a value of it, and the parts of an object.
+pub(crate) fn read_flat<'t>(
+    text: &'t str,
+    scratch: &'t mut Scratch,
+) -> Result<(Flat, Parts<'t>), AllocError>
+    ensures { IfOk result (λ p. IsFlat p.0 p.1.items (read text.now)) }
 {
     let mut reader = Reader::new(text, scratch)?;
-    Ok(read_tokens(&mut reader))
+    let mut parts = Parts::new();
+    let flat = read_tokens(&mut reader, &mut parts);
+    Ok((flat, parts))
 }
 
 /// Whether a text may be JSON: where it is false, it is none.
@@ -88,14 +94,14 @@ pub(crate) fn may_be_json(text: &str, scratch: &mut Scratch) -> Result<bool, All
     }
 }
 
-fn read_tokens<'t>(reader: &mut Reader<'t>) -> Flat<'t>
-    ensures { IsFlat result (whole (value max_depth reader.old)) }
+fn read_tokens<'t>(reader: &mut Reader<'t>, parts: &mut Parts<'t>) -> Flat
+    ensures { IsFlat result parts.new.items (whole (value max_depth reader.old)) }
 {
     let Some(token) = reader.next() else {
         return Flat::NoJson;
     };
     match token {
-        Token::BeginObject => read_object(reader),
+        Token::BeginObject => read_object(reader, parts),
         Token::String(_) => no_object(reader),
         Token::Bool(_) => no_object(reader),
         Token::Null => no_object(reader),
@@ -105,9 +111,10 @@ fn read_tokens<'t>(reader: &mut Reader<'t>) -> Flat<'t>
 }
 
 // A value that is no object, where no token follows it.
-fn no_object<'t>(reader: &mut Reader<'t>) -> Flat<'t>
-    ensures { (d : Data) (o : Option (Json × List SpecToken)) → as_object d ≡ None
-        → converted of_json o ≡ Some (d, reader.old) → IsFlat result (whole o) }
+fn no_object(reader: &mut Reader<'_>) -> Flat
+    ensures { (ps : List SpecPart) (d : Data) (o : Option (Json × List SpecToken))
+        → as_object d ≡ None → converted of_json o ≡ Some (d, reader.old)
+        → IsFlat result ps (whole o) }
 {
     if is_over(reader) {
         Flat::NoObject
@@ -117,13 +124,13 @@ fn no_object<'t>(reader: &mut Reader<'t>) -> Flat<'t>
 }
 
 // An object that has begun.
-fn read_object<'t>(reader: &mut Reader<'t>) -> Flat<'t>
-    ensures { IsFlat result (whole (value max_depth (begin_object ∷ reader.old))) }
+fn read_object<'t>(reader: &mut Reader<'t>, parts: &mut Parts<'t>) -> Flat
+    ensures { IsFlat result parts.new.items (whole (value max_depth (begin_object ∷ reader.old))) }
 {
-    match read_parts(reader) {
-        Ok(parts) => {
+    match read_parts(reader, parts) {
+        Ok(()) => {
             if is_over(reader) {
-                Flat::Parts(parts)
+                Flat::Parts
             } else {
                 Flat::NoJson
             }
@@ -141,17 +148,17 @@ fn is_over(reader: &mut Reader<'_>) -> bool
 }
 
 // The parts up to the end of an object that has begun.
-fn read_parts<'t>(reader: &mut Reader<'t>) -> Result<Parts<'t>, Unread>
-    ensures parts { IfOk result (λ parts. rest_of reader.old
-        ≡ Some (members_of parts.items, reader.new)) }
+fn read_parts<'t>(reader: &mut Reader<'t>, parts: &mut Parts<'t>) -> Result<(), Unread>
+    ensures parts { OnOk result (rest_of reader.old
+        ≡ Some (members_of parts.new.items, reader.new)) }
     ensures no_json { result ≡ Err Unread.NoJson → rest_of reader.old ≡ None }
 {
-    let mut parts = Parts::new();
+    parts.clear();
     'parts: while let Some(key) = next_key(reader)? {
         let worth = read_worth(reader)?;
-        add_part(&mut parts, Part { key, worth })?;
+        add_part(parts, Part { key, worth })?;
     }
-    Ok(parts)
+    Ok(())
 }
 
 // The key that comes next, or None at the end of the object.

@@ -74,9 +74,9 @@ fn read_parts(line: &[u8], lanes: u8, scratch: &mut Scratch) -> Result<Option<As
     let Ok(text) = str::from_utf8(line) else {
         return Ok(None);
     };
-    let flat = read_flat(text, scratch)?;
+    let (flat, parts) = read_flat(text, scratch)?;
     match flat {
-        Flat::Parts(parts) => Ok(Some(asked_in(&Object::Parts(parts.as_slice()), lanes))),
+        Flat::Parts => Ok(Some(asked_in(&Object::Parts(parts.as_slice()), lanes))),
         Flat::NoObject => Ok(Some(bad_line(Bad::Object))),
         Flat::NoJson => Ok(Some(bad_line(Bad::Syntax))),
         Flat::Other => Ok(None),

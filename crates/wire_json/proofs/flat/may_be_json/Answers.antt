@@ -1,4 +1,4 @@
-use Rattle.std.proofs.Common.{◌≡◌, ◌≢◌, [], sym, ap, ◌∙◌, rules}
+use Rattle.std.proofs.Common.{◌≢◌, [], sym, ap, ◌∙◌, rules}
 use Rattle.json.specs.Json.{value, skip_value}
 use Rattle.json.specs.Lex.{tokens}
 use Rattle.wire_json.proofs.Flats.{not_skipped, skipped_more}
