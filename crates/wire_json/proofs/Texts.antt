@@ -42,11 +42,6 @@ pub numbers_added_in_two : (x0 x1 x2 x3 a n b m : List ℕ) → x1 ≡ x0 ++ (a 
     x3 ≡ x0 ++ (a ++ ((n ++ (b ++ (m ++ 125 ∷ []))) ++ 125 ∷ []))
 numbers_added_in_two x0 x1 x2 x3 a n b m e1 e2 e3 = rw (e3, e2, e1) (simp append_assoc)
 
--- a number and a text in brackets
-pub number_and_text_added : (x0 x1 x2 x3 x4 n d : List ℕ) → x1 ≡ x0 ++ 91 ∷ n → x2 ≡ x1 ++ 44 ∷ [] → x3 ≡ x2 ++ d → x4 ≡ x3 ++ 93 ∷ []
-    → x4 ≡ x0 ++ 91 ∷ (n ++ 44 ∷ (d ++ 93 ∷ []))
-number_and_text_added x0 x1 x2 x3 x4 n d e1 e2 e3 e4 = rw (e4, e3, e2, e1) (simp append_assoc)
-
 -- one more item behind a text, and the others behind it
 pub one_more : (old new : List ℕ) (later : Bool) (d : Data) (rest : Items) → new ≡ old ++ (comma_if later ++ compact_text d) →
     new ++ items_text true rest ≡ old ++ items_text later (item d rest)

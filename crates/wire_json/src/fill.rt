@@ -2,13 +2,13 @@
 ghost use Rattle.std.specs.Prelude.{◌≡◌, ◌+◌, ◌≤◌, ◌<◌, ◌∷◌, ◌++◌, [], length, drop, decimal};
 ghost use Rattle.std.specs.Prelude.{slice_index_or};
 ghost use Rattle.wf_names.specs.declared.limits.TheConstants.{NAME_LIMIT};
-ghost use Rattle.serde_json.specs.Written.{compact_text};
+ghost use Rattle.serde_json.specs.Written.{comma_if, compact_text};
 ghost use Rattle.json.specs.Print.{escape};
-ghost use Rattle.wire_json.specs.Entries.{named, plan_data};
+ghost use Rattle.wire_json.specs.Entries.{named, plan_data, step_data};
 
 use itoa::write_digits;
-use policy_book::Plan;
-use wf_names::{NAME_LIMIT, Name, NameTable, STEP_LIMIT, StepId};
+use policy_book::{Plan, Policy};
+use wf_names::{CaseId, FlowId, NAME_LIMIT, Name, NameTable, STEP_LIMIT, StepId};
 
 /// The room that the names of a plan's users need, each in quotes and with a comma.
 pub(crate) const PLAN_ROOM: usize = STEP_LIMIT * (NAME_LIMIT + 3) + 2;
@@ -49,6 +49,18 @@ pub(crate) fn put_number(cells: &mut [u8], end: usize, before: &[u8], n: u32) ->
 {
     let digits = write_digits(n as u64, cells, end);
     put_bytes(cells, digits, before)
+}
+
+/// Puts bytes and the number of a case before the bytes from `end` on; where they start.
+#[inline(always)]
+pub(crate) fn put_case(cells: &mut [u8], end: usize, before: &[u8], case: CaseId) -> usize
+    requires room { length before.now + 10 ≤ end }
+    requires within { end ≤ length cells.old }
+    ensures start { result + length before.now ≤ end }
+    ensures short { end ≤ result + (length before.now + 10) }
+    ensures written { drop result cells.new ≡ before.now ++ (decimal case ++ drop end cells.old) }
+{
+    put_number(cells, end, before, case.0 as u32)
 }
 
 /// Puts a comma and the name with a number, as text, before the bytes from `end` on; where they
@@ -143,4 +155,36 @@ fn put_users(cells: &mut [u8], end: usize, users: &NameTable, plan: &Plan) -> us
     }
     // The comma of the first name gives way to the bracket.
     put_byte(cells, start + 1, b'[')
+}
+
+/// Puts the name of a step of a workflow, as text, before the bytes from `end` on; where it starts.
+/// The text is empty where there is no such step.
+pub(crate) fn put_step(cells: &mut [u8], end: usize, p: &Policy, f: FlowId, s: StepId) -> usize
+    requires room { NAME_LIMIT + 2 ≤ end }
+    requires within { end ≤ length cells.old }
+    ensures start { result ≤ end }
+    ensures short { end ≤ result + (NAME_LIMIT + 2) }
+    ensures written { drop result cells.new
+        ≡ compact_text (step_data p.now f s) ++ drop end cells.old }
+{
+    if (f.0 as u16) < p.flows().len() {
+        put_quoted(cells, end, p.flow(f).steps(), s.0 as u16)
+    } else {
+        put_bytes(cells, end, b"\"\"")
+    }
+}
+
+/// Puts a comma before the bytes from `end` on, where something stands before; where they start.
+#[inline(always)]
+pub(crate) fn put_comma(cells: &mut [u8], end: usize, later: bool) -> usize
+    requires room { 0 < end }
+    requires within { end ≤ length cells.old }
+    ensures start { result ≤ end }
+    ensures written { drop result cells.new ≡ comma_if later ++ drop end cells.old }
+{
+    if later {
+        put_byte(cells, end, b',')
+    } else {
+        end
+    }
 }

@@ -11,7 +11,7 @@ ghost use Rattle.wire_json.specs.Pieces.{pair_text};
 ghost use Rattle.wire_json.specs.Trees.{branch_data, branches_data, node_data, tree_data};
 
 use crate::denial::{push_rule, push_step, push_step_in};
-use crate::fill::{put_byte, put_bytes, put_number, put_quoted};
+use crate::fill::{put_byte, put_bytes, put_comma, put_number, put_quoted};
 use crate::text::push;
 use policy_book::Policy;
 use refutation_tree::{Branch, Kid, Tree};
@@ -193,9 +193,5 @@ fn put_front(cells: &mut [u8], end: usize, later: bool, users: &NameTable, u: Us
 {
     let name = put_quoted(cells, end, users, u.0);
     let bracket = put_byte(cells, name, b'[');
-    if later {
-        put_byte(cells, bracket, b',')
-    } else {
-        bracket
-    }
+    put_comma(cells, bracket, later)
 }

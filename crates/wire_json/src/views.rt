@@ -6,12 +6,15 @@ ghost use Rattle.serde_json.specs.Written.{comma_if, compact_text};
 ghost use Rattle.wire_json.specs.Entries.{single};
 ghost use Rattle.wire_json.specs.Replies.{work_data, cases_data};
 
-use crate::denial::push_step;
-use crate::text::{push, push_case, push_comma};
+use crate::fill::{put_byte, put_case, put_comma, put_step};
+use crate::text::{push, push_case, push_comma, push_from};
 use policy_book::Policy;
 use std::alloc::AllocError;
-use wf_names::CaseId;
+use wf_names::{CaseId, NAME_LIMIT};
 use wf_talk::WorkItem;
+
+// The room that a step of a work list needs, with the number of its case.
+const ITEM_ROOM: usize = NAME_LIMIT + 24;
 
 /// Adds a work list.
 pub(crate) fn push_work(out: &mut Vec<u8>, p: &Policy, items: &[WorkItem]) -> Result<(), AllocError>
@@ -50,7 +53,7 @@ fn push_items(out: &mut Vec<u8>, p: &Policy, items: &[WorkItem]) -> Result<(), A
     Ok(())
 }
 
-// Adds one more step.
+// Adds one more step, with the number of its case before it.
 fn push_item_next(
     out: &mut Vec<u8>,
     later: bool,
@@ -60,19 +63,13 @@ fn push_item_next(
     ensures { OnOk result (out.new.items ≡ out.old.items ++
         (comma_if later ++ compact_text (work_data p.now item.now))) }
 {
-    push_comma(out, later)?;
-    push_item(out, p, item)?;
-    Ok(())
-}
-
-fn push_item(out: &mut Vec<u8>, p: &Policy, item: &WorkItem) -> Result<(), AllocError>
-    ensures { OnOk result (out.new.items ≡ out.old.items ++ compact_text
-        (work_data p.now item.now)) }
-{
-    push_case(out, b"[", item.case)?;
-    push(out, b",")?;
-    push_step(out, p, item.flow, item.step)?;
-    push(out, b"]")?;
+    let mut cells = [0; ITEM_ROOM];
+    let end = put_byte(&mut cells, ITEM_ROOM, b']');
+    let step = put_step(&mut cells, end, p, item.flow, item.step);
+    let comma = put_byte(&mut cells, step, b',');
+    let case = put_case(&mut cells, comma, b"[", item.case);
+    let start = put_comma(&mut cells, case, later);
+    push_from(out, &cells, start)?;
     Ok(())
 }
 

@@ -1,5 +1,5 @@
 //! Writing the lines of entries, one after the other.
-ghost use Rattle.std.specs.Prelude.{◌≡◌, ◌≤◌, ◌++◌, codes, drop, length, IsTrue, OnOk};
+ghost use Rattle.std.specs.Prelude.{◌≡◌, ◌≤◌, ◌++◌, ◌↔◌, codes, drop, length, IsTrue, OnOk};
 ghost use Rattle.serde_json.specs.Data.{boolean};
 ghost use Rattle.serde_json.specs.Written.{compact_text};
 ghost use Rattle.wire_json.specs.Replies.{entry_text};
@@ -166,7 +166,7 @@ fn push_finished(out: &mut Vec<u8>, e: &Entry, done: bool) -> Result<(), AllocEr
 
 // Whether two plans are equal.
 fn are_same(a: &Plan, b: &Plan) -> bool
-    ensures { IsTrue result → a.now ≡ b.now }
+    ensures { IsTrue result ↔ (a.now ≡ b.now) }
 {
     let count = a.len();
     if b.len() != count {

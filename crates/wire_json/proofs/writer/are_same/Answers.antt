@@ -1,4 +1,4 @@
-use Rattle.std.proofs.Common.{◌≡◌, ℕ, zero, suc, ◌+◌, ◌<◌, List, [], ◌∷◌, length, take, subst, sym, ap, ◌∙◌, arith, take_all}
+use Rattle.std.proofs.Common.{◌≡◌, ℕ, zero, suc, ◌+◌, ◌<◌, List, [], ◌∷◌, length, take, subst, refl, sym, ap, ◌∙◌, arith, take_all}
 use Rattle.std.specs.Prelude.{slice_index}
 use Rattle.wire_json.proofs.writer.are_same.Goals as goal
 
@@ -22,4 +22,4 @@ steps-preserved c =
 
 pub returns : goal.returns
 returns c =
-    λ _. sym (take_all c.steps.s c.args.a.now (omega arith)) ∙ c.steps.invariant ∙ take_all c.steps.s c.args.b.now (omega arith)
+    ((λ _. sym (take_all c.steps.s c.args.a.now (omega arith)) ∙ c.steps.invariant ∙ take_all c.steps.s c.args.b.now (omega arith)), (λ _. refl))
