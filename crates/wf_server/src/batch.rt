@@ -23,7 +23,7 @@ use std::alloc::{AllocError, Global};
 use wf_desk::Desk;
 use wf_outside::{Sink, put_all};
 use wf_talk::{Ends, Entry, Job, Jobs, Journal};
-use wire_json::push_line;
+use wire_json::LineWriter;
 
 // The room that most lines need.
 const LINE_ROOM: usize = 256;
@@ -229,28 +229,30 @@ fn write_lines<K: Sink>(
     ensures ending { IfErr result IsWriteEnding }
     ensures counts { CountsWrites (fault_in result) (K.faults sink.old) (K.faults sink.new) }
 {
+    let mut writer = LineWriter::new(p);
     let mut line = Vec::with_capacity(alloc, LINE_ROOM)?;
     'writing: for entry in entries {
-        write_one(p, entry, &mut line, sink)?;
+        write_one(&mut writer, entry, &mut line, sink)?;
     }
     Ok(())
 }
 
 // Writes the line of an entry, which is made in the place of the line before.
 fn write_one<K: Sink>(
-    p: &Policy,
+    writer: &mut LineWriter<'_>,
     entry: &Entry,
     line: &mut Vec<u8>,
     sink: &mut K,
 ) -> Result<(), RunFault>
     ensures all { OnOk result (K.held sink.new
-        ≡ with_bytes (K.held sink.old) (entry_text p.now entry.now)) }
-    ensures part { HasPart (K.held sink.old) (K.held sink.new) (entry_text p.now entry.now) }
+        ≡ with_bytes (K.held sink.old) (entry_text writer.old entry.now)) }
+    ensures part { HasPart (K.held sink.old) (K.held sink.new) (entry_text writer.old entry.now) }
+    ensures same { writer.new ≡ writer.old }
     ensures ending { IfErr result IsWriteEnding }
     ensures counts { CountsWrites (fault_in result) (K.faults sink.old) (K.faults sink.new) }
 {
     line.truncate(0);
-    push_line(line, p, entry)?;
+    writer.push_line(line, entry)?;
     match put_all(sink, line.as_slice()) {
         Ok(()) => Ok(()),
         Err(_) => Err(RunFault::Write),

@@ -7,7 +7,11 @@ use Rattle.wf_server.proofs.BatchLaws.{written_more, written_part}
 use Rattle.wf_server.proofs.batch.write_lines.Goals as goal
 
 pub writing-init : goal.writing-init
-writing-init g c = record { written = sym (nothing_put (g.K.Sink.held c.args.sink.now)); faults = refl }
+writing-init g c = record {
+  policy = c.new-writer.ensures;
+  written = sym (nothing_put (g.K.Sink.held c.args.sink.now));
+  faults = refl;
+}
 
 pub returns-in_err-line-clause-part : goal.returns-in_err-line-clause-part
 returns-in_err-line-clause-part g c = part_none _ _
@@ -16,7 +20,7 @@ pub returns-in_err-write_one-clause-part : goal.returns-in_err-write_one-clause-
 returns-in_err-write_one-clause-part g c =
     written_part c.args.p.now (g.K.Sink.held c.args.sink.now) (g.K.Sink.held c.writing.sink) _ c.args.entries.now c.writing.entry-index c.entry-item.result
     c.writing-test.true c.entry-item.is
-    c.writing.invariant.written c.write_one.ensures.part
+    c.writing.invariant.written (rw c.writing.invariant.policy at c.write_one.ensures.part)
 
 pub returns-clause-part : goal.returns-clause-part
 returns-clause-part g c =
@@ -29,8 +33,9 @@ returns-clause-part g c =
 
 pub writing-preserved : goal.writing-preserved
 writing-preserved g c = record {
+  policy = c.in_ok-write_one.ensures.same ∙ c.writing.invariant.policy;
   written = written_more c.args.p.now (g.K.Sink.held c.args.sink.now) (g.K.Sink.held c.writing.sink) _ c.args.entries.now c.writing.entry-index
       c.entry-item.result c.writing-test.true c.entry-item.is
-      c.writing.invariant.written c.in_ok-write_one.ensures.all;
+      c.writing.invariant.written (rw c.writing.invariant.policy at c.in_ok-write_one.ensures.all);
   faults = c.in_ok-write_one.ensures.counts ∙ c.writing.invariant.faults;
 }

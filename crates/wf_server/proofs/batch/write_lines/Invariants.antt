@@ -6,6 +6,7 @@ use Rattle.wf_server.proofs.batch.write_lines.Given as goal
 abbrev pub invariant-writing : goal.invariant-writing
 invariant-writing g l =
     record {
+      policy : l.writer ≡ l.p;
       written : g.K.Sink.held l.sink ≡ with_bytes (g.K.Sink.held l.fn.sink) (entries_text l.p (take l.entry-index l.entries));
       faults : g.K.Sink.faults l.sink ≡ g.K.Sink.faults l.fn.sink;
     }
