@@ -58,8 +58,8 @@ Spaced = List (List ℕ × Token)
 abbrev pub bare : Spaced → List Token
 bare ps = map (λ p. p.1) ps
 
--- the rest of the text of an object: behind the members that are known, or at the start of all, it
--- goes on up to the end, and the object has all these members then
+-- a text is the rest of an object's: behind some members, which are known, or at the start of its
+-- members, where none is; with those of the rest the object has all members that are named last
 pub record IsRest (behind : Bool) (known : Members) (text : List ℕ) (all : Members) : Type 0 where
   pub tokens : Spaced
   pub is : text ≡ print_spaced behind tokens

@@ -44,7 +44,7 @@ pub(crate) fn read_plain(line: &[u8], lanes: u8) -> Option<Asked>
         user: None,
     };
     let mut rest = take(line, b"{")?;
-    // There are five keys.
+    // There are five keys, and none comes twice.
     'parts: for _ in 0..5 {
         rest = read_part(rest, &mut known)?;
         if is_end(rest) {
@@ -142,6 +142,7 @@ impl Known {
         let step = self.step?;
         let user = self.user?;
         let lane = self.lane_below(lanes)?;
+        // Both have a name's form.
         let (_step, _user) = (step.as_str(), user.as_str());
         Some(Asked {
             lane,
