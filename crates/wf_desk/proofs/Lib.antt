@@ -2,6 +2,7 @@ pub mod Fronts
 pub mod BatchLaws
 pub mod DocketLaws
 pub mod DeskLaws
+pub mod NextJobs
 pub mod CommitLaws
 pub mod Scheduling
 pub mod Crossing
