@@ -486,10 +486,7 @@ impl Desk {
         if !self.has_next(task.lane) {
             return false;
         }
-        let next = job_here(
-            self.jobs.as_slice(),
-            self.places[task.lane as usize],
-        );
+        let next = job_here(self.jobs.as_slice(), self.places[task.lane as usize]);
         *next == job_of(task)
     }
 
@@ -536,12 +533,7 @@ impl Desk {
     }
 
     // What becomes of a task without a verdict.
-    fn commit_none<V: Decider>(
-        &mut self,
-        alloc: Global,
-        decider: &V,
-        task: &Task,
-    ) -> Outcome
+    fn commit_none<V: Decider>(&mut self, alloc: Global, decider: &V, task: &Task) -> Outcome
         requires ready { V.ready decider.now }
         requires lane { task.now.lane < self.old.lanes }
         requires next { IsNext self.old task.now }
