@@ -4,6 +4,7 @@ pub mod DocketLaws
 pub mod DeskLaws
 pub mod NextJobs
 pub mod CommitLaws
+pub mod Serving
 pub mod Scheduling
 pub mod Crossing
 pub mod Ends
