@@ -2,7 +2,9 @@ pub mod Fronts
 pub mod BatchLaws
 pub mod DocketLaws
 pub mod DeskLaws
+pub mod NextJobs
 pub mod CommitLaws
+pub mod Serving
 pub mod Scheduling
 pub mod Crossing
 pub mod Ends

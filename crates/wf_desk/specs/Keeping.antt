@@ -50,6 +50,15 @@ pub record IsDesk (d : DeskShape) (places : List ℕ) : Type 0 where
   pub losses : (lane : ℕ) (j : Job) → next_job d lane ≡ Some j → LossRests d lane j.ask
   pub placed : (lane : ℕ) → lane < LANE_LIMIT → IsLanePlace d lane (slice_index_or places lane 0)
 
+-- a lane has a job left
+abbrev pub HasNext : DeskShape → ℕ → Type 0
+HasNext d lane = (job : Job) × (next_job d lane ≡ Some job)
+
+-- a lane has a job left of which a deed is left to decide
+abbrev pub LeavesDeed : DeskShape → ℕ → Deed → Type 0
+LeavesDeed d lane deed = (job : Job) × ((next_job d lane ≡ Some job)
+    × IsUndecided d.board.policy d.board.cases job.ask deed)
+
 -- what became of a task that was stale
 abbrev pub HasMissed : DeskShape → DeskShape → Task → Outcome → Type 0
 HasMissed before after t outcome.NotNext = ⊥

@@ -18,9 +18,10 @@ ghost use Rattle.wf_desk.specs.Commits.{HasCommitted, HasCommittedChecked, HasSe
 ghost use Rattle.wf_desk.specs.Commits.{IsAgain, IsNext, IsRightFor, IsTask, floor_of, is_change};
 ghost use Rattle.wf_desk.specs.Commits.{is_fresh, is_fresh_or_change, is_last_round, is_lost};
 ghost use Rattle.wf_desk.specs.Commits.{job_of_task, with_loss};
-ghost use Rattle.wf_desk.specs.Keeping.{HasCommittedNone, HasLookedAt, HasMissed, may_lose};
+ghost use Rattle.wf_desk.specs.Keeping.{HasCommittedNone, HasLookedAt, HasMissed, HasNext};
+ghost use Rattle.wf_desk.specs.Keeping.{LeavesDeed, may_lose};
 
-use crate::docket::{count_of_lane, first_places, go_on, job_at, places_after};
+use crate::docket::{count_of_lane, first_places, go_on, job_here, places_after};
 use crate::journal::{add_entry, any_counts, any_of_lane, entries_from, last_counting};
 use crate::{Loss, Outcome, Taken, Task};
 use constraint_forms::Plan;
@@ -222,10 +223,10 @@ impl Desk {
         ensures task { IfOk result (λ found. (t : Task) → found ≡ Some t → IsTask self.now lane t) }
         ensures memory { OnErr result (next_job self.now lane ≢ None) }
     {
-        let Some(job) = self.next_job(lane) else {
+        if !self.has_next(lane) {
             return Ok(None);
-        };
-        Ok(Some(self.task_of(alloc, lane, &job)?))
+        }
+        Ok(Some(self.task_of(alloc, lane)?))
     }
 
     /// Takes a task's verdict, in a turn. Where nothing that it rests on has changed since, the
@@ -243,14 +244,13 @@ impl Desk {
         requires right { IsRightFor self.old task.now verdict }
         ensures { HasCommitted self.old self.new task.now verdict result }
     {
-        let job = job_of(task);
-        if !self.is_next(&job) {
+        if !self.is_next(task) {
             return Outcome::NotNext;
         }
         if self.is_fresh(task) {
-            return Outcome::Recorded(self.serve(alloc, decider, &job, verdict));
+            return Outcome::Recorded(self.serve(alloc, decider, task.lane, verdict));
         }
-        self.miss(alloc, decider, task, &job)
+        self.miss(alloc, decider, task)
     }
 
     /// Takes a task's verdict, in a turn, whatever is known of it: a plan or a tree is checked
@@ -266,13 +266,12 @@ impl Desk {
         requires lane { task.now.lane < self.old.lanes }
         ensures { HasCommittedChecked self.old self.new task.now verdict result }
     {
-        let job = job_of(task);
-        if !self.is_next(&job) {
+        if !self.is_next(task) {
             Outcome::NotNext
-        } else if self.board.accepts(&job.ask, &verdict) {
-            Outcome::Recorded(self.serve(alloc, decider, &job, verdict))
+        } else if self.board.accepts(&task.ask, &verdict) {
+            Outcome::Recorded(self.serve(alloc, decider, task.lane, verdict))
         } else {
-            self.commit_none(alloc, decider, task, &job)
+            self.commit_none(alloc, decider, task)
         }
     }
 
@@ -283,10 +282,10 @@ impl Desk {
         requires lane { lane < self.old.lanes }
         ensures { HasServed self.old self.new lane result }
     {
-        let Some(job) = self.next_job(lane) else {
+        if !self.has_next(lane) {
             return false;
-        };
-        self.serve(alloc, decider, &job, Verdict::Nothing);
+        }
+        self.serve(alloc, decider, lane, Verdict::Nothing);
         true
     }
 
@@ -304,12 +303,12 @@ impl Desk {
         requires lane { lane < self.old.lanes }
         ensures { HasTakenUp near self.old self.new lane result }
     {
-        let Some(job) = self.next_job(lane) else {
+        if !self.has_next(lane) {
             return Ok(Taken::Ended);
-        };
-        match self.look_at(alloc, &job) {
+        }
+        match self.look_at(alloc, lane) {
             None => Ok(Taken::Served),
-            Some(deed) => self.take_up_left(alloc, decider, near, &job, deed),
+            Some(deed) => self.take_up_left(alloc, decider, near, lane, deed),
         }
     }
 
@@ -319,22 +318,20 @@ impl Desk {
         alloc: Global,
         decider: &V,
         near: bool,
-        job: &Job,
+        lane: u8,
         deed: Deed,
     ) -> Result<Taken, AllocError>
         requires ready { V.ready decider.now }
-        requires lane { job.now.lane < self.old.lanes }
-        requires next { next_job self.old job.now.lane ≡ Some job.now }
-        requires undecided { IsUndecided self.old.board.policy self.old.board.cases
-            job.now.ask deed }
-        ensures { HasTakenUp near self.old self.new job.now.lane result }
+        requires lane { lane < self.old.lanes }
+        requires left { LeavesDeed self.old lane deed }
+        ensures { HasTakenUp near self.old self.new lane result }
     {
         match self.plan_at_hand(decider, near, &deed) {
             Some(plan) => {
-                self.serve_plan(job, deed, plan);
+                self.serve_plan(lane, deed, plan);
                 Ok(Taken::Planned)
             }
-            None => self.take_up_deed(alloc, decider, job.lane, job, &deed),
+            None => self.take_up_deed(alloc, decider, lane, &deed),
         }
     }
 
@@ -358,18 +355,15 @@ impl Desk {
         alloc: Global,
         decider: &V,
         lane: u8,
-        job: &Job,
         deed: &Deed,
     ) -> Result<Taken, AllocError>
         requires ready { V.ready decider.now }
         requires lane { lane < self.old.lanes }
-        requires next { next_job self.old lane ≡ Some job.now }
-        requires undecided { IsUndecided self.old.board.policy self.old.board.cases
-            job.now.ask deed.now }
+        requires left { LeavesDeed self.old lane deed.now }
         ensures { (near : Bool) → HasTakenUp near self.old self.new lane result }
     {
         if !is_harmless_deed(deed) {
-            return Ok(Taken::Task(self.task_of(alloc, lane, job)?));
+            return Ok(Taken::Task(self.task_of(alloc, lane)?));
         }
         if self.serve_next(alloc, decider, lane) {
             Ok(Taken::Served)
@@ -379,10 +373,12 @@ impl Desk {
     }
 
     // The task of a lane's next job.
-    fn task_of(&self, alloc: Global, lane: u8, job: &Job) -> Result<Task, AllocError>
-        requires { next_job self.now lane ≡ Some job.now }
+    fn task_of(&self, alloc: Global, lane: u8) -> Result<Task, AllocError>
+        requires lane { lane < self.now.lanes }
+        requires next { HasNext self.now lane }
         ensures { IfOk result (IsTask self.now lane) }
     {
+        let job = job_here(self.jobs.as_slice(), self.places[lane as usize]);
         Ok(Task {
             lane,
             line: job.line,
@@ -394,11 +390,13 @@ impl Desk {
 
     // Answers a lane's next job, if it needs no verdict. Else there is its deed, and nothing
     // changes.
-    fn look_at(&mut self, alloc: Global, job: &Job) -> Option<Deed>
-        requires lane { job.now.lane < self.old.lanes }
-        requires next { next_job self.old job.now.lane ≡ Some job.now }
-        ensures { HasLookedAt self.old self.new job.now result }
+    fn look_at(&mut self, alloc: Global, lane: u8) -> Option<Deed>
+        requires lane { lane < self.old.lanes }
+        requires next { HasNext self.old lane }
+        ensures { (job : Job) → next_job self.old lane ≡ Some job
+            → HasLookedAt self.old self.new job result }
     {
+        let job = job_here(self.jobs.as_slice(), self.places[lane as usize]);
         match self.board.step(alloc, &job.ask) {
             Stepped::Undecided(deed) => Some(deed),
             Stepped::Done(reply) => {
@@ -464,12 +462,13 @@ impl Desk {
         (self.board, self.journal)
     }
 
-    // A lane's next job, if it has one left.
-    fn next_job(&self, lane: u8) -> Option<Job>
+    // Whether a lane has a job left.
+    fn has_next(&self, lane: u8) -> bool
         requires { lane < self.now.lanes }
-        ensures { result ≡ next_job self.now lane }
+        ensures none { result ≡ false → next_job self.now lane ≡ None }
+        ensures some { result ≡ true → HasNext self.now lane }
     {
-        job_at(self.jobs.as_slice(), self.places[lane as usize])
+        (self.places[lane as usize] as usize) < self.jobs.len()
     }
 
     // How many entries there are.
@@ -479,15 +478,16 @@ impl Desk {
         self.journal.len() as u32
     }
 
-    // Whether this is its lane's next job.
-    fn is_next(&self, job: &Job) -> bool
-        requires { job.now.lane < self.now.lanes }
-        ensures { result ≡ true ↔ next_job self.now job.now.lane ≡ Some job.now }
+    // Whether a task is for its lane's next job.
+    fn is_next(&self, task: &Task) -> bool
+        requires { task.now.lane < self.now.lanes }
+        ensures { result ≡ true ↔ IsNext self.now task.now }
     {
-        match self.next_job(job.lane) {
-            Some(next) => next == *job,
-            None => false,
+        if !self.has_next(task.lane) {
+            return false;
         }
+        let next = job_here(self.jobs.as_slice(), self.places[task.lane as usize]);
+        is_job_of(next, task)
     }
 
     // Whether no entry since counts for what a task asks.
@@ -533,47 +533,38 @@ impl Desk {
     }
 
     // What becomes of a task without a verdict.
-    fn commit_none<V: Decider>(
-        &mut self,
-        alloc: Global,
-        decider: &V,
-        task: &Task,
-        job: &Job,
-    ) -> Outcome
+    fn commit_none<V: Decider>(&mut self, alloc: Global, decider: &V, task: &Task) -> Outcome
         requires ready { V.ready decider.now }
-        requires job { job.now ≡ job_of_task task.now }
         requires lane { task.now.lane < self.old.lanes }
         requires next { IsNext self.old task.now }
         ensures { HasCommittedNone self.old self.new task.now result }
     {
         if self.is_fresh_or_change(task) {
-            return Outcome::Recorded(self.serve(alloc, decider, job, Verdict::Nothing));
+            return Outcome::Recorded(self.serve(alloc, decider, task.lane, Verdict::Nothing));
         }
-        self.miss(alloc, decider, task, job)
+        self.miss(alloc, decider, task)
     }
 
     // What becomes of a task that is stale.
-    fn miss<V: Decider>(&mut self, alloc: Global, decider: &V, task: &Task, job: &Job) -> Outcome
+    fn miss<V: Decider>(&mut self, alloc: Global, decider: &V, task: &Task) -> Outcome
         requires ready { V.ready decider.now }
-        requires job { job.now ≡ job_of_task task.now }
         requires lane { task.now.lane < self.old.lanes }
         requires next { IsNext self.old task.now }
         requires stale { is_fresh self.old task.now ≡ false }
         ensures { HasMissed self.old self.new task.now result }
     {
         if !self.may_lose(task) {
-            return Outcome::Recorded(self.serve(alloc, decider, job, Verdict::Nothing));
+            return Outcome::Recorded(self.serve(alloc, decider, task.lane, Verdict::Nothing));
         }
         let at = self.number();
-        match self.look_at(alloc, job) {
+        match self.look_at(alloc, task.lane) {
             None => Outcome::Recorded(at),
-            Some(_) => self.miss_round(task, job),
+            Some(_) => self.miss_round(task),
         }
     }
 
     // What becomes of a task that is lost.
-    fn miss_round(&mut self, task: &Task, job: &Job) -> Outcome
-        requires job { job.now ≡ job_of_task task.now }
+    fn miss_round(&mut self, task: &Task) -> Outcome
         requires lane { task.now.lane < self.old.lanes }
         requires next { IsNext self.old task.now }
         requires stale { is_fresh self.old task.now ≡ false }
@@ -581,7 +572,7 @@ impl Desk {
         ensures { HasMissed self.old self.new task.now result }
     {
         if self.is_last_round(task.lane) {
-            Outcome::Recorded(self.record_again(task, job))
+            Outcome::Recorded(self.record_again(task))
         } else {
             self.lose(task);
             Outcome::Lost
@@ -589,14 +580,15 @@ impl Desk {
     }
 
     // Decides a lane's next job, with a verdict if there is one, and adds its entry.
-    fn serve<V: Decider>(&mut self, alloc: Global, decider: &V, job: &Job, verdict: Verdict) -> u32
+    fn serve<V: Decider>(&mut self, alloc: Global, decider: &V, lane: u8, verdict: Verdict) -> u32
         requires ready { V.ready decider.now }
-        requires lane { job.now.lane < self.old.lanes }
-        requires next { next_job self.old job.now.lane ≡ Some job.now }
-        requires right { IsRight (state_on self.old.board).book job.now.ask verdict }
-        ensures { HasAdded self.old self.new job.now result
-            (IsDecided self.old.board job.now.ask verdict) }
+        requires lane { lane < self.old.lanes }
+        requires right { (job : Job) × ((next_job self.old lane ≡ Some job)
+            × IsRight (state_on self.old.board).book job.ask verdict) }
+        ensures { (job : Job) → next_job self.old lane ≡ Some job
+            → HasAdded self.old self.new job result (IsDecided self.old.board job.ask verdict) }
     {
+        let job = job_here(self.jobs.as_slice(), self.places[lane as usize]);
         let reply = self.board.decide(alloc, decider, &job.ask, verdict);
         let at = add_entry(&mut self.journal, job, reply);
         go_on(&mut self.places, self.jobs.as_slice(), job.lane);
@@ -605,15 +597,15 @@ impl Desk {
     }
 
     // Decides a lane's next job by a plan, and adds its entry.
-    fn serve_plan(&mut self, job: &Job, deed: Deed, plan: Plan)
-        requires lane { job.now.lane < self.old.lanes }
-        requires next { next_job self.old job.now.lane ≡ Some job.now }
-        requires undecided { IsUndecided self.old.board.policy self.old.board.cases
-            job.now.ask deed }
+    fn serve_plan(&mut self, lane: u8, deed: Deed, plan: Plan)
+        requires lane { lane < self.old.lanes }
+        requires left { LeavesDeed self.old lane deed }
         requires plan { IsPlanFor (state_on self.old.board).book (Ok deed) plan }
-        ensures { HasAdded self.old self.new job.now (length self.old.entries)
-            (IsDecided self.old.board job.now.ask (Verdict.Plan plan)) }
+        ensures { (job : Job) → next_job self.old lane ≡ Some job
+            → HasAdded self.old self.new job (length self.old.entries)
+            (IsDecided self.old.board job.ask (Verdict.Plan plan)) }
     {
+        let job = job_here(self.jobs.as_slice(), self.places[lane as usize]);
         let reply = self.board.take_plan(&job.ask, deed, plan);
         add_entry(&mut self.journal, job, reply);
         go_on(&mut self.places, self.jobs.as_slice(), job.lane);
@@ -621,20 +613,21 @@ impl Desk {
     }
 
     // Answers a lane's next job again, after its last round.
-    fn record_again(&mut self, task: &Task, job: &Job) -> u32
-        requires job { job.now ≡ job_of_task task.now }
+    fn record_again(&mut self, task: &Task) -> u32
         requires lane { task.now.lane < self.old.lanes }
         requires next { IsNext self.old task.now }
         requires stale { is_fresh self.old task.now ≡ false }
         requires lost { is_lost self.old task.now ≡ true }
         requires last { is_last_round self.old task.now.lane ≡ true }
-        ensures { HasAdded self.old self.new job.now result (IsAgain self.old task.now) }
+        ensures { HasAdded self.old self.new (job_of_task task.now) result
+            (IsAgain self.old task.now) }
     {
+        let job = job_of(task);
         let reply = Reply::Again {
             rounds: self.rounds,
             at: last_counting(&self.journal, &job.ask),
         };
-        let at = add_entry(&mut self.journal, job, reply);
+        let at = add_entry(&mut self.journal, &job, reply);
         go_on(&mut self.places, self.jobs.as_slice(), job.lane);
         self.losses[job.lane as usize] = no_loss();
         at
@@ -671,6 +664,13 @@ fn job_of(task: &Task) -> Job
         line: task.line,
         ask: task.ask,
     }
+}
+
+// Whether a job is that of a task.
+fn is_job_of(job: &Job, task: &Task) -> bool
+    ensures { result ≡ true ↔ job.now ≡ job_of_task task.now }
+{
+    *job == job_of(task)
 }
 
 fn no_loss() -> Loss

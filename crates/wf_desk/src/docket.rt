@@ -1,6 +1,6 @@
 //! The jobs of a batch, lane by lane.
 ghost use Rattle.std.specs.Prelude.{◌≡◌, ◌≤◌, ◌<◌, ◌+◌, ℕ, length, slice_get, slice_index_or};
-ghost use Rattle.std.specs.Prelude.{slice_set};
+ghost use Rattle.std.specs.Prelude.{slice_set, Some};
 ghost use Rattle.wf_names.specs.declared.limits.TheConstants.{LANE_LIMIT};
 ghost use Rattle.wf_board.specs.Histories.{lane_jobs};
 ghost use Rattle.wf_talk.specs.Jobs.{AreOfLanes};
@@ -31,6 +31,14 @@ pub fn job_at(jobs: &[Job], place: u32) -> Option<Job>
     } else {
         None
     }
+}
+
+/// The job at a place where there is one.
+pub fn job_here(jobs: &[Job], place: u32) -> &Job
+    requires { place < length jobs.now }
+    ensures { slice_get jobs.now place ≡ Some result.now }
+{
+    &jobs[place as usize]
 }
 
 /// How many of these jobs are a lane's.

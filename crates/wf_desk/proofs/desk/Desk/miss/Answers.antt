@@ -1,9 +1,7 @@
 use Rattle.std.proofs.Common.{◌≡◌, ◌&&◌, nat_le, true, false, not, Bool, refl, sym, subst, ◌∙◌}
-use Rattle.wf_talk.specs.declared.job.Job.{Job}
 use Rattle.wf_board.specs.declared.verdict.Verdict.TheVariants as verdicts
 use Rattle.wf_board.specs.Boards.{state_on}
 use Rattle.wf_board.specs.Decisions.{decision_of, is_view, needs_verdict}
-use Rattle.wf_board.specs.Verdicts.{IsDecided}
 use Rattle.wf_desk.specs.Commits.{IsReplyWhere, floor_of, is_lost, job_of_task}
 use Rattle.wf_desk.specs.Desks.{HasAdded}
 use Rattle.wf_desk.specs.Keeping.{may_lose}
@@ -24,4 +22,4 @@ returns-then-not-may_lose g c =
     let lost : is_lost d t ≡ false =
     unlost (nat_le 1 d.rounds) (not (is_view t.ask)) (needs_verdict (decision_of (state_on d.board).book t.ask)) (nat_le (floor_of d t.lane) t.number) may in
     subst (λ b. HasAdded d c.serve.new.self (job_of_task t) c.serve.result (IsReplyWhere false b d t verdicts.Nothing)) (sym lost)
-    (subst (λ (j : Job). HasAdded d c.serve.new.self j c.serve.result (IsDecided d.board j.ask verdicts.Nothing)) c.requires.job c.serve.ensures)
+    (c.serve.ensures (job_of_task t) c.requires.next)
