@@ -101,8 +101,8 @@ pub record HasMoved (jobs : List Job) (lane : ℕ) (before after : Cursor) : Typ
   pub moved : IsNextPlace (part before.start before.end jobs) lane
       (slice_index_or before.places lane 0 + 1) place
 
--- a cursor went on after an entry of a lane, with n entries there: to the lane's next job, or to the
--- next batch
+-- a cursor went on after an entry of a lane, with n entries there: to the lane's next job, or to
+-- the next batch
 pub record HasMovedOn (jobs : List Job) (ends : List ℕ) (lane n : ℕ) (before after : Cursor) :
     Type 0 where
   pub within : n ≢ before.end → HasMoved jobs lane before after

@@ -261,7 +261,8 @@ pub known_asked : (k : Known) (lanes : ℕ) (a : Act) (n : ℕ) (s u : List ℕ)
     → asks l (request_of a n s u) ≡ asked (request_in lanes (object (known_members k)))
 known_asked k lanes a n s u l is_act is_case is_step is_user small hs hu is =
     ap asked (sym (requested a lanes n s u k.lane l (omega arith) hs hu is))
-    ∙ ap (λ ms. asked (request_in lanes (object ms))) (same (Some (number_data n)) (Some (v.string (word a))) (option_map number_data k.lane) (Some (v.string s))
+    ∙ ap (λ ms. asked (request_in lanes (object ms)))
+    (same (Some (number_data n)) (Some (v.string (word a))) (option_map number_data k.lane) (Some (v.string s))
     (Some (v.string u)) k (ap (option_map number_data) (sym is_case)) (ap (option_map (λ x. v.string (word x))) (sym is_act)) refl
     (ap (option_map v.string) (sym is_step)) (ap (option_map v.string) (sym is_user)))
 

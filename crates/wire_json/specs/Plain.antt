@@ -40,7 +40,8 @@ member_if k (Some d) ms = member k d ms
 abbrev pub at_keys : Option Data → Option Data → Option Data → Option Data → Option Data → Members
 at_keys case doing lane step user =
     let names = member_if (codes "step") step (member_if (codes "user") user no_members) in
-    member_if (codes "case") case (member_if (codes "do") doing (member_if (codes "lane") lane names))
+    member_if (codes "case") case
+    (member_if (codes "do") doing (member_if (codes "lane") lane names))
 
 abbrev pub number_data : ℕ → Data
 number_data n = number (unsigned n)

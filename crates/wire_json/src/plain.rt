@@ -1,5 +1,6 @@
 //! Reading a request about a step without making a value of its line.
-ghost use Rattle.std.specs.Prelude.{◌≡◌, ◌<◌, ◌+◌, ◌∷◌, [], ◌++◌, length, take, drop, decimal, codes};
+ghost use Rattle.std.specs.Prelude.{◌≡◌, ◌<◌, ◌+◌, ◌∷◌, [], ◌++◌, length, take, drop, decimal};
+ghost use Rattle.std.specs.Prelude.{codes};
 ghost use Rattle.std.specs.Prelude.{IfSome, Some, true};
 ghost use Rattle.serde_json.specs.Data.{object};
 ghost use Rattle.wire_json.specs.Requests as read;

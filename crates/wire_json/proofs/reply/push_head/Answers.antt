@@ -13,4 +13,5 @@ returns c =
     (whole_rest _ c.put_number-at.result c.put_number-at.new.cells (omega arith)
     ∙ head_made c.args.after.now _ _ _ _ _ (44 ∷ (quoted (codes "reply") ++ 58 ∷ [])) (44 ∷ (quoted (codes "line") ++ 58 ∷ []))
     (44 ∷ (quoted (codes "lane") ++ 58 ∷ [])) (123 ∷ (quoted (codes "at") ++ 58 ∷ [])) (decimal e.line) (decimal e.lane) (decimal e.at)
-    c.put_bytes-behind.ensures.written c.put_bytes-reply.ensures.written c.put_number-line.ensures.written c.put_number-lane.ensures.written c.put_number-at.ensures.written)
+    c.put_bytes-behind.ensures.written c.put_bytes-reply.ensures.written c.put_number-line.ensures.written c.put_number-lane.ensures.written
+    c.put_number-at.ensures.written)
