@@ -21,14 +21,14 @@ use wf_board::Decider;
 use wf_desk::{Desk, Taken};
 use wf_names::{BATCH_LINE_LIMIT, LANE_LIMIT};
 
-/// For each lane whether it has a job left.
+/// For each lane whether it has a job left, or whether its next job has to be searched.
 type Busy = [bool; LANE_LIMIT as usize];
 
 /// Serves the jobs of a batch, each lane's on a thread of its own: searches run outside the turns,
 /// on numbered snapshots, while other lanes go on; decisions are taken in turns, one at a time. It
-/// may wait. What needs no search is served by turns before any thread begins, up to the first job
-/// that has to be searched, unless a gate watches. Where one lane alone has jobs left, they are
-/// served by turns, with no thread.
+/// may wait. What needs no search is served by turns before any thread begins, each lane's jobs up to
+/// its first that has to be searched, unless a gate watches. Where one lane alone has jobs left, they
+/// are served by turns, with no thread.
 pub fn serve_by_lanes<R: Threads + Wait + Sync, V: Decider + Sync, G: Gate + Sync>(
     rt: &R,
     alloc: Global,
@@ -49,8 +49,8 @@ pub fn serve_by_lanes<R: Threads + Wait + Sync, V: Decider + Sync, G: Gate + Syn
     desk
 }
 
-// Serves jobs by turns, up to the first that has to be searched, where two lanes have some and no
-// gate watches.
+// Serves jobs by turns, each lane's up to its first that has to be searched, where two lanes have
+// some and no gate watches.
 fn serve_ahead<V: Decider, G: Gate>(alloc: Global, decider: &V, gate: &G, desk: &mut Desk)
     requires ready { V.ready decider.now }
     ensures { HasGrown desk.old desk.new }
@@ -60,30 +60,34 @@ fn serve_ahead<V: Decider, G: Gate>(alloc: Global, decider: &V, gate: &G, desk: 
     }
 }
 
-// Serves rounds of jobs, up to the first job that has to be searched.
+// Serves rounds of jobs, each lane's up to its first that has to be searched.
 fn serve_rounds<V: Decider>(alloc: Global, decider: &V, desk: &mut Desk)
     requires ready { V.ready decider.now }
     ensures { HasGrown desk.old desk.new }
 {
+    let mut waits = [false; LANE_LIMIT as usize];
     'rounds: for _ in 0..BATCH_LINE_LIMIT {
-        if !serve_round(alloc, decider, desk) {
+        if !serve_round(alloc, decider, desk, &mut waits) {
             return;
         }
     }
 }
 
-// Serves one job of each lane that has one left, up to the first job that has to be searched;
-// whether there may be more.
-fn serve_round<V: Decider>(alloc: Global, decider: &V, desk: &mut Desk) -> bool
+// Serves one job of each lane that has one left and does not wait for a search; whether one was
+// served. A lane whose job has to be searched waits from then on.
+fn serve_round<V: Decider>(alloc: Global, decider: &V, desk: &mut Desk, waits: &mut Busy) -> bool
     requires ready { V.ready decider.now }
     ensures { HasGrown desk.old desk.new }
 {
     let mut served = false;
     'round: for lane in 0..desk.lanes() {
+        if waits[lane as usize] {
+            continue;
+        }
         match desk.take_up(alloc, decider, true, lane) {
             Ok(Taken::Served | Taken::Planned) => served = true,
             Ok(Taken::Ended) => {}
-            Ok(Taken::Task(_)) | Err(_) => return false,
+            Ok(Taken::Task(_)) | Err(_) => waits[lane as usize] = true,
         }
     }
     served
