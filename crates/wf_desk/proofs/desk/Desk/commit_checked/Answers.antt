@@ -13,7 +13,7 @@ serve-requires-clause-right g c =
       (
         c.is_next.ensures.0 c.if-not-is_next.false,
         certified_right (state_on c.args.self.now.board).book t.ask c.args.verdict
-        (subst (λ d. IsCertified (state_on d.board).book t.ask c.args.verdict) c.self.view_is (c.accepts.ensures.0 c.if-accepts.true)),
+            (subst (λ d. IsCertified (state_on d.board).book t.ask c.args.verdict) c.self.view_is (c.accepts.ensures.0 c.if-accepts.true)),
       ),
     )
 

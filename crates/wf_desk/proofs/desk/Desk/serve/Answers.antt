@@ -10,43 +10,43 @@ use Rattle.wf_desk.proofs.desk.Desk.serve.Goals as goal
 
 pub job_here-job-requires : goal.job_here-job-requires
 job_here-job-requires g c =
-    place_within _ c.self.inside.places c.args.lane _ c.self.invariant (rw (← c.self.view_is) at c.requires.lane) c.as_slice-job.ensures
+    place_within _ c.self.inside.places c.args.lane _ c.self.invariant.desk (rw (← c.self.view_is) at c.requires.lane) c.batch_of-job.ensures
     (c.requires.right.0, rw (← c.self.view_is) at c.requires.right.1.0)
 
 pub add_entry-at-requires-clause-room : goal.add_entry-at-requires-clause-room
 add_entry-at-requires-clause-room g c =
-    let stands = stands_next _ c.self.inside.places c.args.lane _ c.job_here-job.result.now c.self.invariant (rw (← c.self.view_is) at c.requires.lane) c.as_slice-job.ensures c.job_here-job.ensures in
-    has_room _ _ c.args.lane c.job_here-job.result.now c.self.invariant stands.here
+    let stands = stands_next _ c.self.inside.places c.args.lane _ c.job_here-job.result.now c.self.invariant.desk (rw (← c.self.view_is) at c.requires.lane) c.batch_of-job.ensures c.job_here-job.ensures in
+    has_room _ _ c.args.lane c.job_here-job.result.now c.self.invariant.desk stands.here
 
 pub add_entry-at-requires-clause-small : goal.add_entry-at-requires-clause-small
-add_entry-at-requires-clause-small g c = desk_small _ _ c.self.invariant
+add_entry-at-requires-clause-small g c = desk_small _ _ c.self.invariant.desk
 
 pub go_on-requires-clause-here : goal.go_on-requires-clause-here
 go_on-requires-clause-here g c =
-    let stands = stands_next _ c.self.inside.places c.args.lane _ c.job_here-job.result.now c.self.invariant (rw (← c.self.view_is) at c.requires.lane) c.as_slice-job.ensures c.job_here-job.ensures in
-    rw c.as_slice.ensures (stands_here _ _ c.job_here-job.result.now.lane c.job_here-job.result.now c.self.invariant stands.known stands.next)
+    let stands = stands_next _ c.self.inside.places c.args.lane _ c.job_here-job.result.now c.self.invariant.desk (rw (← c.self.view_is) at c.requires.lane) c.batch_of-job.ensures c.job_here-job.ensures in
+    rw c.batch_of.ensures (stands_here _ _ c.job_here-job.result.now.lane c.job_here-job.result.now c.self.invariant.desk stands.known stands.next)
 
 pub decide-reply-requires-clause-few : goal.decide-reply-requires-clause-few
 decide-reply-requires-clause-few g c =
-    let stands = stands_next _ c.self.inside.places c.args.lane _ c.job_here-job.result.now c.self.invariant (rw (← c.self.view_is) at c.requires.lane) c.as_slice-job.ensures c.job_here-job.ensures in
-    few_edits _ _ c.args.lane c.job_here-job.result.now c.self.invariant stands.here
+    let stands = stands_next _ c.self.inside.places c.args.lane _ c.job_here-job.result.now c.self.invariant.desk (rw (← c.self.view_is) at c.requires.lane) c.batch_of-job.ensures c.job_here-job.ensures in
+    few_edits _ _ c.args.lane c.job_here-job.result.now c.self.invariant.desk stands.here
 
 pub decide-reply-requires-clause-right : goal.decide-reply-requires-clause-right
 decide-reply-requires-clause-right g c =
-    let stands = stands_next _ c.self.inside.places c.args.lane _ c.job_here-job.result.now c.self.invariant (rw (← c.self.view_is) at c.requires.lane) c.as_slice-job.ensures c.job_here-job.ensures in
+    let stands = stands_next _ c.self.inside.places c.args.lane _ c.job_here-job.result.now c.self.invariant.desk (rw (← c.self.view_is) at c.requires.lane) c.batch_of-job.ensures c.job_here-job.ensures in
     let next = rw (← c.self.view_is) at c.requires.right.1.0 in
     let right = rw (← c.self.view_is) at c.requires.right.1.1 in
     subst (λ (j : Job). IsRight _ j.ask c.args.verdict) (one_next _ c.args.lane c.requires.right.0 c.job_here-job.result.now next stands.here) right
 
 pub invariant_of-self : goal.invariant_of-self
 invariant_of-self g c =
-    let stands = stands_next _ c.self.inside.places c.args.lane _ c.job_here-job.result.now c.self.invariant (rw (← c.self.view_is) at c.requires.lane) c.as_slice-job.ensures c.job_here-job.ensures in
+    let stands = stands_next _ c.self.inside.places c.args.lane _ c.job_here-job.result.now c.self.invariant.desk (rw (← c.self.view_is) at c.requires.lane) c.batch_of-job.ensures c.job_here-job.ensures in
     serve_keeps _ c.self.inside.places c.go_on.new.places c.job_here-job.result.now c.args.verdict c.decide-reply.result c.add_entry-at.new.journal.entries
     c.decide-reply.new.self
-    c.add_entry-at.new.journal.spare c.no_loss.result c.self.invariant
+    c.add_entry-at.new.journal.spare c.no_loss.result c.self.invariant.desk
     stands.known c.go_on.ensures.sized stands.next c.decide-reply.ensures.decided
     c.decide-reply.ensures.next
-    c.decide-reply.ensures.room c.add_entry-at.ensures.room c.add_entry-at.ensures.added c.no_loss.ensures (rw c.as_slice.ensures at c.go_on.ensures.moved)
+    c.decide-reply.ensures.room c.add_entry-at.ensures.room c.add_entry-at.ensures.added c.no_loss.ensures (rw c.batch_of.ensures at c.go_on.ensures.moved)
 
 pub returns : goal.returns
 returns g c = λ job next. ?
