@@ -12,7 +12,7 @@ ghost use Rattle.run_record.specs.Fault.{fault_in, CountsWrites};
 ghost use Rattle.run_record.specs.Report.{Told};
 ghost use Rattle.wf_server.specs.Batches.{entries_text, told_of, HasAnsweredAll, HasLoaded};
 ghost use Rattle.wf_server.specs.Batches.{IsBatchAdded};
-ghost use Rattle.wf_server.specs.Batch.{CanBeServed, CanTake, IsServedOn};
+ghost use Rattle.wf_server.specs.Batch.{CanBeServed, CanTake, HasServedJobs, IsServedOn};
 ghost use Rattle.wf_server.specs.Batches.{AnswersTo, LoadedTo, IsWriteEnding};
 ghost use Rattle.wf_server.specs.Ways.{IsWay, ServesOnce, setting_of};
 
@@ -83,7 +83,7 @@ pub(crate) fn answer_loaded<K: Sink, W: Fn(Desk) -> Desk>(
 ) -> (Desk, Result<(), RunFault>)
     requires way { IsWay (W.pre way.now) (W.post way.now) }
     requires ready { CanBeServed desk }
-    ensures on { IsServedOn (W.post way.now) desk result.0 }
+    ensures on { HasServedJobs (W.post way.now) desk result.0 }
     ensures answers { (held : Option (List ℕ)) (before : Told) (told : Answered) →
         HasLoaded held (K.held sink.old) desk before →
         IsBatchAdded before desk.jobs (told_of desk told) →
