@@ -321,7 +321,7 @@ fresh_test d t none = by_count (counted t.ask (drop t.number d.entries)) none
 
 -- ---- what became of a task
 
-added_as : (d e : DeskShape) (j : Job) (place : ℕ) (P Q : Reply → Type 0) → ((given : Reply) → P given → Q given) → HasAdded d e j place P →
+pub added_as : (d e : DeskShape) (j : Job) (place : ℕ) (P Q : Reply → Type 0) → ((given : Reply) → P given → Q given) → HasAdded d e j place P →
     HasAdded d e j place Q
 added_as d e j place P Q as_well added = record {
   entry = added.entry;

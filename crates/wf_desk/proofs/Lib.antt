@@ -5,6 +5,7 @@ pub mod DeskLaws
 pub mod NextJobs
 pub mod OneList
 pub mod CommitLaws
+pub mod Serving
 pub mod Scheduling
 pub mod Crossing
 pub mod Ends

@@ -14,7 +14,7 @@ next_of d places lane is known =
     let few = is.few in
     next_at d lane (slice_index_or places lane 0) (is.placed lane (omega (arith, few, known)))
 
--- a job is the next of its own lane, which is this one
+-- a job is the next one of a lane, which is its own
 pub record StandsNext (d : DeskShape) (lane : ℕ) (j : Job) : Type 0 where
   pub own : j.lane ≡ lane
   pub known : j.lane < d.lanes

@@ -526,7 +526,7 @@ impl Desk {
             batch_of(&self.jobs, self.first),
             self.places[task.lane as usize],
         );
-        *next == job_of(task)
+        is_job_of(next, task)
     }
 
     // Whether no entry since counts for what a task asks.
@@ -712,6 +712,13 @@ fn job_of(task: &Task) -> Job
         line: task.line,
         ask: task.ask,
     }
+}
+
+// Whether a job is that of a task.
+fn is_job_of(job: &Job, task: &Task) -> bool
+    ensures { result ≡ true ↔ job.now ≡ job_of_task task.now }
+{
+    *job == job_of(task)
 }
 
 fn no_loss() -> Loss
