@@ -20,13 +20,13 @@ use transcript_audit::laws::{faults_exclude, next_is_one, part_is_exact};
 use transcript_audit::{AuditFault, Auditor, know_session};
 use wf_board::{Board, Decider};
 use wf_desk::Desk;
-use wf_talk::Journal;
+use wf_talk::{Jobs, Journal};
 
 /// A session that goes on.
 #[derive(Drop)]
 pub struct Resumed {
     /// The desk behind the entries of the transcript, with the jobs of the batch in which they
-    /// stop.
+    /// stop, behind those of the batches before it.
     pub desk: Desk,
     /// All jobs of the requests, with the ends of their batches.
     pub batch: Batch,
@@ -104,7 +104,8 @@ fn take_up<V: Decider>(
     Ok((board, journal, Batch { jobs, ends }))
 }
 
-// The desk behind these entries, with the jobs of the batch in which they stop.
+// The desk behind these entries, with the jobs of the batch in which they stop, behind those of
+// the batches before it.
 fn go_on(
     alloc: Global,
     policy: Policy,
@@ -125,7 +126,12 @@ fn go_on(
     ensures ends { IfOk result (λ r. r.batch.ends ≡ batch.ends) }
 {
     let unserved = rest(alloc, &batch, &journal)?;
+    let earlier = Vec::from_slice(
+        alloc,
+        &batch.jobs.as_slice()[..unserved.from as usize],
+    )?;
     let mut desk = Desk::restore(alloc, policy, board, journal, lanes, rounds)?;
+    desk.behind(Jobs::from_vec(earlier));
     desk.resume_batch(alloc, unserved.jobs.as_slice(), unserved.from)?;
     Ok(Resumed {
         desk,

@@ -57,6 +57,7 @@ grown_seen s d e seen fixed later =
       opening = ap (λ (f : Fixed). f.opening) same;
       lanes = ap (λ (f : Fixed). f.lanes) same;
       rounds = ap (λ (f : Fixed). f.rounds) same;
+      earlier = ap (λ (f : Fixed). f.earlier) same;
       jobs = ap (λ (f : Fixed). f.jobs) same;
       start = ap (λ (f : Fixed). f.start) same;
       restored = ap (λ (f : Fixed). f.restored) same;
