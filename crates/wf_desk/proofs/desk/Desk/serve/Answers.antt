@@ -50,12 +50,15 @@ pub invariant_of-self : goal.invariant_of-self
 invariant_of-self g c =
     let stands = stands_next _ c.self.inside.places c.args.lane _ c.job_here-job.result.now c.self.invariant.desk (rw (← c.self.view_is) at c.requires.lane)
     c.batch_of.ensures c.job_here-job.ensures in
-    record { desk = serve_keeps _ c.self.inside.places c.go_on.new.places c.job_here-job.result.now c.args.verdict c.decide-reply.result c.add_entry-at.new.journal.entries
-    c.decide-reply.new.self
-    c.add_entry-at.new.journal.spare c.no_loss.result c.self.invariant.desk
-    stands.known c.go_on.ensures.sized stands.next c.decide-reply.ensures.decided
-    c.decide-reply.ensures.next
-    c.decide-reply.ensures.room c.add_entry-at.ensures.room c.add_entry-at.ensures.added c.no_loss.ensures (rw c.batch_of-2.ensures at c.go_on.ensures.moved); begins = c.self.invariant.begins }
+    record {
+      desk = serve_keeps _ c.self.inside.places c.go_on.new.places c.job_here-job.result.now c.args.verdict c.decide-reply.result c.add_entry-at.new.journal.entries
+          c.decide-reply.new.self
+          c.add_entry-at.new.journal.spare c.no_loss.result c.self.invariant.desk
+          stands.known c.go_on.ensures.sized stands.next c.decide-reply.ensures.decided
+          c.decide-reply.ensures.next
+          c.decide-reply.ensures.room c.add_entry-at.ensures.room c.add_entry-at.ensures.added c.no_loss.ensures (rw c.batch_of-2.ensures at c.go_on.ensures.moved);
+      begins = c.self.invariant.begins;
+    }
 
 pub returns : goal.returns
 returns g c job next =
@@ -66,4 +69,4 @@ returns g c job next =
     let here = subst (λ (e : DeskShape). next_job e c.args.lane ≡ Some own) c.self.view_is stands.here in
     added_parts _ d own job c.args.verdict c.decide-reply.result c.add_entry-at.new.journal.entries c.decide-reply.new.self
     c.add_entry-at.new.journal.spare c.no_loss.result c.add_entry-at.result c.self.view_is (one_next d c.args.lane own job here next)
-    c.decide-reply.ensures.decided c.decide-reply.ensures.lacking c.add_entry-at.ensures.at c.add_entry-at.ensures.added c.no_loss.ensures
+    c.decide-reply.ensures.decided c.decide-reply.ensures.left.lacking c.add_entry-at.ensures.at c.add_entry-at.ensures.added c.no_loss.ensures

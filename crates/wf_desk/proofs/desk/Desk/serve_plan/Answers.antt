@@ -44,12 +44,15 @@ pub invariant_of-self : goal.invariant_of-self
 invariant_of-self c =
     let stands = stands_next _ c.self.inside.places c.args.lane _ c.job_here-job.result.now c.self.invariant.desk (rw (← c.self.view_is) at c.requires.lane)
     c.batch_of.ensures c.job_here-job.ensures in
-    record { desk = serve_keeps _ c.self.inside.places c.go_on.new.places c.job_here-job.result.now (verdicts.Plan c.args.plan) c.take_plan-reply.result
-    c.add_entry.new.journal.entries c.take_plan-reply.new.self
-    c.add_entry.new.journal.spare c.no_loss.result c.self.invariant.desk
-    stands.known c.go_on.ensures.sized stands.next c.take_plan-reply.ensures.decided
-    c.take_plan-reply.ensures.next
-    c.take_plan-reply.ensures.room c.add_entry.ensures.room c.add_entry.ensures.added c.no_loss.ensures (rw c.batch_of-2.ensures at c.go_on.ensures.moved); begins = c.self.invariant.begins }
+    record {
+      desk = serve_keeps _ c.self.inside.places c.go_on.new.places c.job_here-job.result.now (verdicts.Plan c.args.plan) c.take_plan-reply.result
+          c.add_entry.new.journal.entries c.take_plan-reply.new.self
+          c.add_entry.new.journal.spare c.no_loss.result c.self.invariant.desk
+          stands.known c.go_on.ensures.sized stands.next c.take_plan-reply.ensures.decided
+          c.take_plan-reply.ensures.next
+          c.take_plan-reply.ensures.room c.add_entry.ensures.room c.add_entry.ensures.added c.no_loss.ensures (rw c.batch_of-2.ensures at c.go_on.ensures.moved);
+      begins = c.self.invariant.begins;
+    }
 
 pub returns : goal.returns
 returns c job next =
