@@ -1,5 +1,5 @@
 -- One list of jobs: those of the batches before, and behind them those of the batch.
-use Rattle.std.proofs.Common.{◌≡◌, ℕ, ◌+◌, ◌≤◌, List, [], ◌∷◌, ◌++◌, length, take, drop, sym, ap, subst, ◌∙◌, arith}
+use Rattle.std.proofs.Common.{◌≡◌, ℕ, ◌+◌, List, [], ◌∷◌, ◌++◌, length, take, drop, sym, ap, subst, ◌∙◌, arith}
 use Rattle.std.proofs.lemmas.List.{drop_all, take_all, take-append-drop}
 use Rattle.wf_talk.specs.declared.job.Job.{Job}
 use Rattle.wf_desk.specs.Desks.{DeskShape, jobs_told}
