@@ -1,5 +1,5 @@
 -- One list of jobs: those of the batches before, and behind them those of the batch.
-use Rattle.std.proofs.Common.{◌≡◌, ℕ, ◌+◌, List, [], ◌∷◌, ◌++◌, length, take, drop, sym, ap, subst, ◌∙◌, arith}
+use Rattle.std.proofs.Common.{◌≡◌, ℕ, List, [], ◌∷◌, ◌++◌, length, take, drop, sym, ap, subst, ◌∙◌, arith}
 use Rattle.std.proofs.lemmas.List.{drop_all, take_all, take-append-drop}
 use Rattle.wf_talk.specs.declared.job.Job.{Job}
 use Rattle.wf_desk.specs.Desks.{DeskShape, jobs_told}
@@ -58,4 +58,5 @@ behind_at d e jobs first size is none =
 -- all jobs that were given
 pub all_told : (v d : DeskShape) (jobs : List Job) (first : ℕ) → v ≡ d → v.earlier ≡ take first jobs → v.jobs ≡ drop first jobs → jobs ≡ jobs_told d
 all_told v d jobs first is front rest =
-    sym (take-append-drop first jobs) ∙ ap (λ es. es ++ drop first jobs) (sym front) ∙ ap (λ js. v.earlier ++ js) (sym rest) ∙ ap (λ (x : DeskShape). jobs_told x) is
+    sym (take-append-drop first jobs) ∙ ap (λ es. es ++ drop first jobs) (sym front)
+    ∙ ap (λ js. v.earlier ++ js) (sym rest) ∙ ap (λ (x : DeskShape). jobs_told x) is

@@ -16,8 +16,8 @@ use Rattle.wf_desk.specs.declared.loss.Loss.{Loss}
 
 -- the policy at the beginning, how many lanes there are, after how many lost rounds a request is
 -- answered again, the board, the entries so far with the room that is left for more, the jobs of
--- the batches before, the jobs of the batch, how many entries there were when they came, how many it
--- began with, taken up from an earlier session, and for each lane how its next job was lost
+-- the batches before, the jobs of the batch, how many entries there were when they came, how many
+-- it began with, taken up from an earlier session, and for each lane how its next job was lost
 pub record DeskShape : Type 0 where
   pub opening : PolicyShape
   pub lanes : ℕ

@@ -33,8 +33,8 @@ invariant_of-self-in-Done c =
     let stands = stands_next _ c.self.inside.places c.args.lane _ c.job_here-job.result.now c.self.invariant.desk (rw (← c.self.view_is) at c.requires.lane)
     c.batch_of.ensures c.job_here-job.ensures in
     record {
-      desk = serve_keeps _ c.self.inside.places c.go_on.new.places c.job_here-job.result.now verdicts.Nothing c.in-Done.reply c.add_entry.new.journal.entries c.step.new.self
-          c.add_entry.new.journal.spare c.no_loss.result c.self.invariant.desk
+      desk = serve_keeps _ c.self.inside.places c.go_on.new.places c.job_here-job.result.now verdicts.Nothing c.in-Done.reply c.add_entry.new.journal.entries
+          c.step.new.self c.add_entry.new.journal.spare c.no_loss.result c.self.invariant.desk
           stands.known c.go_on.ensures.sized stands.next c.in-Done.ensures.stepped.0
           c.in-Done.ensures.stepped.1.0
           c.in-Done.ensures.room c.add_entry.ensures.room c.add_entry.ensures.added c.no_loss.ensures (rw c.batch_of-in-Done.ensures at c.go_on.ensures.moved);

@@ -51,12 +51,13 @@ invariant_of-self g c =
     let stands = stands_next _ c.self.inside.places c.args.lane _ c.job_here-job.result.now c.self.invariant.desk (rw (← c.self.view_is) at c.requires.lane)
     c.batch_of.ensures c.job_here-job.ensures in
     record {
-      desk = serve_keeps _ c.self.inside.places c.go_on.new.places c.job_here-job.result.now c.args.verdict c.decide-reply.result c.add_entry-at.new.journal.entries
-          c.decide-reply.new.self
+      desk = serve_keeps _ c.self.inside.places c.go_on.new.places c.job_here-job.result.now c.args.verdict c.decide-reply.result
+          c.add_entry-at.new.journal.entries c.decide-reply.new.self
           c.add_entry-at.new.journal.spare c.no_loss.result c.self.invariant.desk
           stands.known c.go_on.ensures.sized stands.next c.decide-reply.ensures.decided
           c.decide-reply.ensures.next
-          c.decide-reply.ensures.room c.add_entry-at.ensures.room c.add_entry-at.ensures.added c.no_loss.ensures (rw c.batch_of-2.ensures at c.go_on.ensures.moved);
+          c.decide-reply.ensures.room c.add_entry-at.ensures.room c.add_entry-at.ensures.added c.no_loss.ensures
+          (rw c.batch_of-2.ensures at c.go_on.ensures.moved);
       begins = c.self.invariant.begins;
     }
 

@@ -50,7 +50,8 @@ invariant_of-self c =
           c.add_entry.new.journal.spare c.no_loss.result c.self.invariant.desk
           stands.known c.go_on.ensures.sized stands.next c.take_plan-reply.ensures.decided
           c.take_plan-reply.ensures.next
-          c.take_plan-reply.ensures.room c.add_entry.ensures.room c.add_entry.ensures.added c.no_loss.ensures (rw c.batch_of-2.ensures at c.go_on.ensures.moved);
+          c.take_plan-reply.ensures.room c.add_entry.ensures.room c.add_entry.ensures.added c.no_loss.ensures
+          (rw c.batch_of-2.ensures at c.go_on.ensures.moved);
       begins = c.self.invariant.begins;
     }
 
