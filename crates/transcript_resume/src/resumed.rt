@@ -20,7 +20,7 @@ use transcript_audit::laws::{faults_exclude, next_is_one, part_is_exact};
 use transcript_audit::{AuditFault, Auditor, know_session};
 use wf_board::{Board, Decider};
 use wf_desk::Desk;
-use wf_talk::{Jobs, Journal};
+use wf_talk::Journal;
 
 /// A session that goes on.
 #[derive(Drop)]
@@ -126,12 +126,8 @@ fn go_on(
     ensures ends { IfOk result (λ r. r.batch.ends ≡ batch.ends) }
 {
     let unserved = rest(alloc, &batch, &journal)?;
-    let earlier = Vec::from_slice(
-        alloc,
-        &batch.jobs.as_slice()[..unserved.from as usize],
-    )?;
     let mut desk = Desk::restore(alloc, policy, board, journal, lanes, rounds)?;
-    desk.behind(Jobs::from_vec(earlier));
+    desk.behind(unserved.earlier);
     desk.resume_batch(alloc, unserved.jobs.as_slice(), unserved.from)?;
     Ok(Resumed {
         desk,

@@ -13,7 +13,7 @@ use Rattle.wf_talk.specs.declared.job.Job.{Job}
 use Rattle.wf_board.specs.States.{State, opening_state}
 use Rattle.wf_board.specs.Histories.{FillsJobs, IsLegal, batch_start, state_after}
 use Rattle.wf_board.proofs.HistoryLaws.{after_all}
-use Rattle.wf_desk.specs.Desks.{DeskShape, IsDone, IsSoundDesk, jobs_told}
+use Rattle.wf_desk.specs.Desks.{DeskShape, IsDone, IsSoundDesk, jobs_told, with_room}
 use Rattle.wf_desk.specs.BatchLaws.{AnswersBatch, AnswersNext, EndAt}
 use Rattle.wf_desk.proofs.BatchLaws.{batch_fills}
 use Rattle.wf_desk.proofs.DocketLaws.{batch_done}
@@ -257,6 +257,14 @@ added_on l d before a grown added = record { jobs = jobs_grown l d grown ∙ add
 pub ends_back : (old mid : List ℕ) (end len : ℕ) → (len ≡ 0 → mid ≡ old) → (0 < len → mid ≡ old ++ end ∷ []) → take (length old) mid ≡ old
 ends_back old mid end zero none some = ap (take (length old)) (none refl) ∙ take_all (length old) old (omega arith)
 ends_back old mid end (suc len) none some = ap (take (length old)) (some (omega arith)) ∙ take-append_seam old (end ∷ [])
+
+-- and then the same is told
+pub told_back : (old d : DeskShape) (a b : Answered) (spare cases : ℕ) → d ≡ with_room old spare cases → b.batch_ends ≡ a.batch_ends →
+    told_of d b ≡ told_of old a
+told_back old d a b spare cases is ends =
+    let entries : d.entries ≡ old.entries = ap (λ (x : DeskShape). x.entries) is in
+    let jobs : jobs_told d ≡ jobs_told old = ap (λ (x : DeskShape). jobs_told x) is in
+    rw (entries, jobs, ends) refl
 
 -- and where there was no room for the batch
 pub answers_none : (held aft : Option (List ℕ)) (old d : DeskShape) (before : Told) (batch : List Job) (after : Told) (result : Result (Unit {0}) RunFault)

@@ -3,7 +3,6 @@ ghost use Rattle.std.specs.Prelude.{◌≡◌, ◌≢◌, ◌≤◌, ◌<◌, �
 ghost use Rattle.std.specs.Prelude.{drop, Option, Err, IfErr, OnOk, OnErr};
 ghost use Rattle.wf_outside.specs.Outside.{HasPart, with_bytes};
 ghost use Rattle.wf_names.specs.declared.limits.TheConstants.{SESSION_LINE_LIMIT};
-ghost use Rattle.line_cutter.specs.Cutter.{ends_after};
 ghost use Rattle.wf_board.specs.Histories.{AreAnsweredOnce};
 ghost use Rattle.wf_desk.specs.Desks.{IsDone, IsSoundDesk};
 ghost use Rattle.wf_desk.specs.Schedules.{HasGrown};
@@ -107,7 +106,6 @@ pub(crate) fn answer_loaded<K: Sink, W: Fn(Desk) -> Desk>(
 }
 
 // Takes the jobs of a batch to the desk, and tells its end.
-#[tactic(auto, using(crate::proofs::BatchLaws::end_added))]
 fn take_batch(
     alloc: Global,
     desk: &mut Desk,
@@ -124,7 +122,7 @@ fn take_batch(
     ensures stay { OnErr result (told_of desk.new told.new ≡ told_of desk.old told.old) }
 {
     let ends = told.batch_ends.len();
-    add_end(&mut told.batch_ends, desk.jobs_told().len(), batch.len())?;
+    add_end(&mut told.batch_ends, desk.count_told(), batch.len())?;
     match desk.load_batch(alloc, batch) {
         Ok(()) => Ok(()),
         Err(e) => {

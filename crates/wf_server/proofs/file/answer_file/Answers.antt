@@ -60,7 +60,8 @@ answer_batch-next-requires-clause-takes g c =
       done = answered.done;
       whole = answered.fills.whole;
       follows =
-          subst (λ js. IsBatch d.lanes (length (jobs_told c.answering.desk)) js) (sym batch) (file_batch d.lanes jobs ends c.answering.count _ _ order known next);
+          subst (λ js. IsBatch d.lanes (length (jobs_told c.answering.desk)) js) (sym batch)
+          (file_batch d.lanes jobs ends c.answering.count _ _ order known next);
     }
 
 pub answering-preserved : goal.answering-preserved

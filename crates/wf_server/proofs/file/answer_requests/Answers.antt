@@ -1,4 +1,4 @@
-use Rattle.std.proofs.Common.{◌<◌, refl, sym, subst}
+use Rattle.std.proofs.Common.{◌<◌, sym, subst}
 use Rattle.line_cutter.specs.Laws.{AreInOrder}
 use Rattle.wf_server.proofs.FileLaws.{earlier, first_added, first_fails, first_loaded, told_at}
 use Rattle.wf_server.proofs.ServedOn.{on_then}
@@ -13,7 +13,8 @@ pub answer_file-requires-clause-file : goal.answer_file-requires-clause-file
 answer_file-requires-clause-file g c = record {
   order = subst (λ n. AreInOrder n c.args.file.now.jobs c.args.file.now.ends)
       (sym (lanes_of c.args.desk c.answer_loaded-served.result.0 c.answer_loaded-served.ensures.on.on.setting)) c.requires.file.order;
-  to = told_at c.args.file.now.jobs c.args.file.now.ends c.args.count c.args.desk c.answer_loaded-served.result.0 c.args.told.now c.answer_loaded-served.ensures.on.jobs c.requires.file.to;
+  to = told_at c.args.file.now.jobs c.args.file.now.ends c.args.count c.args.desk c.answer_loaded-served.result.0 c.args.told.now
+      c.answer_loaded-served.ensures.on.jobs c.requires.file.to;
 }
 
 pub answer_file-requires-clause-answered : goal.answer_file-requires-clause-answered
