@@ -17,7 +17,17 @@ use Rattle.wf_lanes.proofs.TurnOrder.{at_first, at_passed, at_served, at_whole}
 -- no job was served
 pub on_none : (d : DeskShape) → HasServedOn d d
 on_none d = record {
-  grown = record { more = []; extends = sym (append-nil d.entries); opening = refl; lanes = refl; rounds = refl; earlier = refl; jobs = refl; start = refl; restored = refl };
+  grown = record {
+    more = [];
+    extends = sym (append-nil d.entries);
+    opening = refl;
+    lanes = refl;
+    rounds = refl;
+    earlier = refl;
+    jobs = refl;
+    start = refl;
+    restored = refl;
+  };
   once = tt;
 }
 
