@@ -10,7 +10,7 @@ use Rattle.wf_talk.specs.declared.entry.Entry.{Entry}
 use Rattle.wf_talk.specs.declared.job.Job.{Job}
 use Rattle.wf_board.specs.Histories.{EachAfter, FillsJobs, RestsFrom, batch_end, batch_jobs, batch_start, job_of_entry, lane_jobs}
 use Rattle.wf_desk.specs.BatchLaws.{EndAt}
-use Rattle.wf_desk.specs.Desks.{AreOfLanes, DeskShape}
+use Rattle.wf_desk.specs.Desks.{AreOfLanes, DeskShape, jobs_told}
 use Rattle.wf_desk.specs.Parts.{FillsPart}
 use Rattle.line_cutter.specs.Cutter.{ends_after}
 use Rattle.line_cutter.specs.Laws.{LeadTo}
@@ -269,3 +269,12 @@ reaches s es next d lead part goes =
 
 pub desk_lanes : (s : Session) (es : List Entry) (next : ℕ) (d : DeskShape) → AreOfLanes s.lanes s.jobs → GoesOnAt s es next d → AreOfLanes s.lanes d.jobs
 desk_lanes s es next d of_lanes goes = subst (AreOfLanes s.lanes) (sym goes.jobs) (lanes_between s.lanes d.start next s.jobs of_lanes)
+
+-- the jobs that the desk was given are those up to the end of its batch
+pub told_jobs : (s : Session) (es : List Entry) (next : ℕ) (d : DeskShape) → LeadTo 0 s.batch_ends (length s.jobs) → FillsPart es s.jobs s.batch_ends →
+    GoesOnAt s es next d → jobs_told d ≡ take next s.jobs
+told_jobs s es next d lead part goes =
+    let order = bounds_order s.batch_ends (length s.jobs) (length es) lead part.few in
+    let start = goes.start in
+    let stop = goes.next in
+    (λ i. goes.earlier i ++ goes.jobs i) ∙ sym (jobs_here d.start next s.jobs (omega (arith, order, start, stop)))

@@ -21,14 +21,13 @@ use Rattle.resume_command.specs.declared.refusal.Refusal.TheVariants.{Ends}
 use Rattle.resume_command.specs.Begun.{BeginsBy, HasBegun, StandsAt, StopsBy, ends_to, session_of}
 use Rattle.resume_command.specs.Load.{IsCutOf}
 use Rattle.resume_command.specs.Refusal.{refused_by}
-use Rattle.resume_command.proofs.Stands.{desk_lanes, reaches, stands}
+use Rattle.resume_command.proofs.Stands.{desk_lanes, reaches, stands, told_jobs}
 
 -- what was made of the jobs of a file
 pub record IsMadeOf (s : Session) (next : ℕ) (r : BatchReaderShape) (b : Beginning) : Type 0 where
   pub file_jobs : b.file.jobs ≡ s.jobs
   pub file_ends : b.file.ends ≡ s.batch_ends
   pub count : b.count ≡ ends_to next s.batch_ends
-  pub jobs : b.jobs ≡ take next s.jobs
   pub ends : b.ends ≡ take b.count s.batch_ends
   pub reader : b.reader ≡ r
 
@@ -41,6 +40,7 @@ begun_at s cut transcript next r b sound order jobs ends goes resumed made reads
     let part = resumed.taken.part in
     let at = resumed.goes_on in
     let far = reaches s b.desk.entries next b.desk lead part at in
+    let told = told_jobs s b.desk.entries next b.desk lead part at in
     record {
       policy = sound;
       order = order;
@@ -52,13 +52,13 @@ begun_at s cut transcript next r b sound order jobs ends goes resumed made reads
       rounds = at.rounds;
       restored = at.restored;
       of_lanes = desk_lanes s b.desk.entries next b.desk order.of_lanes at;
-      stands = subst (λ js. StandsAt b.desk.entries b.desk.start b.desk.jobs js b.ends) (sym made.jobs)
+      stands = subst (λ js. StandsAt b.desk.entries b.desk.start b.desk.jobs js b.ends) (sym told)
           (subst (λ es. StandsAt b.desk.entries b.desk.start b.desk.jobs (take next s.jobs) es) (sym (made.ends ∙ ap (λ n. take n s.batch_ends) made.count))
           (stands s b.desk.entries next b.desk lead part at));
       file_jobs = made.file_jobs;
       file_ends = made.file_ends;
       known = subst (λ n. n ≤ length s.batch_ends) (sym made.count) far.known;
-      first_jobs = made.jobs ∙ ap (λ n. take n s.jobs) (sym (ap (batch_start s.batch_ends) made.count ∙ far.there));
+      first_jobs = told ∙ ap (λ n. take n s.jobs) (sym (ap (batch_start s.batch_ends) made.count ∙ far.there));
       first_ends = made.ends;
       goes_on = goes;
       reader = made.reader ∙ reads;
@@ -94,11 +94,6 @@ refused_at p lanes rounds requests transcript text e is refused =
     let s : Session = record { policy = p; lanes = lanes; rounds = rounds; jobs = text.batch.jobs; batch_ends = text.batch.ends } in
     let same : s ≡ session_of p lanes rounds cut = rw (is.jobs, is.ends) refl in
     not_begun (session_of p lanes rounds cut) cut transcript e (subst (λ (x : Session). RefusesBy x transcript e) same refused)
-
--- how far the batch reaches
-pub next_within : (s : Session) (transcript : List ℕ) (next : ℕ) (d : DeskShape) → AreInOrder s.lanes s.jobs s.batch_ends → HasResumed s transcript next d →
-    next ≤ length s.jobs
-next_within s transcript next d order resumed = (reaches s d.entries next d order.ends resumed.taken.part resumed.goes_on).within
 
 -- the answer of a call that failed so
 pub stopped : (result : Result Beginning Refusal) (fault : RunFault) → IsErrAnd result (λ x. x ≡ Ends fault) → StopsBy result fault

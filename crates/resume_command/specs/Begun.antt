@@ -7,7 +7,7 @@ use Rattle.wf_talk.specs.declared.entry.Entry.{Entry}
 use Rattle.wf_talk.specs.declared.job.Job.{Job}
 use Rattle.wf_board.specs.Histories.{FillsJobs, batch_start}
 use Rattle.wf_desk.specs.BatchLaws.{EndAt}
-use Rattle.wf_desk.specs.Desks.{AreOfLanes}
+use Rattle.wf_desk.specs.Desks.{AreOfLanes, jobs_told}
 use Rattle.line_cutter.specs.Cutter.{ends_after}
 use Rattle.line_cutter.specs.Jobs.{Cut, next_input, start_at}
 use Rattle.line_cutter.specs.Laws.{AreInOrder, GoesOn}
@@ -55,11 +55,11 @@ pub record HasBegun (s : Session) (cut : Cut) (transcript : List ℕ) (b : Begin
   pub rounds : b.desk.rounds ≡ s.rounds
   pub restored : b.desk.restored ≡ length b.desk.entries
   pub of_lanes : AreOfLanes s.lanes b.desk.jobs
-  pub stands : StandsAt b.desk.entries b.desk.start b.desk.jobs b.jobs b.ends
+  pub stands : StandsAt b.desk.entries b.desk.start b.desk.jobs (jobs_told b.desk) b.ends
   pub file_jobs : b.file.jobs ≡ s.jobs
   pub file_ends : b.file.ends ≡ s.batch_ends
   pub known : b.count ≤ length s.batch_ends
-  pub first_jobs : b.jobs ≡ take (batch_start s.batch_ends b.count) s.jobs
+  pub first_jobs : jobs_told b.desk ≡ take (batch_start s.batch_ends b.count) s.jobs
   pub first_ends : b.ends ≡ take b.count s.batch_ends
   pub goes_on : GoesOn s.lanes cut
   pub reader : b.reader ≡ record {

@@ -21,7 +21,7 @@ use wf_board::Decider;
 use wf_commands::{load_file, load_policy};
 use wf_desk::Desk;
 use wf_outside::{Loaded, Shelf};
-use wf_talk::{Ends, Jobs};
+use wf_talk::Ends;
 
 /// Most bytes of a transcript.
 pub const TRANSCRIPT_FILE_LIMIT: usize = 67_108_864;
@@ -32,15 +32,13 @@ pub const PIECE: usize = 65_536;
 /// A session that goes on behind the entries of an earlier one.
 #[derive(Drop)]
 pub struct Beginning {
-    /// The desk behind these entries, with the batch in which they stop.
+    /// The desk behind these entries, with the batch in which they stop and those before it.
     pub desk: Desk,
     /// All jobs of the requests file, with the ends of their batches.
     pub file: Batch,
     /// How many batches there are up to that one and with it.
     pub count: usize,
-    /// The jobs of these batches.
-    pub jobs: Jobs,
-    /// Their ends.
+    /// The ends of these batches.
     pub ends: Ends,
     /// What reads the input, with its lines numbered on behind those of the file.
     pub reader: Reader,
@@ -209,14 +207,12 @@ fn take_up<V: Decider>(
     Ok(with_told(alloc, resumed, reader)?)
 }
 
-// The desk of a session that was taken up, with the jobs that are told up to the end of its batch.
+// The desk of a session that was taken up, with the ends of the batches whose jobs are told.
 fn with_told(alloc: Global, resumed: Resumed, reader: Reader) -> Result<Beginning, AllocError>
-    requires { resumed.next ≤ length resumed.batch.jobs }
     ensures desk { IfOk result (λ b. b.desk ≡ resumed.desk) }
     ensures file_jobs { IfOk result (λ b. b.file.jobs ≡ resumed.batch.jobs) }
     ensures file_ends { IfOk result (λ b. b.file.ends ≡ resumed.batch.ends) }
     ensures count { IfOk result (λ b. b.count ≡ ends_to resumed.next resumed.batch.ends) }
-    ensures jobs { IfOk result (λ b. b.jobs ≡ take resumed.next resumed.batch.jobs) }
     ensures ends { IfOk result (λ b. b.ends ≡ take b.count resumed.batch.ends) }
     ensures reader { IfOk result (λ b. b.reader ≡ reader) }
 {
@@ -226,13 +222,11 @@ fn with_told(alloc: Global, resumed: Resumed, reader: Reader) -> Result<Beginnin
         next,
     } = resumed;
     let count = count_ends(file.ends.as_slice(), next);
-    let jobs = Vec::from_slice(alloc, &file.jobs.as_slice()[..next as usize])?;
     let ends = Vec::from_slice(alloc, &file.ends.as_slice()[..count])?;
     Ok(Beginning {
         desk,
         file,
         count,
-        jobs: Jobs::from_vec(jobs),
         ends: Ends::from_vec(ends),
         reader,
     })

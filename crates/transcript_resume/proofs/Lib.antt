@@ -2,3 +2,4 @@ pub mod Rests
 pub mod WholeLines
 pub mod LinesTaken
 pub mod LongLines
+pub mod GoingOn

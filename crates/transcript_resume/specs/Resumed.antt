@@ -1,6 +1,6 @@
 -- Going on from a transcript: its whole lines, the entries that they tell, and the first line that
 -- tells none.
-use Rattle.std.specs.Prelude.{◌≡◌, ℕ, ◌+◌, nat_lt, List, [], ◌∷◌, length, Option, None, Some}
+use Rattle.std.specs.Prelude.{◌≡◌, ℕ, ◌+◌, nat_lt, List, [], ◌∷◌, length, take, Option, None, Some}
 use Rattle.std.specs.Prelude.{Result, Ok, Err, if◌then◌else◌}
 use Rattle.std.proofs.Common.{◌⊎◌}
 use Rattle.wf_names.specs.declared.limits.TheConstants.{TRANSCRIPT_LINE_LIMIT}
@@ -62,7 +62,7 @@ RefusesBy s transcript (At n kind) = IsRefused s transcript n kind
 RefusesBy s transcript NoMemory = Unit {0}
 
 -- a desk goes on behind these entries: it has the jobs of the batch in which they stop, up to its
--- end
+-- end, behind those of the batches before
 pub record GoesOnAt (s : Session) (es : List Entry) (stop : ℕ) (d : DeskShape) : Type 0 where
   pub opening : d.opening ≡ s.policy
   pub lanes : d.lanes ≡ s.lanes
@@ -71,6 +71,7 @@ pub record GoesOnAt (s : Session) (es : List Entry) (stop : ℕ) (d : DeskShape)
   pub restored : d.restored ≡ length es
   pub start : d.start ≡ start_at 0 (length es) s.batch_ends
   pub next : stop ≡ end_at (length es) s.batch_ends
+  pub earlier : d.earlier ≡ take d.start s.jobs
   pub jobs : d.jobs ≡ jobs_between d.start stop s.jobs
 
 -- a session goes on from a transcript at a desk

@@ -26,7 +26,7 @@ use wf_talk::Journal;
 #[derive(Drop)]
 pub struct Resumed {
     /// The desk behind the entries of the transcript, with the jobs of the batch in which they
-    /// stop.
+    /// stop, behind those of the batches before it.
     pub desk: Desk,
     /// All jobs of the requests, with the ends of their batches.
     pub batch: Batch,
@@ -104,7 +104,8 @@ fn take_up<V: Decider>(
     Ok((board, journal, Batch { jobs, ends }))
 }
 
-// The desk behind these entries, with the jobs of the batch in which they stop.
+// The desk behind these entries, with the jobs of the batch in which they stop, behind those of
+// the batches before it.
 fn go_on(
     alloc: Global,
     policy: Policy,
@@ -126,6 +127,7 @@ fn go_on(
 {
     let unserved = rest(alloc, &batch, &journal)?;
     let mut desk = Desk::restore(alloc, policy, board, journal, lanes, rounds)?;
+    desk.behind(unserved.earlier);
     desk.resume_batch(alloc, unserved.jobs.as_slice(), unserved.from)?;
     Ok(Resumed {
         desk,

@@ -1,5 +1,5 @@
 //! The jobs that have no entry yet.
-ghost use Rattle.std.specs.Prelude.{◌≡◌, ◌≤◌, ◌<◌, length, IfOk};
+ghost use Rattle.std.specs.Prelude.{◌≡◌, ◌≤◌, ◌<◌, length, take, IfOk};
 ghost use Rattle.wf_names.specs.declared.limits.TheConstants.{BATCH_LINE_LIMIT, SESSION_LINE_LIMIT};
 ghost use Rattle.line_cutter.specs.Laws.{LeadTo};
 ghost use Rattle.wf_desk.specs.Desks.{AnswersPart};
@@ -19,9 +19,11 @@ pub struct Unserved {
     pub from: u32,
     /// How many jobs there are up to its end.
     pub next: u32,
+    /// The jobs of the batches before it.
+    pub earlier: Jobs,
 }
 
-/// The jobs of the first batch that is not whole in the journal.
+/// The jobs of the first batch that is not whole in the journal, and those of the batches before.
 pub fn rest(alloc: Global, batch: &Batch, journal: &Journal) -> Result<Unserved, AllocError>
     requires few { length batch.now.jobs ≤ SESSION_LINE_LIMIT }
     requires ends { LeadTo 0 batch.now.ends (length batch.now.jobs) }
@@ -30,15 +32,19 @@ pub fn rest(alloc: Global, batch: &Batch, journal: &Journal) -> Result<Unserved,
         ≡ start_at 0 (length journal.now.entries) batch.now.ends) }
     ensures next { IfOk result (λ u. u.next ≡ end_at (length journal.now.entries) batch.now.ends) }
     ensures jobs { IfOk result (λ u. u.jobs ≡ jobs_between u.from u.next batch.now.jobs) }
+    ensures earlier { IfOk result (λ u. u.earlier ≡ take u.from batch.now.jobs) }
     ensures answers { IfOk result (λ u. AnswersPart journal.now.entries u.from u.jobs) }
     ensures short { IfOk result (λ u. length u.jobs ≤ BATCH_LINE_LIMIT) }
 {
     let (from, next) = bounds(batch.ends.as_slice(), journal.len() as u32);
     let jobs = jobs_between(batch.jobs.as_slice(), from, next);
+    let before = jobs_between(batch.jobs.as_slice(), 0, from);
+    let earlier = Vec::from_slice(alloc, before)?;
     Ok(Unserved {
         jobs: Jobs::from_vec(Vec::from_slice(alloc, jobs)?),
         from,
         next,
+        earlier: Jobs::from_vec(earlier),
     })
 }
 

@@ -334,6 +334,7 @@ added_as d e j place P Q as_well added = record {
   opening = added.opening;
   lanes = added.lanes;
   rounds = added.rounds;
+  earlier = added.earlier;
   jobs = added.jobs;
   start = added.start;
   restored = added.restored;

@@ -26,7 +26,7 @@ desk_send =
               journal_send,
               (
                 search (list_send, job_send) depth 20,
-                (search sendable, (search sendable, (search (sendable, loss_send) depth 20, (search sendable depth 20, tt)))),
+                (search sendable, (search sendable, (search sendable, (search (sendable, loss_send) depth 20, (search sendable depth 20, tt))))),
               ),
             ),
           ),

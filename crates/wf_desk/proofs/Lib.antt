@@ -3,6 +3,7 @@ pub mod BatchLaws
 pub mod DocketLaws
 pub mod DeskLaws
 pub mod NextJobs
+pub mod OneList
 pub mod CommitLaws
 pub mod Serving
 pub mod Scheduling

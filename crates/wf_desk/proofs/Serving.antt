@@ -42,6 +42,7 @@ added_parts inner d j k v given entries b spare loss at is same decided lacking 
       opening = refl;
       lanes = refl;
       rounds = refl;
+      earlier = refl;
       jobs = refl;
       start = refl;
       restored = refl;

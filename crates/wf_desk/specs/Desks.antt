@@ -16,8 +16,8 @@ use Rattle.wf_desk.specs.declared.loss.Loss.{Loss}
 
 -- the policy at the beginning, how many lanes there are, after how many lost rounds a request is
 -- answered again, the board, the entries so far with the room that is left for more, the jobs of
--- the batch, how many entries there were when they came, how many it began with, taken up from an
--- earlier session, and for each lane how its next job was lost
+-- the batches before, the jobs of the batch, how many entries there were when they came, how many
+-- it began with, taken up from an earlier session, and for each lane how its next job was lost
 pub record DeskShape : Type 0 where
   pub opening : PolicyShape
   pub lanes : ℕ
@@ -25,6 +25,7 @@ pub record DeskShape : Type 0 where
   pub board : BoardShape
   pub entries : List Entry
   pub spare : ℕ
+  pub earlier : List Job
   pub jobs : List Job
   pub start : ℕ
   pub restored : ℕ
@@ -33,6 +34,10 @@ pub record DeskShape : Type 0 where
 -- the state after the first so many entries
 abbrev pub state_after_first : DeskShape → ℕ → State
 state_after_first d n = state_after (opening_state d.opening) (take n d.entries)
+
+-- all jobs that it was given, in order
+abbrev pub jobs_told : DeskShape → List Job
+jobs_told d = d.earlier ++ d.jobs
 
 -- a lane's jobs that the entries from a place on answer
 abbrev pub served_jobs : ℕ → List Entry → ℕ → List Job
@@ -87,10 +92,14 @@ pub record HasRoomFor (n : ℕ) (d : DeskShape) : Type 0 where
   pub entries : n ≤ d.spare
   pub cases : n ≤ d.board.cases.spare
 
--- with the jobs of another batch
+-- with the jobs of another batch, behind all that were given before
 abbrev pub with_batch : DeskShape → List Job → DeskShape
-with_batch d jobs =
-    record d { jobs = jobs; start = length d.entries; losses = replicate LANE_LIMIT no_loss }
+with_batch d jobs = record d {
+  earlier = jobs_told d;
+  jobs = jobs;
+  start = length d.entries;
+  losses = replicate LANE_LIMIT no_loss;
+}
 
 -- the first n entries aside, those of a batch answer its first jobs lane by lane, and what is
 -- answered again rests on them
@@ -100,10 +109,14 @@ pub record AnswersPart (entries : List Entry) (n : ℕ) (jobs : List Job) : Type
       (length (served_jobs n entries lane)) (lane_jobs lane jobs)
   pub rests : EachAfter (RestsFrom n) (take n entries) (drop n entries)
 
--- with the jobs of a batch, whose entries begin at a place
+-- with the jobs of a batch, whose entries begin at a place, behind all that were given before
 abbrev pub with_batch_from : DeskShape → List Job → ℕ → DeskShape
-with_batch_from d jobs n =
-    record d { jobs = jobs; start = n; losses = replicate LANE_LIMIT no_loss }
+with_batch_from d jobs n = record d {
+  earlier = jobs_told d;
+  jobs = jobs;
+  start = n;
+  losses = replicate LANE_LIMIT no_loss;
+}
 
 -- a desk before its first job, with these entries, the board after them, and room for so many more
 abbrev pub desk_with : PolicyShape → ℕ → ℕ → BoardShape → List Entry → ℕ → DeskShape
@@ -114,6 +127,7 @@ desk_with p lanes rounds board entries spare = record {
   board = board;
   entries = entries;
   spare = spare;
+  earlier = [];
   jobs = [];
   start = length entries;
   restored = length entries;
@@ -134,6 +148,7 @@ pub record HasAdded (before after : DeskShape) (job : Job) (place : ℕ) (Is : R
   pub opening : after.opening ≡ before.opening
   pub lanes : after.lanes ≡ before.lanes
   pub rounds : after.rounds ≡ before.rounds
+  pub earlier : after.earlier ≡ before.earlier
   pub jobs : after.jobs ≡ before.jobs
   pub start : after.start ≡ before.start
   pub restored : after.restored ≡ before.restored

@@ -59,6 +59,11 @@ abbrev pub LeavesDeed : DeskShape → ℕ → Deed → Type 0
 LeavesDeed d lane deed = (job : Job) × ((next_job d lane ≡ Some job)
     × IsUndecided d.board.policy d.board.cases job.ask deed)
 
+-- and the jobs of its batch are the last of these, from a place on
+pub record IsDeskAt (d : DeskShape) (places : List ℕ) (jobs : List Job) (first : ℕ) : Type 0 where
+  pub desk : IsDesk d places
+  pub begins : first ≤ length jobs
+
 -- what became of a task that was stale
 abbrev pub HasMissed : DeskShape → DeskShape → Task → Outcome → Type 0
 HasMissed before after t outcome.NotNext = ⊥

@@ -94,6 +94,7 @@ pub record HasGrown (before after : DeskShape) : Type 0 where
   pub opening : after.opening ≡ before.opening
   pub lanes : after.lanes ≡ before.lanes
   pub rounds : after.rounds ≡ before.rounds
+  pub earlier : after.earlier ≡ before.earlier
   pub jobs : after.jobs ≡ before.jobs
   pub start : after.start ≡ before.start
   pub restored : after.restored ≡ before.restored

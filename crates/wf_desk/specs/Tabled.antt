@@ -4,15 +4,15 @@ use Rattle.wf_talk.specs.declared.entry.Entry.{Entry}
 use Rattle.wf_desk.specs.declared.tabled.Fixed.{Fixed}
 use Rattle.wf_desk.specs.Desks.{DeskShape}
 
--- what no turn changes: the policy at the beginning, the lanes, the rounds, the jobs of the batch,
--- how many entries there were when they came, and how many were taken up
+-- what no turn changes: the policy at the beginning, the lanes, the rounds, the jobs of the batches
+-- before and of the batch, how many entries there were when they came, and how many were taken up
 abbrev pub fixed_of : DeskShape → Fixed
 fixed_of d = record {
   opening = d.opening;
   lanes = d.lanes;
   rounds = d.rounds;
-  jobs =
-      d.jobs;
+  earlier = d.earlier;
+  jobs = d.jobs;
   start = d.start;
   restored = d.restored;
 }

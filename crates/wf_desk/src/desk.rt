@@ -1,6 +1,6 @@
 //! The desk, with its calls.
 ghost use Rattle.std.specs.Prelude.{◌≡◌, ◌≤◌, ◌<◌, ◌+◌, ◌↔◌, ◌≢◌, nat_le, Bool, true, false, []};
-ghost use Rattle.std.specs.Prelude.{length, replicate, OnErr, OnOk, IfOk, IfSome, None, Some};
+ghost use Rattle.std.specs.Prelude.{drop, length, replicate, OnErr, OnOk, IfOk, IfSome, None, Some};
 ghost use Rattle.std.specs.Prelude.{Option, Ok};
 ghost use Rattle.wf_names.specs.declared.limits.TheConstants.{BATCH_LINE_LIMIT, LANE_LIMIT};
 ghost use Rattle.wf_names.specs.declared.limits.TheConstants.{ROUND_LIMIT};
@@ -12,8 +12,8 @@ ghost use Rattle.wf_board.specs.Verdicts.{Decides, IsDecided, IsPlanFor, IsRight
 ghost use Rattle.std.specs.Arc.{arc_value};
 ghost use Rattle.wf_board.specs.Histories.{IsLegal, state_after};
 ghost use Rattle.wf_desk.specs.Desks.{AnswersPart, AreOfLanes, HasAdded, HasRoomFor, IsDone};
-ghost use Rattle.wf_desk.specs.Desks.{IsSoundDesk, desk_with, left_of, next_job, no_loss};
-ghost use Rattle.wf_desk.specs.Desks.{with_batch, with_batch_from, with_room};
+ghost use Rattle.wf_desk.specs.Desks.{IsSoundDesk, desk_with, jobs_told, left_of, next_job};
+ghost use Rattle.wf_desk.specs.Desks.{no_loss, with_batch, with_batch_from, with_room};
 ghost use Rattle.wf_desk.specs.Commits.{HasCommitted, HasCommittedChecked, HasServed, HasTakenUp};
 ghost use Rattle.wf_desk.specs.Commits.{IsAgain, IsNext, IsRightFor, IsTask, floor_of, is_change};
 ghost use Rattle.wf_desk.specs.Commits.{is_fresh, is_fresh_or_change, is_last_round, is_lost};
@@ -33,7 +33,8 @@ use wf_board::{Board, Decider, Deed, Stepped, Verdict, is_harmless_deed, is_view
 use wf_names::LANE_LIMIT;
 use wf_talk::{Ask, Job, Jobs, Journal, Reply, Request};
 
-/// A journal with the board after it, and the jobs of one batch, lane by lane.
+/// A journal with the board after it, and the jobs that were given, the last batch of which is
+/// served lane by lane.
 #[derive(Drop)]
 pub struct Desk {
     opening: Arc<Policy, Global>,
@@ -41,12 +42,15 @@ pub struct Desk {
     rounds: u8,
     board: Board,
     journal: Journal,
+    /// All jobs that were given, batch after batch.
     jobs: Jobs,
+    /// Where those of the batch begin.
+    first: usize,
     start: u32,
     /// How many entries were taken up from an earlier session.
     restored: u32,
     losses: [Loss; LANE_LIMIT as usize],
-    /// For each lane the place of its next job among the jobs.
+    /// For each lane the place of its next job among those of the batch.
     places: [u32; LANE_LIMIT as usize],
 }
 
@@ -56,7 +60,8 @@ impl Model for Desk {
     ghost use Rattle.policy_book.specs.Shapes.{policy_code};
     ghost use Rattle.refutation_tree.specs.Codes.{kids_code};
     ghost use Rattle.wf_desk.specs.Desks.{DeskShape};
-    ghost use Rattle.wf_desk.specs.Keeping.{IsDesk};
+    ghost use Rattle.std.specs.Prelude.{take, drop};
+    ghost use Rattle.wf_desk.specs.Keeping.{IsDeskAt};
 
     ghost Value = { DeskShape };
 
@@ -70,14 +75,14 @@ impl Model for Desk {
       board = d.board;
       entries = d.journal.entries;
       spare = d.journal.spare;
-      jobs =
-          d.jobs;
+      earlier = take d.first d.jobs;
+      jobs = drop d.first d.jobs;
       start = d.start;
       restored = d.restored;
       losses = d.losses;
     } };
 
-    ghost invariant = { λ d. IsDesk
+    ghost invariant = { λ d. IsDeskAt
         (record {
           opening = arc_value d.opening;
           lanes = d.lanes;
@@ -86,12 +91,13 @@ impl Model for Desk {
               d.board;
           entries = d.journal.entries;
           spare = d.journal.spare;
-          jobs = d.jobs;
+          earlier = take d.first d.jobs;
+          jobs = drop d.first d.jobs;
           start =
               d.start;
           restored = d.restored;
           losses = d.losses;
-        }) d.places };
+        }) d.places d.jobs d.first };
 }
 
 impl Desk {
@@ -105,6 +111,7 @@ impl Desk {
         ensures lanes { IfOk result (λ d. d.lanes ≡ lanes) }
         ensures rounds { IfOk result (λ d. d.rounds ≡ rounds) }
         ensures entries { IfOk result (λ d. d.entries ≡ []) }
+        ensures earlier { IfOk result (λ d. d.earlier ≡ []) }
         ensures jobs { IfOk result (λ d. d.jobs ≡ []) }
         ensures start { IfOk result (λ d. d.start ≡ 0) }
         ensures restored { IfOk result (λ d. d.restored ≡ 0) }
@@ -163,11 +170,21 @@ impl Desk {
             board,
             journal,
             jobs: Jobs::new(alloc),
+            first: 0,
             start: count,
             restored: count,
             losses: no_losses(),
             places: first_places(&[]),
         }
+    }
+
+    /// Keeps these jobs before those that are to come, as they were answered before it began.
+    pub fn behind(&mut self, jobs: Jobs)
+        requires none { jobs_told self.old ≡ [] }
+        ensures { self.new ≡ record self.old { earlier = jobs } }
+    {
+        self.first = jobs.len();
+        self.jobs = jobs;
     }
 
     /// Takes the jobs of the next batch, and makes room for their entries and for the cases that
@@ -206,10 +223,13 @@ impl Desk {
         ensures room { self.old.board.cases.spare ≤ self.new.board.cases.spare }
         ensures whole { OnOk result (HasRoomFor (length jobs.now) self.new) }
     {
+        let _ = alloc;
         self.journal.reserve(jobs.len() as u32)?;
         self.board.reserve(jobs.len() as u16)?;
         let places = places_after(jobs, entries_from(&self.journal, from));
-        self.jobs = Jobs::from_vec(Vec::from_slice(alloc, jobs)?);
+        let first = self.jobs.len();
+        self.jobs.push_all(jobs)?;
+        self.first = first;
         self.start = from;
         self.losses = no_losses();
         self.places = places;
@@ -378,7 +398,7 @@ impl Desk {
         requires next { HasNext self.now lane }
         ensures { IfOk result (IsTask self.now lane) }
     {
-        let job = job_here(self.jobs.as_slice(), self.places[lane as usize]);
+        let job = job_here(batch_of(&self.jobs, self.first), self.places[lane as usize]);
         Ok(Task {
             lane,
             line: job.line,
@@ -396,12 +416,12 @@ impl Desk {
         ensures { (job : Job) → next_job self.old lane ≡ Some job
             → HasLookedAt self.old self.new job result }
     {
-        let job = job_here(self.jobs.as_slice(), self.places[lane as usize]);
+        let job = job_here(batch_of(&self.jobs, self.first), self.places[lane as usize]);
         match self.board.step(alloc, &job.ask) {
             Stepped::Undecided(deed) => Some(deed),
             Stepped::Done(reply) => {
                 add_entry(&mut self.journal, job, reply);
-                go_on(&mut self.places, self.jobs.as_slice(), job.lane);
+                go_on(&mut self.places, batch_of(&self.jobs, self.first), job.lane);
                 self.losses[job.lane as usize] = no_loss();
                 None
             }
@@ -429,7 +449,7 @@ impl Desk {
     {
         if lane < self.lanes {
             count_of_lane(
-                &self.jobs.as_slice()[self.places[lane as usize] as usize..],
+                &batch_of(&self.jobs, self.first)[self.places[lane as usize] as usize..],
                 lane,
             )
         } else {
@@ -462,13 +482,29 @@ impl Desk {
         (self.board, self.journal)
     }
 
+    /// How many jobs were given.
+    pub fn count_told(&self) -> usize
+        ensures { result ≡ length (jobs_told self.now) }
+    {
+        self.jobs.len()
+    }
+
+    /// The entries, and all jobs that were given.
+    pub fn into_told(self) -> (Journal, Jobs)
+        ensures entries { result.0.entries ≡ self.entries }
+        ensures jobs { result.1 ≡ jobs_told self }
+        ensures sound { IsSoundDesk self }
+    {
+        (self.journal, self.jobs)
+    }
+
     // Whether a lane has a job left.
     fn has_next(&self, lane: u8) -> bool
         requires { lane < self.now.lanes }
         ensures none { result ≡ false → next_job self.now lane ≡ None }
         ensures some { result ≡ true → HasNext self.now lane }
     {
-        (self.places[lane as usize] as usize) < self.jobs.len()
+        (self.places[lane as usize] as usize) < batch_of(&self.jobs, self.first).len()
     }
 
     // How many entries there are.
@@ -486,7 +522,10 @@ impl Desk {
         if !self.has_next(task.lane) {
             return false;
         }
-        let next = job_here(self.jobs.as_slice(), self.places[task.lane as usize]);
+        let next = job_here(
+            batch_of(&self.jobs, self.first),
+            self.places[task.lane as usize],
+        );
         is_job_of(next, task)
     }
 
@@ -588,10 +627,10 @@ impl Desk {
         ensures { (job : Job) → next_job self.old lane ≡ Some job
             → HasAdded self.old self.new job result (IsDecided self.old.board job.ask verdict) }
     {
-        let job = job_here(self.jobs.as_slice(), self.places[lane as usize]);
+        let job = job_here(batch_of(&self.jobs, self.first), self.places[lane as usize]);
         let reply = self.board.decide(alloc, decider, &job.ask, verdict);
         let at = add_entry(&mut self.journal, job, reply);
-        go_on(&mut self.places, self.jobs.as_slice(), job.lane);
+        go_on(&mut self.places, batch_of(&self.jobs, self.first), job.lane);
         self.losses[job.lane as usize] = no_loss();
         at
     }
@@ -605,10 +644,10 @@ impl Desk {
             → HasAdded self.old self.new job (length self.old.entries)
             (IsDecided self.old.board job.ask (Verdict.Plan plan)) }
     {
-        let job = job_here(self.jobs.as_slice(), self.places[lane as usize]);
+        let job = job_here(batch_of(&self.jobs, self.first), self.places[lane as usize]);
         let reply = self.board.take_plan(&job.ask, deed, plan);
         add_entry(&mut self.journal, job, reply);
-        go_on(&mut self.places, self.jobs.as_slice(), job.lane);
+        go_on(&mut self.places, batch_of(&self.jobs, self.first), job.lane);
         self.losses[job.lane as usize] = no_loss();
     }
 
@@ -628,7 +667,7 @@ impl Desk {
             at: last_counting(&self.journal, &job.ask),
         };
         let at = add_entry(&mut self.journal, &job, reply);
-        go_on(&mut self.places, self.jobs.as_slice(), job.lane);
+        go_on(&mut self.places, batch_of(&self.jobs, self.first), job.lane);
         self.losses[job.lane as usize] = no_loss();
         at
     }
@@ -646,6 +685,15 @@ impl Desk {
         let count = self.losses[task.lane as usize].count + 1;
         self.losses[task.lane as usize] = Loss { count, end };
     }
+}
+
+// The jobs of the last batch.
+#[tactic(auto, using(crate::proofs::DocketLaws::rest_from))]
+fn batch_of(jobs: &Jobs, first: usize) -> &[Job]
+    requires { first ≤ length jobs.now }
+    ensures { result.now ≡ drop first jobs.now }
+{
+    &jobs.as_slice()[first..]
 }
 
 // Whether this is an edit of the policy.

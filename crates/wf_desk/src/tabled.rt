@@ -13,6 +13,8 @@ pub struct Fixed {
     pub lanes: u8,
     /// After how many lost rounds a request is answered again.
     pub rounds: u8,
+    /// The jobs of the batches before.
+    pub earlier: Jobs,
     /// The jobs of the batch.
     pub jobs: Jobs,
     /// How many entries there were when they came.

@@ -17,7 +17,17 @@ use Rattle.wf_lanes.proofs.TurnOrder.{at_first, at_passed, at_served, at_whole}
 -- no job was served
 pub on_none : (d : DeskShape) → HasServedOn d d
 on_none d = record {
-  grown = record { more = []; extends = sym (append-nil d.entries); opening = refl; lanes = refl; rounds = refl; jobs = refl; start = refl; restored = refl };
+  grown = record {
+    more = [];
+    extends = sym (append-nil d.entries);
+    opening = refl;
+    lanes = refl;
+    rounds = refl;
+    earlier = refl;
+    jobs = refl;
+    start = refl;
+    restored = refl;
+  };
   once = tt;
 }
 
@@ -30,6 +40,7 @@ on_more a b c first second = record {
     opening = second.grown.opening ∙ first.grown.opening;
     lanes = second.grown.lanes ∙ first.grown.lanes;
     rounds = second.grown.rounds ∙ first.grown.rounds;
+    earlier = second.grown.earlier ∙ first.grown.earlier;
     jobs = second.grown.jobs ∙ first.grown.jobs;
     start = second.grown.start ∙ first.grown.start;
     restored = second.grown.restored ∙ first.grown.restored;
@@ -46,6 +57,7 @@ on_next b c lane true (job, (next, more)) = record {
     opening = more.opening;
     lanes = more.lanes;
     rounds = more.rounds;
+    earlier = more.earlier;
     jobs = more.jobs;
     start =
         more.start;

@@ -57,6 +57,7 @@ grown_seen s d e seen fixed later =
       opening = ap (λ (f : Fixed). f.opening) same;
       lanes = ap (λ (f : Fixed). f.lanes) same;
       rounds = ap (λ (f : Fixed). f.rounds) same;
+      earlier = ap (λ (f : Fixed). f.earlier) same;
       jobs = ap (λ (f : Fixed). f.jobs) same;
       start = ap (λ (f : Fixed). f.start) same;
       restored = ap (λ (f : Fixed). f.restored) same;
@@ -105,7 +106,7 @@ grows_begun d e lane begun.Ended done = grows_same lane d e done.1
 -- ---- what no turn changes
 
 fixed_grown : (d e : DeskShape) → HasGrown d e → fixed_of e ≡ fixed_of d
-fixed_grown d e grown = rw (grown.opening, grown.lanes, grown.rounds, grown.jobs, grown.start, grown.restored) refl
+fixed_grown d e grown = rw (grown.opening, grown.lanes, grown.rounds, grown.earlier, grown.jobs, grown.start, grown.restored) refl
 
 pub fixed_committed : (d e : DeskShape) (t : Task) (v : Verdict) (result : Outcome) → HasCommitted d e t v result → fixed_of e ≡ fixed_of d
 fixed_committed d e t v result done = fixed_grown d e (grown_committed d e t v result done)

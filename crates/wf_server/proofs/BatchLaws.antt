@@ -13,7 +13,7 @@ use Rattle.wf_talk.specs.declared.job.Job.{Job}
 use Rattle.wf_board.specs.States.{State, opening_state}
 use Rattle.wf_board.specs.Histories.{FillsJobs, IsLegal, batch_start, state_after}
 use Rattle.wf_board.proofs.HistoryLaws.{after_all}
-use Rattle.wf_desk.specs.Desks.{DeskShape, IsDone, IsSoundDesk}
+use Rattle.wf_desk.specs.Desks.{DeskShape, IsDone, IsSoundDesk, jobs_told, with_room}
 use Rattle.wf_desk.specs.BatchLaws.{AnswersBatch, AnswersNext, EndAt}
 use Rattle.wf_desk.proofs.BatchLaws.{batch_fills}
 use Rattle.wf_desk.proofs.DocketLaws.{batch_done}
@@ -245,10 +245,26 @@ loaded_to held mid aft l d before after text es (Ok done) h is new all part some
 loaded_to held mid aft l d before after text es (Err fault) h is new all part some =
     part_answered held mid aft l d before after h (subst (HasPart mid aft) is part) (subst (λ xs. 0 < length xs) new some)
 
--- the same is told
-pub same_told : (old d : DeskShape) (before after : Answered) → d.entries ≡ old.entries → after.jobs ≡ before.jobs → after.batch_ends ≡ before.batch_ends →
-    told_of d after ≡ told_of old before
-same_told old d before after entries jobs ends = rw (entries, jobs, ends) refl
+-- the jobs that a desk was given stay
+pub jobs_grown : (b c : DeskShape) → HasGrown b c → jobs_told c ≡ jobs_told b
+jobs_grown b c grown = λ i. grown.earlier i ++ grown.jobs i
+
+pub added_on : (l d : DeskShape) (before : Told) (a : Answered) → HasGrown l d → IsBatchAdded before l.jobs (told_of l a) →
+    IsBatchAdded before l.jobs (told_of d a)
+added_on l d before a grown added = record { jobs = jobs_grown l d grown ∙ added.jobs; ends = added.ends }
+
+-- the end of a batch that is not taken is dropped
+pub ends_back : (old mid : List ℕ) (end len : ℕ) → (len ≡ 0 → mid ≡ old) → (0 < len → mid ≡ old ++ end ∷ []) → take (length old) mid ≡ old
+ends_back old mid end zero none some = ap (take (length old)) (none refl) ∙ take_all (length old) old (omega arith)
+ends_back old mid end (suc len) none some = ap (take (length old)) (some (omega arith)) ∙ take-append_seam old (end ∷ [])
+
+-- and then the same is told
+pub told_back : (old d : DeskShape) (a b : Answered) (spare cases : ℕ) → d ≡ with_room old spare cases → b.batch_ends ≡ a.batch_ends →
+    told_of d b ≡ told_of old a
+told_back old d a b spare cases is ends =
+    let entries : d.entries ≡ old.entries = ap (λ (x : DeskShape). x.entries) is in
+    let jobs : jobs_told d ≡ jobs_told old = ap (λ (x : DeskShape). jobs_told x) is in
+    rw (entries, jobs, ends) refl
 
 -- and where there was no room for the batch
 pub answers_none : (held aft : Option (List ℕ)) (old d : DeskShape) (before : Told) (batch : List Job) (after : Told) (result : Result (Unit {0}) RunFault)
@@ -295,8 +311,8 @@ pub record HasLoadedBatch (old l : DeskShape) (a b : Answered) (batch : List Job
   pub entries : l.entries ≡ old.entries
   pub loads : l.jobs ≡ batch
   pub start : l.start ≡ length old.entries
-  pub jobs : b.jobs ≡ a.jobs ++ batch
-  pub ends : b.batch_ends ≡ ends_after a.batch_ends (length a.jobs) batch
+  pub jobs : jobs_told l ≡ jobs_told old ++ batch
+  pub ends : b.batch_ends ≡ ends_after a.batch_ends (length (jobs_told old)) batch
 
 loaded_batch : (held mid : Option (List ℕ)) (old l : DeskShape) (a b : Answered) (batch : List Job) → HasLoadedBatch old l a b batch →
     HasAnsweredAll held mid old (told_of old a)
@@ -317,16 +333,20 @@ loaded_batch held mid old l a b batch h answered =
 
 -- and its jobs were answered
 pub batch_answers : (held mid aft : Option (List ℕ)) (old l d : DeskShape) (a b : Answered) (batch : List Job) (result : Result (Unit {0}) RunFault)
-    → HasLoadedBatch old l a b batch → HasAnsweredAll held mid old (told_of old a)
-    → ((before after : Told) → HasLoaded held mid l before → IsBatchAdded before l.jobs after → after.entries ≡ d.entries → LoadedTo held aft d after result)
+    → HasLoadedBatch old l a b batch → jobs_told d ≡ jobs_told l → HasAnsweredAll held mid old (told_of old a)
+    → ((before : Told) (told : Answered) → HasLoaded held mid l before → IsBatchAdded before l.jobs (told_of l told)
+    → LoadedTo held aft d (told_of d told) result)
     → IfErr result IsWriteEnding → AnswersTo held aft (told_of old a) batch d (told_of d b) result
-batch_answers held mid aft old l d a b batch result h answered answers ending =
-    by_result result (answers (told_of old a) (told_of d b) (loaded_batch held mid old l a b batch h answered)
-    (record { jobs = h.jobs ∙ ap (λ js. a.jobs ++ js) (sym h.loads); ends = h.ends ∙ ap (ends_after a.batch_ends (length a.jobs)) (sym h.loads) }) refl)
+batch_answers held mid aft old l d a b batch result h same answered answers ending =
+    by_result result (answers (told_of old a) b (loaded_batch held mid old l a b batch h answered)
+    (record {
+      jobs = h.jobs ∙ ap (λ js. jobs_told old ++ js) (sym h.loads);
+      ends = h.ends ∙ ap (ends_after a.batch_ends (length (jobs_told old))) (sym h.loads);
+    }))
     ending
   where
     added : IsBatchAdded (told_of old a) batch (told_of d b)
-    added = record { jobs = h.jobs; ends = h.ends }
+    added = record { jobs = same ∙ h.jobs; ends = h.ends }
 
     by_result : (r : Result (Unit {0}) RunFault) → LoadedTo held aft d (told_of d b) r → IfErr r IsWriteEnding →
         AnswersTo held aft (told_of old a) batch d (told_of d b) r

@@ -8,7 +8,7 @@ use Rattle.wf_outside.proofs.OutsideLaws.{nothing_put}
 use Rattle.wf_talk.specs.declared.entry.Entry.{Entry}
 use Rattle.wf_talk.specs.declared.job.Job.{Job}
 use Rattle.wf_board.specs.Histories.{batch_start}
-use Rattle.wf_desk.specs.Desks.{DeskShape}
+use Rattle.wf_desk.specs.Desks.{DeskShape, jobs_told}
 use Rattle.line_cutter.specs.Cutter.{ends_after}
 use Rattle.line_cutter.specs.Laws.{AreInOrder}
 use Rattle.transcript_audit.proofs.Batches.{ends_within, next_start, end_read, part_length, start_ahead, start_within}
@@ -133,10 +133,10 @@ file_fails lanes jobs ends count held aft before after d batch start stop ending
 -- ---- the batch at the desk
 
 -- the batches before the one at the desk
-abbrev pub earlier : (d : DeskShape) (a : Answered) → StandsAt d.entries d.start d.jobs a.jobs a.batch_ends → Told
+abbrev pub earlier : (d : DeskShape) (a : Answered) → StandsAt d.entries d.start d.jobs (jobs_told d) a.batch_ends → Told
 earlier d a stands = record { entries = take d.start d.entries; jobs = stands.earlier_jobs; batch_ends = stands.earlier_ends }
 
-pub first_loaded : (held : Option (List ℕ)) (d : DeskShape) (a : Answered) → (stands : StandsAt d.entries d.start d.jobs a.jobs a.batch_ends) →
+pub first_loaded : (held : Option (List ℕ)) (d : DeskShape) (a : Answered) → (stands : StandsAt d.entries d.start d.jobs (jobs_told d) a.batch_ends) →
     d.restored ≡ length d.entries
     → HasLoaded held held d (earlier d a stands)
 first_loaded held d a stands restored =
@@ -150,19 +150,19 @@ first_loaded held d a stands restored =
       written = rw none (sym (nothing_put held));
     }
 
-pub first_added : (d e : DeskShape) (a : Answered) → (stands : StandsAt d.entries d.start d.jobs a.jobs a.batch_ends) →
-    IsBatchAdded (earlier d a stands) d.jobs (told_of e a)
-first_added d e a stands = record { jobs = stands.all_jobs; ends = stands.all_ends }
+pub first_added : (d : DeskShape) (a : Answered) → (stands : StandsAt d.entries d.start d.jobs (jobs_told d) a.batch_ends) →
+    IsBatchAdded (earlier d a stands) d.jobs (told_of d a)
+first_added d a stands = record { jobs = stands.all_jobs; ends = stands.all_ends }
 
--- what is told is the same at another desk
-pub told_at : (jobs : List Job) (ends : List ℕ) (count : ℕ) (d e : DeskShape) (a : Answered) → IsToldTo jobs ends count (told_of d a) →
-    IsToldTo jobs ends count (told_of e a)
-told_at jobs ends count d e a is = record { known = is.known; all_jobs = is.all_jobs; all_ends = is.all_ends }
+-- what is told is the same at another desk that was given the same jobs
+pub told_at : (jobs : List Job) (ends : List ℕ) (count : ℕ) (d e : DeskShape) (a : Answered) → jobs_told e ≡ jobs_told d →
+    IsToldTo jobs ends count (told_of d a) → IsToldTo jobs ends count (told_of e a)
+told_at jobs ends count d e a same is = record { known = is.known; all_jobs = same ∙ is.all_jobs; all_ends = is.all_ends }
 
 -- its jobs are answered, but a fault ended the session
 pub first_fails : (jobs : List Job) (ends : List ℕ) (count : ℕ) (held aft : Option (List ℕ)) (d e : DeskShape) (a : Answered) (ending : RunFault) →
-    IsToldTo jobs ends count (told_of d a)
+    jobs_told e ≡ jobs_told d → IsToldTo jobs ends count (told_of d a)
     → HasAnsweredPart (setting_of e) held aft (told_of e a) → 0 < length e.entries → FileTo held aft jobs ends e (told_of e a) (Err ending)
-first_fails jobs ends count held aft d e a ending is part some =
+first_fails jobs ends count held aft d e a ending same is part some =
     let size = part.fills.whole in
-    (record { count = count; to = told_at jobs ends count d e a is; some = λ _. omega (arith, size, some) }, part)
+    (record { count = count; to = told_at jobs ends count d e a same is; some = λ _. omega (arith, size, some) }, part)

@@ -12,7 +12,7 @@ use Rattle.wf_talk.specs.declared.job.Job.{Job}
 use Rattle.wf_board.specs.Histories.{AreAnsweredOnce, AreRightful, IsLegal, batch_start, state_after}
 use Rattle.wf_board.specs.Laws.{HistoriesAreExact, HistoriesKeepCompletable}
 use Rattle.wf_board.specs.States.{opening_state}
-use Rattle.wf_desk.specs.Desks.{AreOfLanes, DeskShape}
+use Rattle.wf_desk.specs.Desks.{AreOfLanes, DeskShape, jobs_told}
 use Rattle.line_cutter.specs.Cutter.{after_handing}
 use Rattle.line_cutter.specs.Jobs.{Cut, UpToAnEnd, jobs_of_input, last_or, next_input, start_at}
 use Rattle.line_cutter.specs.Laws.{AreInOrder, GoesOn}
@@ -146,7 +146,7 @@ begun_order s cut transcript b h =
     subst (λ n. AreInOrder n b.file.jobs b.file.ends) (sym h.lanes)
     (subst (λ js. AreInOrder s.lanes js b.file.ends) (sym h.file_jobs) (subst (AreInOrder s.lanes s.jobs) (sym h.file_ends) h.order))
 
-pub begun_told : (s : Session) (cut : Cut) (transcript : List ℕ) (b : Beginning) (told : Told) → HasBegun s cut transcript b → told.jobs ≡ b.jobs →
+pub begun_told : (s : Session) (cut : Cut) (transcript : List ℕ) (b : Beginning) (told : Told) → HasBegun s cut transcript b → told.jobs ≡ jobs_told b.desk →
     told.batch_ends ≡ b.ends
     → IsToldTo b.file.jobs b.file.ends b.count told
 begun_told s cut transcript b told h jobs ends =

@@ -16,7 +16,7 @@ use Rattle.batch_reader.specs.declared.reader.Paused.TheVariants as paused
 use Rattle.batch_reader.specs.Reader.{BatchReaderShape, Handed, handed_more, HasRead, IsReadUp, ReadsBatch, CountsPause}
 use Rattle.wf_board.specs.States.{opening_state}
 use Rattle.wf_board.specs.Histories.{FillsJobs, IsLegal}
-use Rattle.wf_desk.specs.Desks.{AreOfLanes, DeskShape}
+use Rattle.wf_desk.specs.Desks.{AreOfLanes, DeskShape, jobs_told}
 use Rattle.wf_desk.proofs.DocketLaws.{first_of_lanes}
 use Rattle.policy_book.specs.Facts.{IsSoundPolicy}
 use Rattle.wf_board.specs.Laws.{HistoriesAreExact, HistoriesKeepCompletable}
@@ -210,7 +210,7 @@ opening_serves streams r d told order jobs none_restored none begun empty = rw n
 -- so begins a session at a new desk
 pub session_begins : (streams : Streams) (r : BatchReaderShape) (d : DeskShape) (a : Answered) (lanes room : ℕ) → JobsAreInOrder lanes → d.lanes ≡ lanes →
     d.jobs ≡ [] → d.entries ≡ [] →
-    d.restored ≡ 0 → a.jobs ≡ [] → a.batch_ends ≡ [] → r ≡ record { cut = start lanes; pending = []; room = room } →
+    d.restored ≡ 0 → jobs_told d ≡ [] → a.batch_ends ≡ [] → r ≡ record { cut = start lanes; pending = []; room = room } →
     IsServing (start d.lanes) streams streams r d (told_of d a)
 session_begins streams r d a lanes room order same jobs entries restored none_jobs none_ends is =
     opening_serves streams r d (told_of d a) (subst JobsAreInOrder (sym same) order) jobs restored (rw (entries, none_jobs, none_ends) refl)

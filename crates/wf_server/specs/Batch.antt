@@ -2,7 +2,7 @@
 use Rattle.std.specs.Prelude.{◌≡◌, ℕ, ◌<◌, List, length, take, drop}
 use Rattle.wf_talk.specs.declared.job.Job.{Job}
 use Rattle.wf_board.specs.Histories.{AreAnsweredOnce}
-use Rattle.wf_desk.specs.Desks.{AreOfLanes, DeskShape, IsDone}
+use Rattle.wf_desk.specs.Desks.{AreOfLanes, DeskShape, IsDone, jobs_told}
 use Rattle.run_record.specs.Report.{Told}
 use Rattle.wf_server.specs.Batches.{IsBatch}
 use Rattle.wf_server.specs.Ways.{ServesOnce, setting_of}
@@ -26,3 +26,8 @@ pub record IsServedOn (Leaves : DeskShape → DeskShape → Type 0) (d e : DeskS
   pub begins : take d.restored e.entries ≡ take d.restored d.entries
   pub once : ServesOnce Leaves → AreAnsweredOnce (drop d.restored d.entries) →
       AreAnsweredOnce (drop d.restored e.entries)
+
+-- the jobs at a desk were answered: it was served on, and was given no other jobs
+pub record HasServedJobs (Leaves : DeskShape → DeskShape → Type 0) (d e : DeskShape) : Type 0 where
+  pub on : IsServedOn Leaves d e
+  pub jobs : jobs_told e ≡ jobs_told d

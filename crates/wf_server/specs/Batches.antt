@@ -17,7 +17,7 @@ use Rattle.wire_json.specs.Replies.{entry_text}
 use Rattle.policy_book.specs.Shapes.{PolicyShape}
 use Rattle.wf_board.specs.Histories.{FillsJobs}
 use Rattle.wf_desk.specs.BatchLaws.{EndAt}
-use Rattle.wf_desk.specs.Desks.{AreOfLanes, DeskShape, IsDone}
+use Rattle.wf_desk.specs.Desks.{AreOfLanes, DeskShape, IsDone, jobs_told}
 use Rattle.run_record.specs.declared.fault.RunFault.{RunFault}
 use Rattle.run_record.specs.declared.fault.RunFault.TheVariants.{Nothing, Read, Write, NoMemory}
 use Rattle.run_record.specs.declared.fault.RunFault.TheVariants.{LineTooLong, TooManyLines}
@@ -45,7 +45,7 @@ pub record Serves (set : Setting) (first : Cut) (room : ℕ) (before after : Str
 
 -- what a session at a desk tells
 abbrev pub told_of : DeskShape → Answered → Told
-told_of d a = record { entries = d.entries; jobs = a.jobs; batch_ends = a.batch_ends }
+told_of d a = record { entries = d.entries; jobs = jobs_told d; batch_ends = a.batch_ends }
 
 -- a batch behind so many jobs: it is short, and each of its jobs is of one of the lanes
 pub record IsBatch (lanes before : ℕ) (batch : List Job) : Type 0 where

@@ -3,7 +3,6 @@ ghost use Rattle.std.specs.Prelude.{◌≡◌, ◌≢◌, ◌≤◌, ◌<◌, �
 ghost use Rattle.std.specs.Prelude.{drop, Option, Err, IfErr, OnOk, OnErr};
 ghost use Rattle.wf_outside.specs.Outside.{HasPart, with_bytes};
 ghost use Rattle.wf_names.specs.declared.limits.TheConstants.{SESSION_LINE_LIMIT};
-ghost use Rattle.line_cutter.specs.Cutter.{ends_after};
 ghost use Rattle.wf_board.specs.Histories.{AreAnsweredOnce};
 ghost use Rattle.wf_desk.specs.Desks.{IsDone, IsSoundDesk};
 ghost use Rattle.wf_desk.specs.Schedules.{HasGrown};
@@ -12,7 +11,7 @@ ghost use Rattle.run_record.specs.Fault.{fault_in, CountsWrites};
 ghost use Rattle.run_record.specs.Report.{Told};
 ghost use Rattle.wf_server.specs.Batches.{entries_text, told_of, HasAnsweredAll, HasLoaded};
 ghost use Rattle.wf_server.specs.Batches.{IsBatchAdded};
-ghost use Rattle.wf_server.specs.Batch.{CanBeServed, CanTake, IsServedOn};
+ghost use Rattle.wf_server.specs.Batch.{CanBeServed, CanTake, HasServedJobs, IsServedOn};
 ghost use Rattle.wf_server.specs.Batches.{AnswersTo, LoadedTo, IsWriteEnding};
 ghost use Rattle.wf_server.specs.Ways.{IsWay, ServesOnce, setting_of};
 
@@ -22,28 +21,25 @@ use run_record::RunFault;
 use std::alloc::{AllocError, Global};
 use wf_desk::Desk;
 use wf_outside::{Sink, put_all};
-use wf_talk::{Ends, Entry, Job, Jobs, Journal};
+use wf_talk::{Ends, Entry, Job, Journal};
 use wire_json::LineWriter;
 
 // The room that most lines need.
 const LINE_ROOM: usize = 256;
 
-/// The jobs that a session has answered, with the ends of their batches. Their entries are at its
+/// The ends of the batches that a session has answered. Their jobs and their entries are at its
 /// desk.
 #[derive(Drop)]
 pub(crate) struct Answered {
-    pub(crate) jobs: Jobs,
     pub(crate) batch_ends: Ends,
 }
 
 impl Answered {
     /// Of a session before its first batch.
     pub(crate) fn new(alloc: Global) -> Answered
-        ensures jobs { result.jobs ≡ [] }
         ensures ends { result.batch_ends ≡ [] }
     {
         Answered {
-            jobs: Jobs::new(alloc),
             batch_ends: Ends::new(alloc),
         }
     }
@@ -86,10 +82,11 @@ pub(crate) fn answer_loaded<K: Sink, W: Fn(Desk) -> Desk>(
 ) -> (Desk, Result<(), RunFault>)
     requires way { IsWay (W.pre way.now) (W.post way.now) }
     requires ready { CanBeServed desk }
-    ensures on { IsServedOn (W.post way.now) desk result.0 }
-    ensures answers { (held : Option (List ℕ)) (before after : Told) →
-        HasLoaded held (K.held sink.old) desk before → IsBatchAdded before desk.jobs after →
-        after.entries ≡ result.0.entries → LoadedTo held (K.held sink.new) result.0 after result.1 }
+    ensures on { HasServedJobs (W.post way.now) desk result.0 }
+    ensures answers { (held : Option (List ℕ)) (before : Told) (told : Answered) →
+        HasLoaded held (K.held sink.old) desk before →
+        IsBatchAdded before desk.jobs (told_of desk told) →
+        LoadedTo held (K.held sink.new) result.0 (told_of result.0 told) result.1 }
     ensures some { OnErr result.1 (0 < length result.0.entries) }
     ensures ending { IfErr result.1 IsWriteEnding }
     ensures counts { CountsWrites (fault_in result.1) (K.faults sink.old) (K.faults sink.new) }
@@ -108,7 +105,7 @@ pub(crate) fn answer_loaded<K: Sink, W: Fn(Desk) -> Desk>(
     (served, written)
 }
 
-// Takes the jobs of a batch to the desk, and tells them.
+// Takes the jobs of a batch to the desk, and tells its end.
 fn take_batch(
     alloc: Global,
     desk: &mut Desk,
@@ -122,10 +119,17 @@ fn take_batch(
     ensures start { OnOk result (desk.new.start ≡ length desk.old.entries) }
     ensures added { OnOk result
         (IsBatchAdded (told_of desk.old told.old) batch.now (told_of desk.new told.new)) }
-    ensures stay { OnErr result (told.new ≡ told.old) }
+    ensures stay { OnErr result (told_of desk.new told.new ≡ told_of desk.old told.old) }
 {
-    desk.load_batch(alloc, batch)?;
-    add_batch(told, batch)
+    let ends = told.batch_ends.len();
+    add_end(&mut told.batch_ends, desk.count_told(), batch.len())?;
+    match desk.load_batch(alloc, batch) {
+        Ok(()) => Ok(()),
+        Err(e) => {
+            told.batch_ends.truncate(ends);
+            Err(e)
+        }
+    }
 }
 
 // Has the jobs of a batch served.
@@ -142,26 +146,6 @@ fn serve_jobs<W: Fn(Desk) -> Desk>(way: &W, desk: Desk) -> Desk
     let served = way(desk);
     let _after = served.journal();
     served
-}
-
-// Adds the jobs of a batch and its end.
-#[tactic(auto, using(crate::proofs::BatchLaws::end_added))]
-fn add_batch(told: &mut Answered, batch: &[Job]) -> Result<(), AllocError>
-    requires few { length told.old.jobs + length batch.now ≤ SESSION_LINE_LIMIT }
-    ensures jobs { OnOk result (told.new.jobs ≡ told.old.jobs ++ batch.now) }
-    ensures ends { OnOk result (told.new.batch_ends
-        ≡ ends_after told.old.batch_ends (length told.old.jobs) batch.now) }
-    ensures stay { OnErr result (told.new ≡ told.old) }
-{
-    let count = told.jobs.len();
-    told.jobs.push_all(batch)?;
-    match add_end(&mut told.batch_ends, count, batch.len()) {
-        Ok(()) => Ok(()),
-        Err(e) => {
-            told.jobs.truncate(count);
-            Err(e)
-        }
-    }
 }
 
 // Adds the end of a batch of `count` jobs, if it has one, behind `before` others.

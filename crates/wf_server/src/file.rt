@@ -68,7 +68,7 @@ fn answer_file<K: Sink, W: Fn(Desk) -> Desk>(
 {
     'answering: while count < file.ends.len() {
         let end = file.ends.as_slice()[count];
-        let batch = jobs_between(file.jobs.as_slice(), told.jobs.len(), end as usize);
+        let batch = jobs_between(file.jobs.as_slice(), desk.count_told(), end as usize);
         let (next, answered) = answer_batch(alloc, way, desk, told, batch, sink);
         match answered {
             Ok(()) => desk = next,

@@ -110,15 +110,11 @@ fn go_on<S: Source, K: Sink, W: Fn(Desk) -> Desk>(
         desk,
         file,
         count,
-        jobs,
         ends,
         mut reader,
     } = beginning;
     names_known(&desk);
-    let mut told = Answered {
-        jobs,
-        batch_ends: ends,
-    };
+    let mut told = Answered { batch_ends: ends };
     let (served, answered) = answer_requests(alloc, way, desk, &mut told, &file, count, sink);
     match answered {
         Ok(()) => serve_batches(alloc, way, &mut reader, served, told, source, sink),

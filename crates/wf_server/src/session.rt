@@ -159,8 +159,8 @@ pub(crate) fn report_of(fault: RunFault, desk: Desk, told: Answered) -> Report
     ensures told { told_by result ≡ told_of desk told }
     ensures sound { IsSoundDesk desk }
 {
-    let (_, entries) = desk.into_parts();
-    let Answered { jobs, batch_ends } = told;
+    let (entries, jobs) = desk.into_told();
+    let Answered { batch_ends } = told;
     Report {
         status: fault.status(),
         fault,

@@ -1,17 +1,10 @@
-use Rattle.std.proofs.Common.{◌≤◌, length, take, ap, sym, subst, ◌∙◌}
+use Rattle.std.proofs.Common.{take, ap, sym, subst, ◌∙◌}
 use Rattle.wf_desk.specs.Desks.{DeskShape}
 use Rattle.transcript_resume.specs.Resumed.{HasResumed, RefusesBy, Session}
 use Rattle.transcript_resume.specs.Sessions.{session_over}
 use Rattle.resume_command.specs.Begun.{ends_to}
-use Rattle.resume_command.proofs.Taken.{has_begun, lacked, next_within, refused_so}
+use Rattle.resume_command.proofs.Taken.{has_begun, lacked, refused_so}
 use Rattle.resume_command.proofs.start.take_up.Goals as goal
-
-pub with_told-requires : goal.with_told-requires
-with_told-requires g c =
-    let s : Session = session_over c.args.policy c.args.lanes c.args.rounds c.args.text.batch in
-    let within = next_within
-    s c.as_bytes.result.now c.in_ok-resumed.resumed.next c.in_ok-resumed.resumed.desk c.requires.whole.order c.in_ok-resumed.ensures.resumed in
-    subst (λ js. c.in_ok-resumed.resumed.next ≤ length js) (sym c.in_ok-resumed.ensures.jobs) within
 
 pub returns-in_err-reader-clause-begins : goal.returns-in_err-reader-clause-begins
 returns-in_err-reader-clause-begins g c requests cut = lacked _ _ _ _ c.from_residual.ensures.1
@@ -42,7 +35,6 @@ returns-clause-begins g c requests cut =
       file_jobs = w.file_jobs ∙ r.jobs;
       file_ends = w.file_ends ∙ r.ends;
       count = w.count ∙ ap (ends_to next) r.ends;
-      jobs = w.jobs ∙ ap (take next) r.jobs;
       ends = w.ends ∙ ap (take b.count) r.ends;
       reader = w.reader;
     })

@@ -1,4 +1,4 @@
-use Rattle.std.proofs.Common.{◌≡◌, length, ap, ◌∙◌}
+use Rattle.std.proofs.Common.{◌≡◌, length, take, ap, ◌∙◌, arith}
 use Rattle.transcript_resume.specs.Unserved.{jobs_between}
 use Rattle.transcript_resume.proofs.Rests.{answers_part, bounds_order, bounds_within, short_between}
 use Rattle.transcript_resume.proofs.unserved.rest.Goals as goal
@@ -18,6 +18,19 @@ jobs_between-jobs-requires-clause-within c =
     let n = length c.args.journal.now.entries in
     let within = bounds_within ends (length jobs) n c.requires.ends c.requires.part.few in
     rw (c.bounds-from.ensures.end, c.as_slice.ensures, c.as_slice-2.ensures, c.len.ensures) within
+
+pub jobs_between-before-requires-clause-within : goal.jobs_between-before-requires-clause-within
+jobs_between-before-requires-clause-within c =
+    let jobs = c.args.batch.now.jobs in
+    let ends = c.args.batch.now.ends in
+    let n = length c.args.journal.now.entries in
+    let order = bounds_order ends (length jobs) n c.requires.ends c.requires.part.few in
+    let within = bounds_within ends (length jobs) n c.requires.ends c.requires.part.few in
+    rw (c.bounds-from.ensures.start, c.as_slice.ensures, c.as_slice-3.ensures, c.len.ensures) (omega (arith, order, within))
+
+pub returns-clause-earlier : goal.returns-clause-earlier
+returns-clause-earlier c =
+    c.from_vec-2.ensures ∙ c.in_ok-earlier.ensures.items ∙ c.jobs_between-before.ensures ∙ ap (take c.bounds-from.result.0) c.as_slice-3.ensures
 
 pub returns-clause-answers : goal.returns-clause-answers
 returns-clause-answers c =

@@ -1,6 +1,7 @@
 use Rattle.std.proofs.Common.{◌≡◌, ◌∙◌, ◌<◌, length, slice_index_or, refl, sym, subst, arith}
 use Rattle.std.proofs.lemmas.Grind.{common_steps}
 use Rattle.line_cutter.specs.Laws.{AreInOrder}
+use Rattle.wf_desk.specs.Desks.{jobs_told}
 use Rattle.transcript_resume.specs.Unserved.{jobs_between}
 use Rattle.wf_server.specs.Batches.{told_of, IsBatch}
 use Rattle.wf_server.specs.Files.{IsToldTo}
@@ -51,7 +52,7 @@ answer_batch-next-requires-clause-takes g c =
     let order = subst (λ n. AreInOrder n jobs ends) (sym same) c.requires.file.order in
     let known : c.answering.count < length ends = let test = c.answering-test.true in let size = c.len.ensures in omega (arith, test, size) in
     let next = is_next d.lanes jobs ends c.answering.count (told_of d c.answering.told) order known is in
-    let batch : c.jobs_between-batch.result.now ≡ jobs_between (length c.answering.told.jobs) (slice_index_or ends c.answering.count 0) jobs =
+    let batch : c.jobs_between-batch.result.now ≡ jobs_between (length (jobs_told c.answering.desk)) (slice_index_or ends c.answering.count 0) jobs =
     grind (arith, common_steps) in
     let answered = c.answering.invariant.answered c.requires.answered.0 c.requires.answered.1 in
     record {
@@ -59,7 +60,8 @@ answer_batch-next-requires-clause-takes g c =
       done = answered.done;
       whole = answered.fills.whole;
       follows =
-          subst (λ js. IsBatch d.lanes (length c.answering.told.jobs) js) (sym batch) (file_batch d.lanes jobs ends c.answering.count _ _ order known next);
+          subst (λ js. IsBatch d.lanes (length (jobs_told c.answering.desk)) js) (sym batch)
+          (file_batch d.lanes jobs ends c.answering.count _ _ order known next);
     }
 
 pub answering-preserved : goal.answering-preserved
@@ -71,7 +73,7 @@ answering-preserved g c =
     let order = subst (λ n. AreInOrder n jobs ends) (sym (lanes_of c.args.desk d c.answering.invariant.on.setting)) c.requires.file.order in
     let known : c.answering.count < length ends = let test = c.answering-test.true in let size = c.len.ensures in omega (arith, test, size) in
     let next = is_next d.lanes jobs ends c.answering.count (told_of d c.answering.told) order known is in
-    let batch : c.jobs_between-batch.result.now ≡ jobs_between (length c.answering.told.jobs) (slice_index_or ends c.answering.count 0) jobs =
+    let batch : c.jobs_between-batch.result.now ≡ jobs_between (length (jobs_told c.answering.desk)) (slice_index_or ends c.answering.count 0) jobs =
     grind (arith, common_steps) in
     let e = c.answer_batch-next.result.0 in
     let added = (rw c.in-Ok.is at c.answer_batch-next.ensures.answers c.requires.answered.0
@@ -97,7 +99,7 @@ returns-in-Err-clause-answers g c held answered =
     let order = subst (λ n. AreInOrder n jobs ends) (sym (lanes_of c.args.desk d c.answering.invariant.on.setting)) c.requires.file.order in
     let known : c.answering.count < length ends = let test = c.answering-test.true in let size = c.len.ensures in omega (arith, test, size) in
     let next = is_next d.lanes jobs ends c.answering.count (told_of d c.answering.told) order known is in
-    let batch : c.jobs_between-batch.result.now ≡ jobs_between (length c.answering.told.jobs) (slice_index_or ends c.answering.count 0) jobs =
+    let batch : c.jobs_between-batch.result.now ≡ jobs_between (length (jobs_told c.answering.desk)) (slice_index_or ends c.answering.count 0) jobs =
     grind (arith, common_steps) in
     file_fails d.lanes jobs ends c.answering.count held (g.K.Sink.held c.answer_batch-next.new.sink) (told_of d c.answering.told)
     (told_of c.answer_batch-next.result.0 c.answer_batch-next.new.told)

@@ -1,4 +1,4 @@
-use Rattle.std.proofs.Common.{◌≡◌, ℕ, drop, ap, refl, sym, subst, ◌∙◌}
+use Rattle.std.proofs.Common.{◌≡◌, ℕ, ◌++◌, drop, ap, refl, sym, subst, ◌∙◌}
 use Rattle.run_record.specs.Report.{told_by}
 use Rattle.run_record.specs.Run.{Streams}
 use Rattle.command_words.specs.Asked.{options_in}
@@ -53,7 +53,7 @@ serve_batches-requires-clause-serving g c =
         streams,
         session_begins streams c.in-Ok-new.reader d c.new-3.result c.args.options.lanes c.args.room c.jobs_are_in_order.ensures new.lanes new.jobs
             new.entries new.restored
-            c.new-3.ensures.jobs c.new-3.ensures.ends c.in-Ok-new.ensures,
+            (λ i. new.earlier i ++ new.jobs i) c.new-3.ensures.ends c.in-Ok-new.ensures,
       ),
     )
 
@@ -81,7 +81,7 @@ returns-clause-serves g c =
     let same : setting_of d ≡ set = rw (new.opening, new.lanes, new.rounds, new.restored) refl in
     let begun = session_begins streams c.in-Ok-new.reader d c.new-3.result c.args.options.lanes c.args.room c.jobs_are_in_order.ensures new.lanes new.jobs
     new.entries new.restored
-    c.new-3.ensures.jobs c.new-3.ensures.ends c.in-Ok-new.ensures in
+    (λ i. new.earlier i ++ new.jobs i) c.new-3.ensures.ends c.in-Ok-new.ensures in
     subst (λ (n : ℕ). Serves set (start n) c.args.room streams after told fault) new.lanes
     (subst (λ (m : ℕ). Serves set (start d.lanes) m streams after told fault) (ap (λ (r : BatchReaderShape). r.room) c.in-Ok-new.ensures)
     (subst (λ (s : Setting). Serves s (start d.lanes) c.in-Ok-new.reader.room streams after told fault) same

@@ -9,5 +9,5 @@ returns-clause-right c is v right =
     let t = c.args.task.now in
     let same = ap not (c.any_counts.ensures ∙
     ap (λ es. nat_lt 0 (counted t.ask es)) (c.entries_from.ensures ∙ ap (λ d. drop t.number d.entries) c.self.view_is)) in
-    fresh_verdict c.args.self.now c.self.inside.places t v (subst (λ d. IsDesk d c.self.inside.places) c.self.view_is c.self.invariant)
+    fresh_verdict c.args.self.now c.self.inside.places t v (subst (λ d. IsDesk d c.self.inside.places) c.self.view_is c.self.invariant.desk)
     (fresh_test c.args.self.now t (sym same ∙ is)) right

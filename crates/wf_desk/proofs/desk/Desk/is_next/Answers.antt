@@ -10,7 +10,7 @@ returns c =
     let d = c.args.self.now in
     let t = c.args.task.now in
     let own = c.job_here-next.result.now in
-    let stands = stands_next _ c.self.inside.places t.lane _ own c.self.invariant (rw (← c.self.view_is) at c.requires) c.as_slice.ensures
+    let stands = stands_next _ c.self.inside.places t.lane _ own c.self.invariant.desk (rw (← c.self.view_is) at c.requires) c.batch_of.ensures
     c.job_here-next.ensures in
     let here = subst (λ (e : DeskShape). next_job e t.lane ≡ Some own) c.self.view_is stands.here in (
       (λ is. here ∙ ap (λ (j : Job). Some j) (c.is_job_of.ensures.0 is)),

@@ -8,15 +8,15 @@ use Rattle.wf_desk.proofs.desk.Desk.left.Goals as goal
 pub returns-then-lane-self : goal.returns-then-lane-self
 returns-then-lane-self c =
     let known = c.if-lane-self.true in
-    let few = c.self.invariant.few in
+    let few = c.self.invariant.desk.few in
     let below : c.args.lane < LANE_LIMIT = omega (arith, known, few) in
-    let placed = c.self.invariant.placed c.args.lane below in
+    let placed = c.self.invariant.desk.placed c.args.lane below in
     let place = slice_index_or c.self.inside.places c.args.lane 0 in
-    c.count_of_lane.ensures ∙ ap (λ js. length (lane_jobs c.args.lane (take (length js - place) (drop place js)))) c.as_slice.ensures
-    ∙ ap (λ js. length (lane_jobs c.args.lane js)) (rest_from c.self.inside.jobs place)
+    c.count_of_lane.ensures ∙ ap (λ js. length (lane_jobs c.args.lane (take (length js - place) (drop place js)))) c.batch_of.ensures
+    ∙ ap (λ js. length (lane_jobs c.args.lane js)) (rest_from (drop c.self.inside.first c.self.inside.jobs) place)
     ∙ sym (left_at _ c.args.lane place placed) ∙ ap (λ d. left_of d c.args.lane) c.self.view_is
 
 pub returns-else-lane-self : goal.returns-else-lane-self
 returns-else-lane-self c =
-    sym (left_past c.args.self.now c.args.lane (subst (λ d. AreOfLanes d.lanes d.jobs) c.self.view_is c.self.invariant.of_lanes)
+    sym (left_past c.args.self.now c.args.lane (subst (λ d. AreOfLanes d.lanes d.jobs) c.self.view_is c.self.invariant.desk.of_lanes)
     (subst (λ d. d.lanes ≤ c.args.lane) c.self.view_is c.if-lane-self.false))

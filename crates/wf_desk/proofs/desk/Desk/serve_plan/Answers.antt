@@ -11,30 +11,30 @@ use Rattle.wf_desk.proofs.desk.Desk.serve_plan.Goals as goal
 
 pub job_here-job-requires : goal.job_here-job-requires
 job_here-job-requires c =
-    place_within _ c.self.inside.places c.args.lane _ c.self.invariant (rw (← c.self.view_is) at c.requires.lane) c.as_slice.ensures
+    place_within _ c.self.inside.places c.args.lane _ c.self.invariant.desk (rw (← c.self.view_is) at c.requires.lane) c.batch_of.ensures
     (c.requires.left.0, rw (← c.self.view_is) at c.requires.left.1.0)
 
 pub add_entry-requires-clause-room : goal.add_entry-requires-clause-room
 add_entry-requires-clause-room c =
-    let stands = stands_next _ c.self.inside.places c.args.lane _ c.job_here-job.result.now c.self.invariant (rw (← c.self.view_is) at c.requires.lane)
-    c.as_slice.ensures c.job_here-job.ensures in
-    has_room _ _ c.args.lane c.job_here-job.result.now c.self.invariant stands.here
+    let stands = stands_next _ c.self.inside.places c.args.lane _ c.job_here-job.result.now c.self.invariant.desk (rw (← c.self.view_is) at c.requires.lane)
+    c.batch_of.ensures c.job_here-job.ensures in
+    has_room _ _ c.args.lane c.job_here-job.result.now c.self.invariant.desk stands.here
 
 pub add_entry-requires-clause-small : goal.add_entry-requires-clause-small
-add_entry-requires-clause-small c = desk_small _ _ c.self.invariant
+add_entry-requires-clause-small c = desk_small _ _ c.self.invariant.desk
 
 pub go_on-requires-clause-here : goal.go_on-requires-clause-here
 go_on-requires-clause-here c =
-    let stands = stands_next _ c.self.inside.places c.args.lane _ c.job_here-job.result.now c.self.invariant (rw (← c.self.view_is) at c.requires.lane)
-    c.as_slice.ensures c.job_here-job.ensures in
-    rw c.as_slice-2.ensures (stands_here _ _ c.job_here-job.result.now.lane c.job_here-job.result.now c.self.invariant stands.known stands.next)
+    let stands = stands_next _ c.self.inside.places c.args.lane _ c.job_here-job.result.now c.self.invariant.desk (rw (← c.self.view_is) at c.requires.lane)
+    c.batch_of.ensures c.job_here-job.ensures in
+    rw c.batch_of-2.ensures (stands_here _ _ c.job_here-job.result.now.lane c.job_here-job.result.now c.self.invariant.desk stands.known stands.next)
 
 pub take_plan-reply-requires-clause-undecided : goal.take_plan-reply-requires-clause-undecided
 take_plan-reply-requires-clause-undecided c =
     let d = c.args.self.now in
     let job = c.job_here-job.result.now in
-    let stands = stands_next _ c.self.inside.places c.args.lane _ c.job_here-job.result.now c.self.invariant (rw (← c.self.view_is) at c.requires.lane)
-    c.as_slice.ensures c.job_here-job.ensures in
+    let stands = stands_next _ c.self.inside.places c.args.lane _ c.job_here-job.result.now c.self.invariant.desk (rw (← c.self.view_is) at c.requires.lane)
+    c.batch_of.ensures c.job_here-job.ensures in
     let here = subst (λ (e : DeskShape). next_job e c.args.lane ≡ Some job) c.self.view_is stands.here in
     let same = one_next d c.args.lane c.requires.left.0 job c.requires.left.1.0 here in
     subst (λ (e : DeskShape). IsUndecided e.board.policy e.board.cases job.ask c.args.deed) (sym c.self.view_is)
@@ -42,21 +42,25 @@ take_plan-reply-requires-clause-undecided c =
 
 pub invariant_of-self : goal.invariant_of-self
 invariant_of-self c =
-    let stands = stands_next _ c.self.inside.places c.args.lane _ c.job_here-job.result.now c.self.invariant (rw (← c.self.view_is) at c.requires.lane)
-    c.as_slice.ensures c.job_here-job.ensures in
-    serve_keeps _ c.self.inside.places c.go_on.new.places c.job_here-job.result.now (verdicts.Plan c.args.plan) c.take_plan-reply.result
-    c.add_entry.new.journal.entries c.take_plan-reply.new.self
-    c.add_entry.new.journal.spare c.no_loss.result c.self.invariant
-    stands.known c.go_on.ensures.sized stands.next c.take_plan-reply.ensures.decided
-    c.take_plan-reply.ensures.next
-    c.take_plan-reply.ensures.room c.add_entry.ensures.room c.add_entry.ensures.added c.no_loss.ensures (rw c.as_slice-2.ensures at c.go_on.ensures.moved)
+    let stands = stands_next _ c.self.inside.places c.args.lane _ c.job_here-job.result.now c.self.invariant.desk (rw (← c.self.view_is) at c.requires.lane)
+    c.batch_of.ensures c.job_here-job.ensures in
+    record {
+      desk = serve_keeps _ c.self.inside.places c.go_on.new.places c.job_here-job.result.now (verdicts.Plan c.args.plan) c.take_plan-reply.result
+          c.add_entry.new.journal.entries c.take_plan-reply.new.self
+          c.add_entry.new.journal.spare c.no_loss.result c.self.invariant.desk
+          stands.known c.go_on.ensures.sized stands.next c.take_plan-reply.ensures.decided
+          c.take_plan-reply.ensures.next
+          c.take_plan-reply.ensures.room c.add_entry.ensures.room c.add_entry.ensures.added c.no_loss.ensures
+          (rw c.batch_of-2.ensures at c.go_on.ensures.moved);
+      begins = c.self.invariant.begins;
+    }
 
 pub returns : goal.returns
 returns c job next =
     let d = c.args.self.now in
     let own = c.job_here-job.result.now in
-    let stands = stands_next _ c.self.inside.places c.args.lane _ c.job_here-job.result.now c.self.invariant (rw (← c.self.view_is) at c.requires.lane)
-    c.as_slice.ensures c.job_here-job.ensures in
+    let stands = stands_next _ c.self.inside.places c.args.lane _ c.job_here-job.result.now c.self.invariant.desk (rw (← c.self.view_is) at c.requires.lane)
+    c.batch_of.ensures c.job_here-job.ensures in
     let here = subst (λ (e : DeskShape). next_job e c.args.lane ≡ Some own) c.self.view_is stands.here in
     added_parts _ d own job (verdicts.Plan c.args.plan) c.take_plan-reply.result c.add_entry.new.journal.entries c.take_plan-reply.new.self
     c.add_entry.new.journal.spare c.no_loss.result (length d.entries) c.self.view_is (one_next d c.args.lane own job here next)

@@ -8,7 +8,7 @@ use Rattle.wf_desk.proofs.desk.Desk.task_of.Goals as goal
 pub returns : goal.returns
 returns c =
     let job = c.job_here-job.result.now in
-    let stands = stands_next _ c.self.inside.places c.args.lane _ job c.self.invariant (rw (← c.self.view_is) at c.requires.lane) c.as_slice.ensures
+    let stands = stands_next _ c.self.inside.places c.args.lane _ job c.self.invariant.desk (rw (← c.self.view_is) at c.requires.lane) c.batch_of.ensures
     c.job_here-job.ensures in
     let next = subst (λ (d : DeskShape). next_job d c.args.lane ≡ Some job) c.self.view_is stands.here in
     task_is c.args.self.now c.args.lane job c.number.result c.in_ok-snap.field-0 next c.number.ensures
