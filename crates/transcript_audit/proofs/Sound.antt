@@ -33,6 +33,7 @@ desk_of a k = record {
   board = record { policy = a.opening; cases = record { rows = []; ever = 0; spare = 0 }; edits = 0 };
   entries = a.entries;
   spare = 0;
+  earlier = [];
   jobs = jobs_in a.jobs a.batch_ends k;
   start = batch_start a.batch_ends k;
   restored = 0;
