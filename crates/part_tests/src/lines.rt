@@ -1,5 +1,4 @@
-//! Lines that are read fastest, of which no clause says that they are read at all: those of a
-//! transcript, and requests about a step beside those that are read more slowly.
+//! The lines of a transcript that are read fastest, of which no clause says that they are.
 ghost use Rattle.std.specs.Prelude.{Some};
 
 use crate::fixture::{Look, PAY, is_right};
@@ -7,9 +6,8 @@ use entry_reader::{Place, TextFault, guess_place, read_plain, read_reply};
 use policy_book::Policy;
 use std::alloc::{AllocError, Global};
 use std::test::Fail;
-use wf_names::{CaseId, FlowId, Name};
-use wf_talk::{Ask, Bad, FlowOf, Request};
-use wire_json::{Asked, read_request};
+use wf_names::{CaseId, FlowId};
+use wf_talk::{Ask, FlowOf, Request};
 
 // Each case is of the first workflow.
 struct OneFlow;
@@ -65,128 +63,6 @@ const OTHERS: [&str; 10] = [
     r#"{"stranded":{"step":"pay","users":[["bob",{"rule":0,"twin":"bob"}]]}}"#,
     r#"{"stranded":{"step":"pay","users":[["bob",{"rule":0}]]},"rule":0}"#,
 ];
-
-// One claim of a step: its keys in several orders, without blanks, with one behind each colon and
-// comma, and with some of these; then with blanks elsewhere, with an escape in a key and in a name,
-// and with a key that comes twice, of which the last value counts.
-const CLAIMS: [&str; 10] = [
-    r#"{"do":"claim","case":3,"step":"pay","user":"ann","lane":1}"#,
-    r#"{"lane":1,"user":"ann","step":"pay","case":3,"do":"claim"}"#,
-    r#"{"user": "ann", "do": "claim", "lane": 1, "case": 3, "step": "pay"}"#,
-    r#"{"step":"pay", "lane":1, "do":"claim", "user":"ann", "case":3}"#,
-    r#"{"case": 3,"lane": 1,"step": "pay","do": "claim","user": "ann"}"#,
-    r#"{"case": 3,"user":"ann", "lane":1, "do": "claim","step": "pay"}"#,
-    r#" { "user":"ann","do":"claim","lane":1,"case":3,"step":"pay" } "#,
-    r#"{"user":"ann","do":"claim","lane" :1,"case":3,  "step":"pay"}"#,
-    r#"{"us\u0065r":"\u0061nn","do":"claim","lane":1,"case":3,"step":"pay"}"#,
-    r#"{"user":"bob","case":3,"do":"claim","lane":1,"user":"ann","step":"pay"}"#,
-];
-
-// What is no request, and why.
-const BAD_LINES: [(&str, Bad); 9] = [
-    (
-        r#"{"user":"ann","step":"pay","do":"claim","case":007}"#,
-        Bad::Syntax,
-    ),
-    (
-        r#"{"user":"ann","step":"pay","do":"claim","case":3,}"#,
-        Bad::Syntax,
-    ),
-    (
-        r#"{"user":"ann","step":"pay","do":"claim","case":3"#,
-        Bad::Syntax,
-    ),
-    (
-        r#"{"user":"ann","step":"pay","do":"claim","case":3}}"#,
-        Bad::Syntax,
-    ),
-    (
-        r#"{"user":"ann","step":"pay","do":"claims","case":3}"#,
-        Bad::Do,
-    ),
-    (r#"{"user":"ann","step":"pay","case":3}"#, Bad::Do),
-    (
-        r#"{"user":"ann","lane":2,"step":"pay","do":"claim","case":3}"#,
-        Bad::Lane,
-    ),
-    (
-        r#"{"user":"ann","lane":257,"step":"pay","do":"claim","case":3}"#,
-        Bad::Lane,
-    ),
-    (
-        r#"{"user":"ann","step":"pay","do":"claim","case":3,"by":"bob"}"#,
-        Bad::Extra,
-    ),
-];
-
-// What is no request, and at which key it is none.
-const BAD_KEYS: [(&str, &str); 5] = [
-    (
-        r#"{"user":"ann","step":"pay","do":"claim","case":65536}"#,
-        "case",
-    ),
-    (r#"{"user":"ann","step":"pay","do":"claim"}"#, "case"),
-    (
-        r#"{"do":"claim","user":"Ann","case":3,"step":"pay"}"#,
-        "user",
-    ),
-    (r#"{"case":3,"do":"claim","step":"pay"}"#, "user"),
-    (
-        r#"{"user":"ann","step":"a2345678901234567890123456789012345678901","do":"claim","case":3}"#,
-        "step",
-    ),
-];
-
-#[test]
-fn requests_are_read(rt: HostRuntime) -> Result<(), Fail> {
-    assert!(rt; are_claims(rt.alloc())? && are_bad(rt.alloc())? && are_bad_keys(rt.alloc())?);
-    Ok(())
-}
-
-// Whether each line asks for the same step, for one user in one lane.
-fn are_claims(alloc: Global) -> Result<bool, AllocError> {
-    let (Some(step), Some(user)) = (Name::read("pay"), Name::read("ann")) else {
-        return Ok(false);
-    };
-    let case = CaseId(3);
-    let ask = Ask::Request(Request::Claim { case, step, user });
-    for line in CLAIMS {
-        if read_request(alloc, line.as_bytes(), 2)? != (Asked { lane: 1, ask }) {
-            return Ok(false);
-        }
-    }
-    Ok(true)
-}
-
-// Whether each line is bad for its own cause.
-fn are_bad(alloc: Global) -> Result<bool, AllocError> {
-    for (line, bad) in BAD_LINES {
-        if read_request(alloc, line.as_bytes(), 2)? != bad_line(bad) {
-            return Ok(false);
-        }
-    }
-    Ok(true)
-}
-
-// Whether each line is bad at its own key.
-fn are_bad_keys(alloc: Global) -> Result<bool, AllocError> {
-    for (line, key) in BAD_KEYS {
-        let Some(name) = Name::read(key) else {
-            return Ok(false);
-        };
-        if read_request(alloc, line.as_bytes(), 2)? != bad_line(Bad::Key(name)) {
-            return Ok(false);
-        }
-    }
-    Ok(true)
-}
-
-fn bad_line(bad: Bad) -> Asked {
-    Asked {
-        lane: 0,
-        ask: Ask::Bad(bad),
-    }
-}
 
 #[test]
 fn plain_lines_are_read(rt: HostRuntime) -> Result<(), Fail> {
