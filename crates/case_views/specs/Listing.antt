@@ -1,4 +1,4 @@
--- Inside: what views list of some rows of a table of cases.
+-- Inside: what views list of a part of the rows of a table of cases.
 use Rattle.std.specs.Prelude.{◌≡◌, ℕ, Bool, true, false, List, [], ◌∷◌, ◌++◌, Option, None, Some}
 use Rattle.std.specs.Prelude.{map}
 use Rattle.policy_book.specs.Shapes.{PolicyShape}
@@ -18,7 +18,7 @@ use Rattle.wf_board.specs.Views.{AreStranded, AreThose, IsGrantable, Place, item
 abbrev pub open_in : List Row → List Numbered
 open_in rows = open_cases (map numbered rows)
 
--- those of some steps that would be granted to a user
+-- the items are those of the steps at `places` that would be granted to the user u, in order
 abbrev pub AreGrantable : PolicyShape → ℕ → List Place → List WorkItem → Type 0
 AreGrantable p u places items =
     AreThose (λ x. IsGrantable p x.of.case x.step u) (λ x. ¬ IsGrantable p x.of.case x.step u)

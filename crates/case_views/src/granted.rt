@@ -16,7 +16,7 @@ struct WorkOf {
     steps: StepSet,
 }
 
-/// The steps that one user would be granted under one policy of some cases.
+/// Cases, each with the steps of it that one user would be granted under one policy.
 #[derive(Drop)]
 pub(crate) struct Work {
     told: Vec<WorkOf>,

@@ -171,7 +171,7 @@ fn spread_work<R: Threads + Sync>(
     Ok(joined_work(alloc, &parts)?)
 }
 
-// All of some work lists, one after the other.
+// The items of the work lists `parts`, one list after the other.
 fn joined_work(alloc: Global, parts: &[WorkList]) -> Result<WorkList, AllocError>
     ensures { IfOk result (λ all. all ≡ flat_map (λ part. part) parts.now) }
 {

@@ -31,16 +31,16 @@ pub record IsSoundTable (rows : List Row) (ever live : ℕ) : Type 0 where
   pub few : live ≤ OPEN_CASE_LIMIT
   pub limit : ever ≤ CASE_LIMIT
 
--- no case of the first so many rows is open
+-- the place `first` is in the rows or right behind them, and no case before it is open
 pub record ArePassed (rows : List Row) (first : ℕ) : Type 0 where
   pub ended : open_count (take first rows) ≡ 0
   pub within : first ≤ length rows
 
--- some rows without the first so many, of which no case is open
+-- no case before some place is open, and `part` is the rows from that place on
 abbrev pub IsOpenPart : List Row → List Row → Type 0
 IsOpenPart rows part = (first : ℕ) × ArePassed rows first × (part ≡ drop first rows)
 
--- what the code keeps: a sound table, and the cases that have ended before all others
+-- what the code keeps: a sound table, and a place before which no case is open
 pub record IsKeptTable (rows : List Row) (ever live first : ℕ) : Type 0 where
   pub sound : IsSoundTable rows ever live
   pub passed : ArePassed rows first

@@ -80,7 +80,7 @@ impl Cases {
         self.rows.reserve(more as usize)
     }
 
-    /// Opens a fresh case with so many steps at the next number, and answers that number.
+    /// Opens a fresh case with `steps` steps at the next number, and answers that number.
     pub(crate) fn open_fresh(&mut self, f: FlowId, steps: u8, plan: Plan) -> CaseId
         requires steps { steps ≤ STEP_LIMIT }
         requires room { 0 < self.old.spare }

@@ -53,7 +53,7 @@ fn place_from(rows: &[Row], n: u32) -> usize
     rows.partition_point(|row| (row.number as u32) < n)
 }
 
-/// Where the row with a number stands: where none is left out, at its number.
+/// Where the row with the number `n` stands: at the place `n`, unless a case before it is left out.
 fn find(rows: &[Row], n: u16) -> Option<usize>
     requires { AscendFrom 0 rows.now }
     ensures { MatchOption result (row_at n rows.now ≡ None) (λ i. IsRowFound n rows.now i) }
@@ -65,7 +65,7 @@ fn find(rows: &[Row], n: u16) -> Option<usize>
     search(rows, n)
 }
 
-/// The same by halving.
+/// Where the row with the number `n` stands, found by halving.
 fn search(rows: &[Row], n: u16) -> Option<usize>
     requires { AscendFrom 0 rows.now }
     ensures { MatchOption result (row_at n rows.now ≡ None) (λ i. IsRowFound n rows.now i) }
@@ -122,8 +122,8 @@ pub(crate) fn put(rows: &mut Vec<Row>, row: &Row)
     rows[i] = *row;
 }
 
-/// Keeps other plans for the open cases, in order, as far as there are plans. None of the first
-/// so many is open.
+/// Keeps other plans for the open cases, in order, as far as there are plans. No case before the
+/// place `first` is open.
 pub(crate) fn replan(rows: &mut Vec<Row>, first: usize, plans: &[Plan])
     requires { ArePassed rows.old.items first }
     ensures rows { rows.new.items ≡ replanned rows.old.items plans.now }
@@ -154,7 +154,7 @@ fn next_open(rows: &[Row], from: u32) -> Option<u16>
     None
 }
 
-/// The rows behind the first so many.
+/// The rows from the place `first` on.
 pub(crate) fn behind(rows: &[Row], first: usize) -> &[Row]
     requires { first ≤ length rows.now }
     ensures { result.now ≡ drop first rows.now }
@@ -162,7 +162,7 @@ pub(crate) fn behind(rows: &[Row], first: usize) -> &[Row]
     &rows[first..]
 }
 
-/// The least open case not below a number, where none of the first so many is open.
+/// The least open case not below `from`, where no case before the place `first` is open.
 pub(crate) fn next_behind(rows: &[Row], first: usize, from: u32) -> Option<u16>
     requires order { AscendFrom 0 rows.now }
     requires passed { ArePassed rows.now first }
@@ -171,7 +171,7 @@ pub(crate) fn next_behind(rows: &[Row], first: usize, from: u32) -> Option<u16>
     next_open(behind(rows, first), from)
 }
 
-/// How many rows stand before the first open case, where none of the first so many is open.
+/// How many rows stand before the first open case, where no case before the place `first` is open.
 pub(crate) fn past_ended(rows: &[Row], first: usize) -> usize
     requires { ArePassed rows.now first }
     ensures { ArePassed rows.now result }
@@ -184,7 +184,7 @@ pub(crate) fn past_ended(rows: &[Row], first: usize) -> usize
     rows.len()
 }
 
-/// How many cases are open once one of them has ended or not.
+/// How many of `live` open cases are left open: one less where one has ended.
 pub(crate) fn still_open(live: u16, has_ended: bool) -> u16
     requires { cond has_ended 1 0 ≤ live }
     ensures { result + cond has_ended 1 0 ≡ live }
@@ -192,7 +192,7 @@ pub(crate) fn still_open(live: u16, has_ended: bool) -> u16
     if has_ended { live - 1 } else { live }
 }
 
-/// The row with a number alone.
+/// The row with the number `n` alone, or no row where there is none with that number.
 pub(crate) fn only(alloc: Global, rows: &[Row], n: u16) -> Result<Vec<Row>, AllocError>
     requires { AscendFrom 0 rows.now }
     ensures { IfOk result (λ some. some.items ≡ only n rows.now) }
@@ -205,7 +205,7 @@ pub(crate) fn only(alloc: Global, rows: &[Row], n: u16) -> Result<Vec<Row>, Allo
     Ok(some)
 }
 
-/// How many cases are open in a table with this row alone.
+/// How many cases are open in a table with this row alone, or without a row.
 pub(crate) fn one_live(row: Option<Row>) -> u16
     ensures { result ≡ open_count (rows_of row) }
 {
@@ -215,7 +215,7 @@ pub(crate) fn one_live(row: Option<Row>) -> u16
     }
 }
 
-/// The rows of the open cases, where none of the first so many is open.
+/// The rows of the open cases, where no case before the place `first` is open.
 pub(crate) fn open_behind(
     alloc: Global,
     rows: &[Row],

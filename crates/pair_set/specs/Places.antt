@@ -1,4 +1,4 @@
--- Where a pair stands in an ascending list, and where it would.
+-- Inside: where a pair stands in an ascending list, and where it would.
 use Rattle.std.specs.Prelude.{◌≡◌, ℕ, ◌<◌, ◌≤◌, List, length, slice_index_or}
 use Rattle.std.specs.List.{AllWithin}
 use Rattle.std.specs.declared.cmp.Ordering.TheVariants.{Less, Greater}

@@ -14,7 +14,7 @@ use Rattle.constraint_forms.specs.Rules.{any_from, count_members, reads, IsRuleO
 use Rattle.policy_book.specs.Shapes.{PolicyShape, WorkflowShape}
 use Rattle.policy_book.specs.Policies.{flow_at}
 
--- each pair of a listed relation is of users among the first so many
+-- in each listed relation both users of a pair have numbers below `users`
 abbrev pub AreOfUsers : ℕ → List RelationShape → Type 0
 AreOfUsers users relations = (rho : ℕ) (pairs : Pairs) → kind_of relations rho ≡ Some
     (listed pairs) → AllPairs (λ u v. (u < users) × (v < users)) pairs
@@ -33,22 +33,22 @@ HasMembers (AllTo rho step group) = IsTrue (any_from 0 group (λ _. true))
 HasMembers (AtMost limit group) = IsWithinGroup limit group
 HasMembers (AtLeast limit group) = IsWithinGroup limit group
 
--- a rule of a workflow with so many steps, under so many declared relations
+-- a rule of a workflow with `steps` steps, in a policy with `relations` declared relations
 pub record IsSoundRule (steps relations : ℕ) (rule : Rule) : Type 0 where
   pub names : IsRuleOf steps rule
   pub known : (rho : ℕ) → IsTrue (reads rule rho) → rho < relations + 2
   pub members : HasMembers rule
 
--- each of some rules is such a rule
+-- each rule of the list is such a rule
 abbrev pub AreSoundRules : ℕ → ℕ → List Rule → Type 0
 AreSoundRules steps relations rules = (k : ℕ) (rule : Rule) → slice_get rules k ≡ Some rule →
     IsSoundRule steps relations rule
 
--- a workflow permits its steps to no role but the first so many
+-- a workflow permits its steps to no role but those with numbers below `roles`
 abbrev pub PermitsRolesBelow : ℕ → FlowShape → Type 0
 PermitsRolesBelow roles flow = (r s : ℕ) → set.contains flow.permits (r, s) ≡ true → r < roles
 
--- a workflow of a policy with so many roles and declared relations
+-- a workflow of a policy with `roles` roles and `relations` declared relations
 pub record IsSoundWorkflow (roles relations : ℕ) (w : WorkflowShape) : Type 0 where
   pub permitted : PermitsRolesBelow roles w.flow
   pub few : length w.rules ≤ RULE_LIMIT

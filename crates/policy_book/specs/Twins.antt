@@ -33,7 +33,7 @@ may_do_the_same p u v = all_below p.steps (λ s. agree (p.authorised s u) (p.aut
 abbrev pub is_alike_to : (ℕ → ℕ → Bool) → ℕ → ℕ → ℕ → Bool
 is_alike_to holds u v w = agree (holds u w) (holds v w) && agree (holds w u) (holds w v)
 
--- a relation treats two of so many users alike: towards every other one, and between themselves
+-- a relation treats u and v alike: towards every other user below `users`, and between themselves
 abbrev pub treats_alike : ℕ → (ℕ → ℕ → Bool) → ℕ → ℕ → Bool
 treats_alike users holds u v =
     all_below users (λ w. (w == u || w == v) || is_alike_to holds u v w) &&

@@ -11,7 +11,7 @@ use crate::Policy;
 use constraint_forms::{Assign, keep_unfalsified};
 use wf_names::{FlowId, StepId, UserSet};
 
-/// Keeps of some users those to whom a step can be given without falsifying a rule.
+/// Keeps of `users` those to whom the step `s` can be given without falsifying a rule.
 pub(crate) fn keep_unbroken(p: &Policy, f: FlowId, s: StepId, a: &Assign, users: &mut UserSet)
     requires flow { f < length p.now.flows }
     requires step { s < STEP_LIMIT }
@@ -24,7 +24,7 @@ pub(crate) fn keep_unbroken(p: &Policy, f: FlowId, s: StepId, a: &Assign, users:
     }
 }
 
-// Keeps of some users those to whom a step can be given without falsifying one rule.
+// Keeps of `users` those to whom the step `s` can be given without falsifying the rule `k`.
 fn keep_by_rule(p: &Policy, f: FlowId, s: StepId, a: &Assign, k: usize, users: &mut UserSet)
     requires flow { f < length p.now.flows }
     requires step { s < STEP_LIMIT }

@@ -129,7 +129,7 @@ fn all_rows(alloc: Global, roster: &Roster, flow: &Flow) -> Result<Vec<UserSet>,
     Ok(rows)
 }
 
-// The steps of each of so many users.
+// For each user below `users`, the steps in whose rows the user is.
 fn all_sets(alloc: Global, rows: &[UserSet], users: u16) -> Result<Vec<StepSet>, AllocError>
     requires { length rows.now ≤ STEP_LIMIT }
     ensures count { IfOk result (λ sets. length sets.items ≡ users) }

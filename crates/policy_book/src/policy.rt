@@ -282,7 +282,7 @@ impl Policy {
         &self.names
     }
 
-    /// A policy that is equal to this one.
+    /// A policy that is equal to `self`.
     pub fn copy(&self) -> Result<Policy, AllocError>
         ensures { IfOk result (λ p. p ≡ self.now) }
     {

@@ -37,7 +37,7 @@ impl Workflow {
         })
     }
 
-    /// A workflow that is equal to this one.
+    /// A workflow that is equal to `self`.
     pub(crate) fn copy(&self) -> Result<Workflow, AllocError>
         ensures { IfOk result (λ w. w ≡ self.now) }
     {

@@ -175,7 +175,7 @@ fn misses(alloc: Global, desk: &mut Desk) -> Result<bool, AllocError>
     )
 }
 
-// Commits the task of the next job of lane 0, as if it had been taken after so many entries.
+// Commits the task of the next job of lane 0, as if it had been taken after `number` entries.
 fn commits(alloc: Global, desk: &mut Desk, number: u32) -> Result<Outcome, AllocError> {
     let lanes = desk.lanes();
     if lanes == 0 {

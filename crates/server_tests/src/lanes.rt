@@ -192,7 +192,7 @@ const EIGHT_CASES: &str = r#"{"do":"open","flow":"pay","lane":0}
 "#;
 
 // Whether eight cases are opened, and ann and cyd get their steps in each, and nothing else is
-// answered, with so many searches outside the turns.
+// answered, with `searches` searches outside the turns.
 fn is_whole<R: Threads + Wait + Sync>(
     rt: &R,
     alloc: Global,

@@ -46,7 +46,7 @@ impl Read for Dripping {
     }
 }
 
-// Room for so many bytes, which are taken one at a time.
+// Room for `room` bytes, 16 at most, which are taken one at a time.
 #[derive(Drop)]
 struct Narrow {
     taken: [u8; 16],

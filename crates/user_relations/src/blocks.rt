@@ -20,7 +20,7 @@ const BLOCK_ROWS: usize = BLOCK_BYTES * 8 / USER_LIMIT as usize;
 /// How many blocks have a row for each user.
 pub(crate) const BLOCKS: usize = USER_LIMIT as usize / BLOCK_ROWS;
 
-/// The rows of some users with numbers in turn: with each user, a set of users.
+/// The rows of `BLOCK_ROWS` users whose numbers follow each other: with each user, a set of users.
 #[derive(Clone, Copy)]
 pub(crate) struct Block {
     rows: [UserSet; BLOCK_ROWS],

@@ -32,7 +32,7 @@ HasVerdict s what given v =
     rests_on_all (decision_of s.book what) ≡ true → given ≢ reply.NoMemory →
     (v ≢ verdict.Nothing) × (is_want v ≡ false)
 
--- where there may be no memory to take a reply, with room for so many more cases: for the list of
+-- where there may be no memory to take a reply, with room for `spare` more cases: for the list of
 -- roles of a denial, for an opening without room, or for the policy after an edit
 abbrev pub MayLackMemoryFor : ℕ → Result Deed Denial → Type 0
 MayLackMemoryFor spare r =

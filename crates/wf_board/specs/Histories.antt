@@ -25,9 +25,9 @@ abbrev pub EachAfter : (List Entry → Entry → Type 0) → List Entry → List
 EachAfter P earlier [] = Unit {0}
 EachAfter P earlier (e ∷ es) = P earlier e × EachAfter P (earlier ++ e ∷ []) es
 
--- after a history, a lane's request may be answered again, with n rounds of rounds allowed: it is
--- no view, only whether cases can be completed is left to decide, n entries that count for it stand
--- behind the lane's last one, and the last that counts stands at this place
+-- after a history, a lane's request may be answered again: some rounds are allowed, and n is how
+-- many; it is no view, only whether cases can be completed is left to decide, n entries that count
+-- for it or more stand behind the lane's last one, and the last that counts stands at this place
 pub record MayRetry (s : State) (earlier : List Entry) (rounds lane : ℕ) (what : Ask)
     (n place : ℕ) : Type 0 where
   pub undecided : needs_verdict (decision_of (state_after s earlier).book what) ≡ true
@@ -50,7 +50,7 @@ IsRightAfter s rounds earlier e =
     (e.at ≡ length earlier) ×
     (IsStep (state_after s earlier) e.ask e.reply ⊎ IsRetry s rounds earlier e)
 
--- a legal history, with so many rounds allowed
+-- a legal history from the state s on, with `rounds` rounds allowed
 abbrev pub IsLegal : State → ℕ → List Entry → Type 0
 IsLegal s rounds entries = EachAfter (IsRightAfter s rounds) [] entries
 
@@ -74,8 +74,8 @@ batch_end batch_ends k = slice_index_or batch_ends k 0
 abbrev pub batch_jobs : List ℕ → ℕ → List Job → List Job
 batch_jobs batch_ends k jobs = drop (batch_start batch_ends k) (take (batch_end batch_ends k) jobs)
 
--- an entry that is answered again rests on so many entries of its batch, which begins at start,
--- behind its lane's last one
+-- an entry that is answered again after n rounds rests on its batch, which begins at start: n
+-- entries or more that count for it stand there behind its lane's last one
 abbrev pub RestsFrom : ℕ → List Entry → Entry → Type 0
 RestsFrom start earlier e =
     (n place : ℕ) → e.reply ≡ Again n place →

@@ -11,8 +11,8 @@ use Rattle.admin_edits.specs.ClaimCauses.{assigned_with, first_cause}
 use Rattle.wf_board.specs.States.{Book, Numbered, open_cases}
 use Rattle.wf_board.specs.Edition.{CanBeCompleted}
 
--- a list names those of some values that have the one property, in their order; all others have the
--- other property
+-- `names` has the names of those of the values that have the property `In`, in their order; all
+-- others have the property `Out`
 abbrev pub AreThose : {A B : Type 0} → (A → Type 0) → (A → Type 0) → (A → B) → List A → List B →
     Type 0
 AreThose In Out name [] names = names ≡ []
@@ -25,7 +25,7 @@ pub record Place : Type 0 where
   pub of : Numbered
   pub step : ℕ
 
--- so many steps of a case from one on
+-- the steps of a case from the step t on, as many as the number before t tells
 abbrev pub steps_from : Numbered → ℕ → ℕ → List Place
 steps_from e zero t = []
 steps_from e (suc more) t = record { of = e; step = t } ∷ steps_from e more (t + 1)

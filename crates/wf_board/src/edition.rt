@@ -9,7 +9,7 @@ use std::alloc::Global;
 use std::marker::Model;
 use std::sync::Arc;
 
-/// Plans, one for each of some cases.
+/// Plans, one for each open case, by ascending number of the case.
 pub type Plans = List<Plan>;
 
 /// The policy after an edit, with a plan for each case that is open, by ascending number.

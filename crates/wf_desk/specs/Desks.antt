@@ -31,7 +31,7 @@ pub record DeskShape : Type 0 where
   pub restored : ℕ
   pub losses : List Loss
 
--- the state after the first so many entries
+-- the state after the first n entries
 abbrev pub state_after_first : DeskShape → ℕ → State
 state_after_first d n = state_after (opening_state d.opening) (take n d.entries)
 
@@ -82,12 +82,12 @@ no_loss = record { count = 0; end = 0 }
 abbrev pub loss_of : List Loss → ℕ → Loss
 loss_of losses lane = slice_index_or losses lane no_loss
 
--- with so much room in the journal and in the table of cases
+-- with room for `spare` more entries in the journal, and for `cases` more cases in their table
 abbrev pub with_room : DeskShape → ℕ → ℕ → DeskShape
 with_room d spare cases = record d
     { spare = spare; board = record d.board { cases = record d.board.cases { spare = cases } } }
 
--- there is room for so many more entries, and for so many more cases
+-- there is room for n more entries, and for n more cases
 pub record HasRoomFor (n : ℕ) (d : DeskShape) : Type 0 where
   pub entries : n ≤ d.spare
   pub cases : n ≤ d.board.cases.spare
@@ -118,7 +118,7 @@ with_batch_from d jobs n = record d {
   losses = replicate LANE_LIMIT no_loss;
 }
 
--- a desk before its first job, with these entries, the board after them, and room for so many more
+-- a desk before its first job, with these entries, the board after them, and room for `spare` more
 abbrev pub desk_with : PolicyShape → ℕ → ℕ → BoardShape → List Entry → ℕ → DeskShape
 desk_with p lanes rounds board entries spare = record {
   opening = p;

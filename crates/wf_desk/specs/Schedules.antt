@@ -24,7 +24,7 @@ lane_of (Begin lane) = lane
 lane_of (Commit lane) = lane
 lane_of (Serve lane) = lane
 
--- each of these events is of one of so many lanes
+-- each of these events is of a lane below `lanes`
 abbrev pub AreEventsOf : ℕ → List Event → Type 0
 AreEventsOf lanes [] = Unit {0}
 AreEventsOf lanes (e ∷ es) = (lane_of e < lanes) × AreEventsOf lanes es

@@ -101,8 +101,8 @@ impl Model for Desk {
 }
 
 impl Desk {
-    /// A desk for so many lanes, from 1 to 8, at which no job is left. A job that needs a verdict
-    /// is answered again after so many lost rounds, up to 8; with none no job is ever lost.
+    /// A desk for `lanes` lanes, from 1 to 8, at which no job is left. A job that needs a verdict
+    /// is answered again after `rounds` lost rounds, up to 8; with none no job is ever lost.
     pub fn new(alloc: Global, policy: Policy, lanes: u8, rounds: u8) -> Result<Desk, AllocError>
         requires some { 0 < lanes }
         requires lanes { lanes ≤ LANE_LIMIT }

@@ -27,7 +27,7 @@ pub enum Event {
 /// What an event did.
 #[derive(Clone, Copy, PartialEq, Eq)]
 pub enum Mark {
-    /// The lane holds a task that was taken after so many entries.
+    /// The lane holds a task. The number is how many entries there were when it was taken.
     Began(u32),
     /// The lane has no job left; where it was to begin one, it holds no task any more.
     NoJob,

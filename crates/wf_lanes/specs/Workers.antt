@@ -70,7 +70,7 @@ HasCommittedTask before after t v result =
 abbrev pub HasNoJobLeft : LaneShape Fixed Entry → ℕ → Type 0
 HasNoJobLeft s lane = (d : DeskShape) × (HasSeenDesk s d × (next_job d lane ≡ None))
 
--- at a desk of so many lanes or more
+-- a lane of a desk that has n lanes or more
 abbrev pub HasLanes : LaneShape Fixed Entry → ℕ → Type 0
 HasLanes s n = (f : Fixed) × ((s.fixed ≡ Some f) × (n ≤ f.lanes))
 
@@ -87,7 +87,7 @@ pub record IsFirst (at : TableId) (s : LaneShape Fixed Entry) : Type 0 where
   pub number : s.number ≡ None
   pub out : s.out ≡ false
 
--- it has made lanes up to a number, and may make so many more
+-- it has made `next` lanes, and may make `count` more
 pub record HasRoom (s : LaneShape Fixed Entry) (next count : ℕ) : Type 0 where
   pub made : s.made ≡ next
   pub table : next + count ≤ s.lanes
@@ -97,7 +97,7 @@ pub record HasRoom (s : LaneShape Fixed Entry) (next count : ℕ) : Type 0 where
 abbrev pub HasMadeAll : LaneShape Fixed Entry → Type 0
 HasMadeAll s = (f : Fixed) × ((s.fixed ≡ Some f) × (s.made ≡ f.lanes))
 
--- the lanes from a number on, so many, were joined into it
+-- it has made the `count` lanes from the number `next` on, and they were joined into it
 pub record HasJoined (before after : LaneShape Fixed Entry) (next count : ℕ) : Type 0 where
   pub fixed : after.fixed ≡ before.fixed
   pub made : after.made ≡ next + count

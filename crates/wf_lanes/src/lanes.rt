@@ -26,9 +26,9 @@ type Busy = [bool; LANE_LIMIT as usize];
 
 /// Serves the jobs of a batch, each lane's on a thread of its own: searches run outside the turns,
 /// on numbered snapshots, while other lanes go on; decisions are taken in turns, one at a time. It
-/// may wait. What needs no search is served by turns before any thread begins, each lane's jobs up to
-/// its first that has to be searched, unless a gate watches. Where one lane alone has jobs left, they
-/// are served by turns, with no thread.
+/// may wait. What needs no search is served by turns before any thread begins, each lane's jobs up
+/// to its first that has to be searched, unless a gate watches. Where one lane alone has jobs left,
+/// they are served by turns, with no thread.
 pub fn serve_by_lanes<R: Threads + Wait + Sync, V: Decider + Sync, G: Gate + Sync>(
     rt: &R,
     alloc: Global,
@@ -178,7 +178,7 @@ fn needs_thread(busy: &Busy, lane: u8) -> bool
     false
 }
 
-// Makes so many lanes, from the next number on, serves them, and joins them into the first lane.
+// Makes `count` lanes, from the number `next` on, serves them, and joins them into the first lane.
 // A lane with jobs is served on a thread of its own, where a later one has jobs too.
 fn run_lanes<R: Threads + Wait + Sync, V: Decider + Sync, G: Gate + Sync>(
     rt: &R,

@@ -47,7 +47,8 @@ pub record Serves (set : Setting) (first : Cut) (room : ℕ) (before after : Str
 abbrev pub told_of : DeskShape → Answered → Told
 told_of d a = record { entries = d.entries; jobs = jobs_told d; batch_ends = a.batch_ends }
 
--- a batch behind so many jobs: it is short, and each of its jobs is of one of the lanes
+-- a batch behind `before` jobs: with them it is within the limit of a session, it is short, and
+-- each of its jobs is of one of the lanes
 pub record IsBatch (lanes before : ℕ) (batch : List Job) : Type 0 where
   pub few : before + length batch ≤ SESSION_LINE_LIMIT
   pub short : length batch ≤ BATCH_LINE_LIMIT

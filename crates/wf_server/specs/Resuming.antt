@@ -25,7 +25,7 @@ use Rattle.resume_command.specs.Load.{Names, OverFiles}
 use Rattle.command_words.specs.Words.{AreOptions, Options}
 use Rattle.wf_server.specs.Sessions.{Served, Setting}
 
--- a session is served behind so many entries of an earlier one
+-- how a session is served behind `restored` entries of an earlier one
 abbrev pub setting_behind : Session → ℕ → Setting
 setting_behind s restored =
     record { policy = s.policy; lanes = s.lanes; rounds = s.rounds; restored = restored }

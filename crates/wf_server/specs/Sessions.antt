@@ -42,7 +42,7 @@ pub record IsWithinFirst (before after : Option (List ℕ)) (handed : Handed) : 
   pub some : 0 < length handed.jobs
   pub up : UpToAnEnd handed.jobs handed.batch_ends handed.first
 
--- what was read where a session ended so, with pieces of at most so many bytes; a write fault ends
+-- what was read where a session ended so, with pieces of at most `room` bytes; a write fault ends
 -- it wherever reading had paused, or while what was cut before is answered
 abbrev pub ReadsFor : Option (List ℕ) → Option (List ℕ) → ℕ → Handed → RunFault → Type 0
 ReadsFor before after room handed Nothing = HasReadAll before after true handed
