@@ -1,5 +1,5 @@
 -- The numbers that are found.
-use Rattle.std.proofs.Common.{◌≡◌, ◌∙◌, ◌<◌, ◌≤◌, ◌-◌, ◌^◌, ◌==◌, ℕ, Bool, true, false, cond, drop, refl, sym, ap, subst, arith, inl, inr, rules, List, [], ◌∷◌}
+use Rattle.std.proofs.Common.{◌≡◌, ◌∙◌, ◌<◌, ◌≤◌, ◌-◌, ◌^◌, ◌==◌, ℕ, Bool, true, false, cond, drop, refl, sym, ap, subst, arith, inl, inr, rules, List, [], ◌∷◌, ◌++◌, map}
 use Rattle.std.proofs.Common.{Option, Some, None, Result, Ok, Err, true≢false}
 use Rattle.std.specs.Prelude.{IfSome, codes, slice_get, ⊤, find, option_and_then, option_map, pos, unwrap_or}
 use Rattle.std.specs.List.{All, Any}
@@ -7,11 +7,11 @@ use Rattle.std.specs.Str.{bytes_eq}
 use Rattle.std.specs.Str.Parse.{IsNumeral, ParsesUnsigned, digits_value, starts_with_minus, without_leading_plus}
 use Rattle.std.proofs.lemmas.Bool.{ne_eqb}
 use Rattle.std.proofs.lemmas.Int.{ints}
-use Rattle.std.proofs.lemmas.List.Elements.{All-cons, All-drop, All-get_or, All-nil}
+use Rattle.std.proofs.lemmas.List.Elements.{All-cons, All-drop, All-get_or, All-nil, All-weaker}
 use Rattle.std.proofs.lemmas.Slice.Eq.{bytes_eq-Decides}
 use Rattle.std.proofs.lemmas.Str.Parse.{digit_from_value}
 use Rattle.clap.specs.Lexer.{without_minus}
-use Rattle.clap.specs.Words.{Accepts, App, ReadsOne, Row, Rule, Text, built, one_of, read_as, reading_of}
+use Rattle.clap.specs.Words.{Accepts, App, ReadsOne, Row, Rule, Text, built, is_simple_and_free, new_rule, one_of, read_as, reading_of}
 use Rattle.clap.specs.Facts.{parser_of_value}
 use Rattle.clap.specs.Values.{IsSignedIn}
 use Rattle.clap.specs.Walk.{row_text}
@@ -20,8 +20,12 @@ use Rattle.clap.specs.declared.builder.value_parser.ValueParser.{ValueParser}
 use Rattle.clap.specs.declared.builder.value_parser.ValueParser.TheVariants.{Signed, Unsigned}
 use Rattle.command_words.specs.declared.command.TheConstants.{ABSENCE_LIMIT}
 use Rattle.wf_names.specs.declared.limits.TheConstants.{LANE_LIMIT, ROUND_LIMIT}
-use Rattle.command_words.specs.Words.{audit_form, resilience_form, resume_form, serve_form, trial_form}
-use Rattle.command_words.specs.Finding.{HasOptions, PassesIn, RowPasses, TakesValue, WritesWithin}
+use Rattle.command_words.specs.declared.arguments.Word.{Word}
+use Rattle.command_words.specs.declared.arguments.Word.TheVariants.{Absences, Flow, Lanes, Model, Policy, Requests, Rounds, Seed, Transcript}
+use Rattle.command_words.specs.declared.forms.Form.{Form}
+use Rattle.command_words.specs.declared.forms.Form.TheVariants.{Audit, Cnf, Plan, Resilience, Resume, Serve, Show, Solve, Trial}
+use Rattle.command_words.specs.Forms.{form_of, rule_for}
+use Rattle.command_words.specs.Finding.{HasNumbers, PassesIn, RowPasses, TakesValue, WritesWithin}
 
 -- ---- reading a text that writes a number
 
@@ -183,49 +187,61 @@ rules_of P a rows p before after = elim p.are [
 other : {X : Type 0} → false ≡ true → X
 other e = absurd (true≢false (sym e))
 
-abbrev lanes_parser : ValueParser
-lanes_parser = Signed (pos 1) (pos LANE_LIMIT)
+-- each argument with the name of a number has the parser of that number
+abbrev HasNumber : Rule → Type 0
+HasNumber r = HasParser (codes "lanes") (Signed (pos 1) (pos LANE_LIMIT)) r
+    × HasParser (codes "rounds") (Signed (pos 0) (pos ROUND_LIMIT)) r
+    × HasParser (codes "T") (Signed (pos 0) (pos ABSENCE_LIMIT)) r
+    × HasParser (codes "SEED") (Unsigned 0 (2 ^ 64 - 1)) r
 
-abbrev rounds_parser : ValueParser
-rounds_parser = Signed (pos 0) (pos ROUND_LIMIT)
+numbers_of : (a : App) → Each HasNumber a.top.rules → Each HasNumber (built a).top.rules → (rows : List Row) → PassesIn a rows → HasNumbers rows
+numbers_of a before after rows p =
+    let all = rules_of HasNumber a rows p before after in
+    record {
+      lanes = signed_within p.rules (codes "lanes") 1 LANE_LIMIT rows (λ e. cc) (All-weaker HasNumber _ (λ r h. h.0) p.rules all) p.pass;
+      rounds = signed_within p.rules (codes "rounds") 0 ROUND_LIMIT rows (λ e. cc) (All-weaker HasNumber _ (λ r h. h.1) p.rules all) p.pass;
+      absences = signed_within p.rules (codes "T") 0 ABSENCE_LIMIT rows (λ e. cc) (All-weaker HasNumber _ (λ r h. h.2) p.rules all) p.pass;
+      seed = unsigned_within p.rules (codes "SEED") 0 (2 ^ 64 - 1) rows (λ e. cc) (All-weaker HasNumber _ (λ r h. h.3) p.rules all) p.pass;
+    }
 
-pub serve_options : (rows : List Row) → PassesIn serve_form rows → HasOptions rows
-serve_options rows p = record {
-  lanes = signed_within p.rules (codes "lanes") 1 LANE_LIMIT rows (λ e. cc)
-      (rules_of (HasParser (codes "lanes") lanes_parser) serve_form rows p (other, (λ e. refl, (other, tt))) (other, (λ e. refl, (other, (other, tt))))) p.pass;
-  rounds = signed_within p.rules (codes "rounds") 0 ROUND_LIMIT rows (λ e. cc)
-      (rules_of (HasParser (codes "rounds") rounds_parser) serve_form rows p (other, (other, (λ e. refl, tt))) (other, (other, (λ e. refl, (other, tt)))))
-      p.pass;
-}
+has_number : (w : Word) → HasNumber (rule_for w)
+has_number Policy = (other, other, other, other)
+has_number Flow = (other, other, other, other)
+has_number Requests = (other, other, other, other)
+has_number Transcript = (other, other, other, other)
+has_number Model = (other, other, other, other)
+has_number Absences = (other, other, λ e. refl, other)
+has_number Seed = (other, other, other, λ e. refl)
+has_number Lanes = (λ e. refl, other, other, other)
+has_number Rounds = (other, λ e. refl, other, other)
 
-pub audit_options : (rows : List Row) → PassesIn audit_form rows → HasOptions rows
-audit_options rows p = record {
-  lanes = signed_within p.rules (codes "lanes") 1 LANE_LIMIT rows (λ e. cc)
-      (rules_of (HasParser (codes "lanes") lanes_parser) audit_form rows p (other, (other, (λ e. refl, (other, tt))))
-      (other, (other, (λ e. refl, (other, (other, tt)))))) p.pass;
-  rounds = signed_within p.rules (codes "rounds") 0 ROUND_LIMIT rows (λ e. cc)
-      (rules_of (HasParser (codes "rounds") rounds_parser) audit_form rows p (other, (other, (other, (λ e. refl, tt))))
-      (other, (other, (other, (λ e. refl, (other, tt)))))) p.pass;
-}
+have_numbers : (ws : List Word) → Each HasNumber (map rule_for ws)
+have_numbers [] = tt
+have_numbers (w ∷ ws) = (has_number w, have_numbers ws)
 
-pub resume_options : (rows : List Row) → PassesIn resume_form rows → HasOptions rows
-resume_options rows p = record {
-  lanes = signed_within p.rules (codes "lanes") 1 LANE_LIMIT rows (λ e. cc)
-      (rules_of (HasParser (codes "lanes") lanes_parser) resume_form rows p
-      (other, (other, (other, (λ e. refl, (other, tt))))) (other, (other, (other, (λ e. refl, (other, (other, tt))))))) p.pass;
-  rounds = signed_within p.rules (codes "rounds") 0 ROUND_LIMIT rows (λ e. cc)
-      (rules_of (HasParser (codes "rounds") rounds_parser) resume_form rows p
-      (other, (other, (other, (other, (λ e. refl, tt))))) (other, (other, (other, (other, (λ e. refl, (other, tt))))))) p.pass;
-}
+-- a command that is built has an option for help too
+with_help : (ws : List Word) → Each HasNumber (map rule_for ws ++ new_rule (codes "help") ∷ [])
+with_help [] = ((other, other, other, other), tt)
+with_help (w ∷ ws) = (has_number w, with_help ws)
 
-pub trial_seed : (rows : List Row) → PassesIn trial_form rows → WritesWithin 0 (2 ^ 64 - 1) (codes "SEED") rows
-trial_seed rows p = unsigned_within p.rules (codes "SEED") 0 (2 ^ 64 - 1) rows (λ e. cc)
-    (rules_of (HasParser (codes "SEED") (Unsigned 0 (2 ^ 64 - 1))) trial_form rows p (λ e. refl, tt) (λ e. refl, (other, tt))) p.pass
+pub form_numbers : (form : Form) (rows : List Row) → PassesIn (form_of form) rows → HasNumbers rows
+form_numbers Plan = let ws = Policy ∷ Flow ∷ [] in numbers_of _ (have_numbers ws) (with_help ws)
+form_numbers Show = let ws = Policy ∷ [] in numbers_of _ (have_numbers ws) (with_help ws)
+form_numbers Solve = let ws = Policy ∷ [] in numbers_of _ (have_numbers ws) (with_help ws)
+form_numbers Resilience = let ws = Policy ∷ Flow ∷ Absences ∷ [] in numbers_of _ (have_numbers ws) (with_help ws)
+form_numbers Cnf = let ws = Policy ∷ Flow ∷ Model ∷ [] in numbers_of _ (have_numbers ws) (with_help ws)
+form_numbers Serve = let ws = Policy ∷ Lanes ∷ Rounds ∷ [] in numbers_of _ (have_numbers ws) (with_help ws)
+form_numbers Audit = let ws = Policy ∷ Requests ∷ Lanes ∷ Rounds ∷ [] in numbers_of _ (have_numbers ws) (with_help ws)
+form_numbers Resume = let ws = Policy ∷ Requests ∷ Transcript ∷ Lanes ∷ Rounds ∷ [] in numbers_of _ (have_numbers ws) (with_help ws)
+form_numbers Trial = let ws = Seed ∷ [] in numbers_of _ (have_numbers ws) (with_help ws)
 
-abbrev absences_parser : ValueParser
-absences_parser = Signed (pos 0) (pos ABSENCE_LIMIT)
-
-pub resilience_absences : (rows : List Row) → PassesIn resilience_form rows → WritesWithin 0 ABSENCE_LIMIT (codes "T") rows
-resilience_absences rows p = signed_within p.rules (codes "T") 0 ABSENCE_LIMIT rows (λ e. cc)
-    (rules_of (HasParser (codes "T") absences_parser) resilience_form rows p (other, (other, (λ e. refl, tt))) (other, (other, (λ e. refl, (other, tt)))))
-    p.pass
+pub form_free : (form : Form) → is_simple_and_free (form_of form) ≡ true
+form_free Plan = refl
+form_free Show = refl
+form_free Solve = refl
+form_free Resilience = refl
+form_free Cnf = refl
+form_free Serve = refl
+form_free Audit = refl
+form_free Resume = refl
+form_free Trial = refl

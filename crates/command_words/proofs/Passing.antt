@@ -1,14 +1,14 @@
 -- What a parse that succeeds finds, by the definitions.
-use Rattle.std.proofs.Common.{◌≡◌, ◌⊎◌, ◌∙◌, ◌<◌, Bool, true, false, refl, sym, ap, arith, inl, inr, length, List, [], ◌∷◌, map, Some, None, true≢false}
+use Rattle.std.proofs.Common.{◌≡◌, ◌⊎◌, ◌∙◌, ◌<◌, Bool, true, false, refl, sym, ap, arith, inl, inr, length, subst, drop, fold, get_or, ◌+◌, ℕ, List, Option, [], ◌∷◌, map, Some, None, true≢false}
 use Rattle.std.specs.List.{All, Any}
 use Rattle.std.specs.Borrow.{Bor}
-use Rattle.std.specs.Prelude.{if◌then◌else◌}
+use Rattle.std.specs.Prelude.{if◌then◌else◌, option_and_then}
 use Rattle.std.proofs.lemmas.Bool.{ne_eqb, not-true}
-use Rattle.std.proofs.lemmas.List.{get_or-map, length-map}
+use Rattle.std.proofs.lemmas.List.{drop_more, get_or-map, length-map}
 use Rattle.std.proofs.lemmas.List.Elements.{All-map, All-weaker}
-use Rattle.clap.specs.Words.{App, IsParsed, Rule, Text, app_of, args_of, built, fault_of, found_of, groups_of, has_subcommand, is_simple, is_simple_and_free}
+use Rattle.clap.specs.Words.{App, IsParsed, Row, Rule, Text, app_of, args_of, built, fault_of, found_of, groups_of, has_subcommand, is_simple, is_simple_and_free}
 use Rattle.clap.specs.Words.{matches_of, rows_of, rule_of}
-use Rattle.clap.specs.Words.{BuildsOrBreaks, HasKind, HasMatchesOf, IsAmong, Kinds, is_broken, kind_of}
+use Rattle.clap.specs.Words.{with_rule, BuildsOrBreaks, HasKind, HasMatchesOf, IsAmong, Kinds, is_broken, kind_of}
 use Rattle.clap.specs.Facts.{Entry, EntryPasses, PassesArg, ValuesPass}
 use Rattle.clap.specs.Walk.{is_empty, row_of, rules_of, texts}
 use Rattle.clap.specs.Simple.{is_buildable}
@@ -18,10 +18,13 @@ use Rattle.clap.specs.declared.builder.command.Command.TheViews.{out-Command as 
 use Rattle.clap.specs.declared.error.Error.{Error}
 use Rattle.clap.specs.declared.error.kind.ErrorKind.TheVariants.{OutOfMemory}
 use Rattle.clap.specs.declared.parser.matches.ArgMatches.{ArgMatches}
-use Rattle.clap.specs.declared.parser.matches.Found.{Found}
+use Rattle.clap.specs.declared.parser.matches.Found.{Found as Entries}
 use Rattle.clap.proofs.WalkLemmas.{both}
-use Rattle.command_words.specs.Words.{found}
-use Rattle.command_words.specs.Finding.{PassesIn, RowPasses, TakesValue, rows_in}
+use Rattle.command_words.specs.declared.finding.Found.{Found}
+use Rattle.command_words.specs.declared.arguments.Word.{Word}
+use Rattle.command_words.specs.Forms.{rule_for}
+use Rattle.command_words.specs.Words.{Command as Asked, found}
+use Rattle.command_words.specs.Finding.{AreIn, Finds, PassesIn, RowPasses, TakesValue, rows_in}
 
 not_empty : {X : Type 0} (x : X) (xs : List X) → is_empty (x ∷ xs) ≡ false
 not_empty x xs = ne_eqb _ _ (λ e. let lots : length (x ∷ xs) ≡ 0 = e in omega arith)
@@ -65,7 +68,7 @@ row_passes c no_groups e pass = go e.1.is_group refl
       ]
     ]
 
-rows_pass : (c : Command) (f : Found) → groups_of c ≡ [] → ValuesPass c f → All (RowPasses (rules_of c)) (rows_of f)
+rows_pass : (c : Command) (f : Entries) → groups_of c ≡ [] → ValuesPass c f → All (RowPasses (rules_of c)) (rows_of f)
 rows_pass c f no_groups pass = All-map (RowPasses (rules_of c)) row_of f.entries.items
     (All-weaker (EntryPasses c) (λ e. RowPasses (rules_of c) (row_of e)) (row_passes c no_groups) f.entries.items pass)
 
@@ -129,7 +132,7 @@ passes old new m free parsed whole after = elim after [
 
 -- ---- what is found
 
-pub is_found : (a : App) (words : List Text) (m : ArgMatches) → is_simple_and_free a ≡ true → HasMatchesOf a words m
+is_found : (a : App) (words : List Text) (m : ArgMatches) → is_simple_and_free a ≡ true → HasMatchesOf a words m
     → fault_of a words ≡ [] → Some (rows_in m) ≡ found a words
 unfolding found
 is_found a words m free matches none =
@@ -140,10 +143,32 @@ among : (k : Kinds) (e : Error) → IsAmong (kind_of e) k → is_empty k ≡ fal
 among [] e h = absurd h
 among (x ∷ xs) e h = not_empty x xs
 
-pub none_found : (a : App) (words : List Text) (e : Error) → HasKind (fault_of a words) e → (kind_of e ≡ OutOfMemory → ⊥)
+none_found : (a : App) (words : List Text) (e : Error) → HasKind (fault_of a words) e → (kind_of e ≡ OutOfMemory → ⊥)
     → None ≡ found a words
 unfolding found
 none_found a words e has other = elim has [
   | inl out ↦ absurd (other out)
   | inr is ↦ sym (ap (λ (b : Bool). if b then Some (matches_of a words) else None) (among (fault_of a words) e is))
 ]
+
+pub finds : (a b : App) (words : List Text) (m : ArgMatches) (f : Found) → a ≡ b → is_simple_and_free a ≡ true → HasMatchesOf a words m
+    → fault_of a words ≡ [] → AreIn (rows_in m) f → Finds (found b words) (Some f)
+finds a b words m f same free matches none are =
+    subst (λ (x : App). Finds (found x words) (Some f)) same
+    (subst (λ (o : Option (List Row)). Finds o (Some f)) (is_found a words m free matches none) are)
+
+pub finds_none : (a b : App) (words : List Text) (e : Error) → a ≡ b → HasKind (fault_of a words) e → (kind_of e ≡ OutOfMemory → ⊥)
+    → Finds (found b words) None
+finds_none a b words e same has other =
+    subst (λ (x : App). Finds (found x words) None) same
+    (subst (λ (o : Option (List Row)). Finds o None) (none_found a words e has other) tt)
+
+pub command_found : (o : Option (List Row)) (f : Found) (g : List Row → Option Asked) (c : Option Asked) → Finds o (Some f)
+    → ((rows : List Row) → AreIn rows f → c ≡ g rows) → c ≡ option_and_then g o
+command_found (Some rows) f g c is same = same rows is
+command_found None f g c is same = absurd is
+
+pub one_more : (a b end : App) (r : Rule) (ws : List Word) (i : ℕ) (w : Word) → i < length ws → b ≡ with_rule a r → r ≡ rule_for (get_or ws i w)
+    → fold with_rule a (map rule_for (drop i ws)) ≡ end → fold with_rule b (map rule_for (drop (i + 1) ws)) ≡ end
+one_more a b end r ws i w lt adds is done =
+    rw (adds, is) (ap (λ (l : List Word). fold with_rule a (map rule_for l)) (sym (drop_more ws i w lt)) ∙ done)

@@ -1,13 +1,18 @@
 -- Inside: what is known of the values that a parse finds.
-use Rattle.std.specs.Prelude.{◌≡◌, ◌⊎◌, ◌≤◌, true, ℕ, List, [], Some, codes}
+use Rattle.std.specs.Prelude.{◌≡◌, ◌⊎◌, ◌≤◌, ◌-◌, ◌^◌, true, ℕ, List, [], Option, None, Some}
+use Rattle.std.specs.Prelude.{IfSome, codes, option_map}
 use Rattle.std.specs.List.{All, Any}
 use Rattle.std.specs.Str.{bytes_eq}
 use Rattle.std.specs.Str.Parse.{IsNumeral, digits_value, without_leading_plus}
-use Rattle.clap.specs.Words.{Accepts, App, Row, Rule, Text, built, found_of, one_of, reading_of}
-use Rattle.clap.specs.Words.{rows_of}
+use Rattle.clap.specs.Words.{Accepts, App, Row, Rule, Text, built, first_of, found_of, one_of}
+use Rattle.clap.specs.Words.{reading_of, rows_of}
 use Rattle.clap.specs.Facts.{parser_of_value}
 use Rattle.clap.specs.declared.parser.matches.ArgMatches.{ArgMatches}
+use Rattle.command_words.specs.declared.command.TheConstants.{ABSENCE_LIMIT}
+use Rattle.command_words.specs.declared.finding.Found.{Found}
 use Rattle.wf_names.specs.declared.limits.TheConstants.{LANE_LIMIT, ROUND_LIMIT}
+use Rattle.command_words.specs.Words.{AreOptions, number_in, options_of, policy_in}
+use Rattle.command_words.specs.Asked.{options_in}
 
 -- what was found
 abbrev pub rows_in : ArgMatches → List Row
@@ -38,7 +43,27 @@ WritesWithin least most name rows = (text : Text) → one_of name rows ≡ Some 
     × (least ≤ digits_value 10 (without_leading_plus text))
     × (digits_value 10 (without_leading_plus text) ≤ most)
 
--- both options are numbers within their limits
-pub record HasOptions (rows : List Row) : Type 0 where
+-- the numbers of the commands are within their limits
+pub record HasNumbers (rows : List Row) : Type 0 where
   pub lanes : WritesWithin 1 LANE_LIMIT (codes "lanes") rows
   pub rounds : WritesWithin 0 ROUND_LIMIT (codes "rounds") rows
+  pub absences : WritesWithin 0 ABSENCE_LIMIT (codes "T") rows
+  pub seed : WritesWithin 0 (2 ^ 64 - 1) (codes "SEED") rows
+
+-- these are the words and numbers that were found
+pub record AreIn (rows : List Row) (f : Found) : Type 0 where
+  pub policy : option_map (λ s. s.now) f.policy ≡ policy_in rows
+  pub flow : option_map (λ s. s.now) f.flow ≡ first_of (codes "FLOW") rows
+  pub requests : option_map (λ s. s.now) f.requests ≡ first_of (codes "REQUESTS") rows
+  pub transcript : option_map (λ s. s.now) f.transcript ≡ first_of (codes "TRANSCRIPT") rows
+  pub model : option_map (λ s. s.now) f.model ≡ first_of (codes "MODEL") rows
+  pub absences : f.absences ≡ number_in (codes "T") rows
+  pub seed : f.seed ≡ number_in (codes "SEED") rows
+  pub options : option_map options_in f.options ≡ options_of rows
+  pub within : IfSome f.options (λ o. AreOptions (options_in o))
+
+-- there are words and numbers where something was found, and then they are those
+abbrev pub Finds : Option (List Row) → Option Found → Type 0
+Finds None None = Unit {0}
+Finds (Some rows) (Some f) = AreIn rows f
+Finds rows f = ⊥

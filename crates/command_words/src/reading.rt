@@ -1,9 +1,14 @@
-//! Reading the words of the command line: each command by a file of its own.
-ghost use Rattle.std.specs.Prelude.{◌≡◌, IfOk, IfSome, map, option_map, string_bytes};
-ghost use Rattle.command_words.specs.Words.{command_at, command_of};
+//! Reading the words of the command line.
+ghost use Rattle.std.specs.Prelude.{◌≡◌, IfOk, IfSome, List, map, option_map, string_bytes};
+ghost use Rattle.clap.specs.Words.{Row};
+ghost use Rattle.command_words.specs.Words.{command_by, command_of};
 ghost use Rattle.command_words.specs.Asked.{CanServe, asked};
+ghost use Rattle.command_words.specs.Forms.{command_in, form_of};
+ghost use Rattle.command_words.specs.Finding.{AreIn};
 
-use crate::{Command, audit, cnf, plan, resilience, resume, serve, show, solve, trial};
+use crate::Command;
+use crate::finding::{Found, find};
+use crate::forms::Form;
 use std::alloc::{AllocError, Global};
 
 /// The command that the words are, where they are one; they are those behind the program's name.
@@ -15,31 +20,73 @@ pub fn read_words<'a>(alloc: Global, words: &'a [String]) -> Result<Option<Comma
     ensures served { IfOk result (λ c. IfSome c CanServe) }
 {
     match words {
-        [word, ..] => read_command(alloc, word.as_str(), words),
+        [name, ..] => match Form::named(name.as_str()) {
+            Some(form) => read(alloc, form, words),
+            None => Ok(None),
+        },
         [] => Ok(None),
     }
 }
 
-// The command of this first word, at all the words.
-fn read_command<'a>(
+// The command of this form that the words are, if they are one.
+fn read<'a>(
     alloc: Global,
-    word: &str,
+    form: Form,
     words: &'a [String],
 ) -> Result<Option<Command<'a>>, AllocError>
-    ensures command { IfOk result (λ c.
-        option_map asked c ≡ command_at word.now (map string_bytes words.now)) }
+    ensures command { IfOk result (λ c. option_map asked c
+        ≡ command_by (form_of form) (command_in form) (map string_bytes words.now)) }
     ensures served { IfOk result (λ c. IfSome c CanServe) }
 {
-    match word {
-        "plan" => plan::read(alloc, words),
-        "show" => show::read(alloc, words),
-        "solve" => solve::read(alloc, words),
-        "resilience" => resilience::read(alloc, words),
-        "cnf" => cnf::read(alloc, words),
-        "serve" => serve::read(alloc, words),
-        "audit" => audit::read(alloc, words),
-        "resume" => resume::read(alloc, words),
-        "trial" => trial::read(alloc, words),
-        _ => Ok(None),
+    match find(alloc, form, words)? {
+        Some(found) => Ok(command_in(form, found)),
+        None => Ok(None),
     }
+}
+
+// The command of this form, by what was found.
+fn command_in<'a>(form: Form, found: Found<'a>) -> Option<Command<'a>>
+    ensures command { (rows : List Row) → AreIn rows found.entry
+        → option_map asked result ≡ command_in form rows }
+    ensures served { (rows : List Row) → AreIn rows found.entry → IfSome result CanServe }
+{
+    let command = match form {
+        Form::Plan => Command::Plan {
+            policy: found.policy?,
+            flow: found.flow?,
+        },
+        Form::Show => Command::Show {
+            policy: found.policy?,
+        },
+        Form::Solve => Command::Solve {
+            policy: found.policy?,
+        },
+        Form::Resilience => Command::Resilience {
+            policy: found.policy?,
+            flow: found.flow?,
+            absences: found.absences?,
+        },
+        Form::Cnf => Command::Cnf {
+            policy: found.policy?,
+            flow: found.flow?,
+            model: found.model,
+        },
+        Form::Serve => Command::Serve {
+            policy: found.policy?,
+            options: found.options?,
+        },
+        Form::Audit => Command::Audit {
+            policy: found.policy?,
+            requests: found.requests?,
+            options: found.options?,
+        },
+        Form::Resume => Command::Resume {
+            policy: found.policy?,
+            requests: found.requests?,
+            transcript: found.transcript?,
+            options: found.options?,
+        },
+        Form::Trial => Command::Trial { seed: found.seed? },
+    };
+    Some(command)
 }
