@@ -1,5 +1,5 @@
 -- The numbers that are found.
-use Rattle.std.proofs.Common.{◌≡◌, ◌∙◌, ◌<◌, ◌≤◌, ◌-◌, ◌^◌, ◌==◌, ℕ, Bool, true, false, cond, drop, refl, sym, ap, subst, arith, inl, inr, rules, List, [], ◌∷◌, ◌++◌, map}
+use Rattle.std.proofs.Common.{◌≡◌, ◌∙◌, ◌<◌, ◌≤◌, ◌-◌, ◌^◌, ◌==◌, ℕ, Bool, true, false, cond, drop, refl, sym, ap, subst, arith, inl, inr, rules, List, [], ◌∷◌, map}
 use Rattle.std.proofs.Common.{Option, Some, None, Result, Ok, Err, true≢false}
 use Rattle.std.specs.Prelude.{IfSome, codes, slice_get, ⊤, find, option_and_then, option_map, pos, unwrap_or}
 use Rattle.std.specs.List.{All, Any}
@@ -11,7 +11,7 @@ use Rattle.std.proofs.lemmas.List.Elements.{All-cons, All-drop, All-get_or, All-
 use Rattle.std.proofs.lemmas.Slice.Eq.{bytes_eq-Decides}
 use Rattle.std.proofs.lemmas.Str.Parse.{digit_from_value}
 use Rattle.clap.specs.Lexer.{without_minus}
-use Rattle.clap.specs.Words.{Accepts, App, ReadsOne, Row, Rule, Text, built, is_simple_and_free, new_rule, one_of, read_as, reading_of}
+use Rattle.clap.specs.Words.{Accepts, App, ReadsOne, Row, Rule, Text, is_simple_and_free, one_of, read_as, reading_of}
 use Rattle.clap.specs.Facts.{parser_of_value}
 use Rattle.clap.specs.Values.{IsSignedIn}
 use Rattle.clap.specs.Walk.{row_text}
@@ -25,7 +25,7 @@ use Rattle.command_words.specs.declared.arguments.Word.TheVariants.{Absences, Fl
 use Rattle.command_words.specs.declared.forms.Form.{Form}
 use Rattle.command_words.specs.declared.forms.Form.TheVariants.{Audit, Cnf, Plan, Resilience, Resume, Serve, Show, Solve, Trial}
 use Rattle.command_words.specs.Forms.{form_of, rule_for}
-use Rattle.command_words.specs.Finding.{HasNumbers, PassesIn, RowPasses, TakesValue, WritesWithin}
+use Rattle.command_words.specs.Finding.{HasNumbers, IsBuiltOf, PassesIn, RowPasses, TakesValue, WritesWithin}
 
 -- ---- reading a text that writes a number
 
@@ -178,31 +178,46 @@ all_of : (P : Rule → Type 0) (rs : List Rule) → Each P rs → All P rs
 all_of P [] h = All-nil P
 all_of P (r ∷ rs) h = All-cons P r rs h.0 (all_of P rs h.1)
 
-rules_of : (P : Rule → Type 0) (a : App) (rows : List Row) (p : PassesIn a rows) → Each P a.top.rules → Each P (built a).top.rules → All P p.rules
-rules_of P a rows p before after = elim p.are [
-  | inl same ↦ subst (All P) (sym same) (all_of P a.top.rules before)
-  | inr same ↦ subst (All P) (sym same) (all_of P (built a).top.rules after)
-]
-
 other : {X : Type 0} → false ≡ true → X
 other e = absurd (true≢false (sym e))
 
--- each argument with the name of a number has the parser of that number
-abbrev HasNumber : Rule → Type 0
-HasNumber r = HasParser (codes "lanes") (Signed (pos 1) (pos LANE_LIMIT)) r
-    × HasParser (codes "rounds") (Signed (pos 0) (pos ROUND_LIMIT)) r
-    × HasParser (codes "T") (Signed (pos 0) (pos ABSENCE_LIMIT)) r
-    × HasParser (codes "SEED") (Unsigned 0 (2 ^ 64 - 1)) r
+-- each argument with this name is given this parser
+abbrev AsksFor : Text → ValueParser → Rule → Type 0
+AsksFor name q r = bytes_eq r.id name ≡ true → r.parser ≡ Some q
 
-numbers_of : (a : App) → Each HasNumber a.top.rules → Each HasNumber (built a).top.rules → (rows : List Row) → PassesIn a rows → HasNumbers rows
-numbers_of a before after rows p =
-    let all = rules_of HasNumber a rows p before after in
-    record {
-      lanes = signed_within p.rules (codes "lanes") 1 LANE_LIMIT rows (λ e. cc) (All-weaker HasNumber _ (λ r h. h.0) p.rules all) p.pass;
-      rounds = signed_within p.rules (codes "rounds") 0 ROUND_LIMIT rows (λ e. cc) (All-weaker HasNumber _ (λ r h. h.1) p.rules all) p.pass;
-      absences = signed_within p.rules (codes "T") 0 ABSENCE_LIMIT rows (λ e. cc) (All-weaker HasNumber _ (λ r h. h.2) p.rules all) p.pass;
-      seed = unsigned_within p.rules (codes "SEED") 0 (2 ^ 64 - 1) rows (λ e. cc) (All-weaker HasNumber _ (λ r h. h.3) p.rules all) p.pass;
-    }
+-- each argument with the name of a number is given the parser of that number
+abbrev HasNumber : Rule → Type 0
+HasNumber r = AsksFor (codes "lanes") (Signed (pos 1) (pos LANE_LIMIT)) r
+    × AsksFor (codes "rounds") (Signed (pos 0) (pos ROUND_LIMIT)) r
+    × AsksFor (codes "T") (Signed (pos 0) (pos ABSENCE_LIMIT)) r
+    × AsksFor (codes "SEED") (Unsigned 0 (2 ^ 64 - 1)) r
+
+built_parser : (name : Text) (q : ValueParser) (rules : List Rule) → bytes_eq name (codes "help") ≡ false → bytes_eq name (codes "version") ≡ false
+    → ((r : Rule) → HasNumber r → AsksFor name q r) → Each HasNumber rules → (r : Rule) → IsBuiltOf rules r → HasParser name q r
+built_parser name q rules help version asks each r is t =
+    let id : r.id ≡ name = (bytes_eq-Decides r.id name).0 t in
+    elim is [
+      | inl flag ↦ elim flag [
+        | inl h ↦ other (sym help ∙ ap (λ (n : Text). bytes_eq n (codes "help")) (sym id ∙ h))
+        | inr v ↦ other (sym version ∙ ap (λ (n : Text). bytes_eq n (codes "version")) (sym id ∙ v))
+      ]
+      | inr any ↦
+          let old = any.1 in
+          let has = asks old (subst HasNumber any.3 (All-get_or HasNumber rules any.0 old any.2 (all_of HasNumber rules each))) in
+          ap parser_of_value (any.4.parser q (has (rw (← any.4.id) t)))
+    ]
+
+numbers_of : (a : App) → Each HasNumber a.top.rules → (rows : List Row) → PassesIn a rows → HasNumbers rows
+numbers_of a each rows p = record {
+  lanes = signed_within p.rules (codes "lanes") 1 LANE_LIMIT rows (λ e. cc) (All-weaker _ _
+      (built_parser (codes "lanes") _ a.top.rules refl refl (λ r h. h.0) each) p.rules p.are) p.pass;
+  rounds = signed_within p.rules (codes "rounds") 0 ROUND_LIMIT rows (λ e. cc) (All-weaker _ _
+      (built_parser (codes "rounds") _ a.top.rules refl refl (λ r h. h.1) each) p.rules p.are) p.pass;
+  absences = signed_within p.rules (codes "T") 0 ABSENCE_LIMIT rows (λ e. cc) (All-weaker _ _
+      (built_parser (codes "T") _ a.top.rules refl refl (λ r h. h.2) each) p.rules p.are) p.pass;
+  seed = unsigned_within p.rules (codes "SEED") 0 (2 ^ 64 - 1) rows (λ e. cc) (All-weaker _ _
+      (built_parser (codes "SEED") _ a.top.rules refl refl (λ r h. h.3) each) p.rules p.are) p.pass;
+}
 
 has_number : (w : Word) → HasNumber (rule_for w)
 has_number Policy = (other, other, other, other)
@@ -219,21 +234,16 @@ have_numbers : (ws : List Word) → Each HasNumber (map rule_for ws)
 have_numbers [] = tt
 have_numbers (w ∷ ws) = (has_number w, have_numbers ws)
 
--- a command that is built has an option for help too
-with_help : (ws : List Word) → Each HasNumber (map rule_for ws ++ new_rule (codes "help") ∷ [])
-with_help [] = ((other, other, other, other), tt)
-with_help (w ∷ ws) = (has_number w, with_help ws)
-
 pub form_numbers : (form : Form) (rows : List Row) → PassesIn (form_of form) rows → HasNumbers rows
-form_numbers Plan = let ws = Policy ∷ Flow ∷ [] in numbers_of _ (have_numbers ws) (with_help ws)
-form_numbers Show = let ws = Policy ∷ [] in numbers_of _ (have_numbers ws) (with_help ws)
-form_numbers Solve = let ws = Policy ∷ [] in numbers_of _ (have_numbers ws) (with_help ws)
-form_numbers Resilience = let ws = Policy ∷ Flow ∷ Absences ∷ [] in numbers_of _ (have_numbers ws) (with_help ws)
-form_numbers Cnf = let ws = Policy ∷ Flow ∷ Model ∷ [] in numbers_of _ (have_numbers ws) (with_help ws)
-form_numbers Serve = let ws = Policy ∷ Lanes ∷ Rounds ∷ [] in numbers_of _ (have_numbers ws) (with_help ws)
-form_numbers Audit = let ws = Policy ∷ Requests ∷ Lanes ∷ Rounds ∷ [] in numbers_of _ (have_numbers ws) (with_help ws)
-form_numbers Resume = let ws = Policy ∷ Requests ∷ Transcript ∷ Lanes ∷ Rounds ∷ [] in numbers_of _ (have_numbers ws) (with_help ws)
-form_numbers Trial = let ws = Seed ∷ [] in numbers_of _ (have_numbers ws) (with_help ws)
+form_numbers Plan = numbers_of _ (have_numbers (Policy ∷ Flow ∷ []))
+form_numbers Show = numbers_of _ (have_numbers (Policy ∷ []))
+form_numbers Solve = numbers_of _ (have_numbers (Policy ∷ []))
+form_numbers Resilience = numbers_of _ (have_numbers (Policy ∷ Flow ∷ Absences ∷ []))
+form_numbers Cnf = numbers_of _ (have_numbers (Policy ∷ Flow ∷ Model ∷ []))
+form_numbers Serve = numbers_of _ (have_numbers (Policy ∷ Lanes ∷ Rounds ∷ []))
+form_numbers Audit = numbers_of _ (have_numbers (Policy ∷ Requests ∷ Lanes ∷ Rounds ∷ []))
+form_numbers Resume = numbers_of _ (have_numbers (Policy ∷ Requests ∷ Transcript ∷ Lanes ∷ Rounds ∷ []))
+form_numbers Trial = numbers_of _ (have_numbers (Seed ∷ []))
 
 pub form_free : (form : Form) → is_simple_and_free (form_of form) ≡ true
 form_free Plan = refl

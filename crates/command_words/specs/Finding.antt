@@ -4,9 +4,10 @@ use Rattle.std.specs.Prelude.{IfSome, codes, option_map}
 use Rattle.std.specs.List.{All, Any}
 use Rattle.std.specs.Str.{bytes_eq}
 use Rattle.std.specs.Str.Parse.{IsNumeral, digits_value, without_leading_plus}
-use Rattle.clap.specs.Words.{Accepts, App, Row, Rule, Text, built, first_of, found_of, one_of}
+use Rattle.clap.specs.Words.{Accepts, App, Row, Rule, Text, first_of, found_of, one_of}
 use Rattle.clap.specs.Words.{reading_of, rows_of}
 use Rattle.clap.specs.Facts.{parser_of_value}
+use Rattle.clap.specs.declared.builder.value_parser.ValueParser.{ValueParser}
 use Rattle.clap.specs.declared.parser.matches.ArgMatches.{ArgMatches}
 use Rattle.command_words.specs.declared.command.TheConstants.{ABSENCE_LIMIT}
 use Rattle.command_words.specs.declared.finding.Found.{Found}
@@ -29,10 +30,20 @@ RowPasses rules row = (row.id ≡ []) ⊎ (All (λ value. Any (TakesValue row.id
     × Any (λ r. (bytes_eq r.id row.id ≡ true)
     × (reading_of (parser_of_value r.parser) ≡ row.reading)) rules)
 
--- the values that were found passed the arguments of a command, as it was or as it was built
+-- an argument, and the same once its command is built: it keeps its name, and a parser that it has
+pub record KeepsRule (old new : Rule) : Type 0 where
+  pub id : new.id ≡ old.id
+  pub parser : (p : ValueParser) → old.parser ≡ Some p → new.parser ≡ Some p
+
+-- an argument of a command that is built: one of its own, or a flag that each command has
+abbrev pub IsBuiltOf : List Rule → Rule → Type 0
+IsBuiltOf rules r = ((r.id ≡ codes "help") ⊎ (r.id ≡ codes "version"))
+    ⊎ Any (λ old. KeepsRule old r) rules
+
+-- the values that were found passed the arguments of a command, as it was built
 pub record PassesIn (app : App) (rows : List Row) : Type 0 where
   pub rules : List Rule
-  pub are : (rules ≡ app.top.rules) ⊎ (rules ≡ (built app).top.rules)
+  pub are : All (IsBuiltOf app.top.rules) rules
   pub pass : All (RowPasses rules) rows
 
 -- the text that is read under a name, where there is one, writes a number from the least to the

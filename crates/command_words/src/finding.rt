@@ -35,9 +35,8 @@ pub(crate) fn find<'a>(
 ) -> Result<Option<Found<'a>>, AllocError>
     ensures { IfOk result (Finds (found (form_of form) (map string_bytes words.now))) }
 {
-    let mut command = form.command(alloc)?;
-    match command.try_get_matches_from_mut(words) {
-        Ok(matches) => Ok(Some(found_in(&matches))),
+    match form.command(alloc)?.try_get_matches_from(words) {
+        Ok(matches) => Ok(Some(found_in(matches))),
         Err(error) => match error.kind() {
             ErrorKind::OutOfMemory => Err(AllocError),
             _ => Ok(None),
@@ -46,19 +45,19 @@ pub(crate) fn find<'a>(
 }
 
 // The words and numbers that were found.
-fn found_in<'a>(matches: &ArgMatches<'a>) -> Found<'a>
-    requires numbers { HasNumbers (rows_in matches.now) }
-    ensures { AreIn (rows_in matches.now) result }
+fn found_in<'a>(matches: ArgMatches<'a>) -> Found<'a>
+    requires numbers { HasNumbers (rows_in matches) }
+    ensures { AreIn (rows_in matches.entry) result }
 {
     Found {
-        policy: word_in(matches, "POLICY"),
-        flow: word_in(matches, "FLOW"),
-        requests: word_in(matches, "REQUESTS"),
-        transcript: word_in(matches, "TRANSCRIPT"),
-        model: word_in(matches, "MODEL"),
-        absences: number_in(matches, "T", 0, ABSENCE_LIMIT),
-        seed: seed_in(matches),
-        options: options_in(matches),
+        policy: word_in(&matches, "POLICY"),
+        flow: word_in(&matches, "FLOW"),
+        requests: word_in(&matches, "REQUESTS"),
+        transcript: word_in(&matches, "TRANSCRIPT"),
+        model: word_in(&matches, "MODEL"),
+        absences: number_in(&matches, "T", 0, ABSENCE_LIMIT),
+        seed: seed_in(&matches),
+        options: options_in(&matches),
     }
 }
 

@@ -50,43 +50,66 @@ fn command_in<'a>(form: Form, found: Found<'a>) -> Option<Command<'a>>
         → option_map asked result ≡ command_in form rows }
     ensures served { (rows : List Row) → AreIn rows found.entry → IfSome result CanServe }
 {
-    let command = match form {
-        Form::Plan => Command::Plan {
-            policy: found.policy?,
-            flow: found.flow?,
+    match form {
+        Form::Plan => match (found.policy, found.flow) {
+            (Some(policy), Some(flow)) => Some(Command::Plan { policy, flow }),
+            _ => None,
         },
-        Form::Show => Command::Show {
-            policy: found.policy?,
+        Form::Show => match found.policy {
+            Some(policy) => Some(Command::Show { policy }),
+            _ => None,
         },
-        Form::Solve => Command::Solve {
-            policy: found.policy?,
+        Form::Solve => match found.policy {
+            Some(policy) => Some(Command::Solve { policy }),
+            _ => None,
         },
-        Form::Resilience => Command::Resilience {
-            policy: found.policy?,
-            flow: found.flow?,
-            absences: found.absences?,
+        Form::Resilience => match (found.policy, found.flow, found.absences) {
+            (Some(policy), Some(flow), Some(absences)) => Some(Command::Resilience {
+                policy,
+                flow,
+                absences,
+            }),
+            _ => None,
         },
-        Form::Cnf => Command::Cnf {
-            policy: found.policy?,
-            flow: found.flow?,
-            model: found.model,
+        Form::Cnf => match (found.policy, found.flow) {
+            (Some(policy), Some(flow)) => Some(Command::Cnf {
+                policy,
+                flow,
+                model: found.model,
+            }),
+            _ => None,
         },
-        Form::Serve => Command::Serve {
-            policy: found.policy?,
-            options: found.options?,
+        Form::Serve => match (found.policy, found.options) {
+            (Some(policy), Some(options)) => Some(Command::Serve { policy, options }),
+            _ => None,
         },
-        Form::Audit => Command::Audit {
-            policy: found.policy?,
-            requests: found.requests?,
-            options: found.options?,
+        Form::Audit => match (found.policy, found.requests, found.options) {
+            (Some(policy), Some(requests), Some(options)) => Some(Command::Audit {
+                policy,
+                requests,
+                options,
+            }),
+            _ => None,
         },
-        Form::Resume => Command::Resume {
-            policy: found.policy?,
-            requests: found.requests?,
-            transcript: found.transcript?,
-            options: found.options?,
+        Form::Resume => match (
+            found.policy,
+            found.requests,
+            found.transcript,
+            found.options,
+        ) {
+            (Some(policy), Some(requests), Some(transcript), Some(options)) => Some(
+                Command::Resume {
+                    policy,
+                    requests,
+                    transcript,
+                    options,
+                },
+            ),
+            _ => None,
         },
-        Form::Trial => Command::Trial { seed: found.seed? },
-    };
-    Some(command)
+        Form::Trial => match found.seed {
+            Some(seed) => Some(Command::Trial { seed }),
+            _ => None,
+        },
+    }
 }
