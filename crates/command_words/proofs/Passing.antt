@@ -1,5 +1,5 @@
 -- What a parse that succeeds finds, by the definitions.
-use Rattle.std.proofs.Common.{◌≡◌, ◌∙◌, ◌<◌, Bool, true, false, refl, sym, ap, arith, inl, inr, length, subst, drop, fold, get_or, ◌+◌, ℕ, List, Option, [], ◌∷◌, map, Some, None, true≢false}
+use Rattle.std.proofs.Common.{◌≡◌, ◌∙◌, ◌<◌, Bool, true, false, refl, sym, ap, arith, inl, inr, length, drop, fold, get_or, ◌+◌, ℕ, List, Option, [], ◌∷◌, map, Some, None, true≢false}
 use Rattle.std.specs.List.{All, Any}
 use Rattle.std.specs.Borrow.{Bor}
 use Rattle.std.specs.Prelude.{if◌then◌else◌, option_and_then}
@@ -21,11 +21,10 @@ use Rattle.clap.specs.declared.error.kind.ErrorKind.TheVariants.{OutOfMemory}
 use Rattle.clap.specs.declared.parser.matches.ArgMatches.{ArgMatches}
 use Rattle.clap.specs.declared.parser.matches.Found.{Found as Entries}
 use Rattle.clap.proofs.WalkLemmas.{both}
-use Rattle.command_words.specs.declared.finding.Found.{Found}
 use Rattle.command_words.specs.declared.arguments.Word.{Word}
 use Rattle.command_words.specs.Forms.{rule_for}
-use Rattle.command_words.specs.Words.{Command as Asked, found}
-use Rattle.command_words.specs.Finding.{AreIn, Finds, IsBuiltOf, KeepsRule, PassesIn, RowPasses, TakesValue, rows_in}
+use Rattle.command_words.specs.Words.{Command as Asked, command_by, found}
+use Rattle.command_words.specs.Finding.{IsBuiltOf, KeepsRule, PassesIn, RowPasses, TakesValue, rows_in}
 
 not_empty : {X : Type 0} (x : X) (xs : List X) → is_empty (x ∷ xs) ≡ false
 not_empty x xs = ne_eqb _ _ (λ e. let lots : length (x ∷ xs) ≡ 0 = e in omega arith)
@@ -153,15 +152,11 @@ none_found a words e has other = elim has [
   | inr is ↦ sym (ap (λ (b : Bool). if b then Some (matches_of a words) else None) (among (fault_of a words) e is))
 ]
 
-pub finds : (a b : App) (words : List Text) (o : Option (List Row)) (f : Option Found) → a ≡ b → o ≡ found a words → Finds o f
-    → Finds (found b words) f
-finds a b words o f same is are =
-    subst (λ (x : App). Finds (found x words) f) same (subst (λ (x : Option (List Row)). Finds x f) is are)
-
-pub command_found : (o : Option (List Row)) (f : Found) (g : List Row → Option Asked) (c : Option Asked) → Finds o (Some f)
-    → ((rows : List Row) → AreIn rows f → c ≡ g rows) → c ≡ option_and_then g o
-command_found (Some rows) f g c is same = same rows is
-command_found None f g c is same = absurd is
+-- the command that is meant, by what is found
+pub command_is : (a b : App) (words : List Text) (o : Option (List Row)) (g : List Row → Option Asked) (c : Option Asked) → a ≡ b
+    → o ≡ found a words → c ≡ option_and_then g o → c ≡ command_by b g words
+command_is a b words o g c same is by =
+    by ∙ ap (option_and_then g) is ∙ ap (λ (x : App). option_and_then g (found x words)) same
 
 pub one_more : (a b end : App) (r : Rule) (ws : List Word) (i : ℕ) (w : Word) → i < length ws → b ≡ with_rule a r → r ≡ rule_for (get_or ws i w)
     → fold with_rule a (map rule_for (drop i ws)) ≡ end → fold with_rule b (map rule_for (drop (i + 1) ws)) ≡ end

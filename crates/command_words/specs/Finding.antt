@@ -1,5 +1,5 @@
 -- Inside: what is known of the values that a parse finds.
-use Rattle.std.specs.Prelude.{◌≡◌, ◌⊎◌, ◌≤◌, ◌-◌, ◌^◌, true, ℕ, List, [], Option, None, Some}
+use Rattle.std.specs.Prelude.{◌≡◌, ◌⊎◌, ◌≤◌, ◌-◌, ◌^◌, true, ℕ, List, [], Some}
 use Rattle.std.specs.Prelude.{IfSome, codes, option_map}
 use Rattle.std.specs.List.{All, Any}
 use Rattle.std.specs.Str.{bytes_eq}
@@ -72,9 +72,3 @@ pub record AreIn (rows : List Row) (f : Found) : Type 0 where
   pub seed : f.seed ≡ number_in (codes "SEED") rows
   pub options : option_map options_in f.options ≡ options_of rows
   pub within : IfSome f.options (λ o. AreOptions (options_in o))
-
--- there are words and numbers where something was found, and then they are those
-abbrev pub Finds : Option (List Row) → Option Found → Type 0
-Finds None None = Unit {0}
-Finds (Some rows) (Some f) = AreIn rows f
-Finds rows f = ⊥

@@ -1,17 +1,12 @@
-//! What `clap` finds at the words.
-ghost use Rattle.std.specs.Prelude.{◌≡◌, ◌<◌, ◌≤◌, ◌-◌, ◌^◌, IfOk, IfSome, map, option_map};
-ghost use Rattle.std.specs.Prelude.{string_bytes, codes};
+//! The values that `clap` finds at the words.
+ghost use Rattle.std.specs.Prelude.{◌≡◌, ◌<◌, ◌≤◌, ◌-◌, ◌^◌, IfSome, option_map, codes};
 ghost use Rattle.clap.specs.Words.{first_of};
-ghost use Rattle.command_words.specs.Words.{AreOptions, found, number_in, options_of};
+ghost use Rattle.command_words.specs.Words.{AreOptions, number_in, options_of};
 ghost use Rattle.command_words.specs.Asked.{options_in};
-ghost use Rattle.command_words.specs.Forms.{form_of};
-ghost use Rattle.command_words.specs.Finding.{AreIn, Finds, HasNumbers, WritesWithin, rows_in};
+ghost use Rattle.command_words.specs.Finding.{AreIn, HasNumbers, WritesWithin, rows_in};
 
-use crate::forms::Form;
 use crate::{ABSENCE_LIMIT, Options};
 use clap::ArgMatches;
-use clap::error::ErrorKind;
-use std::alloc::{AllocError, Global};
 use wf_names::{LANE_LIMIT, ROUND_LIMIT};
 
 /// The words and numbers that a command finds, each where it has it.
@@ -27,37 +22,20 @@ pub(crate) struct Found<'a> {
     pub(crate) options: Option<Options>,
 }
 
-/// What a form finds at the words, and nothing where a word is at fault.
-pub(crate) fn find<'a>(
-    alloc: Global,
-    form: Form,
-    words: &'a [String],
-) -> Result<Option<Found<'a>>, AllocError>
-    ensures { IfOk result (Finds (found (form_of form) (map string_bytes words.now))) }
-{
-    match form.command(alloc)?.try_get_matches_from(words) {
-        Ok(matches) => Ok(Some(found_in(matches))),
-        Err(error) => match error.kind() {
-            ErrorKind::OutOfMemory => Err(AllocError),
-            _ => Ok(None),
-        },
-    }
-}
-
-// The words and numbers that were found.
-fn found_in<'a>(matches: ArgMatches<'a>) -> Found<'a>
-    requires numbers { HasNumbers (rows_in matches) }
-    ensures { AreIn (rows_in matches.entry) result }
+/// The words and numbers that were found.
+pub(crate) fn found_in<'a>(matches: &ArgMatches<'a>) -> Found<'a>
+    requires numbers { HasNumbers (rows_in matches.now) }
+    ensures { AreIn (rows_in matches.now) result }
 {
     Found {
-        policy: word_in(&matches, "POLICY"),
-        flow: word_in(&matches, "FLOW"),
-        requests: word_in(&matches, "REQUESTS"),
-        transcript: word_in(&matches, "TRANSCRIPT"),
-        model: word_in(&matches, "MODEL"),
-        absences: number_in(&matches, "T", 0, ABSENCE_LIMIT),
-        seed: seed_in(&matches),
-        options: options_in(&matches),
+        policy: word_in(matches, "POLICY"),
+        flow: word_in(matches, "FLOW"),
+        requests: word_in(matches, "REQUESTS"),
+        transcript: word_in(matches, "TRANSCRIPT"),
+        model: word_in(matches, "MODEL"),
+        absences: number_in(matches, "T", 0, ABSENCE_LIMIT),
+        seed: seed_in(matches),
+        options: options_in(matches),
     }
 }
 

@@ -7,8 +7,9 @@ ghost use Rattle.command_words.specs.Forms.{command_in, form_of};
 ghost use Rattle.command_words.specs.Finding.{AreIn};
 
 use crate::Command;
-use crate::finding::{Found, find};
+use crate::finding::{Found, found_in};
 use crate::forms::Form;
+use clap::error::ErrorKind;
 use std::alloc::{AllocError, Global};
 
 /// The command that the words are, where they are one; they are those behind the program's name.
@@ -38,9 +39,12 @@ fn read<'a>(
         ≡ command_by (form_of form) (command_in form) (map string_bytes words.now)) }
     ensures served { IfOk result (λ c. IfSome c CanServe) }
 {
-    match find(alloc, form, words)? {
-        Some(found) => Ok(command_in(form, found)),
-        None => Ok(None),
+    match form.command(alloc)?.try_get_matches_from(words) {
+        Ok(matches) => Ok(command_in(form, found_in(&matches))),
+        Err(error) => match error.kind() {
+            ErrorKind::OutOfMemory => Err(AllocError),
+            _ => Ok(None),
+        },
     }
 }
 
