@@ -23,7 +23,8 @@ use Rattle.wf_names.specs.declared.limits.TheConstants.{LANE_LIMIT, ROUND_LIMIT}
 use Rattle.command_words.specs.declared.arguments.Word.{Word}
 use Rattle.command_words.specs.declared.arguments.Word.TheVariants.{Absences, Flow, Lanes, Model, Policy, Requests, Rounds, Seed, Transcript}
 use Rattle.command_words.specs.declared.forms.Form.{Form}
-use Rattle.command_words.specs.declared.forms.Form.TheVariants.{Audit, Cnf, Plan, Resilience, Resume, Serve, Show, Solve, Trial}
+use Rattle.command_words.specs.declared.forms.Form.TheVariants.{Cnf, Plan, Resilience, Session, Show, Solve, Trial}
+use Rattle.command_words.specs.declared.forms.SessionForm.TheVariants.{Audit, Resume, Serve}
 use Rattle.command_words.specs.Forms.{form_of, rule_for}
 use Rattle.command_words.specs.Finding.{HasNumbers, IsBuiltOf, PassesIn, RowPasses, TakesValue, WritesWithin}
 
@@ -240,9 +241,9 @@ form_numbers Show = numbers_of _ (have_numbers (Policy ∷ []))
 form_numbers Solve = numbers_of _ (have_numbers (Policy ∷ []))
 form_numbers Resilience = numbers_of _ (have_numbers (Policy ∷ Flow ∷ Absences ∷ []))
 form_numbers Cnf = numbers_of _ (have_numbers (Policy ∷ Flow ∷ Model ∷ []))
-form_numbers Serve = numbers_of _ (have_numbers (Policy ∷ Lanes ∷ Rounds ∷ []))
-form_numbers Audit = numbers_of _ (have_numbers (Policy ∷ Requests ∷ Lanes ∷ Rounds ∷ []))
-form_numbers Resume = numbers_of _ (have_numbers (Policy ∷ Requests ∷ Transcript ∷ Lanes ∷ Rounds ∷ []))
+form_numbers (Session Serve) = numbers_of _ (have_numbers (Policy ∷ Lanes ∷ Rounds ∷ []))
+form_numbers (Session Audit) = numbers_of _ (have_numbers (Policy ∷ Requests ∷ Lanes ∷ Rounds ∷ []))
+form_numbers (Session Resume) = numbers_of _ (have_numbers (Policy ∷ Requests ∷ Transcript ∷ Lanes ∷ Rounds ∷ []))
 form_numbers Trial = numbers_of _ (have_numbers (Seed ∷ []))
 
 pub form_free : (form : Form) → is_simple_and_free (form_of form) ≡ true
@@ -251,7 +252,7 @@ form_free Show = refl
 form_free Solve = refl
 form_free Resilience = refl
 form_free Cnf = refl
-form_free Serve = refl
-form_free Audit = refl
-form_free Resume = refl
+form_free (Session Serve) = refl
+form_free (Session Audit) = refl
+form_free (Session Resume) = refl
 form_free Trial = refl

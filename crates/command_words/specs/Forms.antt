@@ -7,7 +7,8 @@ use Rattle.command_words.specs.declared.arguments.Word.TheVariants.{Transcript, 
 use Rattle.command_words.specs.declared.arguments.Word.TheVariants.{Seed, Lanes, Rounds}
 use Rattle.command_words.specs.declared.forms.Form.{Form}
 use Rattle.command_words.specs.declared.forms.Form.TheVariants.{Plan, Show, Solve, Resilience}
-use Rattle.command_words.specs.declared.forms.Form.TheVariants.{Cnf, Serve, Audit, Resume, Trial}
+use Rattle.command_words.specs.declared.forms.Form.TheVariants.{Cnf, Trial, Session}
+use Rattle.command_words.specs.declared.forms.SessionForm.TheVariants.{Serve, Audit, Resume}
 use Rattle.command_words.specs.Words.{Command, absences_word, lanes_option, model_word, policy_word}
 use Rattle.command_words.specs.Words.{rounds_option, wanted, wanted_number}
 use Rattle.command_words.specs.Words.{audit_form, cnf_form, plan_form, resilience_form, resume_form}
@@ -34,9 +35,9 @@ form_of Show = show_form
 form_of Solve = solve_form
 form_of Resilience = resilience_form
 form_of Cnf = cnf_form
-form_of Serve = serve_form
-form_of Audit = audit_form
-form_of Resume = resume_form
+form_of (Session Serve) = serve_form
+form_of (Session Audit) = audit_form
+form_of (Session Resume) = resume_form
 form_of Trial = trial_form
 
 -- the command, by what is found in the form
@@ -46,7 +47,7 @@ command_in Show = show_in
 command_in Solve = solve_in
 command_in Resilience = resilience_in
 command_in Cnf = cnf_in
-command_in Serve = serve_in
-command_in Audit = audit_asked
-command_in Resume = resume_in
+command_in (Session Serve) = serve_in
+command_in (Session Audit) = audit_asked
+command_in (Session Resume) = resume_in
 command_in Trial = trial_in

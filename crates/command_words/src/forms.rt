@@ -16,10 +16,16 @@ pub(crate) enum Form {
     Solve,
     Resilience,
     Cnf,
+    Trial,
+    Session(SessionForm),
+}
+
+/// The form of a command that serves a session, and takes its options.
+#[derive(Clone, Copy)]
+pub(crate) enum SessionForm {
     Serve,
     Audit,
     Resume,
-    Trial,
 }
 
 impl Form {
@@ -34,9 +40,9 @@ impl Form {
             "solve" => Some(Form::Solve),
             "resilience" => Some(Form::Resilience),
             "cnf" => Some(Form::Cnf),
-            "serve" => Some(Form::Serve),
-            "audit" => Some(Form::Audit),
-            "resume" => Some(Form::Resume),
+            "serve" => Some(Form::Session(SessionForm::Serve)),
+            "audit" => Some(Form::Session(SessionForm::Audit)),
+            "resume" => Some(Form::Session(SessionForm::Resume)),
             "trial" => Some(Form::Trial),
             _ => None,
         }
@@ -64,12 +70,15 @@ impl Form {
             Form::Solve => ("solve", &[Word::Policy]),
             Form::Resilience => ("resilience", &[Word::Policy, Word::Flow, Word::Absences]),
             Form::Cnf => ("cnf", &[Word::Policy, Word::Flow, Word::Model]),
-            Form::Serve => ("serve", &[Word::Policy, Word::Lanes, Word::Rounds]),
-            Form::Audit => (
+            Form::Session(SessionForm::Serve) => (
+                "serve",
+                &[Word::Policy, Word::Lanes, Word::Rounds],
+            ),
+            Form::Session(SessionForm::Audit) => (
                 "audit",
                 &[Word::Policy, Word::Requests, Word::Lanes, Word::Rounds],
             ),
-            Form::Resume => (
+            Form::Session(SessionForm::Resume) => (
                 "resume",
                 &[
                     Word::Policy,

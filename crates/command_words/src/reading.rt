@@ -5,10 +5,11 @@ ghost use Rattle.command_words.specs.Words.{command_by, command_of};
 ghost use Rattle.command_words.specs.Asked.{CanServe, asked};
 ghost use Rattle.command_words.specs.Forms.{command_in, form_of};
 ghost use Rattle.command_words.specs.Finding.{AreIn};
+ghost use Rattle.command_words.specs.declared.forms.Form.TheVariants.{Session};
 
 use crate::Command;
 use crate::finding::{Found, found_in};
-use crate::forms::Form;
+use crate::forms::{Form, SessionForm};
 use clap::error::ErrorKind;
 use std::alloc::{AllocError, Global};
 
@@ -83,11 +84,26 @@ fn command_in<'a>(form: Form, found: Found<'a>) -> Option<Command<'a>>
             }),
             _ => None,
         },
-        Form::Serve => match (found.policy, found.options) {
+        Form::Trial => match found.seed {
+            Some(seed) => Some(Command::Trial { seed }),
+            _ => None,
+        },
+        Form::Session(session) => session_in(session, found),
+    }
+}
+
+// The command that serves a session, by what was found.
+fn session_in<'a>(session: SessionForm, found: Found<'a>) -> Option<Command<'a>>
+    ensures command { (rows : List Row) → AreIn rows found.entry
+        → option_map asked result ≡ command_in (Session session) rows }
+    ensures served { (rows : List Row) → AreIn rows found.entry → IfSome result CanServe }
+{
+    match session {
+        SessionForm::Serve => match (found.policy, found.options) {
             (Some(policy), Some(options)) => Some(Command::Serve { policy, options }),
             _ => None,
         },
-        Form::Audit => match (found.policy, found.requests, found.options) {
+        SessionForm::Audit => match (found.policy, found.requests, found.options) {
             (Some(policy), Some(requests), Some(options)) => Some(Command::Audit {
                 policy,
                 requests,
@@ -95,7 +111,7 @@ fn command_in<'a>(form: Form, found: Found<'a>) -> Option<Command<'a>>
             }),
             _ => None,
         },
-        Form::Resume => match (
+        SessionForm::Resume => match (
             found.policy,
             found.requests,
             found.transcript,
@@ -109,10 +125,6 @@ fn command_in<'a>(form: Form, found: Found<'a>) -> Option<Command<'a>>
                     options,
                 },
             ),
-            _ => None,
-        },
-        Form::Trial => match found.seed {
-            Some(seed) => Some(Command::Trial { seed }),
             _ => None,
         },
     }
