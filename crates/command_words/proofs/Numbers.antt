@@ -1,6 +1,6 @@
 -- The numbers that are found.
-use Rattle.std.proofs.Common.{◌≡◌, ◌∙◌, ◌<◌, ◌≤◌, ◌-◌, ◌^◌, ◌==◌, ℕ, Bool, true, false, cond, drop, refl, sym, ap, subst, arith, inl, inr, rules, List, [], ◌∷◌, map}
-use Rattle.std.proofs.Common.{Option, Some, None, Result, Ok, Err, true≢false}
+use Rattle.std.proofs.Common.{◌≡◌, ◌∙◌, ◌<◌, ◌≤◌, ◌-◌, ◌^◌, ◌==◌, ℕ, Bool, true, false, cond, drop, refl, sym, ap, subst, arith, inl, inr, rules}
+use Rattle.std.proofs.Common.{List, [], ◌∷◌, map, Option, Some, None, Result, Ok, Err, true≢false}
 use Rattle.std.specs.Prelude.{IfSome, codes, slice_get, ⊤, find, option_and_then, option_map, pos, unwrap_or}
 use Rattle.std.specs.List.{All, Any}
 use Rattle.std.specs.Str.{bytes_eq}
@@ -25,7 +25,7 @@ use Rattle.command_words.specs.declared.arguments.Word.TheVariants.{Absences, Fl
 use Rattle.command_words.specs.declared.forms.Form.{Form}
 use Rattle.command_words.specs.declared.forms.Form.TheVariants.{Cnf, Plan, Resilience, Session, Show, Solve, Trial}
 use Rattle.command_words.specs.declared.forms.SessionForm.TheVariants.{Audit, Resume, Serve}
-use Rattle.command_words.specs.Forms.{form_of, rule_for}
+use Rattle.command_words.specs.Forms.{form_for, rule_for}
 use Rattle.command_words.specs.Finding.{HasNumbers, IsBuiltOf, PassesIn, RowPasses, TakesValue, WritesWithin}
 
 -- ---- reading a text that writes a number
@@ -235,7 +235,7 @@ have_numbers : (ws : List Word) → Each HasNumber (map rule_for ws)
 have_numbers [] = tt
 have_numbers (w ∷ ws) = (has_number w, have_numbers ws)
 
-pub form_numbers : (form : Form) (rows : List Row) → PassesIn (form_of form) rows → HasNumbers rows
+pub form_numbers : (form : Form) (rows : List Row) → PassesIn (form_for form) rows → HasNumbers rows
 form_numbers Plan = numbers_of _ (have_numbers (Policy ∷ Flow ∷ []))
 form_numbers Show = numbers_of _ (have_numbers (Policy ∷ []))
 form_numbers Solve = numbers_of _ (have_numbers (Policy ∷ []))
@@ -246,7 +246,7 @@ form_numbers (Session Audit) = numbers_of _ (have_numbers (Policy ∷ Requests �
 form_numbers (Session Resume) = numbers_of _ (have_numbers (Policy ∷ Requests ∷ Transcript ∷ Lanes ∷ Rounds ∷ []))
 form_numbers Trial = numbers_of _ (have_numbers (Seed ∷ []))
 
-pub form_free : (form : Form) → is_simple_and_free (form_of form) ≡ true
+pub form_free : (form : Form) → is_simple_and_free (form_for form) ≡ true
 form_free Plan = refl
 form_free Show = refl
 form_free Solve = refl

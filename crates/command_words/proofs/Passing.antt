@@ -1,5 +1,6 @@
 -- What a parse that succeeds finds, by the definitions.
-use Rattle.std.proofs.Common.{◌≡◌, ◌∙◌, ◌<◌, Bool, true, false, refl, sym, ap, arith, inl, inr, length, drop, fold, get_or, ◌+◌, ℕ, List, Option, [], ◌∷◌, map, Some, None, true≢false}
+use Rattle.std.proofs.Common.{◌≡◌, ◌∙◌, ◌<◌, Bool, true, false, refl, sym, ap, arith, inl, inr, length, List, Option, [], ◌∷◌}
+use Rattle.std.proofs.Common.{Some, None, true≢false, ◌+◌, ℕ, map, drop, fold, get_or}
 use Rattle.std.specs.List.{All, Any}
 use Rattle.std.specs.Borrow.{Bor}
 use Rattle.std.specs.Prelude.{if◌then◌else◌, option_and_then}
@@ -9,8 +10,8 @@ use Rattle.std.proofs.lemmas.List.Folds.{list_all-map}
 use Rattle.std.proofs.lemmas.List.Sums.{AllPass-from_list_all}
 use Rattle.std.proofs.lemmas.List.Elements.{All-from_get_or, All-map, All-nil, All-weaker}
 use Rattle.clap.specs.Words.{App, Row, Rule, Text, app_of, args_of, fault_of, found_of, groups_of, is_simple, is_simple_and_free}
-use Rattle.clap.specs.Words.{matches_of, rows_of, rule_of}
-use Rattle.clap.specs.Words.{BuildsTo, IsParsedFrom, NamesNoGroup, with_rule, HasKind, HasMatchesOf, IsAmong, Kinds, kind_of}
+use Rattle.clap.specs.Words.{matches_of, rows_of, rule_of, with_rule}
+use Rattle.clap.specs.Words.{BuildsTo, IsParsedFrom, NamesNoGroup, HasKind, HasMatchesOf, IsAmong, Kinds, kind_of}
 use Rattle.clap.specs.Facts.{Entry, EntryPasses, PassesArg, ValuesPass}
 use Rattle.clap.specs.Walk.{is_empty, is_simple_arg, row_of, rules_of, texts}
 use Rattle.clap.specs.declared.builder.arg.Arg.{Arg}
@@ -127,7 +128,8 @@ passes c m free p =
     let groups = (p.from.same_groups (names_no_group c free)).1 ∙ no_groups c plain in
     record {
       rules = rules_of p.built;
-      are = All-map (IsBuiltOf (rules_of c)) rule_of (args_of p.built) (all_at (λ a. IsBuiltOf (rules_of c) (rule_of a)) (args_of p.built) (built_of c p.built p.from));
+      are = All-map (IsBuiltOf (rules_of c)) rule_of (args_of p.built)
+          (all_at (λ a. IsBuiltOf (rules_of c) (rule_of a)) (args_of p.built) (built_of c p.built p.from));
       pass = rows_pass p.built (found_of m) groups (p.parsed (p.from.globals ∙ no_globals c plain)).values;
     }
 
@@ -158,6 +160,7 @@ pub command_is : (a b : App) (words : List Text) (o : Option (List Row)) (g : Li
 command_is a b words o g c same is by =
     by ∙ ap (option_and_then g) is ∙ ap (λ (x : App). option_and_then g (found x words)) same
 
+-- a command with one word more
 pub one_more : (a b end : App) (r : Rule) (ws : List Word) (i : ℕ) (w : Word) → i < length ws → b ≡ with_rule a r → r ≡ rule_for (get_or ws i w)
     → fold with_rule a (map rule_for (drop i ws)) ≡ end → fold with_rule b (map rule_for (drop (i + 1) ws)) ≡ end
 one_more a b end r ws i w lt adds is done =

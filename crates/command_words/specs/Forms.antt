@@ -29,16 +29,16 @@ rule_for Lanes = lanes_option
 rule_for Rounds = rounds_option
 
 -- the form
-abbrev pub form_of : Form → App
-form_of Plan = plan_form
-form_of Show = show_form
-form_of Solve = solve_form
-form_of Resilience = resilience_form
-form_of Cnf = cnf_form
-form_of (Session Serve) = serve_form
-form_of (Session Audit) = audit_form
-form_of (Session Resume) = resume_form
-form_of Trial = trial_form
+abbrev pub form_for : Form → App
+form_for Plan = plan_form
+form_for Show = show_form
+form_for Solve = solve_form
+form_for Resilience = resilience_form
+form_for Cnf = cnf_form
+form_for (Session Serve) = serve_form
+form_for (Session Audit) = audit_form
+form_for (Session Resume) = resume_form
+form_for Trial = trial_form
 
 -- the command, by what is found in the form
 abbrev pub command_in : Form → List Row → Option Command

@@ -2,9 +2,13 @@
 ghost use Rattle.std.specs.Prelude.{◌≡◌, IfOk, map, option_and_then};
 ghost use Rattle.clap.specs.Words.{app_of};
 ghost use Rattle.command_words.specs.Words.{command_at, command_by, form};
-ghost use Rattle.command_words.specs.Forms.{command_in, form_of, rule_for};
+ghost use Rattle.command_words.specs.Forms.{command_in, form_for, rule_for};
 
-use crate::arguments::{Word, argument};
+use self::SessionForm::{Audit, Resume, Serve};
+use crate::arguments::Word::{
+    self, Absences, Flow, Lanes, Model, Policy, Requests, Rounds, Seed, Transcript,
+};
+use crate::arguments::argument;
 use clap::Command;
 use std::alloc::{AllocError, Global};
 
@@ -32,7 +36,7 @@ impl Form {
     /// The form of the command that has this name, where one has it.
     pub(crate) fn named(name: &str) -> Option<Form>
         ensures { (words : _) → command_at name.now words
-            ≡ option_and_then (λ f. command_by (form_of f) (command_in f) words) result }
+            ≡ option_and_then (λ f. command_by (form_for f) (command_in f) words) result }
     {
         match name {
             "plan" => Some(Form::Plan),
@@ -40,9 +44,9 @@ impl Form {
             "solve" => Some(Form::Solve),
             "resilience" => Some(Form::Resilience),
             "cnf" => Some(Form::Cnf),
-            "serve" => Some(Form::Session(SessionForm::Serve)),
-            "audit" => Some(Form::Session(SessionForm::Audit)),
-            "resume" => Some(Form::Session(SessionForm::Resume)),
+            "serve" => Some(Form::Session(Serve)),
+            "audit" => Some(Form::Session(Audit)),
+            "resume" => Some(Form::Session(Resume)),
             "trial" => Some(Form::Trial),
             _ => None,
         }
@@ -50,7 +54,7 @@ impl Form {
 
     /// The command of `clap`.
     pub(crate) fn command<'a>(self, alloc: Global) -> Result<Command<'a>, AllocError>
-        ensures { IfOk result (λ c. app_of c ≡ form_of self) }
+        ensures { IfOk result (λ c. app_of c ≡ form_for self) }
     {
         let (name, words) = self.words();
         let mut command = Command::new(alloc, name);
@@ -62,33 +66,18 @@ impl Form {
 
     // The name, and the words behind it in their order.
     fn words<'a>(self) -> (&'a str, &'a [Word])
-        ensures { form result.0.now (map rule_for result.1.now) ≡ form_of self }
+        ensures { form result.0.now (map rule_for result.1.now) ≡ form_for self }
     {
         match self {
-            Form::Plan => ("plan", &[Word::Policy, Word::Flow]),
-            Form::Show => ("show", &[Word::Policy]),
-            Form::Solve => ("solve", &[Word::Policy]),
-            Form::Resilience => ("resilience", &[Word::Policy, Word::Flow, Word::Absences]),
-            Form::Cnf => ("cnf", &[Word::Policy, Word::Flow, Word::Model]),
-            Form::Session(SessionForm::Serve) => (
-                "serve",
-                &[Word::Policy, Word::Lanes, Word::Rounds],
-            ),
-            Form::Session(SessionForm::Audit) => (
-                "audit",
-                &[Word::Policy, Word::Requests, Word::Lanes, Word::Rounds],
-            ),
-            Form::Session(SessionForm::Resume) => (
-                "resume",
-                &[
-                    Word::Policy,
-                    Word::Requests,
-                    Word::Transcript,
-                    Word::Lanes,
-                    Word::Rounds,
-                ],
-            ),
-            Form::Trial => ("trial", &[Word::Seed]),
+            Form::Plan => ("plan", &[Policy, Flow]),
+            Form::Show => ("show", &[Policy]),
+            Form::Solve => ("solve", &[Policy]),
+            Form::Resilience => ("resilience", &[Policy, Flow, Absences]),
+            Form::Cnf => ("cnf", &[Policy, Flow, Model]),
+            Form::Session(Serve) => ("serve", &[Policy, Lanes, Rounds]),
+            Form::Session(Audit) => ("audit", &[Policy, Requests, Lanes, Rounds]),
+            Form::Session(Resume) => ("resume", &[Policy, Requests, Transcript, Lanes, Rounds]),
+            Form::Trial => ("trial", &[Seed]),
         }
     }
 }

@@ -3,7 +3,7 @@ ghost use Rattle.std.specs.Prelude.{◌≡◌, IfOk, IfSome, List, map, option_m
 ghost use Rattle.clap.specs.Words.{Row};
 ghost use Rattle.command_words.specs.Words.{command_by, command_of};
 ghost use Rattle.command_words.specs.Asked.{CanServe, asked};
-ghost use Rattle.command_words.specs.Forms.{command_in, form_of};
+ghost use Rattle.command_words.specs.Forms.{command_in, form_for};
 ghost use Rattle.command_words.specs.Finding.{AreIn};
 ghost use Rattle.command_words.specs.declared.forms.Form.TheVariants.{Session};
 
@@ -37,7 +37,7 @@ fn read<'a>(
     words: &'a [String],
 ) -> Result<Option<Command<'a>>, AllocError>
     ensures command { IfOk result (λ c. option_map asked c
-        ≡ command_by (form_of form) (command_in form) (map string_bytes words.now)) }
+        ≡ command_by (form_for form) (command_in form) (map string_bytes words.now)) }
     ensures served { IfOk result (λ c. IfSome c CanServe) }
 {
     match form.command(alloc)?.try_get_matches_from(words) {

@@ -2,7 +2,7 @@ use Rattle.std.proofs.Common.{◌∙◌, Some, None, ap, map, refl, rules, subst
 use Rattle.std.specs.Prelude.{string_bytes}
 use Rattle.clap.specs.Words.{App, app_of, is_simple_and_free}
 use Rattle.command_words.specs.Finding.{PassesIn, rows_in}
-use Rattle.command_words.specs.Forms.{command_in, form_of}
+use Rattle.command_words.specs.Forms.{command_in, form_for}
 use Rattle.command_words.proofs.Numbers.{form_free, form_numbers}
 use Rattle.command_words.proofs.Passing.{command_is, is_found, none_found, passes}
 use Rattle.command_words.proofs.reading.read.Goals as goal
@@ -25,7 +25,7 @@ returns-in-Ok-clause-command c =
     let rows = rows_in c.in-Ok.matches in
     let is = c.in_ok-command.ensures in
     let free = ap is_simple_and_free is ∙ form_free c.args.form in
-    command_is a (form_of c.args.form) words (Some rows) (command_in c.args.form) _ is
+    command_is a (form_for c.args.form) words (Some rows) (command_in c.args.form) _ is
     (is_found a words c.in-Ok.matches free c.in-Ok.ensures.matches (c.in-Ok.ensures.kinds free))
     (c.command_in.ensures.command rows c.found_in.ensures)
 
@@ -35,5 +35,5 @@ returns-clause-command c =
     let words = map string_bytes c.args.words.now in
     let is = c.in_ok-command.ensures in
     let free = ap is_simple_and_free is ∙ form_free c.args.form in
-    command_is a (form_of c.args.form) words None (command_in c.args.form) None is
+    command_is a (form_for c.args.form) words None (command_in c.args.form) None is
     (none_found a words c.in-Err.error (c.in-Err.ensures.kinds free) (search rules)) refl
