@@ -1,17 +1,17 @@
 -- The numbers that are found.
-use Rattle.std.proofs.Common.{◌≡◌, ◌∙◌, ◌<◌, ◌≤◌, ◌-◌, ◌^◌, ◌==◌, ℕ, Bool, true, false, cond, drop, refl, sym, ap, subst, arith, inl, inr, rules, List, [], ◌∷◌}
-use Rattle.std.proofs.Common.{Option, Some, None, Result, Ok, Err, true≢false}
+use Rattle.std.proofs.Common.{◌≡◌, ◌∙◌, ◌<◌, ◌≤◌, ◌-◌, ◌^◌, ◌==◌, ℕ, Bool, true, false, cond, drop, refl, sym, ap, subst, arith, inl, inr, rules}
+use Rattle.std.proofs.Common.{List, [], ◌∷◌, map, Option, Some, None, Result, Ok, Err, true≢false}
 use Rattle.std.specs.Prelude.{IfSome, codes, slice_get, ⊤, find, option_and_then, option_map, pos, unwrap_or}
 use Rattle.std.specs.List.{All, Any}
 use Rattle.std.specs.Str.{bytes_eq}
 use Rattle.std.specs.Str.Parse.{IsNumeral, ParsesUnsigned, digits_value, starts_with_minus, without_leading_plus}
 use Rattle.std.proofs.lemmas.Bool.{ne_eqb}
 use Rattle.std.proofs.lemmas.Int.{ints}
-use Rattle.std.proofs.lemmas.List.Elements.{All-cons, All-drop, All-get_or, All-nil}
+use Rattle.std.proofs.lemmas.List.Elements.{All-cons, All-drop, All-get_or, All-nil, All-weaker}
 use Rattle.std.proofs.lemmas.Slice.Eq.{bytes_eq-Decides}
 use Rattle.std.proofs.lemmas.Str.Parse.{digit_from_value}
 use Rattle.clap.specs.Lexer.{without_minus}
-use Rattle.clap.specs.Words.{Accepts, App, ReadsOne, Row, Rule, Text, built, one_of, read_as, reading_of}
+use Rattle.clap.specs.Words.{Accepts, App, ReadsOne, Row, Rule, Text, is_simple_and_free, one_of, read_as, reading_of}
 use Rattle.clap.specs.Facts.{parser_of_value}
 use Rattle.clap.specs.Values.{IsSignedIn}
 use Rattle.clap.specs.Walk.{row_text}
@@ -20,8 +20,13 @@ use Rattle.clap.specs.declared.builder.value_parser.ValueParser.{ValueParser}
 use Rattle.clap.specs.declared.builder.value_parser.ValueParser.TheVariants.{Signed, Unsigned}
 use Rattle.command_words.specs.declared.command.TheConstants.{ABSENCE_LIMIT}
 use Rattle.wf_names.specs.declared.limits.TheConstants.{LANE_LIMIT, ROUND_LIMIT}
-use Rattle.command_words.specs.Words.{audit_form, resilience_form, resume_form, serve_form, trial_form}
-use Rattle.command_words.specs.Finding.{HasOptions, PassesIn, RowPasses, TakesValue, WritesWithin}
+use Rattle.command_words.specs.declared.arguments.Word.{Word}
+use Rattle.command_words.specs.declared.arguments.Word.TheVariants.{Absences, Flow, Lanes, Model, Policy, Requests, Rounds, Seed, Transcript}
+use Rattle.command_words.specs.declared.forms.Form.{Form}
+use Rattle.command_words.specs.declared.forms.Form.TheVariants.{Cnf, Plan, Resilience, Session, Show, Solve, Trial}
+use Rattle.command_words.specs.declared.forms.SessionForm.TheVariants.{Audit, Resume, Serve}
+use Rattle.command_words.specs.Forms.{form_for, rule_for}
+use Rattle.command_words.specs.Finding.{HasNumbers, IsBuiltOf, PassesIn, RowPasses, TakesValue, WritesWithin}
 
 -- ---- reading a text that writes a number
 
@@ -174,58 +179,80 @@ all_of : (P : Rule → Type 0) (rs : List Rule) → Each P rs → All P rs
 all_of P [] h = All-nil P
 all_of P (r ∷ rs) h = All-cons P r rs h.0 (all_of P rs h.1)
 
-rules_of : (P : Rule → Type 0) (a : App) (rows : List Row) (p : PassesIn a rows) → Each P a.top.rules → Each P (built a).top.rules → All P p.rules
-rules_of P a rows p before after = elim p.are [
-  | inl same ↦ subst (All P) (sym same) (all_of P a.top.rules before)
-  | inr same ↦ subst (All P) (sym same) (all_of P (built a).top.rules after)
-]
-
 other : {X : Type 0} → false ≡ true → X
 other e = absurd (true≢false (sym e))
 
-abbrev lanes_parser : ValueParser
-lanes_parser = Signed (pos 1) (pos LANE_LIMIT)
+-- each argument with this name is given this parser
+abbrev AsksFor : Text → ValueParser → Rule → Type 0
+AsksFor name q r = bytes_eq r.id name ≡ true → r.parser ≡ Some q
 
-abbrev rounds_parser : ValueParser
-rounds_parser = Signed (pos 0) (pos ROUND_LIMIT)
+-- each argument with the name of a number is given the parser of that number
+abbrev HasNumber : Rule → Type 0
+HasNumber r = AsksFor (codes "lanes") (Signed (pos 1) (pos LANE_LIMIT)) r
+    × AsksFor (codes "rounds") (Signed (pos 0) (pos ROUND_LIMIT)) r
+    × AsksFor (codes "T") (Signed (pos 0) (pos ABSENCE_LIMIT)) r
+    × AsksFor (codes "SEED") (Unsigned 0 (2 ^ 64 - 1)) r
 
-pub serve_options : (rows : List Row) → PassesIn serve_form rows → HasOptions rows
-serve_options rows p = record {
-  lanes = signed_within p.rules (codes "lanes") 1 LANE_LIMIT rows (λ e. cc)
-      (rules_of (HasParser (codes "lanes") lanes_parser) serve_form rows p (other, (λ e. refl, (other, tt))) (other, (λ e. refl, (other, (other, tt))))) p.pass;
-  rounds = signed_within p.rules (codes "rounds") 0 ROUND_LIMIT rows (λ e. cc)
-      (rules_of (HasParser (codes "rounds") rounds_parser) serve_form rows p (other, (other, (λ e. refl, tt))) (other, (other, (λ e. refl, (other, tt)))))
-      p.pass;
+built_parser : (name : Text) (q : ValueParser) (rules : List Rule) → bytes_eq name (codes "help") ≡ false → bytes_eq name (codes "version") ≡ false
+    → ((r : Rule) → HasNumber r → AsksFor name q r) → Each HasNumber rules → (r : Rule) → IsBuiltOf rules r → HasParser name q r
+built_parser name q rules help version asks each r is t =
+    let id : r.id ≡ name = (bytes_eq-Decides r.id name).0 t in
+    elim is [
+      | inl flag ↦ elim flag [
+        | inl h ↦ other (sym help ∙ ap (λ (n : Text). bytes_eq n (codes "help")) (sym id ∙ h))
+        | inr v ↦ other (sym version ∙ ap (λ (n : Text). bytes_eq n (codes "version")) (sym id ∙ v))
+      ]
+      | inr any ↦
+          let old = any.1 in
+          let has = asks old (subst HasNumber any.3 (All-get_or HasNumber rules any.0 old any.2 (all_of HasNumber rules each))) in
+          ap parser_of_value (any.4.parser q (has (rw (← any.4.id) t)))
+    ]
+
+numbers_of : (a : App) → Each HasNumber a.top.rules → (rows : List Row) → PassesIn a rows → HasNumbers rows
+numbers_of a each rows p = record {
+  lanes = signed_within p.rules (codes "lanes") 1 LANE_LIMIT rows (λ e. cc) (All-weaker _ _
+      (built_parser (codes "lanes") _ a.top.rules refl refl (λ r h. h.0) each) p.rules p.are) p.pass;
+  rounds = signed_within p.rules (codes "rounds") 0 ROUND_LIMIT rows (λ e. cc) (All-weaker _ _
+      (built_parser (codes "rounds") _ a.top.rules refl refl (λ r h. h.1) each) p.rules p.are) p.pass;
+  absences = signed_within p.rules (codes "T") 0 ABSENCE_LIMIT rows (λ e. cc) (All-weaker _ _
+      (built_parser (codes "T") _ a.top.rules refl refl (λ r h. h.2) each) p.rules p.are) p.pass;
+  seed = unsigned_within p.rules (codes "SEED") 0 (2 ^ 64 - 1) rows (λ e. cc) (All-weaker _ _
+      (built_parser (codes "SEED") _ a.top.rules refl refl (λ r h. h.3) each) p.rules p.are) p.pass;
 }
 
-pub audit_options : (rows : List Row) → PassesIn audit_form rows → HasOptions rows
-audit_options rows p = record {
-  lanes = signed_within p.rules (codes "lanes") 1 LANE_LIMIT rows (λ e. cc)
-      (rules_of (HasParser (codes "lanes") lanes_parser) audit_form rows p (other, (other, (λ e. refl, (other, tt))))
-      (other, (other, (λ e. refl, (other, (other, tt)))))) p.pass;
-  rounds = signed_within p.rules (codes "rounds") 0 ROUND_LIMIT rows (λ e. cc)
-      (rules_of (HasParser (codes "rounds") rounds_parser) audit_form rows p (other, (other, (other, (λ e. refl, tt))))
-      (other, (other, (other, (λ e. refl, (other, tt)))))) p.pass;
-}
+has_number : (w : Word) → HasNumber (rule_for w)
+has_number Policy = (other, other, other, other)
+has_number Flow = (other, other, other, other)
+has_number Requests = (other, other, other, other)
+has_number Transcript = (other, other, other, other)
+has_number Model = (other, other, other, other)
+has_number Absences = (other, other, λ e. refl, other)
+has_number Seed = (other, other, other, λ e. refl)
+has_number Lanes = (λ e. refl, other, other, other)
+has_number Rounds = (other, λ e. refl, other, other)
 
-pub resume_options : (rows : List Row) → PassesIn resume_form rows → HasOptions rows
-resume_options rows p = record {
-  lanes = signed_within p.rules (codes "lanes") 1 LANE_LIMIT rows (λ e. cc)
-      (rules_of (HasParser (codes "lanes") lanes_parser) resume_form rows p
-      (other, (other, (other, (λ e. refl, (other, tt))))) (other, (other, (other, (λ e. refl, (other, (other, tt))))))) p.pass;
-  rounds = signed_within p.rules (codes "rounds") 0 ROUND_LIMIT rows (λ e. cc)
-      (rules_of (HasParser (codes "rounds") rounds_parser) resume_form rows p
-      (other, (other, (other, (other, (λ e. refl, tt))))) (other, (other, (other, (other, (λ e. refl, (other, tt))))))) p.pass;
-}
+have_numbers : (ws : List Word) → Each HasNumber (map rule_for ws)
+have_numbers [] = tt
+have_numbers (w ∷ ws) = (has_number w, have_numbers ws)
 
-pub trial_seed : (rows : List Row) → PassesIn trial_form rows → WritesWithin 0 (2 ^ 64 - 1) (codes "SEED") rows
-trial_seed rows p = unsigned_within p.rules (codes "SEED") 0 (2 ^ 64 - 1) rows (λ e. cc)
-    (rules_of (HasParser (codes "SEED") (Unsigned 0 (2 ^ 64 - 1))) trial_form rows p (λ e. refl, tt) (λ e. refl, (other, tt))) p.pass
+pub form_numbers : (form : Form) (rows : List Row) → PassesIn (form_for form) rows → HasNumbers rows
+form_numbers Plan = numbers_of _ (have_numbers (Policy ∷ Flow ∷ []))
+form_numbers Show = numbers_of _ (have_numbers (Policy ∷ []))
+form_numbers Solve = numbers_of _ (have_numbers (Policy ∷ []))
+form_numbers Resilience = numbers_of _ (have_numbers (Policy ∷ Flow ∷ Absences ∷ []))
+form_numbers Cnf = numbers_of _ (have_numbers (Policy ∷ Flow ∷ Model ∷ []))
+form_numbers (Session Serve) = numbers_of _ (have_numbers (Policy ∷ Lanes ∷ Rounds ∷ []))
+form_numbers (Session Audit) = numbers_of _ (have_numbers (Policy ∷ Requests ∷ Lanes ∷ Rounds ∷ []))
+form_numbers (Session Resume) = numbers_of _ (have_numbers (Policy ∷ Requests ∷ Transcript ∷ Lanes ∷ Rounds ∷ []))
+form_numbers Trial = numbers_of _ (have_numbers (Seed ∷ []))
 
-abbrev absences_parser : ValueParser
-absences_parser = Signed (pos 0) (pos ABSENCE_LIMIT)
-
-pub resilience_absences : (rows : List Row) → PassesIn resilience_form rows → WritesWithin 0 ABSENCE_LIMIT (codes "T") rows
-resilience_absences rows p = signed_within p.rules (codes "T") 0 ABSENCE_LIMIT rows (λ e. cc)
-    (rules_of (HasParser (codes "T") absences_parser) resilience_form rows p (other, (other, (λ e. refl, tt))) (other, (other, (λ e. refl, (other, tt)))))
-    p.pass
+pub form_free : (form : Form) → is_simple_and_free (form_for form) ≡ true
+form_free Plan = refl
+form_free Show = refl
+form_free Solve = refl
+form_free Resilience = refl
+form_free Cnf = refl
+form_free (Session Serve) = refl
+form_free (Session Audit) = refl
+form_free (Session Resume) = refl
+form_free Trial = refl

@@ -1,13 +1,19 @@
 -- Inside: what is known of the values that a parse finds.
-use Rattle.std.specs.Prelude.{◌≡◌, ◌⊎◌, ◌≤◌, true, ℕ, List, [], Some, codes}
+use Rattle.std.specs.Prelude.{◌≡◌, ◌⊎◌, ◌≤◌, ◌-◌, ◌^◌, true, ℕ, List, [], Some}
+use Rattle.std.specs.Prelude.{IfSome, codes, option_map}
 use Rattle.std.specs.List.{All, Any}
 use Rattle.std.specs.Str.{bytes_eq}
 use Rattle.std.specs.Str.Parse.{IsNumeral, digits_value, without_leading_plus}
-use Rattle.clap.specs.Words.{Accepts, App, Row, Rule, Text, built, found_of, one_of, reading_of}
-use Rattle.clap.specs.Words.{rows_of}
+use Rattle.clap.specs.Words.{Accepts, App, Row, Rule, Text, first_of, found_of, one_of}
+use Rattle.clap.specs.Words.{reading_of, rows_of}
 use Rattle.clap.specs.Facts.{parser_of_value}
+use Rattle.clap.specs.declared.builder.value_parser.ValueParser.{ValueParser}
 use Rattle.clap.specs.declared.parser.matches.ArgMatches.{ArgMatches}
+use Rattle.command_words.specs.declared.command.TheConstants.{ABSENCE_LIMIT}
+use Rattle.command_words.specs.declared.finding.Found.{Found}
 use Rattle.wf_names.specs.declared.limits.TheConstants.{LANE_LIMIT, ROUND_LIMIT}
+use Rattle.command_words.specs.Words.{AreOptions, number_in, options_of, policy_in}
+use Rattle.command_words.specs.Asked.{options_in}
 
 -- what was found
 abbrev pub rows_in : ArgMatches → List Row
@@ -24,10 +30,20 @@ RowPasses rules row = (row.id ≡ []) ⊎ (All (λ value. Any (TakesValue row.id
     × Any (λ r. (bytes_eq r.id row.id ≡ true)
     × (reading_of (parser_of_value r.parser) ≡ row.reading)) rules)
 
--- the values that were found passed the arguments of a command, as it was or as it was built
+-- an argument, and the same once its command is built: it keeps its name, and a parser that it has
+pub record KeepsRule (old new : Rule) : Type 0 where
+  pub id : new.id ≡ old.id
+  pub parser : (p : ValueParser) → old.parser ≡ Some p → new.parser ≡ Some p
+
+-- an argument of a command that is built: one of its own, or a flag that each command has
+abbrev pub IsBuiltOf : List Rule → Rule → Type 0
+IsBuiltOf rules r = ((r.id ≡ codes "help") ⊎ (r.id ≡ codes "version"))
+    ⊎ Any (λ old. KeepsRule old r) rules
+
+-- the values that were found passed the arguments of a command, as it was built
 pub record PassesIn (app : App) (rows : List Row) : Type 0 where
   pub rules : List Rule
-  pub are : (rules ≡ app.top.rules) ⊎ (rules ≡ (built app).top.rules)
+  pub are : All (IsBuiltOf app.top.rules) rules
   pub pass : All (RowPasses rules) rows
 
 -- the text that is read under a name, where there is one, writes a number from the least to the
@@ -38,7 +54,21 @@ WritesWithin least most name rows = (text : Text) → one_of name rows ≡ Some 
     × (least ≤ digits_value 10 (without_leading_plus text))
     × (digits_value 10 (without_leading_plus text) ≤ most)
 
--- both options are numbers within their limits
-pub record HasOptions (rows : List Row) : Type 0 where
+-- the numbers of the commands are within their limits
+pub record HasNumbers (rows : List Row) : Type 0 where
   pub lanes : WritesWithin 1 LANE_LIMIT (codes "lanes") rows
   pub rounds : WritesWithin 0 ROUND_LIMIT (codes "rounds") rows
+  pub absences : WritesWithin 0 ABSENCE_LIMIT (codes "T") rows
+  pub seed : WritesWithin 0 (2 ^ 64 - 1) (codes "SEED") rows
+
+-- these are the words and numbers that were found
+pub record AreIn (rows : List Row) (f : Found) : Type 0 where
+  pub policy : option_map (λ s. s.now) f.policy ≡ policy_in rows
+  pub flow : option_map (λ s. s.now) f.flow ≡ first_of (codes "FLOW") rows
+  pub requests : option_map (λ s. s.now) f.requests ≡ first_of (codes "REQUESTS") rows
+  pub transcript : option_map (λ s. s.now) f.transcript ≡ first_of (codes "TRANSCRIPT") rows
+  pub model : option_map (λ s. s.now) f.model ≡ first_of (codes "MODEL") rows
+  pub absences : f.absences ≡ number_in (codes "T") rows
+  pub seed : f.seed ≡ number_in (codes "SEED") rows
+  pub options : option_map options_in f.options ≡ options_of rows
+  pub within : IfSome f.options (λ o. AreOptions (options_in o))

@@ -1,9 +1,9 @@
-//! The arguments of the commands.
+//! The words and the options of the commands.
 ghost use Rattle.std.specs.Prelude.{◌≡◌, false, pos};
 ghost use Rattle.clap.specs.Words.{rule_of};
 ghost use Rattle.clap.specs.declared.builder.value_parser.ValueParser.TheVariants.{Signed};
-ghost use Rattle.command_words.specs.Words.{absences_word, lanes_option, model_word, ranged};
-ghost use Rattle.command_words.specs.Words.{rounds_option, wanted, wanted_number};
+ghost use Rattle.command_words.specs.Words.{ranged, wanted};
+ghost use Rattle.command_words.specs.Forms.{rule_for};
 
 use crate::ABSENCE_LIMIT;
 use clap::Arg;
@@ -11,54 +11,55 @@ use clap::builder::ValueParser;
 use std::alloc::Global;
 use wf_names::{LANE_LIMIT, ROUND_LIMIT};
 
-/// A word that has to be there.
-pub(crate) fn wanted<'a>(alloc: Global, name: &'a str) -> Arg<'a>
+/// A word or an option of a command.
+#[derive(Clone, Copy)]
+pub(crate) enum Word {
+    /// The policy file.
+    Policy,
+    /// The name of a workflow.
+    Flow,
+    /// The file with the requests.
+    Requests,
+    /// The file with the transcript.
+    Transcript,
+    /// The file with a model, which may be left out.
+    Model,
+    /// The number of users who may be absent.
+    Absences,
+    /// What the random numbers begin from.
+    Seed,
+    /// The option for the number of lanes.
+    Lanes,
+    /// The option for the number of rounds.
+    Rounds,
+}
+
+/// The argument of `clap` for a word or an option.
+pub(crate) fn argument<'a>(alloc: Global, word: Word) -> Arg<'a>
+    ensures rule { rule_of result ≡ rule_for word }
+    ensures own { result.global ≡ false }
+{
+    match word {
+        Word::Policy => wanted(alloc, "POLICY"),
+        Word::Flow => wanted(alloc, "FLOW"),
+        Word::Requests => wanted(alloc, "REQUESTS"),
+        Word::Transcript => wanted(alloc, "TRANSCRIPT"),
+        Word::Model => Arg::new(alloc, "MODEL"),
+        Word::Absences => wanted(alloc, "T").value_parser(numbers(0, ABSENCE_LIMIT)),
+        Word::Seed => wanted(alloc, "SEED").value_parser(clap::value_parser!(u64)),
+        // The last word is `DEFAULT_LANES` in digits.
+        Word::Lanes => ranged(alloc, "lanes", 1, LANE_LIMIT, "1"),
+        // The last word is `DEFAULT_ROUNDS` in digits.
+        Word::Rounds => ranged(alloc, "rounds", 0, ROUND_LIMIT, "2"),
+    }
+}
+
+// A word that has to be there.
+fn wanted<'a>(alloc: Global, name: &'a str) -> Arg<'a>
     ensures rule { rule_of result ≡ wanted name.entry.now }
     ensures own { result.global ≡ false }
 {
     Arg::new(alloc, name).required(true)
-}
-
-/// A word that has to be there and writes a number.
-pub(crate) fn wanted_number<'a>(alloc: Global, name: &'a str) -> Arg<'a>
-    ensures rule { rule_of result ≡ wanted_number name.entry.now }
-    ensures own { result.global ≡ false }
-{
-    wanted(alloc, name).value_parser(clap::value_parser!(u64))
-}
-
-/// The number of users who may be absent.
-pub(crate) fn absences<'a>(alloc: Global) -> Arg<'a>
-    ensures rule { rule_of result ≡ absences_word }
-    ensures own { result.global ≡ false }
-{
-    wanted(alloc, "T").value_parser(numbers(0, ABSENCE_LIMIT))
-}
-
-/// The file with a model, which may be left out.
-pub(crate) fn model<'a>(alloc: Global) -> Arg<'a>
-    ensures rule { rule_of result ≡ model_word }
-    ensures own { result.global ≡ false }
-{
-    Arg::new(alloc, "MODEL")
-}
-
-/// The option for the number of lanes.
-pub(crate) fn lanes<'a>(alloc: Global) -> Arg<'a>
-    ensures rule { rule_of result ≡ lanes_option }
-    ensures own { result.global ≡ false }
-{
-    // The last word is `DEFAULT_LANES` in digits.
-    ranged(alloc, "lanes", 1, LANE_LIMIT, "1")
-}
-
-/// The option for the number of rounds.
-pub(crate) fn rounds<'a>(alloc: Global) -> Arg<'a>
-    ensures rule { rule_of result ≡ rounds_option }
-    ensures own { result.global ≡ false }
-{
-    // The last word is `DEFAULT_ROUNDS` in digits.
-    ranged(alloc, "rounds", 0, ROUND_LIMIT, "2")
 }
 
 // An option with a number, which is as `usual` writes it where the option is left out.

@@ -1,9 +1,16 @@
-//! Reading the words of the command line: each command by a file of its own.
-ghost use Rattle.std.specs.Prelude.{◌≡◌, IfOk, IfSome, map, option_map, string_bytes};
-ghost use Rattle.command_words.specs.Words.{command_at, command_of};
+//! Reading the words of the command line.
+ghost use Rattle.std.specs.Prelude.{◌≡◌, IfOk, IfSome, List, map, option_map, string_bytes};
+ghost use Rattle.clap.specs.Words.{Row};
+ghost use Rattle.command_words.specs.Words.{command_by, command_of};
 ghost use Rattle.command_words.specs.Asked.{CanServe, asked};
+ghost use Rattle.command_words.specs.Forms.{command_in, form_for};
+ghost use Rattle.command_words.specs.Finding.{AreIn};
+ghost use Rattle.command_words.specs.declared.forms.Form.TheVariants.{Session};
 
-use crate::{Command, audit, cnf, plan, resilience, resume, serve, show, solve, trial};
+use crate::Command;
+use crate::finding::{Found, found_in};
+use crate::forms::{Form, SessionForm};
+use clap::error::ErrorKind;
 use std::alloc::{AllocError, Global};
 
 /// The command that the words are, where they are one; they are those behind the program's name.
@@ -15,31 +22,110 @@ pub fn read_words<'a>(alloc: Global, words: &'a [String]) -> Result<Option<Comma
     ensures served { IfOk result (λ c. IfSome c CanServe) }
 {
     match words {
-        [word, ..] => read_command(alloc, word.as_str(), words),
+        [name, ..] => match Form::named(name.as_str()) {
+            Some(form) => read(alloc, form, words),
+            None => Ok(None),
+        },
         [] => Ok(None),
     }
 }
 
-// The command of this first word, at all the words.
-fn read_command<'a>(
+// The command of this form that the words are, if they are one.
+fn read<'a>(
     alloc: Global,
-    word: &str,
+    form: Form,
     words: &'a [String],
 ) -> Result<Option<Command<'a>>, AllocError>
-    ensures command { IfOk result (λ c.
-        option_map asked c ≡ command_at word.now (map string_bytes words.now)) }
+    ensures command { IfOk result (λ c. option_map asked c
+        ≡ command_by (form_for form) (command_in form) (map string_bytes words.now)) }
     ensures served { IfOk result (λ c. IfSome c CanServe) }
 {
-    match word {
-        "plan" => plan::read(alloc, words),
-        "show" => show::read(alloc, words),
-        "solve" => solve::read(alloc, words),
-        "resilience" => resilience::read(alloc, words),
-        "cnf" => cnf::read(alloc, words),
-        "serve" => serve::read(alloc, words),
-        "audit" => audit::read(alloc, words),
-        "resume" => resume::read(alloc, words),
-        "trial" => trial::read(alloc, words),
-        _ => Ok(None),
+    match form.command(alloc)?.try_get_matches_from(words) {
+        Ok(matches) => Ok(command_in(form, found_in(&matches))),
+        Err(error) => match error.kind() {
+            ErrorKind::OutOfMemory => Err(AllocError),
+            _ => Ok(None),
+        },
+    }
+}
+
+// The command of this form, by what was found.
+fn command_in<'a>(form: Form, found: Found<'a>) -> Option<Command<'a>>
+    ensures command { (rows : List Row) → AreIn rows found.entry
+        → option_map asked result ≡ command_in form rows }
+    ensures served { (rows : List Row) → AreIn rows found.entry → IfSome result CanServe }
+{
+    match form {
+        Form::Plan => match (found.policy, found.flow) {
+            (Some(policy), Some(flow)) => Some(Command::Plan { policy, flow }),
+            _ => None,
+        },
+        Form::Show => match found.policy {
+            Some(policy) => Some(Command::Show { policy }),
+            _ => None,
+        },
+        Form::Solve => match found.policy {
+            Some(policy) => Some(Command::Solve { policy }),
+            _ => None,
+        },
+        Form::Resilience => match (found.policy, found.flow, found.absences) {
+            (Some(policy), Some(flow), Some(absences)) => Some(Command::Resilience {
+                policy,
+                flow,
+                absences,
+            }),
+            _ => None,
+        },
+        Form::Cnf => match (found.policy, found.flow) {
+            (Some(policy), Some(flow)) => Some(Command::Cnf {
+                policy,
+                flow,
+                model: found.model,
+            }),
+            _ => None,
+        },
+        Form::Trial => match found.seed {
+            Some(seed) => Some(Command::Trial { seed }),
+            _ => None,
+        },
+        Form::Session(session) => session_in(session, found),
+    }
+}
+
+// The command that serves a session, by what was found.
+fn session_in<'a>(session: SessionForm, found: Found<'a>) -> Option<Command<'a>>
+    ensures command { (rows : List Row) → AreIn rows found.entry
+        → option_map asked result ≡ command_in (Session session) rows }
+    ensures served { (rows : List Row) → AreIn rows found.entry → IfSome result CanServe }
+{
+    match session {
+        SessionForm::Serve => match (found.policy, found.options) {
+            (Some(policy), Some(options)) => Some(Command::Serve { policy, options }),
+            _ => None,
+        },
+        SessionForm::Audit => match (found.policy, found.requests, found.options) {
+            (Some(policy), Some(requests), Some(options)) => Some(Command::Audit {
+                policy,
+                requests,
+                options,
+            }),
+            _ => None,
+        },
+        SessionForm::Resume => match (
+            found.policy,
+            found.requests,
+            found.transcript,
+            found.options,
+        ) {
+            (Some(policy), Some(requests), Some(transcript), Some(options)) => Some(
+                Command::Resume {
+                    policy,
+                    requests,
+                    transcript,
+                    options,
+                },
+            ),
+            _ => None,
+        },
     }
 }
