@@ -29,7 +29,8 @@ invariant_of-self c =
       desk = again_keeps _ c.self.inside.places c.go_on.new.places c.args.task.now c.job_of-job.result c.last_counting.result c.add_entry-at.new.journal.entries
           c.add_entry-at.new.journal.spare c.no_loss.result c.self.invariant.desk c.job_of-job.ensures
           (rw (← c.self.view_is) at c.requires.lane) c.go_on.ensures.sized (rw (← c.self.view_is) at c.requires.next)
-          (rw (← c.self.view_is) at c.requires.stale) (rw (← c.self.view_is) at c.requires.lost) (rw (← c.self.view_is) at c.requires.last) c.last_counting.ensures
+          (rw (← c.self.view_is) at c.requires.stale) (rw (← c.self.view_is) at c.requires.lost) (rw (← c.self.view_is) at c.requires.last)
+          c.last_counting.ensures
           c.add_entry-at.ensures.room c.add_entry-at.ensures.added c.no_loss.ensures (rw c.batch_of.ensures at c.go_on.ensures.moved);
       begins = c.self.invariant.begins;
     }
