@@ -1,5 +1,6 @@
 //! Sessions of several lanes, each on a thread of its own: that searches run beside the turns of
-//! other lanes, that what comes too late is answered again, and that every line is answered.
+//! other lanes, that what comes too late is answered again, that every line is answered, and that
+//! lines which threads make are those of one thread.
 
 use crate::outsides::{shelf_of, sink_of, source_of, words_of};
 use crate::policies::{PAY, STAFFED};
@@ -190,6 +191,98 @@ const EIGHT_CASES: &str = r#"{"do":"open","flow":"pay","lane":0}
 {"do":"claim","case":6,"step":"approve","user":"cyd","lane":6}
 {"do":"claim","case":7,"step":"approve","user":"cyd","lane":7}
 "#;
+
+// Sixteen clerks, each of whom knows the next one. Who signs and who seals have to know each other,
+// which none do.
+const PACT: &str = r#"
+format = 1
+admin = "chief"
+roles = ["chief", "clerk"]
+
+[users]
+a = ["clerk"]
+b = ["clerk"]
+c = ["clerk"]
+d = ["clerk"]
+e = ["clerk"]
+eve = ["chief"]
+f = ["clerk"]
+g = ["clerk"]
+h = ["clerk"]
+i = ["clerk"]
+j = ["clerk"]
+k = ["clerk"]
+l = ["clerk"]
+m = ["clerk"]
+n = ["clerk"]
+o = ["clerk"]
+p = ["clerk"]
+
+[relations]
+knows = { pairs = [
+  ["a", "b"], ["b", "c"], ["c", "d"], ["d", "e"], ["e", "f"], ["f", "g"], ["g", "h"], ["h", "i"],
+  ["i", "j"], ["j", "k"], ["k", "l"], ["l", "m"], ["m", "n"], ["n", "o"], ["o", "p"],
+] }
+
+[flows.pact]
+steps = ["sign", "seal"]
+permit = { sign = ["clerk"], seal = ["clerk"] }
+rules = [
+  { form = "pair", relation = "knows", first = "sign", second = "seal" },
+  { form = "pair", relation = "knows", first = "seal", second = "sign" },
+]
+"#;
+
+// Each is denied with a tree of 272 branches, so that the batch is one whose lines threads make.
+const PACTS: &str = r#"{"do":"open","flow":"pact"}
+{"do":"open","flow":"pact"}
+{"do":"open","flow":"pact"}
+{"do":"open","flow":"pact"}
+{"do":"open","flow":"pact"}
+{"do":"open","flow":"pact"}
+{"do":"open","flow":"pact"}
+{"do":"open","flow":"pact"}
+"#;
+
+// A session of two lanes writes what one of one lane does, where all lines are of one lane.
+#[test]
+fn long_lines_are_written_alike(rt: HostRuntime) -> Result<(), Fail> {
+    assert!(rt; writes_alike(&rt, rt.alloc())?);
+    Ok(())
+}
+
+fn writes_alike<R: Threads + Wait + Sync>(rt: &R, alloc: Global) -> Result<bool, AllocError> {
+    let mut beside = sink_of(alloc)?;
+    Ok(denies_pacts(rt, alloc, "2", &mut beside)? && is_written_alone(rt, alloc, &beside)?)
+}
+
+fn is_written_alone<R: Threads + Wait + Sync>(
+    rt: &R,
+    alloc: Global,
+    beside: &MemSink,
+) -> Result<bool, AllocError> {
+    let mut alone = sink_of(alloc)?;
+    Ok(denies_pacts(rt, alloc, "1", &mut alone)? && alone.bytes() == beside.bytes())
+}
+
+// Whether a run on so many lanes ends well, and denies the first and the last opening for the
+// rules: a does not know a, and b does not know a.
+fn denies_pacts<R: Threads + Wait + Sync>(
+    rt: &R,
+    alloc: Global,
+    lanes: &str,
+    sink: &mut MemSink,
+) -> Result<bool, AllocError> {
+    let gate = TwoHolds::new(false, [FREE, FREE]);
+    let words = ["serve", "policy", "--lanes", lanes];
+    let status = report_of(rt, alloc, PACT, &words, PACTS, &gate, sink)?.status;
+    let parts = [
+        r#""at":0,"lane":0,"line":0,"reply":{"denied":{"unsatisfiable":{"step":"sign","#,
+        r#""at":7,"lane":0,"line":7,"reply":{"denied":{"unsatisfiable":{"step":"sign","#,
+        r#"["a",{"step":"seal","users":[["a",{"rule":0}],["b",{"rule":1}],["c",{"rule":0}],"#,
+    ];
+    Ok(status == 0 && has_parts(sink, &parts))
+}
 
 // Whether eight cases are opened, and ann and cyd get their steps in each, and nothing else is
 // answered, with `searches` searches outside the turns.

@@ -1,8 +1,9 @@
 //! The program: it lends the real input, output and files to the server, and ends with its status.
 #![tactic(auto)]
 
-use run_record::RunFault;
+use run_record::{Report, RunFault};
 use std::io::BufWriter;
+use std::mem::forget;
 use std::process::ExitCode;
 use std::{env, io};
 use wf_server::{OpenGate, run};
@@ -17,7 +18,13 @@ fn main(rt: HostRuntime) -> ExitCode {
     };
     let fault = match all_words(rt.alloc(), env::args(&rt)) {
         Ok(words) => {
-            let report = run(
+            let Report {
+                status: _,
+                fault,
+                entries,
+                jobs,
+                batch_ends,
+            } = run(
                 &rt,
                 rt.alloc(),
                 after_name(&words),
@@ -26,7 +33,9 @@ fn main(rt: HostRuntime) -> ExitCode {
                 &mut StdinSource::new(rt.reader()),
                 &mut StdoutSink::new(writer),
             );
-            report.fault
+            // The process ends, and all that the session keeps goes with it at once.
+            forget((entries, jobs, batch_ends));
+            fault
         }
         Err(fault) => fault,
     };

@@ -32,34 +32,6 @@ use Rattle.wf_server.specs.declared.batch.Answered.{Answered}
 use Rattle.wf_server.proofs.Names.{transcript_more}
 use Rattle.wf_server.specs.Batches.{entries_text, told_of, HasAnsweredAll, HasAnsweredPart, HasLoaded, IsBatchAdded, AnswersTo, LoadedTo, IsWriteEnding}
 
-text_append : (p : PolicyShape) (xs ys : List Entry) → entries_text p (xs ++ ys) ≡ entries_text p xs ++ entries_text p ys
-text_append p [] ys = refl
-text_append p (x ∷ xs) ys = ap (λ t. entry_text p x ++ t) (text_append p xs ys) ∙ sym (append_assoc (entry_text p x) (entries_text p xs) (entries_text p ys))
-
--- all items: the first, the next one and the rest
-split_at : {A : Type 0} (xs : List A) (i : ℕ) (x : A) → i < length xs → x ≡ get_or xs i x → xs ≡ take i xs ++ (x ∷ drop (i + 1) xs)
-split_at xs i x within is = sym (take-append-drop i xs) ∙ ap (λ d. take i xs ++ d) (drop_more xs i x within ∙ ap (λ y. y ∷ drop (i + 1) xs) (sym is))
-
--- one more entry is written
-pub written_more : (p : PolicyShape) (held mid after : Option (List ℕ)) (es : List Entry) (i : ℕ) (e : Entry) → i < length es → e ≡ get_or es i e
-    → mid ≡ with_bytes held (entries_text p (take i es)) → after ≡ with_bytes mid (entry_text p e) → after ≡ with_bytes held (entries_text p (take (i + 1) es))
-written_more p held mid after es i e within is so_far now =
-    now ∙ ap (λ m. with_bytes m (entry_text p e)) so_far ∙ more_put held (entries_text p (take i es)) (entry_text p e)
-    ∙ ap (with_bytes held) (ap (λ t. entries_text p (take i es) ++ t) (sym (append-nil (entry_text p e))) ∙ sym (text_append p (take i es) (e ∷ [])) ∙
-    ap (entries_text p) (ap (λ y. take i es ++ y ∷ []) is ∙ sym (take_more es i e within)))
-
--- or only a part of it
-pub written_part : (p : PolicyShape) (held mid after : Option (List ℕ)) (es : List Entry) (i : ℕ) (e : Entry) → i < length es → e ≡ get_or es i e
-    → mid ≡ with_bytes held (entries_text p (take i es)) → HasPart mid after (entry_text p e) → HasPart held after (entries_text p es)
-written_part p held mid after es i e within is so_far part =
-    let front = entries_text p (take i es) in
-    let rest = entries_text p (drop (i + 1) es) in
-    let whole : entries_text p es ≡ front ++ (entry_text p e ++ rest) = ap (entries_text p) (split_at es i e within is) ∙
-    text_append p (take i es) (e ∷ drop (i + 1) es) in
-    subst (HasPart held after) (sym whole)
-    (part_second held after front (entry_text p e ++ rest)
-    (part_first (with_bytes held front) after (entry_text p e) rest (subst (λ m. HasPart m after (entry_text p e)) so_far part)))
-
 -- ---- ends of batches
 
 -- the end of a batch, if it has a job

@@ -1,6 +1,7 @@
 -- Inside: where a session stands between its batches.
 use Rattle.std.specs.Prelude.{◌≡◌, ℕ, Bool, ◌+◌, ◌≤◌, max, List, [], ◌∷◌, ◌++◌, length, take}
 use Rattle.std.specs.Prelude.{Option, None, Some, Result, Ok, Err}
+use Rattle.std.specs.List.{flat_map}
 use Rattle.std.proofs.Common.{◌⊎◌}
 use Rattle.wf_names.specs.declared.limits.TheConstants.{BATCH_LINE_LIMIT, SESSION_LINE_LIMIT}
 use Rattle.wf_outside.specs.Outside.{with_bytes}
@@ -31,8 +32,7 @@ use Rattle.wf_server.specs.Ways.{setting_of}
 
 -- the texts of entries, in order, with the names of one policy
 abbrev pub entries_text : PolicyShape → List Entry → List ℕ
-entries_text p [] = []
-entries_text p (e ∷ es) = entry_text p e ++ entries_text p es
+entries_text p entries = flat_map (entry_text p) entries
 
 -- a session, but that its history is legal and keeps each open case completable
 pub record Serves (set : Setting) (first : Cut) (room : ℕ) (before after : Streams)

@@ -1,31 +1,26 @@
 //! Answering the jobs of a batch, and writing the entries.
 ghost use Rattle.std.specs.Prelude.{◌≡◌, ◌≢◌, ◌≤◌, ◌<◌, ◌+◌, ℕ, List, [], ◌∷◌, ◌++◌, length};
 ghost use Rattle.std.specs.Prelude.{drop, Option, Err, IfErr, OnOk, OnErr};
-ghost use Rattle.wf_outside.specs.Outside.{HasPart, with_bytes};
 ghost use Rattle.wf_names.specs.declared.limits.TheConstants.{SESSION_LINE_LIMIT};
 ghost use Rattle.wf_board.specs.Histories.{AreAnsweredOnce};
 ghost use Rattle.wf_desk.specs.Desks.{IsDone, IsSoundDesk};
 ghost use Rattle.wf_desk.specs.Schedules.{HasGrown};
-ghost use Rattle.wire_json.specs.Replies.{entry_text};
 ghost use Rattle.run_record.specs.Fault.{fault_in, CountsWrites};
 ghost use Rattle.run_record.specs.Report.{Told};
-ghost use Rattle.wf_server.specs.Batches.{entries_text, told_of, HasAnsweredAll, HasLoaded};
+ghost use Rattle.wf_server.specs.Batches.{told_of, HasAnsweredAll, HasLoaded};
 ghost use Rattle.wf_server.specs.Batches.{IsBatchAdded};
 ghost use Rattle.wf_server.specs.Batch.{CanBeServed, CanTake, HasServedJobs, IsServedOn};
 ghost use Rattle.wf_server.specs.Batches.{AnswersTo, LoadedTo, IsWriteEnding};
-ghost use Rattle.wf_server.specs.Ways.{IsWay, ServesOnce, setting_of};
+ghost use Rattle.wf_server.specs.Ways.{ServesOnce, setting_of};
 
 use crate::texts::texts_stay;
-use policy_book::Policy;
+use crate::way::Way;
+use crate::writing::write_entries;
 use run_record::RunFault;
 use std::alloc::{AllocError, Global};
 use wf_desk::Desk;
-use wf_outside::{Sink, put_all};
+use wf_outside::Sink;
 use wf_talk::{Ends, Entry, Job, Journal};
-use wire_json::LineWriter;
-
-// The room that most lines need.
-const LINE_ROOM: usize = 256;
 
 /// The ends of the batches that a session has answered. Their jobs and their entries are at its
 /// desk.
@@ -46,7 +41,7 @@ impl Answered {
 }
 
 /// Answers the jobs of a batch in a way of serving, and writes their entries. The desk comes back.
-pub(crate) fn answer_batch<K: Sink, W: Fn(Desk) -> Desk>(
+pub(crate) fn answer_batch<K: Sink, W: Way>(
     alloc: Global,
     way: &W,
     mut desk: Desk,
@@ -54,9 +49,9 @@ pub(crate) fn answer_batch<K: Sink, W: Fn(Desk) -> Desk>(
     batch: &[Job],
     sink: &mut K,
 ) -> (Desk, Result<(), RunFault>)
-    requires way { IsWay (W.pre way.now) (W.post way.now) }
+    requires way { W.ready way.now }
     requires takes { CanTake desk (told_of desk told.old) batch.now }
-    ensures on { IsServedOn (W.post way.now) desk result.0 }
+    ensures on { IsServedOn (W.leaves way.now) desk result.0 }
     ensures answers { (held : Option (List ℕ)) →
         HasAnsweredAll held (K.held sink.old) desk (told_of desk told.old) →
         AnswersTo held (K.held sink.new) (told_of desk told.old) batch.now result.0
@@ -74,15 +69,15 @@ pub(crate) fn answer_batch<K: Sink, W: Fn(Desk) -> Desk>(
 
 /// Answers the jobs that a desk has in a way of serving, and writes the entries that come of it.
 /// The desk comes back.
-pub(crate) fn answer_loaded<K: Sink, W: Fn(Desk) -> Desk>(
+pub(crate) fn answer_loaded<K: Sink, W: Way>(
     alloc: Global,
     way: &W,
     desk: Desk,
     sink: &mut K,
 ) -> (Desk, Result<(), RunFault>)
-    requires way { IsWay (W.pre way.now) (W.post way.now) }
+    requires way { W.ready way.now }
     requires ready { CanBeServed desk }
-    ensures on { HasServedJobs (W.post way.now) desk result.0 }
+    ensures on { HasServedJobs (W.leaves way.now) desk result.0 }
     ensures answers { (held : Option (List ℕ)) (before : Told) (told : Answered) →
         HasLoaded held (K.held sink.old) desk before →
         IsBatchAdded before desk.jobs (told_of desk told) →
@@ -95,9 +90,10 @@ pub(crate) fn answer_loaded<K: Sink, W: Fn(Desk) -> Desk>(
 {
     let done = desk.journal().len();
     texts_stay(&desk);
-    let served = serve_jobs(way, desk);
+    let served = serve_jobs(alloc, way, desk);
     let written = write_entries(
         alloc,
+        way,
         served.board().policy(),
         entries_after(served.journal(), done),
         sink,
@@ -133,17 +129,17 @@ fn take_batch(
 }
 
 // Has the jobs of a batch served.
-fn serve_jobs<W: Fn(Desk) -> Desk>(way: &W, desk: Desk) -> Desk
-    requires way { IsWay (W.pre way.now) (W.post way.now) }
+fn serve_jobs<W: Way>(alloc: Global, way: &W, desk: Desk) -> Desk
+    requires way { W.ready way.now }
     requires ready { CanBeServed desk }
     ensures grown { HasGrown desk result }
     ensures done { IsDone result }
     ensures sound { IsSoundDesk result }
-    ensures once { ServesOnce (W.post way.now) → AreAnsweredOnce (drop desk.restored desk.entries)
+    ensures once { ServesOnce (W.leaves way.now) → AreAnsweredOnce (drop desk.restored desk.entries)
         → AreAnsweredOnce (drop desk.restored result.entries) }
 {
     let _before = desk.journal();
-    let served = way(desk);
+    let served = way.serve(alloc, desk);
     let _after = served.journal();
     served
 }
@@ -168,77 +164,4 @@ fn entries_after(journal: &Journal, done: usize) -> &[Entry]
     ensures { result.now ≡ drop done journal.now.entries }
 {
     &journal.as_slice()[done..]
-}
-
-// Writes the lines of the entries of a batch, and lets them go; also those before the one for
-// which memory is refused.
-fn write_entries<K: Sink>(
-    alloc: Global,
-    p: &Policy,
-    entries: &[Entry],
-    sink: &mut K,
-) -> Result<(), RunFault>
-    ensures all { OnOk result (K.held sink.new
-        ≡ with_bytes (K.held sink.old) (entries_text p.now entries.now)) }
-    ensures part { HasPart (K.held sink.old) (K.held sink.new) (entries_text p.now entries.now) }
-    ensures some { OnErr result (0 < length entries.now) }
-    ensures ending { IfErr result IsWriteEnding }
-    ensures counts { CountsWrites (fault_in result) (K.faults sink.old) (K.faults sink.new) }
-    ensures flushed { K.is_flushed sink.old → result ≢ Err RunFault.Write
-        → K.is_flushed sink.new }
-{
-    if entries.is_empty() {
-        return Ok(());
-    }
-    let written = write_lines(alloc, p, entries, sink);
-    if let Err(RunFault::Write) = written {
-        return written;
-    }
-    match sink.flush() {
-        Ok(()) => written,
-        Err(_) => Err(RunFault::Write),
-    }
-}
-
-// Writes the lines of entries, one after the other.
-fn write_lines<K: Sink>(
-    alloc: Global,
-    p: &Policy,
-    entries: &[Entry],
-    sink: &mut K,
-) -> Result<(), RunFault>
-    ensures all { OnOk result (K.held sink.new
-        ≡ with_bytes (K.held sink.old) (entries_text p.now entries.now)) }
-    ensures part { HasPart (K.held sink.old) (K.held sink.new) (entries_text p.now entries.now) }
-    ensures ending { IfErr result IsWriteEnding }
-    ensures counts { CountsWrites (fault_in result) (K.faults sink.old) (K.faults sink.new) }
-{
-    let mut writer = LineWriter::new(p);
-    let mut line = Vec::with_capacity(alloc, LINE_ROOM)?;
-    'writing: for entry in entries {
-        write_one(&mut writer, entry, &mut line, sink)?;
-    }
-    Ok(())
-}
-
-// Writes the line of an entry, which is made in the place of the line before.
-fn write_one<K: Sink>(
-    writer: &mut LineWriter<'_>,
-    entry: &Entry,
-    line: &mut Vec<u8>,
-    sink: &mut K,
-) -> Result<(), RunFault>
-    ensures all { OnOk result (K.held sink.new
-        ≡ with_bytes (K.held sink.old) (entry_text writer.old entry.now)) }
-    ensures part { HasPart (K.held sink.old) (K.held sink.new) (entry_text writer.old entry.now) }
-    ensures same { writer.new ≡ writer.old }
-    ensures ending { IfErr result IsWriteEnding }
-    ensures counts { CountsWrites (fault_in result) (K.faults sink.old) (K.faults sink.new) }
-{
-    line.truncate(0);
-    writer.push_line(line, entry)?;
-    match put_all(sink, line.as_slice()) {
-        Ok(()) => Ok(()),
-        Err(_) => Err(RunFault::Write),
-    }
 }

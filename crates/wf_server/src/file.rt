@@ -5,9 +5,9 @@ ghost use Rattle.run_record.specs.Fault.{fault_in, CountsWrites};
 ghost use Rattle.wf_server.specs.Batch.{IsServedOn};
 ghost use Rattle.wf_server.specs.Batches.{told_of, HasAnsweredAll, IsWriteEnding};
 ghost use Rattle.wf_server.specs.Files.{FileTo, IsInFile, StandsBehind};
-ghost use Rattle.wf_server.specs.Ways.{IsWay};
 
 use crate::batch::{Answered, answer_batch, answer_loaded};
+use crate::way::Way;
 use line_cutter::Batch;
 use run_record::RunFault;
 use std::alloc::Global;
@@ -18,7 +18,7 @@ use wf_talk::Job;
 /// Answers the jobs of a file from the batch on that is at the desk, in a way of serving, and
 /// writes their entries. The file has `count` batches up to that one and with it. The desk comes
 /// back.
-pub(crate) fn answer_requests<K: Sink, W: Fn(Desk) -> Desk>(
+pub(crate) fn answer_requests<K: Sink, W: Way>(
     alloc: Global,
     way: &W,
     desk: Desk,
@@ -27,10 +27,10 @@ pub(crate) fn answer_requests<K: Sink, W: Fn(Desk) -> Desk>(
     count: usize,
     sink: &mut K,
 ) -> (Desk, Result<(), RunFault>)
-    requires way { IsWay (W.pre way.now) (W.post way.now) }
+    requires way { W.ready way.now }
     requires stands { StandsBehind desk (told_of desk told.old) }
     requires file { IsInFile desk.lanes file.now.jobs file.now.ends count (told_of desk told.old) }
-    ensures on { IsServedOn (W.post way.now) desk result.0 }
+    ensures on { IsServedOn (W.leaves way.now) desk result.0 }
     ensures answers { FileTo (K.held sink.old) (K.held sink.new) file.now.jobs file.now.ends
         result.0 (told_of result.0 told.new) result.1 }
     ensures ending { IfErr result.1 IsWriteEnding }
@@ -44,7 +44,7 @@ pub(crate) fn answer_requests<K: Sink, W: Fn(Desk) -> Desk>(
 }
 
 // Answers the jobs of a file, batch after batch, behind the first `count` batches.
-fn answer_file<K: Sink, W: Fn(Desk) -> Desk>(
+fn answer_file<K: Sink, W: Way>(
     alloc: Global,
     way: &W,
     mut desk: Desk,
@@ -53,12 +53,12 @@ fn answer_file<K: Sink, W: Fn(Desk) -> Desk>(
     mut count: usize,
     sink: &mut K,
 ) -> (Desk, Result<(), RunFault>)
-    requires way { IsWay (W.pre way.now) (W.post way.now) }
+    requires way { W.ready way.now }
     requires lanes { 0 < desk.lanes }
     requires file { IsInFile desk.lanes file.now.jobs file.now.ends count (told_of desk told.old) }
     requires answered { (held : Option (List ℕ))
         × HasAnsweredAll held (K.held sink.old) desk (told_of desk told.old) }
-    ensures on { IsServedOn (W.post way.now) desk result.0 }
+    ensures on { IsServedOn (W.leaves way.now) desk result.0 }
     ensures answers { (held : Option (List ℕ)) →
         HasAnsweredAll held (K.held sink.old) desk (told_of desk told.old) →
         FileTo held (K.held sink.new) file.now.jobs file.now.ends result.0

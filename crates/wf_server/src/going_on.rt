@@ -18,12 +18,13 @@ ghost use Rattle.wf_server.specs.GoingOn.{GoOnBehind, options_by};
 ghost use Rattle.wf_server.specs.Sessions.{Served};
 ghost use Rattle.wf_server.specs.Resuming.{CountsRefusal, RefusesAs, ResumesRun, TellsAs};
 ghost use Rattle.wf_server.specs.Resuming.{setting_behind};
-ghost use Rattle.wf_server.specs.Ways.{IsWay, ServesOnce};
+ghost use Rattle.wf_server.specs.Ways.{ServesOnce};
 
 use crate::batch::Answered;
 use crate::file::answer_requests;
 use crate::session::{report_of, serve_batches};
 use crate::texts::names_known;
+use crate::way::Way;
 use audit_command::fault_text;
 use case_views::PlainDecider;
 use entry_laws::lines_fit;
@@ -38,7 +39,7 @@ use wf_outside::{Shelf, Sink, Source, put_and_flush};
 
 /// Takes up the transcript of an earlier session, answers the requests that have no entry, and then
 /// those in the input, in a way of serving.
-pub(crate) fn run_resume<F: Shelf, S: Source, K: Sink, W: Fn(Desk) -> Desk>(
+pub(crate) fn run_resume<F: Shelf, S: Source, K: Sink, W: Way>(
     alloc: Global,
     way: &W,
     earlier: Earlier,
@@ -46,12 +47,12 @@ pub(crate) fn run_resume<F: Shelf, S: Source, K: Sink, W: Fn(Desk) -> Desk>(
     source: &mut S,
     sink: &mut K,
 ) -> Report
-    requires way { IsWay (W.pre way.now) (W.post way.now) }
+    requires way { W.ready way.now }
     requires options { AreOptions (options_by earlier) }
     ensures status { result.status ≡ status_of result.fault }
     ensures usage { result.fault ≡ RunFault.Usage → ⊥ }
     ensures resumes { (repeats : Bool) →
-        (repeats ≡ false → ServesOnce (W.post way.now) ⊎ (earlier.entry.rounds ≡ 0)) →
+        (repeats ≡ false → ServesOnce (W.leaves way.now) ⊎ (earlier.entry.rounds ≡ 0)) →
         ResumesRun (names_in earlier.entry) (options_by earlier.entry) repeats (
         run_of F.file F.faults shelf.old shelf.new
         (streams_of S.left S.faults K.held K.faults source.old sink.old)
@@ -82,14 +83,14 @@ fn refuse<K: Sink>(alloc: Global, refusal: Refusal, sink: &mut K) -> Report
 }
 
 // The session behind the entries that were taken up.
-fn go_on<S: Source, K: Sink, W: Fn(Desk) -> Desk>(
+fn go_on<S: Source, K: Sink, W: Way>(
     alloc: Global,
     way: &W,
     beginning: Beginning,
     source: &mut S,
     sink: &mut K,
 ) -> Report
-    requires way { IsWay (W.pre way.now) (W.post way.now) }
+    requires way { W.ready way.now }
     requires some { 0 < beginning.desk.lanes }
     requires begun { (s : Session) × ((cut : Cut) × ((transcript : List ℕ)
         × HasBegun s cut transcript beginning)) }
@@ -99,7 +100,7 @@ fn go_on<S: Source, K: Sink, W: Fn(Desk) -> Desk>(
         (streams_of S.left S.faults K.held K.faults source.old sink.old)
         (streams_of S.left S.faults K.held K.faults source.new sink.new)
         (told_by result) result.fault }
-    ensures behind { GoOnBehind (W.post way.now) beginning.desk.entries (told_by result).entries }
+    ensures behind { GoOnBehind (W.leaves way.now) beginning.desk.entries (told_by result).entries }
     ensures named { HasNames (state_after (opening_state beginning.desk.opening)
         beginning.desk.entries).book.policy }
     ensures status { result.status ≡ status_of result.fault }

@@ -7,7 +7,10 @@ mod going_on;
 mod runs;
 mod serve;
 mod session;
+mod side;
 mod texts;
+mod way;
+mod writing;
 
 pub use run_record::{InputFault, Report, RunFault};
 pub use runs::{run, run_alone};

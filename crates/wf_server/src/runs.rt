@@ -5,17 +5,15 @@ ghost use Rattle.run_record.specs.Fault.{status_of};
 ghost use Rattle.run_record.specs.Report.{told_by};
 ghost use Rattle.run_record.specs.Run.{run_of, streams_of};
 ghost use Rattle.wf_board.specs.Histories.{AreAnsweredOnce};
-ghost use Rattle.wf_desk.specs.Desks.{AreOfLanes, IsDone};
-ghost use Rattle.wf_desk.specs.Schedules.{HasGrown};
-ghost use Rattle.wf_lanes.specs.Turns.{HasServedOn};
 ghost use Rattle.command_words.specs.Asked.{asked, CanServe};
 ghost use Rattle.command_words.specs.Words.{command_of, may_repeat, reads_input};
 ghost use Rattle.wf_server.specs.Runs.{Does, HasRun, IsWordsEnding, takes_up};
 
 use crate::going_on::run_resume;
 use crate::serve::run_serve;
+use crate::way::{ByTurns, OnLanes};
 use audit_command::{AuditedSession, run_audit};
-use case_views::{PlainDecider, SpreadDecider};
+use case_views::PlainDecider;
 use cnf_command::{run_clauses, run_model};
 use command_words::{Command, Options, read_words};
 use resume_command::Earlier;
@@ -25,8 +23,7 @@ use std::sync::Wait;
 use std::thread::Threads;
 use trial_command::run_trial;
 use wf_commands::{PlanCommand, ResilienceCommand, ShowCommand, SolveCommand, answer_once};
-use wf_desk::Desk;
-use wf_lanes::{Gate, serve_by_lanes, serve_by_turns};
+use wf_lanes::Gate;
 use wf_outside::{Shelf, Sink, Source};
 
 /// Runs the command that the words are, which are those after the program's name. `serve` and
@@ -57,11 +54,15 @@ pub fn run<R: Threads + Wait + Sync, F: Shelf, S: Source, K: Sink, G: Gate + Syn
 {
     match read_command(alloc, words) {
         Ok(Command::Serve { policy, options }) if on_threads(&options) => {
-            let on_lanes = |desk: Desk| -> Desk
-                requires { (0 < desk.lanes) × AreOfLanes desk.lanes desk.jobs }
-                ensures { HasGrown desk result × IsDone result }
-            { serve_by_lanes(rt, alloc, &SpreadDecider::new(rt), gate, desk) };
-            run_serve(alloc, &on_lanes, policy, options, shelf, source, sink)
+            run_serve(
+                alloc,
+                &OnLanes { rt, gate },
+                policy,
+                options,
+                shelf,
+                source,
+                sink,
+            )
         }
         Ok(
             Command::Resume {
@@ -71,10 +72,6 @@ pub fn run<R: Threads + Wait + Sync, F: Shelf, S: Source, K: Sink, G: Gate + Syn
                 options,
             },
         ) if on_threads(&options) => {
-            let on_lanes = |desk: Desk| -> Desk
-                requires { (0 < desk.lanes) × AreOfLanes desk.lanes desk.jobs }
-                ensures { HasGrown desk result × IsDone result }
-            { serve_by_lanes(rt, alloc, &SpreadDecider::new(rt), gate, desk) };
             let earlier = Earlier {
                 policy,
                 requests,
@@ -82,7 +79,7 @@ pub fn run<R: Threads + Wait + Sync, F: Shelf, S: Source, K: Sink, G: Gate + Syn
                 lanes: options.lanes,
                 rounds: options.rounds,
             };
-            run_resume(alloc, &on_lanes, earlier, shelf, source, sink)
+            run_resume(alloc, &OnLanes { rt, gate }, earlier, shelf, source, sink)
         }
         Ok(other) => run_command(alloc, other, shelf, source, sink),
         Err(fault) => bare_report(alloc, fault),
@@ -184,11 +181,7 @@ fn run_command<F: Shelf, S: Source, K: Sink>(
             model: Some(model),
         } => run_model(alloc, policy, flow, model, shelf, source, sink),
         Command::Serve { policy, options } => {
-            let by_turns = |desk: Desk| -> Desk
-                requires { (0 < desk.lanes) × AreOfLanes desk.lanes desk.jobs }
-                ensures { HasServedOn desk result × IsDone result }
-            { turned(alloc, desk) };
-            run_serve(alloc, &by_turns, policy, options, shelf, source, sink)
+            run_serve(alloc, &ByTurns, policy, options, shelf, source, sink)
         }
         Command::Audit {
             policy,
@@ -209,10 +202,6 @@ fn run_command<F: Shelf, S: Source, K: Sink>(
             transcript,
             options,
         } => {
-            let by_turns = |desk: Desk| -> Desk
-                requires { (0 < desk.lanes) × AreOfLanes desk.lanes desk.jobs }
-                ensures { HasServedOn desk result × IsDone result }
-            { turned(alloc, desk) };
             let earlier = Earlier {
                 policy,
                 requests,
@@ -220,18 +209,8 @@ fn run_command<F: Shelf, S: Source, K: Sink>(
                 lanes: options.lanes,
                 rounds: options.rounds,
             };
-            run_resume(alloc, &by_turns, earlier, shelf, source, sink)
+            run_resume(alloc, &ByTurns, earlier, shelf, source, sink)
         }
         Command::Trial { seed } => run_trial(alloc, &PlainDecider, seed, sink),
     }
-}
-
-// The desk after the jobs of its batch are served by turns.
-fn turned(alloc: Global, mut desk: Desk) -> Desk
-    requires lanes { AreOfLanes desk.lanes desk.jobs }
-    ensures on { HasServedOn desk result }
-    ensures done { IsDone result }
-{
-    serve_by_turns(alloc, &PlainDecider, &mut desk);
-    desk
 }

@@ -9,9 +9,10 @@ ghost use Rattle.command_words.specs.Words.{AreOptions};
 ghost use Rattle.command_words.specs.Asked.{options_in};
 ghost use Rattle.wf_server.specs.Serve.{HasServedPolicy};
 ghost use Rattle.wf_server.specs.Serving.{ServesRun};
-ghost use Rattle.wf_server.specs.Ways.{IsWay, ServesOnce};
+ghost use Rattle.wf_server.specs.Ways.{ServesOnce};
 
 use crate::session::run_session;
+use crate::way::Way;
 use command_words::Options;
 use entry_laws::lines_fit;
 use entry_reader::know_names;
@@ -21,14 +22,13 @@ use run_record::{Report, RunFault, bare_report};
 use std::alloc::Global;
 use wf_board::laws::{histories_are_exact, histories_keep_completable};
 use wf_commands::load_policy;
-use wf_desk::Desk;
 use wf_outside::{Shelf, Sink, Source};
 
 /// How many bytes of the input are taken at once.
 const PIECE: usize = 65_536;
 
 /// Answers the requests in the input under the policy in a file, in a way of serving.
-pub(crate) fn run_serve<F: Shelf, S: Source, K: Sink, W: Fn(Desk) -> Desk>(
+pub(crate) fn run_serve<F: Shelf, S: Source, K: Sink, W: Way>(
     alloc: Global,
     way: &W,
     policy: &str,
@@ -37,7 +37,7 @@ pub(crate) fn run_serve<F: Shelf, S: Source, K: Sink, W: Fn(Desk) -> Desk>(
     source: &mut S,
     sink: &mut K,
 ) -> Report
-    requires way { IsWay (W.pre way.now) (W.post way.now) }
+    requires way { W.ready way.now }
     requires options { AreOptions (options_in options) }
     ensures status { result.status ≡ status_of result.fault }
     ensures usage { result.fault ≡ RunFault.Usage → ⊥ }
@@ -45,7 +45,7 @@ pub(crate) fn run_serve<F: Shelf, S: Source, K: Sink, W: Fn(Desk) -> Desk>(
         run_of F.file F.faults shelf.old shelf.new
         (streams_of S.left S.faults K.held K.faults source.old sink.old)
         (streams_of S.left S.faults K.held K.faults source.new sink.new) result) }
-    ensures once { ServesOnce (W.post way.now) → AreAnsweredOnce (told_by result).entries }
+    ensures once { ServesOnce (W.leaves way.now) → AreAnsweredOnce (told_by result).entries }
     ensures no_rounds { options.rounds ≡ 0 → AreAnsweredOnce (told_by result).entries }
 {
     match load_policy(alloc, shelf, policy) {
@@ -55,7 +55,7 @@ pub(crate) fn run_serve<F: Shelf, S: Source, K: Sink, W: Fn(Desk) -> Desk>(
 }
 
 // The session of a policy.
-fn serve_policy<S: Source, K: Sink, W: Fn(Desk) -> Desk>(
+fn serve_policy<S: Source, K: Sink, W: Way>(
     alloc: Global,
     way: &W,
     policy: Policy,
@@ -63,14 +63,14 @@ fn serve_policy<S: Source, K: Sink, W: Fn(Desk) -> Desk>(
     source: &mut S,
     sink: &mut K,
 ) -> Report
-    requires way { IsWay (W.pre way.now) (W.post way.now) }
+    requires way { W.ready way.now }
     requires options { AreOptions (options_in options) }
     requires file { IsFilePolicy policy }
     ensures served { HasServedPolicy policy (options_in options)
         (streams_of S.left S.faults K.held K.faults source.old sink.old)
         (streams_of S.left S.faults K.held K.faults source.new sink.new)
         (told_by result) result.fault }
-    ensures once { ServesOnce (W.post way.now) → AreAnsweredOnce (told_by result).entries }
+    ensures once { ServesOnce (W.leaves way.now) → AreAnsweredOnce (told_by result).entries }
     ensures late { is_before_input result.fault ≡ false }
     ensures status { result.status ≡ status_of result.fault }
 {

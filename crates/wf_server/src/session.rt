@@ -14,9 +14,10 @@ ghost use Rattle.wf_server.specs.Serving.{setting};
 ghost use Rattle.wf_server.specs.Batches.{told_of, ending_after, IsServing, BatchEnds, Serves};
 ghost use Rattle.wf_server.specs.Batch.{IsServedOn};
 ghost use Rattle.wf_server.specs.Session.{AreBehind, GoesOnReading};
-ghost use Rattle.wf_server.specs.Ways.{IsWay, ServesOnce, setting_of};
+ghost use Rattle.wf_server.specs.Ways.{ServesOnce, setting_of};
 
 use crate::batch::{Answered, answer_batch};
+use crate::way::Way;
 use batch_reader::{Paused, Reader, Reading};
 use command_words::Options;
 use line_cutter::{Stop, jobs_are_in_order};
@@ -28,7 +29,7 @@ use wf_outside::{Sink, Source};
 
 /// Answers the lines of the source under a policy, batch by batch, in a way of serving, and writes
 /// the entries to the sink. At most `room` bytes are taken at once.
-pub(crate) fn run_session<S: Source, K: Sink, W: Fn(Desk) -> Desk>(
+pub(crate) fn run_session<S: Source, K: Sink, W: Way>(
     alloc: Global,
     way: &W,
     policy: Policy,
@@ -37,7 +38,7 @@ pub(crate) fn run_session<S: Source, K: Sink, W: Fn(Desk) -> Desk>(
     source: &mut S,
     sink: &mut K,
 ) -> Report
-    requires way { IsWay (W.pre way.now) (W.post way.now) }
+    requires way { W.ready way.now }
     requires room { 0 < room }
     requires options { AreOptions (options_in options) }
     ensures serves { Serves (setting policy (options_in options)) (start options.lanes) room
@@ -45,7 +46,7 @@ pub(crate) fn run_session<S: Source, K: Sink, W: Fn(Desk) -> Desk>(
         (streams_of S.left S.faults K.held K.faults source.new sink.new)
         (told_by result) result.fault }
     ensures legal { IsLegal (opening_state policy) options.rounds (told_by result).entries }
-    ensures once { ServesOnce (W.post way.now) → AreAnsweredOnce (told_by result).entries }
+    ensures once { ServesOnce (W.leaves way.now) → AreAnsweredOnce (told_by result).entries }
     ensures wants { AreRightful (told_by result).entries }
     ensures status { result.status ≡ status_of result.fault }
 {
@@ -68,7 +69,7 @@ pub(crate) fn run_session<S: Source, K: Sink, W: Fn(Desk) -> Desk>(
 }
 
 /// Serves batch after batch of what is read, behind those that were answered before.
-pub(crate) fn serve_batches<S: Source, K: Sink, W: Fn(Desk) -> Desk>(
+pub(crate) fn serve_batches<S: Source, K: Sink, W: Way>(
     alloc: Global,
     way: &W,
     reader: &mut Reader,
@@ -77,7 +78,7 @@ pub(crate) fn serve_batches<S: Source, K: Sink, W: Fn(Desk) -> Desk>(
     source: &mut S,
     sink: &mut K,
 ) -> Report
-    requires way { IsWay (W.pre way.now) (W.post way.now) }
+    requires way { W.ready way.now }
     requires ready { CanReadOn reader.old }
     requires lanes { 0 < desk.lanes }
     requires serving { (first : Cut) × ((before : Streams) × IsServing first before
@@ -89,7 +90,7 @@ pub(crate) fn serve_batches<S: Source, K: Sink, W: Fn(Desk) -> Desk>(
         Serves (setting_of desk) first reader.old.room before
         (streams_of S.left S.faults K.held K.faults source.new sink.new)
         (told_by result) result.fault }
-    ensures behind { AreBehind (W.post way.now) desk (told_by result).entries }
+    ensures behind { AreBehind (W.leaves way.now) desk (told_by result).entries }
     ensures status { result.status ≡ status_of result.fault }
 {
     'serving: loop {
@@ -102,7 +103,7 @@ pub(crate) fn serve_batches<S: Source, K: Sink, W: Fn(Desk) -> Desk>(
 }
 
 // Reads a batch, answers it and writes its entries; the desk, and how the session ends, if it does.
-fn serve_batch<S: Source, K: Sink, W: Fn(Desk) -> Desk>(
+fn serve_batch<S: Source, K: Sink, W: Way>(
     alloc: Global,
     way: &W,
     reader: &mut Reader,
@@ -111,7 +112,7 @@ fn serve_batch<S: Source, K: Sink, W: Fn(Desk) -> Desk>(
     source: &mut S,
     sink: &mut K,
 ) -> (Desk, Option<RunFault>)
-    requires way { IsWay (W.pre way.now) (W.post way.now) }
+    requires way { W.ready way.now }
     requires ready { CanReadOn reader.old }
     requires lanes { 0 < desk.lanes }
     requires serving { (first : Cut) × ((before : Streams) × IsServing first before
@@ -123,7 +124,7 @@ fn serve_batch<S: Source, K: Sink, W: Fn(Desk) -> Desk>(
         BatchEnds first before
         (streams_of S.left S.faults K.held K.faults source.new sink.new)
         reader.new result.0 (told_of result.0 told.new) result.1 }
-    ensures on { IsServedOn (W.post way.now) desk result.0 }
+    ensures on { IsServedOn (W.leaves way.now) desk result.0 }
     ensures goes_on { result.1 ≡ None → GoesOnReading reader.old reader.new }
     ensures room { reader.new.room ≡ reader.old.room }
 {

@@ -3,8 +3,9 @@ use Rattle.std.proofs.lemmas.List.{take_all}
 use Rattle.wf_outside.specs.Outside.{HasPart, with_bytes}
 use Rattle.wf_outside.proofs.OutsideLaws.{nothing_put, part_all, part_none}
 use Rattle.wf_server.specs.Batches.{entries_text}
-use Rattle.wf_server.proofs.BatchLaws.{written_more, written_part}
-use Rattle.wf_server.proofs.batch.write_lines.Goals as goal
+use Rattle.wire_json.specs.Replies.{entry_text}
+use Rattle.wf_server.proofs.WritingLaws.{put_more, put_part}
+use Rattle.wf_server.proofs.writing.write_lines.Goals as goal
 
 pub writing-init : goal.writing-init
 writing-init g c = record {
@@ -18,7 +19,7 @@ returns-in_err-line-clause-part g c = part_none _ _
 
 pub returns-in_err-write_one-clause-part : goal.returns-in_err-write_one-clause-part
 returns-in_err-write_one-clause-part g c =
-    written_part c.args.p.now (g.K.Sink.held c.args.sink.now) (g.K.Sink.held c.writing.sink) _ c.args.entries.now c.writing.entry-index c.entry-item.result
+    put_part (entry_text c.args.p.now) (g.K.Sink.held c.args.sink.now) (g.K.Sink.held c.writing.sink) _ c.args.entries.now c.writing.entry-index c.entry-item.result
     c.writing-test.true c.entry-item.is
     c.writing.invariant.written (rw c.writing.invariant.policy at c.write_one.ensures.part)
 
@@ -34,7 +35,7 @@ returns-clause-part g c =
 pub writing-preserved : goal.writing-preserved
 writing-preserved g c = record {
   policy = c.in_ok-write_one.ensures.same ∙ c.writing.invariant.policy;
-  written = written_more c.args.p.now (g.K.Sink.held c.args.sink.now) (g.K.Sink.held c.writing.sink) _ c.args.entries.now c.writing.entry-index
+  written = put_more (entry_text c.args.p.now) (g.K.Sink.held c.args.sink.now) (g.K.Sink.held c.writing.sink) _ c.args.entries.now c.writing.entry-index
       c.entry-item.result c.writing-test.true c.entry-item.is
       c.writing.invariant.written (rw c.writing.invariant.policy at c.in_ok-write_one.ensures.all);
   faults = c.in_ok-write_one.ensures.counts ∙ c.writing.invariant.faults;

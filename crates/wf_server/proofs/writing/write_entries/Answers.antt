@@ -4,7 +4,7 @@ use Rattle.std.proofs.lemmas.List.{nil_from_length}
 use Rattle.wf_outside.specs.Outside.{with_bytes}
 use Rattle.wf_outside.proofs.OutsideLaws.{nothing_put, part_none}
 use Rattle.wf_server.specs.Batches.{entries_text}
-use Rattle.wf_server.proofs.batch.write_entries.Goals as goal
+use Rattle.wf_server.proofs.writing.write_entries.Goals as goal
 
 pub returns-then-is_empty-clause-all : goal.returns-then-is_empty-clause-all
 returns-then-is_empty-clause-all g c =

@@ -1,7 +1,7 @@
 use Rattle.std.proofs.Common.{◌≡◌, take}
 use Rattle.wf_outside.specs.Outside.{with_bytes}
 use Rattle.wf_server.specs.Batches.{entries_text}
-use Rattle.wf_server.proofs.batch.write_lines.Given as goal
+use Rattle.wf_server.proofs.writing.write_lines.Given as goal
 
 abbrev pub invariant-writing : goal.invariant-writing
 invariant-writing g l =
