@@ -265,8 +265,8 @@ fn is_written_alone<R: Threads + Wait + Sync>(
     Ok(denies_pacts(rt, alloc, "1", &mut alone)? && alone.bytes() == beside.bytes())
 }
 
-// Whether a run on so many lanes ends well, and denies the first and the last opening for the
-// rules: a does not know a, and b does not know a.
+// Whether a run on these lanes ends well, and denies the first and the last opening for the rules:
+// a does not know a, and b does not know a.
 fn denies_pacts<R: Threads + Wait + Sync>(
     rt: &R,
     alloc: Global,

@@ -1,12 +1,12 @@
 -- How the entries of a batch follow those before.
-use Rattle.std.proofs.Common.{◌≡◌, ℕ, zero, suc, ◌+◌, ◌-◌, ◌<◌, ◌≤◌, max, List, [], ◌∷◌, ◌++◌, length, take, drop, get_or, Option, Result, Ok, Err, OnOk, OnErr}
-use Rattle.std.proofs.Common.{IfErr, inl, inr, refl, sym, ◌∙◌, ap, subst, arith, append_assoc}
+use Rattle.std.proofs.Common.{◌≡◌, ℕ, zero, suc, ◌+◌, ◌-◌, ◌<◌, ◌≤◌, max, List, [], ◌∷◌, ◌++◌, length, take, drop, Option, Result, Ok, Err, OnOk, OnErr}
+use Rattle.std.proofs.Common.{IfErr, inl, inr, refl, sym, ◌∙◌, ap, subst, arith}
 use Rattle.std.proofs.lemmas.Grind.{common_steps}
-use Rattle.std.proofs.lemmas.List.{take-append-drop, take-append-le, take-take, take_all, append-nil, drop_more, take_more, length-append, length-drop}
+use Rattle.std.proofs.lemmas.List.{take-append-drop, take-append-le, take-take, take_all, append-nil, length-append, length-drop}
 use Rattle.std.proofs.lemmas.List.{length-take-le, get_or_append_left}
 use Rattle.std.proofs.Math.Seq.{drop-append_seam, take-append_seam}
 use Rattle.wf_outside.specs.Outside.{with_bytes, HasPart}
-use Rattle.wf_outside.proofs.OutsideLaws.{more_put, part_first, part_second, part_all}
+use Rattle.wf_outside.proofs.OutsideLaws.{more_put, part_all}
 use Rattle.policy_book.specs.Shapes.{PolicyShape}
 use Rattle.wf_talk.specs.declared.entry.Entry.{Entry}
 use Rattle.wf_talk.specs.declared.job.Job.{Job}
@@ -19,7 +19,6 @@ use Rattle.wf_desk.proofs.BatchLaws.{batch_fills}
 use Rattle.wf_desk.proofs.DocketLaws.{batch_done}
 use Rattle.wf_desk.specs.Schedules.{HasGrown}
 use Rattle.wf_desk.proofs.Ends.{end_more}
-use Rattle.wire_json.specs.Replies.{entry_text}
 use Rattle.line_cutter.specs.Cutter.{ends_after}
 use Rattle.run_record.specs.declared.fault.RunFault.{RunFault}
 use Rattle.run_record.specs.declared.fault.RunFault.TheVariants as fault

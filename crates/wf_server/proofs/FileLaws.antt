@@ -1,11 +1,9 @@
 -- How the batches of a requests file follow one another.
-use Rattle.std.proofs.Common.{◌≡◌, ℕ, suc, zero, ◌+◌, ◌-◌, ◌<◌, ◌≤◌, nat_lt, true, List, [], ◌∷◌, ◌++◌, length, take, drop, slice_index_or, Option, Result, Ok}
+use Rattle.std.proofs.Common.{◌≡◌, ℕ, ◌+◌, ◌<◌, ◌≤◌, nat_lt, true, List, [], ◌∷◌, ◌++◌, length, take, drop, slice_index_or, Option}
 use Rattle.std.proofs.Common.{Err, inl, inr, refl, sym, ap, subst, ◌∙◌, arith}
 use Rattle.std.proofs.lemmas.Bool.{lt-ltb}
 use Rattle.std.proofs.lemmas.List.{drop_all, length-append, length-take-le, take_more}
-use Rattle.wf_outside.specs.Outside.{with_bytes}
 use Rattle.wf_outside.proofs.OutsideLaws.{nothing_put}
-use Rattle.wf_talk.specs.declared.entry.Entry.{Entry}
 use Rattle.wf_talk.specs.declared.job.Job.{Job}
 use Rattle.wf_board.specs.Histories.{batch_start}
 use Rattle.wf_desk.specs.Desks.{DeskShape, jobs_told}
@@ -19,11 +17,10 @@ use Rattle.resume_command.proofs.Stands.{jobs_here}
 use Rattle.run_record.specs.declared.fault.RunFault.{RunFault}
 use Rattle.run_record.specs.declared.fault.RunFault.TheVariants as fault
 use Rattle.run_record.specs.Report.{Told}
-use Rattle.wf_server.specs.Sessions.{text_from}
 use Rattle.wf_server.specs.Ways.{setting_of}
 use Rattle.wf_server.specs.declared.batch.Answered.{Answered}
-use Rattle.wf_server.specs.Batches.{told_of, AnswersTo, HasAnsweredAll, HasAnsweredPart, HasLoaded, IsBatchAdded, IsBatch, IsWriteEnding}
-use Rattle.wf_server.specs.Files.{FileTo, IsToldTo, StopsIn}
+use Rattle.wf_server.specs.Batches.{told_of, AnswersTo, HasAnsweredPart, HasLoaded, IsBatchAdded, IsBatch, IsWriteEnding}
+use Rattle.wf_server.specs.Files.{FileTo, IsToldTo}
 
 -- ---- one batch
 

@@ -1,11 +1,10 @@
 -- Every line that a session writes fits a line of an audit.
-use Rattle.std.proofs.Common.{◌≡◌, ℕ, ◌+◌, ◌<◌, ◌≤◌, ◌^◌, Bool, true, false, List, [], ◌∷◌, ◌++◌, length, take, drop, refl, sym, ap, subst, ◌∙◌, arith}
+use Rattle.std.proofs.Common.{◌≡◌, ℕ, ◌+◌, ◌<◌, ◌≤◌, ◌^◌, Bool, true, false, List, [], ◌++◌, length, take, drop, refl, sym, ap, subst, ◌∙◌, arith}
 use Rattle.std.proofs.lemmas.List.{length-append, take-append-drop}
 use Rattle.wf_names.specs.declared.limits.TheConstants.{LANE_LIMIT}
 use Rattle.policy_book.specs.Shapes.{PolicyShape}
 use Rattle.policy_reader.specs.File.{IsFilePolicy}
-use Rattle.wf_talk.specs.declared.entry.Entry.{Entry}
-use Rattle.wf_board.specs.States.{State, opening_state}
+use Rattle.wf_board.specs.States.{opening_state}
 use Rattle.wf_board.specs.Histories.{AreRightful, IsLegal, state_after}
 use Rattle.line_cutter.specs.Jobs.{Cut, end_batch, flush, jobs_from, jobs_of_input, next_input, start}
 use Rattle.line_cutter.specs.Laws.{AreNamedJobs, JobsAreInOrder}

@@ -1,14 +1,11 @@
 -- A session behind the entries that were taken up, and the run of its command.
-use Rattle.std.proofs.Common.{◌≡◌, ◌≢◌, ℕ, zero, suc, ◌+◌, ◌<◌, ◌≤◌, nat_lt, Bool, true, false, List, [], ◌∷◌, ◌++◌, length, take, drop, slice_index_or, Option}
-use Rattle.std.proofs.Common.{None, Some, Result, Ok, Err, ◌&&◌, inl, inr, refl, sym, ap, subst, ◌∙◌, arith, ◌⊎◌}
+use Rattle.std.proofs.Common.{◌≡◌, ℕ, zero, suc, ◌≤◌, nat_lt, Bool, true, false, List, [], ◌∷◌, length, take, drop, slice_index_or, Option}
+use Rattle.std.proofs.Common.{Some, Result, Ok, Err, ◌&&◌, inl, inr, refl, sym, ap, subst, ◌∙◌, arith, ◌⊎◌}
 use Rattle.std.proofs.lemmas.Grind.{common_steps}
-use Rattle.std.proofs.lemmas.List.{drop_all, take_all}
-use Rattle.wf_outside.specs.Outside.{Filed, HasPart, HasTaken, with_bytes}
+use Rattle.std.proofs.lemmas.List.{take_all}
+use Rattle.wf_outside.specs.Outside.{Filed, HasTaken}
 use Rattle.wf_outside.proofs.OutsideLaws.{nothing_taken}
-use Rattle.policy_book.specs.Shapes.{PolicyShape}
-use Rattle.policy_reader.specs.File.{IsFilePolicy}
 use Rattle.wf_talk.specs.declared.entry.Entry.{Entry}
-use Rattle.wf_talk.specs.declared.job.Job.{Job}
 use Rattle.wf_board.specs.Histories.{AreAnsweredOnce, AreRightful, IsLegal, batch_start, state_after}
 use Rattle.wf_board.specs.Laws.{HistoriesAreExact, HistoriesKeepCompletable}
 use Rattle.wf_board.specs.States.{opening_state}
@@ -19,7 +16,7 @@ use Rattle.line_cutter.specs.Laws.{AreInOrder, GoesOn}
 use Rattle.line_cutter.specs.Naming.{JobsStayNamed}
 use Rattle.entry_reader.specs.Named.{HasNames}
 use Rattle.entry_laws.specs.Fits.{LinesFit}
-use Rattle.batch_reader.specs.Reader.{Handed, HasRead, IsReadUp, BatchReaderShape}
+use Rattle.batch_reader.specs.Reader.{BatchReaderShape}
 use Rattle.run_record.specs.declared.fault.RunFault.{RunFault}
 use Rattle.run_record.specs.declared.fault.RunFault.TheVariants as fault
 use Rattle.run_record.specs.Fault.{how_of, is_before_input, CountsLoads, CountsReads, CountsWrites}
@@ -38,11 +35,10 @@ use Rattle.resume_command.proofs.Files.{files_goal, files_map}
 use Rattle.command_words.specs.Words.{AreOptions, Command, Options, may_repeat, resume}
 use Rattle.wf_server.specs.Runs.{HasRun}
 use Rattle.transcript_audit.proofs.Batches.{last_start}
-use Rattle.wf_server.specs.Sessions.{IsWithinFirst, ReadsFor, Served, Setting, handed_in}
+use Rattle.wf_server.specs.Sessions.{ReadsFor, Served, Setting, handed_in}
 use Rattle.wf_server.specs.Ways.{setting_of}
-use Rattle.wf_server.specs.declared.batch.Answered.{Answered}
-use Rattle.wf_server.specs.Batches.{Serves, told_of, AreInOrderFrom, HasAnsweredAll, HasAnsweredPart, IsServing, IsWriteEnding}
-use Rattle.wf_server.specs.Files.{FileTo, IsToldTo, StopsIn}
+use Rattle.wf_server.specs.Batches.{Serves, AreInOrderFrom, HasAnsweredAll, IsServing, IsWriteEnding}
+use Rattle.wf_server.specs.Files.{FileTo, IsToldTo}
 use Rattle.wf_server.specs.Resuming.{CountsRefusal, EndsBy, RefusesAs, ResumesFrom, ResumesRun, TellsAs, setting_behind}
 use Rattle.wf_server.proofs.SessionLaws.{lanes_of, late_reads, serves_kept}
 use Rattle.wf_server.proofs.ServeLaws.{loads_late}

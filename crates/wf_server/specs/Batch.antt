@@ -1,5 +1,5 @@
 -- Inside: a desk before a batch and after it.
-use Rattle.std.specs.Prelude.{◌≡◌, ℕ, ◌<◌, List, length, take, drop}
+use Rattle.std.specs.Prelude.{◌≡◌, ◌<◌, List, length, take, drop}
 use Rattle.wf_talk.specs.declared.job.Job.{Job}
 use Rattle.wf_board.specs.Histories.{AreAnsweredOnce}
 use Rattle.wf_desk.specs.Desks.{AreOfLanes, DeskShape, IsDone, jobs_told}

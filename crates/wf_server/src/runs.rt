@@ -5,6 +5,8 @@ ghost use Rattle.run_record.specs.Fault.{status_of};
 ghost use Rattle.run_record.specs.Report.{told_by};
 ghost use Rattle.run_record.specs.Run.{run_of, streams_of};
 ghost use Rattle.wf_board.specs.Histories.{AreAnsweredOnce};
+ghost use Rattle.wf_desk.specs.Desks.{AreOfLanes, IsDone};
+ghost use Rattle.wf_desk.specs.Schedules.{HasGrown};
 ghost use Rattle.command_words.specs.Asked.{asked, CanServe};
 ghost use Rattle.command_words.specs.Words.{command_of, may_repeat, reads_input};
 ghost use Rattle.wf_server.specs.Runs.{Does, HasRun, IsWordsEnding, takes_up};
@@ -13,7 +15,7 @@ use crate::going_on::run_resume;
 use crate::serve::run_serve;
 use crate::way::{ByTurns, OnLanes};
 use audit_command::{AuditedSession, run_audit};
-use case_views::PlainDecider;
+use case_views::{PlainDecider, SpreadDecider};
 use cnf_command::{run_clauses, run_model};
 use command_words::{Command, Options, read_words};
 use resume_command::Earlier;
@@ -23,7 +25,8 @@ use std::sync::Wait;
 use std::thread::Threads;
 use trial_command::run_trial;
 use wf_commands::{PlanCommand, ResilienceCommand, ShowCommand, SolveCommand, answer_once};
-use wf_lanes::Gate;
+use wf_desk::Desk;
+use wf_lanes::{Gate, serve_by_lanes};
 use wf_outside::{Shelf, Sink, Source};
 
 /// Runs the command that the words are, which are those after the program's name. `serve` and
@@ -52,17 +55,17 @@ pub fn run<R: Threads + Wait + Sync, F: Shelf, S: Source, K: Sink, G: Gate + Syn
         → may_repeat (command_of (map string_bytes words.now)) ≡ false
         → AreAnsweredOnce (told_by result).entries }
 {
+    let on_lanes = |desk: Desk| -> Desk
+        requires { (0 < desk.lanes) × AreOfLanes desk.lanes desk.jobs }
+        ensures { HasGrown desk result × IsDone result }
+    { serve_by_lanes(rt, alloc, &SpreadDecider::new(rt), gate, desk) };
+    let way = OnLanes {
+        rt,
+        serve: &on_lanes,
+    };
     match read_command(alloc, words) {
         Ok(Command::Serve { policy, options }) if on_threads(&options) => {
-            run_serve(
-                alloc,
-                &OnLanes { rt, gate },
-                policy,
-                options,
-                shelf,
-                source,
-                sink,
-            )
+            run_serve(alloc, &way, policy, options, shelf, source, sink)
         }
         Ok(
             Command::Resume {
@@ -79,7 +82,7 @@ pub fn run<R: Threads + Wait + Sync, F: Shelf, S: Source, K: Sink, G: Gate + Syn
                 lanes: options.lanes,
                 rounds: options.rounds,
             };
-            run_resume(alloc, &OnLanes { rt, gate }, earlier, shelf, source, sink)
+            run_resume(alloc, &way, earlier, shelf, source, sink)
         }
         Ok(other) => run_command(alloc, other, shelf, source, sink),
         Err(fault) => bare_report(alloc, fault),

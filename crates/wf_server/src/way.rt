@@ -1,5 +1,5 @@
 //! Ways of serving the jobs of a batch: by turns, or each lane on a thread of its own.
-ghost use Rattle.std.specs.Prelude.{◌≡◌, ◌<◌, IfOk, IfSome};
+ghost use Rattle.std.specs.Prelude.{◌≡◌, ◌<◌, IfSome};
 ghost use Rattle.std.specs.List.{AllZip};
 ghost use Rattle.wf_desk.specs.Desks.{AreOfLanes, DeskShape, IsDone};
 ghost use Rattle.wf_desk.specs.Schedules.{HasGrown};
@@ -7,13 +7,12 @@ ghost use Rattle.wf_lanes.specs.Turns.{HasServedOn};
 ghost use Rattle.wire_json.specs.Replies.{entry_text};
 
 use crate::side::{are_long, lines_beside};
-use case_views::{PlainDecider, SpreadDecider};
+use case_views::PlainDecider;
 use policy_book::Policy;
-use std::alloc::{AllocError, Global};
-use std::sync::Wait;
+use std::alloc::Global;
 use std::thread::Threads;
 use wf_desk::Desk;
-use wf_lanes::{Gate, serve_by_lanes, serve_by_turns};
+use wf_lanes::serve_by_turns;
 use wf_talk::Entry;
 
 /// How a session serves the jobs of a batch, and whether it makes lines of entries side by side.
@@ -34,16 +33,12 @@ pub(crate) trait Way {
         ensures grown { HasGrown desk result }
         ensures done { IsDone result };
 
-    /// The lines of entries, one for each; nothing where each is better made when it is written.
-    fn make_lines(
-        &self,
-        alloc: Global,
-        p: &Policy,
-        entries: &[Entry],
-    ) -> Result<Option<Vec<Vec<u8>>>, AllocError>
+    /// The lines of entries, one for each; none where each is better made when it is written, or
+    /// where there is no memory to make them beforehand.
+    fn make_lines(&self, alloc: Global, p: &Policy, entries: &[Entry]) -> Option<Vec<Vec<u8>>>
         requires { ready self.now }
-        ensures { IfOk result (λ made. IfSome made (λ lines.
-            AllZip (λ e line. line.items ≡ entry_text p.now e) entries.now lines.items)) };
+        ensures { IfSome result (λ lines.
+            AllZip (λ e line. line.items ≡ entry_text p.now e) entries.now lines.items) };
 }
 
 /// By turns, on the caller's thread. None is answered again.
@@ -57,50 +52,41 @@ impl Way for ByTurns {
         turned(alloc, desk)
     }
 
-    fn make_lines(
-        &self,
-        _alloc: Global,
-        _p: &Policy,
-        _entries: &[Entry],
-    ) -> Result<Option<Vec<Vec<u8>>>, AllocError> {
-        Ok(None)
+    fn make_lines(&self, _alloc: Global, _p: &Policy, _entries: &[Entry]) -> Option<Vec<Vec<u8>>> {
+        None
     }
 }
 
-/// Each lane's jobs on a thread of its own; the gate is told of each search. Long lines are made
-/// side by side.
-pub(crate) struct OnLanes<'a, R: Threads + Wait + Sync, G: Gate + Sync> {
+/// As a closure serves them, on threads; long lines are made side by side. (In a method of a trait
+/// what starts the threads of lanes would not be proved, so it stands where the closure is made.)
+pub(crate) struct OnLanes<'a, R: Threads + Sync, W> {
     pub(crate) rt: &'a R,
-    pub(crate) gate: &'a G,
+    pub(crate) serve: &'a W,
 }
 
-impl<R: Threads + Wait + Sync, G: Gate + Sync> Drop for OnLanes<'_, R, G> {
+impl<R: Threads + Sync, W> Drop for OnLanes<'_, R, W> {
     fn drop(self) {
-        let OnLanes { rt: _, gate: _ } = self;
+        let OnLanes { rt: _, serve: _ } = self;
     }
 }
 
-impl<R: Threads + Wait + Sync, G: Gate + Sync> Way for OnLanes<'_, R, G> {
+impl<R: Threads + Sync, W: Fn(Desk) -> Desk> Way for OnLanes<'_, R, W> {
     ghost use Rattle.std.specs.Thread.{IsSync};
+    ghost use Rattle.wf_server.specs.Ways.{IsWay};
 
-    ghost ready = { λ _. IsSync R.row × IsSync G.row };
+    ghost ready = { λ s. IsSync R.row × IsWay (W.pre s.serve.now) (W.post s.serve.now) };
 
-    ghost leaves = { λ _ d e. HasGrown d e };
+    ghost leaves = { λ s d e. W.post s.serve.now d e };
 
-    fn serve(&self, alloc: Global, desk: Desk) -> Desk {
-        on_threads(self.rt, alloc, self.gate, desk)
+    fn serve(&self, _alloc: Global, desk: Desk) -> Desk {
+        (self.serve)(desk)
     }
 
-    fn make_lines(
-        &self,
-        alloc: Global,
-        p: &Policy,
-        entries: &[Entry],
-    ) -> Result<Option<Vec<Vec<u8>>>, AllocError> {
+    fn make_lines(&self, alloc: Global, p: &Policy, entries: &[Entry]) -> Option<Vec<Vec<u8>>> {
         if !are_long(entries) {
-            return Ok(None);
+            return None;
         }
-        Ok(Some(lines_beside(self.rt, alloc, p, entries)?))
+        lines_beside(self.rt, alloc, p, entries).ok()
     }
 }
 
@@ -112,19 +98,4 @@ fn turned(alloc: Global, mut desk: Desk) -> Desk
 {
     serve_by_turns(alloc, &PlainDecider, &mut desk);
     desk
-}
-
-// The desk after the jobs of its batch are served, each lane's on a thread of its own.
-fn on_threads<R: Threads + Wait + Sync, G: Gate + Sync>(
-    rt: &R,
-    alloc: Global,
-    gate: &G,
-    desk: Desk,
-) -> Desk
-    requires some { 0 < desk.lanes }
-    requires lanes { AreOfLanes desk.lanes desk.jobs }
-    ensures on { HasGrown desk result }
-    ensures done { IsDone result }
-{
-    serve_by_lanes(rt, alloc, &SpreadDecider::new(rt), gate, desk)
 }

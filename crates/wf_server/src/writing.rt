@@ -49,8 +49,7 @@ pub(crate) fn write_entries<K: Sink, W: Way>(
     }
 }
 
-// Writes the lines of entries: those that the way makes beforehand, or one after the other, also
-// where there is no memory to make them beforehand.
+// Writes the lines of entries: those that the way makes beforehand, or one after the other.
 fn write_made<K: Sink, W: Way>(
     alloc: Global,
     way: &W,
@@ -65,7 +64,7 @@ fn write_made<K: Sink, W: Way>(
     ensures ending { IfErr result IsWriteEnding }
     ensures counts { CountsWrites (fault_in result) (K.faults sink.old) (K.faults sink.new) }
 {
-    if let Ok(Some(lines)) = way.make_lines(alloc, p, entries) {
+    if let Some(lines) = way.make_lines(alloc, p, entries) {
         return put_lines(&lines, sink);
     }
     write_lines(alloc, p, entries, sink)

@@ -8,7 +8,7 @@ abbrev pub invariant-answering : goal.invariant-answering
 invariant-answering g l =
     record {
       told : IsToldTo l.file.jobs l.file.ends l.count (told_of l.desk l.told);
-      on : IsServedOn (λ d e. goal.W-post g l.way d e) l.fn.desk l.desk;
+      on : IsServedOn (g.W.Way.leaves l.way) l.fn.desk l.desk;
       answered : (held : Option (List ℕ)) → HasAnsweredAll held (g.K.Sink.held l.fn.sink) l.fn.desk (told_of l.fn.desk l.fn.told) →
           HasAnsweredAll held (g.K.Sink.held l.sink) l.desk (told_of l.desk l.told);
       faults : g.K.Sink.faults l.sink ≡ g.K.Sink.faults l.fn.sink;

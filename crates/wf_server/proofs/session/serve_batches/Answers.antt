@@ -1,5 +1,4 @@
-use Rattle.std.proofs.Common.{◌≡◌, ℕ, ◌<◌, ◌∙◌, refl, sym, subst}
-use Rattle.line_cutter.specs.Jobs.{Cut}
+use Rattle.std.proofs.Common.{ℕ, ◌<◌, ◌∙◌, refl, sym, subst}
 use Rattle.run_record.specs.Report.{told_by}
 use Rattle.run_record.specs.Run.{Streams}
 use Rattle.wf_server.specs.Sessions.{Setting}

@@ -18,7 +18,7 @@ invariant-serving g l =
     record {
       ready : CanReadOn l.reader;
       room : l.reader.room ≡ l.fn.reader.room;
-      on : IsServedOn (λ d e. goal.W-post g l.way d e) l.fn.desk l.desk;
+      on : IsServedOn (g.W.Way.leaves l.way) l.fn.desk l.desk;
       serving : (first : Cut) (before : Streams) → IsServing first before begun l.fn.reader l.fn.desk (told_of l.fn.desk l.fn.told) → IsServing first before
           (record {
             input = g.S.Source.left l.source;

@@ -1,5 +1,4 @@
 use Rattle.std.proofs.Common.{ap, subst, ◌∙◌}
-use Rattle.policy_book.specs.Shapes.{PolicyShape}
 use Rattle.wf_board.specs.Boards.{BoardShape}
 use Rattle.wf_board.specs.States.{State}
 use Rattle.entry_reader.specs.Named.{HasNames}

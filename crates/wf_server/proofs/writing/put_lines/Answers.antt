@@ -12,7 +12,7 @@ lines-init g c = record { written = sym (nothing_put (g.K.Sink.held c.args.sink.
 pub returns-in_err-put_line-clause-part : goal.returns-in_err-put_line-clause-part
 returns-in_err-put_line-clause-part g c =
     put_part (λ line. line.items) (g.K.Sink.held c.args.sink.now) (g.K.Sink.held c.lines.sink) _ c.args.lines.now c.lines.line-index c.line-item.result
-    c.lines-test.true c.line-item.is c.lines.invariant.written c.put_line.ensures.part
+    c.lines-test.true c.line-item.is c.lines.invariant.written (rw c.deref.ensures.value at c.put_line.ensures.part)
 
 pub returns-clause-part : goal.returns-clause-part
 returns-clause-part g c =
@@ -27,6 +27,6 @@ pub lines-preserved : goal.lines-preserved
 lines-preserved g c = record {
   written = put_more (λ line. line.items) (g.K.Sink.held c.args.sink.now) (g.K.Sink.held c.lines.sink) _ c.args.lines.now c.lines.line-index
       c.line-item.result c.lines-test.true c.line-item.is
-      c.lines.invariant.written c.in_ok-put_line.ensures.all;
+      c.lines.invariant.written (rw c.deref.ensures.value at c.in_ok-put_line.ensures.all);
   faults = c.in_ok-put_line.ensures.counts ∙ c.lines.invariant.faults;
 }
