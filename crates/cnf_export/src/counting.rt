@@ -4,7 +4,7 @@ ghost use Rattle.std.specs.Prelude.{map, cond, List, OnOk};
 ghost use Rattle.std.specs.List.{flat_map};
 ghost use Rattle.cnf_export.specs.Clauses.{yes_to, no_to};
 ghost use Rattle.cnf_export.specs.Encodings.{counting_clause, counts, ending_clause, has, height};
-ghost use Rattle.cnf_export.specs.Encodings.{members, numbers, rows, takes, taking_clause};
+ghost use Rattle.cnf_export.specs.Encodings.{count_rows, members, numbers, takes, taking_clause};
 ghost use Rattle.cnf_export.specs.Terms.{encoding_in};
 
 use crate::Literals;
@@ -41,7 +41,7 @@ pub(crate) fn list_members(group: &StepSet, into: &mut Items) -> Result<(), Allo
 pub(crate) fn list_rows(u: u16, high: u16, into: &mut Items) -> Result<(), AllocError>
     requires { high ≤ 256 }
     ensures { OnOk result (into.new
-        ≡ flat_map (λ j. map (λ row. 4 * j + row) (rows u j)) (numbers 0 high)) }
+        ≡ flat_map (λ j. map (λ row. 4 * j + row) (count_rows u j)) (numbers 0 high)) }
 {
     into.truncate(0);
     'numbers: for j in 0..high {
@@ -52,7 +52,7 @@ pub(crate) fn list_rows(u: u16, high: u16, into: &mut Items) -> Result<(), Alloc
 
 fn list_row(u: u16, j: u16, into: &mut Items) -> Result<(), AllocError>
     requires { j < 256 }
-    ensures { OnOk result (into.new ≡ into.old ++ map (λ row. 4 * j + row) (rows u j)) }
+    ensures { OnOk result (into.new ≡ into.old ++ map (λ row. 4 * j + row) (count_rows u j)) }
 {
     if u > 0 {
         into.push(4 * j)?;
