@@ -20,7 +20,7 @@ use crate::counting::{
 };
 use crate::group::Group;
 use crate::listed::{Items, list_users};
-use crate::literals::{add_no, add_yes, no_to, yes_to};
+use crate::literals::{add_no, add_two, add_yes, no_to, yes_to};
 use constraint_forms::StepSet;
 use std::alloc::AllocError;
 use std::marker::Model;
@@ -313,8 +313,7 @@ impl Terms {
         ensures { OnOk result (into.new ≡ into.old ++ no_to (has (encoding_in self.now) first u)
             ∷ no_to (has (encoding_in self.now) second v) ∷ []) }
     {
-        into.push(no_to(self.has(first, u)))?;
-        into.push(no_to(self.has(second, v)))
+        add_two(into, no_to(self.has(first, u)), no_to(self.has(second, v)))
     }
 
     // That one user alone has a step.
@@ -323,18 +322,13 @@ impl Terms {
     {
         let before = u.saturating_sub(1);
         match k {
-            0 => {
-                into.push(no_to(self.has(s, u)))?;
-                into.push(yes_to(self.has_by(s, u)))
-            }
-            1 => {
-                into.push(no_to(self.has_by(s, before)))?;
-                into.push(yes_to(self.has_by(s, u)))
-            }
-            _ => {
-                into.push(no_to(self.has(s, u)))?;
-                into.push(no_to(self.has_by(s, before)))
-            }
+            0 => add_two(into, no_to(self.has(s, u)), yes_to(self.has_by(s, u))),
+            1 => add_two(
+                into,
+                no_to(self.has_by(s, before)),
+                yes_to(self.has_by(s, u)),
+            ),
+            _ => add_two(into, no_to(self.has(s, u)), no_to(self.has_by(s, before))),
         }
     }
 
