@@ -52,21 +52,22 @@ ending_of (Fault n kind) = Found
 ending_of (TooLong n) = LineTooLong n
 
 -- the word of each kind
-abbrev pub kind_word : AuditKind → List ℕ
-kind_word Text = codes "text"
-kind_word At = codes "at"
-kind_word Job = codes "job"
-kind_word Reply = codes "reply"
-kind_word Missing = codes "missing"
+abbrev pub audit_kind_word : AuditKind → List ℕ
+audit_kind_word Text = codes "text"
+audit_kind_word At = codes "at"
+audit_kind_word Job = codes "job"
+audit_kind_word Reply = codes "reply"
+audit_kind_word Missing = codes "missing"
 
 -- the line that tells a fault
-abbrev pub fault_line : ℕ → AuditKind → List ℕ
-fault_line n kind = codes "fault " ++ decimal n ++ codes " " ++ kind_word kind ++ codes "\n"
+abbrev pub audit_fault_line : ℕ → AuditKind → List ℕ
+audit_fault_line n kind =
+    codes "fault " ++ decimal n ++ codes " " ++ audit_kind_word kind ++ codes "\n"
 
 -- what is written
 abbrev pub finding_text : Finding → List ℕ
 finding_text Legal = codes "legal\n"
-finding_text (Fault n kind) = fault_line n kind
+finding_text (Fault n kind) = audit_fault_line n kind
 finding_text (TooLong n) = []
 
 -- behind n lines the audit has seen, of the next one and behind it, at most a piece more than a

@@ -1,6 +1,7 @@
 //! What an audit finds.
 ghost use Rattle.std.specs.Prelude.{◌≡◌, ◌++◌, IfOk, codes, decimal, string_bytes};
-ghost use Rattle.audit_command.specs.Finding.{ending_of, fault_line, finding_text, kind_word};
+ghost use Rattle.audit_command.specs.Finding.{audit_fault_line, audit_kind_word, ending_of};
+ghost use Rattle.audit_command.specs.Finding.{finding_text};
 
 use run_record::RunFault;
 use std::alloc::{AllocError, Global};
@@ -43,7 +44,7 @@ impl Finding {
 
 /// The line that tells that the line with this number is the first that has a fault, and which one.
 pub fn fault_text(alloc: Global, n: u32, kind: AuditKind) -> Result<String, AllocError>
-    ensures { IfOk result (λ text. string_bytes text ≡ fault_line n kind) }
+    ensures { IfOk result (λ text. string_bytes text ≡ audit_fault_line n kind) }
 {
     let mut text = fault_start(alloc, n)?;
     text.push_str(kind_word(kind))?;
@@ -59,7 +60,7 @@ fn fault_start(alloc: Global, n: u32) -> Result<String, AllocError>
 }
 
 fn kind_word(kind: AuditKind) -> &'static str
-    ensures { result.now ≡ kind_word kind }
+    ensures { result.now ≡ audit_kind_word kind }
 {
     match kind {
         AuditKind::Text => "text",

@@ -9,7 +9,7 @@ use Rattle.constraint_forms.specs.Assign.{is_member, user_at}
 use Rattle.policy_book.specs.Plans.{AreAssigned}
 use Rattle.certificate_check.proofs.Assigned.{either, given, given_other, given_same}
 use Rattle.cnf_command.specs.declared.case.Case.{Case}
-use Rattle.cnf_command.specs.Cases.{with_state, IsCaseSoFar, IsOfUsers}
+use Rattle.cnf_command.specs.Cases.{with_said, IsCaseSoFar, IsOfUsers}
 
 -- finished steps stay assigned where one more step is given to a user
 still_assigned : (done : List Bool) (a : List (Option ℕ)) (t u : ℕ) → t < length a → AreAssigned done a → AreAssigned done (slice_set a t (Some u))
@@ -32,7 +32,7 @@ given_within n c u s v known sofar h = either (given c.assigned c.said u s v h)
     (λ same. (omega (arith, same.0), subst (λ w. w < n) (sym same.1) known))
     (λ before. (let w = sofar.within s v before in (omega (arith, w.0), w.1)))
 
-pub said_on : (n : ℕ) (c : Case) (x : StepState) → c.said < STEP_LIMIT → IsCaseSoFar n c → IsOfUsers n x → IsCaseSoFar n (with_state c x)
+pub said_on : (n : ℕ) (c : Case) (x : StepState) → c.said < STEP_LIMIT → IsCaseSoFar n c → IsOfUsers n x → IsCaseSoFar n (with_said c x)
 said_on n c Free below sofar known = record {
   within = λ s u h. (let w = sofar.within s u h in (omega (arith, w.0), w.1));
   all_assigned = sofar.all_assigned;

@@ -62,18 +62,18 @@ ClausesAsked p word seen fault text =
     OverCase p f (λ c. UnlessLarge p f c (TellsClauses p f c)) input fault text))
 
 -- the line of a plan: the JSON array of its users' names in the order of the steps
-abbrev pub plan_line : List (List ℕ) → List ℕ → List ℕ
-plan_line users plan = compact_text (plan_data users plan) ++ codes "\n"
+abbrev pub plan_array_line : List (List ℕ) → List ℕ → List ℕ
+plan_array_line users plan = compact_text (plan_data users plan) ++ codes "\n"
 
 -- the line that names a clause
-abbrev pub clause_line : ℕ → List ℕ
-clause_line k = codes "clause " ++ decimal k ++ codes "\n"
+abbrev pub clause_number_line : ℕ → List ℕ
+clause_number_line k = codes "clause " ++ decimal k ++ codes "\n"
 
 -- the line of what a model says, and how a run ends that writes it: a plan is told, and a clause is
 -- found
 abbrev pub TellsOutcome : List (List ℕ) → Reading → RunFault → List ℕ → Type 0
-TellsOutcome users (Plan plan) fault text = (fault ≡ Nothing) × (text ≡ plan_line users plan)
-TellsOutcome users (Clause k) fault text = (fault ≡ Found) × (text ≡ clause_line k)
+TellsOutcome users (Plan plan) fault text = (fault ≡ Nothing) × (text ≡ plan_array_line users plan)
+TellsOutcome users (Clause k) fault text = (fault ≡ Found) × (text ≡ clause_number_line k)
 
 -- the plan that a model says, which is valid, where it satisfies all clauses of the case; or the
 -- first one that it does not satisfy

@@ -45,8 +45,8 @@ abbrev pub said_in : PolicyShape → Data → Option (Option StepState)
 said_in p d = option_and_then (said_at p) (as_array d)
 
 -- what is said is that a step stands somewhere
-abbrev pub state_in : PolicyShape → Data → Option StepState
-state_in p d = option_and_then (λ said. said) (said_in p d)
+abbrev pub state_said : PolicyShape → Data → Option StepState
+state_said p d = option_and_then (λ said. said) (said_in p d)
 
 abbrev pub is_said : PolicyShape → Data → Bool
 is_said p d = is_some (said_in p d)
@@ -56,21 +56,21 @@ abbrev pub no_case : Case
 no_case = record { said = 0; assigned = no_users; finished = no_steps }
 
 -- one more step was said
-abbrev pub with_state : Case → StepState → Case
-with_state c Free = record c { said = c.said + 1 }
-with_state c (Held u) =
+abbrev pub with_said : Case → StepState → Case
+with_said c Free = record c { said = c.said + 1 }
+with_said c (Held u) =
     record c { said = c.said + 1; assigned = slice_set c.assigned c.said (Some u) }
-with_state c (Finished u) = record {
+with_said c (Finished u) = record {
   said = c.said + 1;
   assigned = slice_set c.assigned c.said (Some u);
   finished = slice_set c.finished c.said true;
 }
 
 -- the next step of a case; one whose user is not known is named by its place
-unfoldable pub next_state : PolicyShape → Case → Data → Result Case InputFault
-next_state p c d = do
-  x ← or_fault (state_in p d) (NoUser c.said)
-  Ok (with_state c x)
+unfoldable pub next_said : PolicyShape → Case → Data → Result Case InputFault
+next_said p c d = do
+  x ← or_fault (state_said p d) (NoUser c.said)
+  Ok (with_said c x)
 
 -- the case that an input is for a workflow with these steps, or the first fault: the input is no
 -- array of such items, there is not one for each step, or one names no user
@@ -79,7 +79,7 @@ case_of_array p steps input = do
   items ← or_fault (option_and_then as_array (value_of input)) Syntax
   _ ← check (list_all (is_said p) (listed_items items)) Syntax
   _ ← check (length (listed_items items) == steps) Length
-  each (next_state p) no_case (listed_items items)
+  each (next_said p) no_case (listed_items items)
 
 -- an input of no bytes is a case whose steps are all free
 abbrev pub case_of_input : PolicyShape → ℕ → List ℕ → Result Case InputFault

@@ -7,7 +7,8 @@ ghost use Rattle.cnf_export.specs.Encodings.{variables_of};
 ghost use Rattle.cnf_models.specs.Saying.{has_variable};
 ghost use Rattle.wire_json.specs.Entries.{named, plan_data};
 ghost use Rattle.wf_commands.specs.Answer.{AnswersAs, ending_with};
-ghost use Rattle.cnf_command.specs.Answers.{clause_line, plan_line, ReadsModel, TellsOutcome};
+ghost use Rattle.cnf_command.specs.Answers.{clause_number_line, plan_array_line};
+ghost use Rattle.cnf_command.specs.Answers.{ReadsModel, TellsOutcome};
 ghost use Rattle.cnf_command.specs.Answers.{TellsReading, UnlessLarge};
 ghost use Rattle.cnf_command.specs.Cases.{IsCaseOf};
 ghost use Rattle.cnf_command.specs.Steps.{GivesModel, IsLateEnding};
@@ -97,14 +98,14 @@ fn answer_with(alloc: Global, p: &Policy, reading: &Reading) -> Result<Answer, A
 
 // The line that names a clause.
 fn clause_text(alloc: Global, k: u32) -> Result<String, AllocError>
-    ensures { IfOk result (λ text. string_bytes text ≡ clause_line k) }
+    ensures { IfOk result (λ text. string_bytes text ≡ clause_number_line k) }
 {
     format!(in alloc; "clause {k}\n")
 }
 
 // The line of a plan.
 fn plan_text(alloc: Global, users: &NameTable, plan: &Plan) -> Result<String, AllocError>
-    ensures { IfOk result (λ text. string_bytes text ≡ plan_line users.now.names plan.now) }
+    ensures { IfOk result (λ text. string_bytes text ≡ plan_array_line users.now.names plan.now) }
 {
     let mut text = plan_array(alloc, users, plan)?;
     text.push_str("\n")?;

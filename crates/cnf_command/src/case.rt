@@ -7,8 +7,8 @@ ghost use Rattle.wf_names.specs.declared.limits.TheConstants.{STEP_LIMIT};
 ghost use Rattle.policy_book.specs.Policies.{flow_at, problem_of};
 ghost use Rattle.run_record.specs.declared.fault.InputFault.TheVariants.{NoUser};
 ghost use Rattle.wf_commands.specs.Input.{input_fault, listed_items, IsOfInput};
-ghost use Rattle.cnf_command.specs.Cases.{case_of_array, case_of_input, is_said, next_state};
-ghost use Rattle.cnf_command.specs.Cases.{no_case, with_state, IsCaseOf, IsCaseSoFar, IsOfUsers};
+ghost use Rattle.cnf_command.specs.Cases.{case_of_array, case_of_input, is_said, next_said};
+ghost use Rattle.cnf_command.specs.Cases.{no_case, with_said, IsCaseOf, IsCaseSoFar, IsOfUsers};
 
 use crate::said::said_in;
 use constraint_forms::{Assign, StepSet};
@@ -103,7 +103,7 @@ fn are_said(p: &Policy, items: &[Value]) -> bool
 fn read_states(p: &Policy, items: &[Value]) -> Result<Case, u8>
     requires { length items.now ≤ STEP_LIMIT }
     ensures case { Gives (λ place. Some (NoUser place)) (λ c. c) result
-        (each (next_state p.now) no_case (listed_items (items_view items.now))) }
+        (each (next_said p.now) no_case (listed_items (items_view items.now))) }
     ensures said { IfOk result (λ c. c.said ≡ length items.now) }
     ensures sound { IfOk result (IsCaseSoFar (length p.now.roster.users)) }
 {
@@ -115,25 +115,25 @@ fn read_states(p: &Policy, items: &[Value]) -> Result<Case, u8>
 }
 
 // The case with what an item says of its next step.
-#[tactic(auto, unfolding(crate::specs::Cases::next_state))]
+#[tactic(auto, unfolding(crate::specs::Cases::next_said))]
 fn read_state(p: &Policy, c: &Case, item: &Value) -> Result<Case, u8>
     requires room { c.now.said < STEP_LIMIT }
     requires sound { IsCaseSoFar (length p.now.roster.users) c.now }
     ensures case { Gives (λ place. Some (NoUser place)) (λ c. c) result
-        (next_state p.now c.now (view item.now)) }
+        (next_said p.now c.now (view item.now)) }
     ensures said { IfOk result (λ d. d.said ≡ c.now.said + 1) }
     ensures sound { IfOk result (IsCaseSoFar (length p.now.roster.users)) }
 {
     match said_in(p, item) {
-        Some(Some(state)) => Ok(with_state(c, state)),
+        Some(Some(state)) => Ok(with_said(c, state)),
         _ => Err(c.said),
     }
 }
 
 // The case with the state of its next step.
-fn with_state(c: &Case, state: StepState) -> Case
+fn with_said(c: &Case, state: StepState) -> Case
     requires { c.now.said < STEP_LIMIT }
-    ensures case { result ≡ with_state c.now state }
+    ensures case { result ≡ with_said c.now state }
 {
     let s = StepId(c.said);
     let (assigned, finished) = match state {

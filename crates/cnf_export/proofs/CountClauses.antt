@@ -7,7 +7,7 @@ use Rattle.std.proofs.lemmas.Bool.{false≢true}
 use Rattle.basics.proofs.Booleans.{eq_above}
 use Rattle.constraint_forms.specs.Assign.{is_member}
 use Rattle.cnf_export.specs.Clauses.{no_to, satisfies, yes_to}
-use Rattle.cnf_export.specs.Encodings.{Encoding, clause, counting_clause, counts, has, height, items, members, numbers, rows, takes, taking_clause}
+use Rattle.cnf_export.specs.Encodings.{Encoding, clause, count_rows, counting_clause, counts, has, height, members, numbers, part_items, takes, taking_clause}
 use Rattle.cnf_export.specs.declared.group.Group.TheVariants.{Taking, Counting, Ending}
 use Rattle.cnf_export.proofs.Counters.{IsCounter}
 use Rattle.cnf_export.proofs.Every.{every_flat, every_left, every_map, every_number, every_passing, every_right}
@@ -17,7 +17,7 @@ use Rattle.cnf_export.proofs.Steps.{GroupHolds, Holds, less_one, part_holds}
 -- ---- who has a step
 
 pub taken_by : (e : Encoding) (m : ℕ → Bool) (block : ℕ) (group : List Bool) (u : ℕ) →
-    Every (λ k. Holds m (clause e (Taking block group) u k)) (items e (Taking block group) u) →
+    Every (λ k. Holds m (clause e (Taking block group) u k)) (part_items e (Taking block group) u) →
     m (takes e block u) ≡ true → OneOf (is_member group) 0 (length group) (λ t. m (has e t u) ≡ true)
 taken_by e m block group u h one =
     one_listed m (λ t. has e t u) (is_member group) 0 (length group)
@@ -25,7 +25,7 @@ taken_by e m block group u h one =
     (every_right (λ k. Holds m (taking_clause e block group u k)) (map (λ t. suc t) (members group)) (0 ∷ []) h).0 one)
 
 pub takes_where : (e : Encoding) (m : ℕ → Bool) (block : ℕ) (group : List Bool) (u : ℕ) →
-    Every (λ k. Holds m (clause e (Taking block group) u k)) (items e (Taking block group) u) →
+    Every (λ k. Holds m (clause e (Taking block group) u k)) (part_items e (Taking block group) u) →
     (t : ℕ) → is_member group t ≡ true → t < length group → m (has e t u) ≡ true → m (takes e block u) ≡ true
 takes_where e m block group u h t member below one =
     one_yes m (takes e block u) (no_or m (has e t u) (yes_to (takes e block u) ∷ [])
@@ -49,24 +49,24 @@ item_clause e block most limit u j row less = λ i. counting_clause e block (hei
 -- the clauses for a user and a number
 row_holds : (e : Encoding) (m : ℕ → Bool) (block : ℕ) (most : Bool) (limit : ℕ) → GroupHolds e m (Counting block most limit) → (u j : ℕ) → u < e.users →
     j < height most limit →
-    Every (λ row. Holds m (clause e (Counting block most limit) u (4 * j + row))) (rows u j)
+    Every (λ row. Holds m (clause e (Counting block most limit) u (4 * j + row))) (count_rows u j)
 row_holds e m block most limit h u j below less =
     let each = λ (k : ℕ). Holds m (clause e (Counting block most limit) u k) in
-    every_map each (λ row. 4 * j + row) (rows u j)
-    (every_number (λ i. Every each (map (λ row. 4 * i + row) (rows u i))) 0 (height most limit)
-    (every_flat each (λ i. map (λ row. 4 * i + row) (rows u i)) (numbers 0 (height most limit)) (part_holds e m (Counting block most limit) h u below)) j
+    every_map each (λ row. 4 * j + row) (count_rows u j)
+    (every_number (λ i. Every each (map (λ row. 4 * i + row) (count_rows u i))) 0 (height most limit)
+    (every_flat each (λ i. map (λ row. 4 * i + row) (count_rows u i)) (numbers 0 (height most limit)) (part_holds e m (Counting block most limit) h u below)) j
     (omega arith) (omega (arith, less)))
 
 pub later : (n : ℕ) → (suc n == 0) ≡ false
 later n = eq_above (suc n) 0 (omega arith)
 
-pub first_more_rows : (j : ℕ) → rows 0 (suc j) ≡ 2 ∷ 3 ∷ []
+pub first_more_rows : (j : ℕ) → count_rows 0 (suc j) ≡ 2 ∷ 3 ∷ []
 first_more_rows j = λ i. cond (later j i) (1 ∷ 2 ∷ []) (2 ∷ 3 ∷ [])
 
-pub next_rows : (u : ℕ) → rows (suc u) 0 ≡ 0 ∷ 1 ∷ 2 ∷ []
+pub next_rows : (u : ℕ) → count_rows (suc u) 0 ≡ 0 ∷ 1 ∷ 2 ∷ []
 next_rows u = λ i. cond (later u i) (1 ∷ 2 ∷ []) (0 ∷ 1 ∷ 2 ∷ [])
 
-pub more_rows : (u j : ℕ) → rows (suc u) (suc j) ≡ 0 ∷ 1 ∷ 2 ∷ 3 ∷ []
+pub more_rows : (u j : ℕ) → count_rows (suc u) (suc j) ≡ 0 ∷ 1 ∷ 2 ∷ 3 ∷ []
 more_rows u j = λ i. cond (later u i) (cond (later j i) (1 ∷ 2 ∷ []) (2 ∷ 3 ∷ [])) (cond (later j i) (0 ∷ 1 ∷ 2 ∷ []) (0 ∷ 1 ∷ 2 ∷ 3 ∷ []))
 
 -- the rows behind the first user and number, told without a number less

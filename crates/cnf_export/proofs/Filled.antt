@@ -4,8 +4,9 @@ use Rattle.std.specs.Prelude.{ℤ}
 use Rattle.std.specs.List.{flat_map}
 use Rattle.constraint_forms.specs.declared.rule.Rule.{Rule}
 use Rattle.constraint_forms.specs.declared.rule.Rule.TheVariants as rule
-use Rattle.cnf_export.specs.Encodings.{Encoding, blocks, clause, count_groups, counting_clause, ending_clause, group_clauses, groups, height, items, literals}
-use Rattle.cnf_export.specs.Encodings.{members, numbers, once_clause, part, parts, rule_groups, rules_groups, step_blocks, step_groups, taking_clause}
+use Rattle.cnf_export.specs.Encodings.{Encoding, blocks, clause, count_groups, counting_clause, ending_clause, group_clauses, groups, height, literals}
+use Rattle.cnf_export.specs.Encodings.{part_items}
+use Rattle.cnf_export.specs.Encodings.{members, numbers, once_clause, part_clauses, parts, rule_groups, rules_groups, step_blocks, step_groups, taking_clause}
 use Rattle.cnf_export.specs.Sizes.{empties, empty_one}
 use Rattle.cnf_export.specs.declared.group.Group.{Group}
 use Rattle.cnf_export.specs.declared.group.Group.TheVariants.{Outside, Someone, Once, Pair, SomeOf, Taking, Counting, Ending}
@@ -43,7 +44,7 @@ flat_filled f (x ∷ xs) each =
     omega (arith, rest, one, sum)
 
 group_filled : (e : Encoding) (g : Group) → ((i k : ℕ) → empty_one (clause e g i k) ≡ 0) → empties (group_clauses e g) ≡ 0
-group_filled e g each = flat_filled (part e g) (numbers 0 (parts e g)) (λ i. map_filled (clause e g i) (items e g i) (each i))
+group_filled e g each = flat_filled (part_clauses e g) (numbers 0 (parts e g)) (λ i. map_filled (clause e g i) (part_items e g i) (each i))
 
 once_filled : (e : Encoding) (s u k : ℕ) → empty_one (once_clause e s u k) ≡ 0
 once_filled e s u zero = refl

@@ -5,8 +5,8 @@ use Rattle.std.specs.Prelude.{ℤ}
 use Rattle.std.specs.List.{flat_map}
 use Rattle.std.proofs.lemmas.List.{append-nil}
 use Rattle.std.proofs.lemmas.Bool.{false≢true}
-use Rattle.cnf_export.specs.Encodings.{Encoding, clause, group_clauses, items, numbers, part}
-use Rattle.cnf_export.specs.Positions.{left_at}
+use Rattle.cnf_export.specs.Encodings.{Encoding, clause, group_clauses, numbers, part_clauses, part_items}
+use Rattle.cnf_export.specs.Positions.{left_from}
 use Rattle.cnf_export.specs.declared.group.Group.{Group}
 use Rattle.cnf_export.specs.declared.position.Position.{Position}
 use Rattle.policy_book.specs.Refuting.{passing}
@@ -120,20 +120,20 @@ drop_some {X} xs k x is = at xs k is ∙ (let next : suc k ≡ k + 1 = omega ari
     at (y ∷ ys) (suc n) e = at ys n e
 
 -- a part is listed
-pub part_listed : (e : Encoding) (g : Group) (p n item : ℕ) (old : List ℕ) (listed : ℕ) (rest : List (List ℤ)) (new : List ℕ) → new ≡ items e g p → p < n →
+pub part_listed : (e : Encoding) (g : Group) (p n item : ℕ) (old : List ℕ) (listed : ℕ) (rest : List (List ℤ)) (new : List ℕ) → new ≡ part_items e g p → p < n →
     length old ≤ item →
-    map (clause e g p) new ++ (flat_map (part e g) (numbers (p + 1) (n - (p + 1))) ++ rest) ≡ map (clause e g listed)
-    (drop item old) ++ (flat_map (part e g) (numbers p (n - p)) ++ rest)
+    map (clause e g p) new ++ (flat_map (part_clauses e g) (numbers (p + 1) (n - (p + 1))) ++ rest) ≡ map (clause e g listed)
+    (drop item old) ++ (flat_map (part_clauses e g) (numbers p (n - p)) ++ rest)
 part_listed e g p n item old listed rest new is below done =
-    ap (λ us. map (clause e g p) us ++ (flat_map (part e g) (numbers (p + 1) (n - (p + 1))) ++ rest)) is
-    ∙ sym (append_assoc (part e g p) (flat_map (part e g) (numbers (p + 1) (n - (p + 1)))) rest)
-    ∙ ap (λ us. flat_map (part e g) us ++ rest) (sym (numbers_at p n below))
-    ∙ ap (λ us. map (clause e g listed) us ++ (flat_map (part e g) (numbers p (n - p)) ++ rest)) (sym (drop_past item old done))
+    ap (λ us. map (clause e g p) us ++ (flat_map (part_clauses e g) (numbers (p + 1) (n - (p + 1))) ++ rest)) is
+    ∙ sym (append_assoc (part_clauses e g p) (flat_map (part_clauses e g) (numbers (p + 1) (n - (p + 1)))) rest)
+    ∙ ap (λ us. flat_map (part_clauses e g) us ++ rest) (sym (numbers_at p n below))
+    ∙ ap (λ us. map (clause e g listed) us ++ (flat_map (part_clauses e g) (numbers p (n - p)) ++ rest)) (sym (drop_past item old done))
 
 pub nothing_left : (e : Encoding) (groups : List Group) (x : Position) → length x.items ≤ x.item → x.parts ≤ x.part → length groups ≤ x.next_group →
-    left_at e groups x ≡ []
+    left_from e groups x ≡ []
 nothing_left e groups x items parts all =
-    ap (λ us. map (clause e x.current x.listed) us ++ (flat_map (part e x.current) (numbers x.part (x.parts - x.part)) ++ flat_map (group_clauses e)
+    ap (λ us. map (clause e x.current x.listed) us ++ (flat_map (part_clauses e x.current) (numbers x.part (x.parts - x.part)) ++ flat_map (group_clauses e)
     (drop x.next_group groups))) (drop_past x.item x.items items)
-    ∙ ap (λ us. flat_map (part e x.current) us ++ flat_map (group_clauses e) (drop x.next_group groups)) (numbers_end x.part x.parts parts)
+    ∙ ap (λ us. flat_map (part_clauses e x.current) us ++ flat_map (group_clauses e) (drop x.next_group groups)) (numbers_end x.part x.parts parts)
     ∙ ap (λ gs. flat_map (group_clauses e) gs) (drop_past x.next_group groups all)

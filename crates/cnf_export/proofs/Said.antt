@@ -17,8 +17,10 @@ use Rattle.policy_book.specs.Facts.{HasMembers, IsWithinGroup}
 use Rattle.policy_book.specs.Plans.{AreAssigned, IsValidPlan, Problem}
 use Rattle.policy_book.specs.Refuting.{passing}
 use Rattle.cnf_export.specs.Clauses.{is_true, no_to, satisfies, yes_to}
-use Rattle.cnf_export.specs.Encodings.{Encoding, blocks, clause, clauses_of, counts, encoding_of, group_clauses, groups, has, has_by, height, items, may_be}
-use Rattle.cnf_export.specs.Encodings.{members, numbers, once_clause, once_items, part, parts, rows, rule_groups, rules_groups, step_blocks, step_groups, takes}
+use Rattle.cnf_export.specs.Encodings.{Encoding, blocks, clause, clauses_of, counts, encoding_of, group_clauses, groups, has, has_by, height, may_be}
+use Rattle.cnf_export.specs.Encodings.{part_items}
+use Rattle.cnf_export.specs.Encodings.{count_rows, members, numbers, once_clause, once_items, part_clauses, parts, rule_groups, rules_groups, step_blocks}
+use Rattle.cnf_export.specs.Encodings.{step_groups, takes}
 use Rattle.cnf_export.specs.Encodings.{taking_clause, users_who}
 use Rattle.cnf_export.specs.Models.{PlansAreModels, SaysCount, SaysPlan, SaysRule, SaysRules, has_some}
 use Rattle.cnf_export.specs.declared.group.Group.{Group}
@@ -114,9 +116,9 @@ none_is m v none = or_left (not (m v)) false (ap not none)
 
 -- ---- groups
 
-parts_from : (e : Encoding) (m : ℕ → Bool) (g : Group) → ((i : ℕ) → i < parts e g → Every (λ k. Holds m (clause e g i k)) (items e g i)) → GroupHolds e m g
-parts_from e m g each = flat_from (Holds m) (part e g) (numbers 0 (parts e g)) (numbers_from (λ i. Every (Holds m) (part e g i)) 0 (parts e g)
-    (λ i low high. map_from (Holds m) (clause e g i) (items e g i) (each i (omega (arith, high)))))
+parts_from : (e : Encoding) (m : ℕ → Bool) (g : Group) → ((i : ℕ) → i < parts e g → Every (λ k. Holds m (clause e g i k)) (part_items e g i)) → GroupHolds e m g
+parts_from e m g each = flat_from (Holds m) (part_clauses e g) (numbers 0 (parts e g)) (numbers_from (λ i. Every (Holds m) (part_clauses e g i)) 0 (parts e g)
+    (λ i low high. map_from (Holds m) (clause e g i) (part_items e g i) (each i (omega (arith, high)))))
 
 -- where a group that ends a count has a part there are users
 some_part : (n i : ℕ) → i < cond (n == 0) 0 1 → 0 < n
@@ -166,7 +168,7 @@ from_said m same h = subst (λ x. satisfies m x ≡ true) (sym same) h
 
 counter_rows : (e : Encoding) (m : ℕ → Bool) (block : ℕ) (most : Bool) (limit : ℕ) →
     IsCounter (λ w. m (takes e block w)) (λ v j. m (counts e block (height most limit) v j)) e.users (height most limit) →
-    (u j : ℕ) → u < e.users → j < height most limit → Every (λ row. Holds m (clause e (Counting block most limit) u (4 * j + row))) (rows u j)
+    (u j : ℕ) → u < e.users → j < height most limit → Every (λ row. Holds m (clause e (Counting block most limit) u (4 * j + row))) (count_rows u j)
 counter_rows e m block most limit is zero zero below less =
     let both = back_first (m (takes e block 0)) (m (counts e block (height most limit) 0 0)) (is.first below less) in
     (from_said m (item_clause e block most limit 0 0 1 (omega arith)) both.0, (from_said m (item_clause e block most limit 0 0 2 (omega arith)) both.1, tt))
@@ -211,10 +213,10 @@ counter_rows e m block most limit is (suc u) (suc j) below less =
 counter_holds : (e : Encoding) (m : ℕ → Bool) (block : ℕ) (most : Bool) (limit : ℕ) → IsCounter (λ w. m (takes e block w))
     (λ v j. m (counts e block (height most limit) v j)) e.users (height most limit) → GroupHolds e m (Counting block most limit)
 counter_holds e m block most limit is = parts_from e m (Counting block most limit) (λ u below.
-    flat_from (λ k. Holds m (clause e (Counting block most limit) u k)) (λ j. map (λ row. 4 * j + row) (rows u j)) (numbers 0 (height most limit))
-    (numbers_from (λ j. Every (λ k. Holds m (clause e (Counting block most limit) u k)) (map (λ row. 4 * j + row) (rows u j))) 0 (height most limit)
+    flat_from (λ k. Holds m (clause e (Counting block most limit) u k)) (λ j. map (λ row. 4 * j + row) (count_rows u j)) (numbers 0 (height most limit))
+    (numbers_from (λ j. Every (λ k. Holds m (clause e (Counting block most limit) u k)) (map (λ row. 4 * j + row) (count_rows u j))) 0 (height most limit)
     (λ j low high.
-    map_from (λ k. Holds m (clause e (Counting block most limit) u k)) (λ row. 4 * j + row) (rows u j)
+    map_from (λ k. Holds m (clause e (Counting block most limit) u k)) (λ row. 4 * j + row) (count_rows u j)
     (counter_rows e m block most limit is u j below (omega (arith, high))))))
 
 -- a plan for all steps, of users who may have them

@@ -2,7 +2,7 @@
 use Rattle.std.specs.Prelude.{ℕ, ℤ, List}
 use Rattle.std.specs.List.{flat_map}
 use Rattle.cnf_export.specs.Encodings.{group_clauses}
-use Rattle.cnf_export.specs.Positions.{left_at}
+use Rattle.cnf_export.specs.Positions.{left_from}
 use Rattle.cnf_export.specs.Terms.{TermsShape, encoding_in}
 use Rattle.cnf_export.specs.declared.group.Group.{Group}
 use Rattle.cnf_export.specs.declared.position.Position.{Position}
@@ -17,6 +17,6 @@ abbrev pub encoder_view : TermsShape → List Group → Position → ℕ → Enc
 encoder_view t groups x variables =
     record {
       all = flat_map (group_clauses (encoding_in t)) groups;
-      left = left_at (encoding_in t) groups x;
+      left = left_from (encoding_in t) groups x;
       variables = variables;
     }

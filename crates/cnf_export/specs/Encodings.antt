@@ -87,22 +87,22 @@ once_items zero = 0 ∷ []
 once_items (suc u) = 0 ∷ 1 ∷ 2 ∷ []
 
 -- which of the four rows of clauses there are for the users up to u and a number j
-abbrev pub rows : ℕ → ℕ → List ℕ
-rows u j =
+abbrev pub count_rows : ℕ → ℕ → List ℕ
+count_rows u j =
     if u == 0 then cond (j == 0) (1 ∷ 2 ∷ []) (2 ∷ 3 ∷ [])
     else cond (j == 0) (0 ∷ 1 ∷ 2 ∷ []) (0 ∷ 1 ∷ 2 ∷ 3 ∷ [])
 
-abbrev pub items : Encoding → Group → ℕ → List ℕ
-items e (Outside s) i = users_who e (λ u. not (e.may_have s u))
-items e (Someone s) i = 0 ∷ []
-items e (Once s) i = once_items i
-items e (Pair rho s t) i =
+abbrev pub part_items : Encoding → Group → ℕ → List ℕ
+part_items e (Outside s) i = users_who e (λ u. not (e.may_have s u))
+part_items e (Someone s) i = 0 ∷ []
+part_items e (Once s) i = once_items i
+part_items e (Pair rho s t) i =
     if e.may_have s i then users_who e (λ v. e.may_have t v && not (e.related rho i v)) else []
-items e (SomeOf rho back group s) i = users_who e (e.may_have s)
-items e (Taking block group) i = map (λ t. suc t) (members group) ++ 0 ∷ []
-items e (Counting block most limit) i =
-    flat_map (λ j. map (λ row. 4 * j + row) (rows i j)) (numbers 0 (height most limit))
-items e (Ending block most limit) i = 0 ∷ []
+part_items e (SomeOf rho back group s) i = users_who e (e.may_have s)
+part_items e (Taking block group) i = map (λ t. suc t) (members group) ++ 0 ∷ []
+part_items e (Counting block most limit) i =
+    flat_map (λ j. map (λ row. 4 * j + row) (count_rows i j)) (numbers 0 (height most limit))
+part_items e (Ending block most limit) i = 0 ∷ []
 
 abbrev pub once_clause : Encoding → ℕ → ℕ → ℕ → List ℤ
 once_clause e s u zero = no_to (has e s u) ∷ yes_to (has_by e s u) ∷ []
@@ -159,11 +159,11 @@ clause e (Counting block most limit) u k =
     counting_clause e block (height most limit) u (k / 4) (k % 4)
 clause e (Ending block most limit) i k = ending_clause e block most (height most limit)
 
-abbrev pub part : Encoding → Group → ℕ → List (List ℤ)
-part e g i = map (clause e g i) (items e g i)
+abbrev pub part_clauses : Encoding → Group → ℕ → List (List ℤ)
+part_clauses e g i = map (clause e g i) (part_items e g i)
 
 abbrev pub group_clauses : Encoding → Group → List (List ℤ)
-group_clauses e g = flat_map (part e g) (numbers 0 (parts e g))
+group_clauses e g = flat_map (part_clauses e g) (numbers 0 (parts e g))
 
 abbrev pub step_groups : ℕ → List Group
 step_groups s = Outside s ∷ Someone s ∷ Once s ∷ []

@@ -4,12 +4,12 @@ ghost use Rattle.std.specs.Prelude.{map, cond, List, OnOk};
 ghost use Rattle.std.specs.List.{flat_map};
 ghost use Rattle.cnf_export.specs.Clauses.{yes_to, no_to};
 ghost use Rattle.cnf_export.specs.Encodings.{counting_clause, counts, ending_clause, has, height};
-ghost use Rattle.cnf_export.specs.Encodings.{members, numbers, rows, takes, taking_clause};
+ghost use Rattle.cnf_export.specs.Encodings.{count_rows, members, numbers, takes, taking_clause};
 ghost use Rattle.cnf_export.specs.Terms.{encoding_in};
 
 use crate::Literals;
 use crate::listed::Items;
-use crate::literals::{add_no, add_yes};
+use crate::literals::{add_no, add_three, add_two, add_yes, no_to, yes_to};
 use crate::terms::Terms;
 use constraint_forms::StepSet;
 use std::alloc::AllocError;
@@ -41,7 +41,7 @@ pub(crate) fn list_members(group: &StepSet, into: &mut Items) -> Result<(), Allo
 pub(crate) fn list_rows(u: u16, high: u16, into: &mut Items) -> Result<(), AllocError>
     requires { high ≤ 256 }
     ensures { OnOk result (into.new
-        ≡ flat_map (λ j. map (λ row. 4 * j + row) (rows u j)) (numbers 0 high)) }
+        ≡ flat_map (λ j. map (λ row. 4 * j + row) (count_rows u j)) (numbers 0 high)) }
 {
     into.truncate(0);
     'numbers: for j in 0..high {
@@ -52,7 +52,7 @@ pub(crate) fn list_rows(u: u16, high: u16, into: &mut Items) -> Result<(), Alloc
 
 fn list_row(u: u16, j: u16, into: &mut Items) -> Result<(), AllocError>
     requires { j < 256 }
-    ensures { OnOk result (into.new ≡ into.old ++ map (λ row. 4 * j + row) (rows u j)) }
+    ensures { OnOk result (into.new ≡ into.old ++ map (λ row. 4 * j + row) (count_rows u j)) }
 {
     if u > 0 {
         into.push(4 * j)?;
@@ -83,8 +83,11 @@ pub(crate) fn write_taking(
         add_no(into, terms.takes(block, u))?;
         return add_takers(terms, group, u, into);
     }
-    add_no(into, terms.takes(k - 1, u))?;
-    add_yes(into, terms.takes(block, u))
+    add_two(
+        into,
+        no_to(terms.takes(k - 1, u)),
+        yes_to(terms.takes(block, u)),
+    )
 }
 
 // That some step of a group has the user, behind other literals.
@@ -120,60 +123,11 @@ pub(crate) fn write_counting(
     let before = terms.counts(block, high, u.saturating_sub(1), j.saturating_sub(1));
     let taken = terms.takes(block, u);
     match row {
-        0 => write_two(above, so_many, into),
-        1 => write_met(taken, j == 0, before, so_many, into),
-        2 => write_owed(so_many, u == 0, above, taken, into),
+        0 => add_two(into, no_to(above), yes_to(so_many)),
+        1 => add_three(into, no_to(taken), j == 0, no_to(before), yes_to(so_many)),
+        2 => add_three(into, no_to(so_many), u == 0, yes_to(above), yes_to(taken)),
         _ => write_followed(so_many, u == 0, above, before, into),
     }
-}
-
-fn write_two(v: u32, w: u32, into: &mut Literals) -> Result<(), AllocError>
-    requires first { v < 2 ^ 30 }
-    requires second { w < 2 ^ 30 }
-    ensures { OnOk result (into.new ≡ into.old ++ no_to v ∷ yes_to w ∷ []) }
-{
-    add_no(into, v)?;
-    add_yes(into, w)
-}
-
-fn write_met(
-    taken: u32,
-    first: bool,
-    before: u32,
-    so_many: u32,
-    into: &mut Literals,
-) -> Result<(), AllocError>
-    requires taken { taken < 2 ^ 30 }
-    requires before { before < 2 ^ 30 }
-    requires so_many { so_many < 2 ^ 30 }
-    ensures { OnOk result (into.new
-        ≡ into.old ++ no_to taken ∷ (cond first [] (no_to before ∷ []) ++ yes_to so_many ∷ [])) }
-{
-    add_no(into, taken)?;
-    if !first {
-        add_no(into, before)?;
-    }
-    add_yes(into, so_many)
-}
-
-fn write_owed(
-    so_many: u32,
-    first: bool,
-    above: u32,
-    taken: u32,
-    into: &mut Literals,
-) -> Result<(), AllocError>
-    requires so_many { so_many < 2 ^ 30 }
-    requires above { above < 2 ^ 30 }
-    requires taken { taken < 2 ^ 30 }
-    ensures { OnOk result (into.new
-        ≡ into.old ++ no_to so_many ∷ (cond first [] (yes_to above ∷ []) ++ yes_to taken ∷ [])) }
-{
-    add_no(into, so_many)?;
-    if !first {
-        add_yes(into, above)?;
-    }
-    add_yes(into, taken)
 }
 
 fn write_followed(

@@ -1,5 +1,5 @@
 //! Literals: a variable, or that it is not there.
-ghost use Rattle.std.specs.Prelude.{◌≡◌, ◌<◌, ◌^◌, ◌+◌, ◌++◌, ◌∷◌, [], OnOk, OnErr};
+ghost use Rattle.std.specs.Prelude.{◌≡◌, ◌<◌, ◌^◌, ◌+◌, ◌++◌, ◌∷◌, [], cond, OnOk, OnErr};
 ghost use Rattle.cnf_export.specs.Clauses.{yes_to, no_to};
 
 use basics::List;
@@ -40,4 +40,30 @@ pub(crate) fn add_no(into: &mut Literals, v: u32) -> Result<(), AllocError>
     ensures { OnOk result (into.new ≡ into.old ++ no_to v ∷ []) }
 {
     into.push(no_to(v))
+}
+
+/// Puts two literals behind others.
+pub(crate) fn add_two(into: &mut Literals, first: i32, second: i32) -> Result<(), AllocError>
+    ensures { OnOk result (into.new ≡ into.old ++ first ∷ second ∷ []) }
+{
+    into.push(first)?;
+    into.push(second)
+}
+
+/// Puts three literals behind others, of which the middle one may be left out.
+pub(crate) fn add_three(
+    into: &mut Literals,
+    first: i32,
+    skips: bool,
+    middle: i32,
+    last: i32,
+) -> Result<(), AllocError>
+    ensures { OnOk result (into.new
+        ≡ into.old ++ first ∷ (cond skips [] (middle ∷ []) ++ last ∷ [])) }
+{
+    into.push(first)?;
+    if !skips {
+        into.push(middle)?;
+    }
+    into.push(last)
 }

@@ -1,7 +1,7 @@
 //! How far an encoder has come.
 ghost use Rattle.std.specs.Prelude.{◌≡◌, ◌≤◌, ◌<◌, ◌^◌, suc, List, length, false, true, Bool, OnOk};
 ghost use Rattle.std.specs.Prelude.{OnErr, IfOk};
-ghost use Rattle.cnf_export.specs.Positions.{clause_at, left_at, StandsReady, HasGiven};
+ghost use Rattle.cnf_export.specs.Positions.{clause_at, left_from, StandsReady, HasGiven};
 ghost use Rattle.cnf_export.specs.Terms.{encoding_in};
 ghost use Rattle.std.specs.List.{flat_map};
 ghost use Rattle.cnf_export.specs.Encodings.{Encoding, group_clauses};
@@ -35,10 +35,10 @@ pub(crate) fn give(
     into: &mut Literals,
 ) -> Result<bool, AllocError>
     ensures given { IfOk result
-        (λ more. HasGiven (left_at (encoding_in terms.now) groups.now at.old) more into.new
-        (left_at (encoding_in terms.now) groups.now at.new)) }
-    ensures unchanged { OnErr result (left_at (encoding_in terms.now) groups.now at.new
-        ≡ left_at (encoding_in terms.now) groups.now at.old) }
+        (λ more. HasGiven (left_from (encoding_in terms.now) groups.now at.old) more into.new
+        (left_from (encoding_in terms.now) groups.now at.new)) }
+    ensures unchanged { OnErr result (left_from (encoding_in terms.now) groups.now at.new
+        ≡ left_from (encoding_in terms.now) groups.now at.old) }
 {
     skip(terms, groups, at)?;
     if at.item >= at.items.len() {
@@ -59,8 +59,8 @@ fn write_item(terms: &Terms, at: &Position, into: &mut Literals) -> Result<(), A
 
 // Goes on to the next item, if there is one. No clause is left out.
 fn skip(terms: &Terms, groups: &[Group], at: &mut Position) -> Result<(), AllocError>
-    ensures left { left_at (encoding_in terms.now) groups.now at.new
-        ≡ left_at (encoding_in terms.now) groups.now at.old }
+    ensures left { left_from (encoding_in terms.now) groups.now at.new
+        ≡ left_from (encoding_in terms.now) groups.now at.old }
     ensures ready { OnOk result (StandsReady groups.now at.new) }
 {
     'skipping: while at.item >= at.items.len() {
@@ -79,8 +79,8 @@ fn skip(terms: &Terms, groups: &[Group], at: &mut Position) -> Result<(), AllocE
 fn list_part(terms: &Terms, groups: &[Group], at: &mut Position) -> Result<(), AllocError>
     requires done { length at.old.items ≤ at.old.item }
     requires some { at.old.part < at.old.parts }
-    ensures left { left_at (encoding_in terms.now) groups.now at.new
-        ≡ left_at (encoding_in terms.now) groups.now at.old }
+    ensures left { left_from (encoding_in terms.now) groups.now at.new
+        ≡ left_from (encoding_in terms.now) groups.now at.old }
     ensures parts { OnOk result (at.new.parts ≡ at.old.parts) }
     ensures part { OnOk result (at.new.part ≡ suc at.old.part) }
     ensures group { OnOk result (at.new.next_group ≡ at.old.next_group) }
@@ -105,8 +105,8 @@ fn enter(terms: &Terms, groups: &[Group], at: &mut Position)
     requires done { length at.old.items ≤ at.old.item }
     requires all { at.old.parts ≤ at.old.part }
     requires some { at.old.next_group < length groups.now }
-    ensures left { left_at (encoding_in terms.now) groups.now at.new
-        ≡ left_at (encoding_in terms.now) groups.now at.old }
+    ensures left { left_from (encoding_in terms.now) groups.now at.new
+        ≡ left_from (encoding_in terms.now) groups.now at.old }
     ensures group { at.new.next_group ≡ suc at.old.next_group }
     ensures few { at.new.parts < 2 ^ 16 }
 {
@@ -118,7 +118,7 @@ fn enter(terms: &Terms, groups: &[Group], at: &mut Position)
 
 /// Goes back to before the first group.
 pub(crate) fn start(at: &mut Position)
-    ensures { (e : Encoding) → (groups : List AnyGroup) → left_at e groups at.new
+    ensures { (e : Encoding) → (groups : List AnyGroup) → left_from e groups at.new
         ≡ flat_map (group_clauses e) groups }
 {
     at.items.truncate(0);
@@ -131,7 +131,7 @@ pub(crate) fn start(at: &mut Position)
 impl Position {
     /// Before the first group.
     pub(crate) fn before(alloc: Global) -> Position
-        ensures { (e : Encoding) → (groups : List AnyGroup) → left_at e groups result
+        ensures { (e : Encoding) → (groups : List AnyGroup) → left_from e groups result
             ≡ flat_map (group_clauses e) groups }
     {
         Position {

@@ -2,7 +2,7 @@
 ghost use Rattle.std.specs.Prelude.{◌≡◌, ◌≤◌, ◌<◌, length, IfOk, IsErrOf, OnOk};
 ghost use Rattle.wf_names.specs.declared.limits.TheConstants.{STEP_LIMIT};
 ghost use Rattle.cnf_export.specs.Encodings.{literals};
-ghost use Rattle.cnf_export.specs.Positions.{left_at};
+ghost use Rattle.cnf_export.specs.Positions.{left_from};
 ghost use Rattle.cnf_export.specs.Sizes.{empties};
 ghost use Rattle.cnf_export.specs.Terms.{encoding_in};
 ghost use Rattle.cnf_export.specs.declared.fault.CnfFault.TheVariants.{TooLarge};
@@ -25,13 +25,13 @@ pub(crate) fn count(
     at: &mut Position,
     one: &mut Literals,
 ) -> Result<u32, CnfFault>
-    requires { empties (left_at (encoding_in terms.now) groups.now at.old) ≤ STEP_LIMIT }
+    requires { empties (left_from (encoding_in terms.now) groups.now at.old) ≤ STEP_LIMIT }
     ensures clauses { IfOk result
-        (λ n. n ≡ length (left_at (encoding_in terms.now) groups.now at.old)) }
+        (λ n. n ≡ length (left_from (encoding_in terms.now) groups.now at.old)) }
     ensures few { OnOk result (literals
-        (left_at (encoding_in terms.now) groups.now at.old) ≤ LITERAL_LIMIT) }
+        (left_from (encoding_in terms.now) groups.now at.old) ≤ LITERAL_LIMIT) }
     ensures large { IsErrOf result TooLarge
-        → LITERAL_LIMIT < literals (left_at (encoding_in terms.now) groups.now at.old) }
+        → LITERAL_LIMIT < literals (left_from (encoding_in terms.now) groups.now at.old) }
 {
     let mut clauses = 0u32;
     let mut size = 0usize;

@@ -7,7 +7,8 @@ ghost use Rattle.wf_names.specs.declared.limits.TheConstants.{STEP_LIMIT, USER_L
 ghost use Rattle.wf_names.specs.UserSets.{has_user};
 ghost use Rattle.policy_book.specs.Refuting.{passing};
 ghost use Rattle.constraint_forms.specs.Rules.{turned};
-ghost use Rattle.cnf_export.specs.Encodings.{clause, counts, has, has_by, height, items, members};
+ghost use Rattle.cnf_export.specs.Encodings.{clause, counts, has, has_by, height, members};
+ghost use Rattle.cnf_export.specs.Encodings.{part_items};
 ghost use Rattle.cnf_export.specs.Encodings.{once_clause, once_items, parts, some_clause, takes};
 ghost use Rattle.cnf_export.specs.Encodings.{users_who};
 ghost use Rattle.cnf_export.specs.Terms.{TermsShape, AreTerms, encoding_in};
@@ -19,7 +20,7 @@ use crate::counting::{
 };
 use crate::group::Group;
 use crate::listed::{Items, list_users};
-use crate::literals::{add_no, add_yes, no_to, yes_to};
+use crate::literals::{add_no, add_two, add_yes, no_to, yes_to};
 use constraint_forms::StepSet;
 use std::alloc::AllocError;
 use std::marker::Model;
@@ -176,7 +177,7 @@ impl Terms {
 
     /// The users whom a step may not have, in their order.
     pub(crate) fn list_outside(&self, s: StepId, into: &mut Items) -> Result<(), AllocError>
-        ensures { OnOk result (into.new ≡ items (encoding_in self.now) (groups.Outside s) 0) }
+        ensures { OnOk result (into.new ≡ part_items (encoding_in self.now) (groups.Outside s) 0) }
     {
         let mut users = self.everybody();
         users.strike(&self.domain(s));
@@ -195,7 +196,7 @@ impl Terms {
         into: &mut Items,
     ) -> Result<(), AllocError>
         ensures { OnOk result (into.new
-            ≡ items (encoding_in self.now) (groups.Pair rho first second) u) }
+            ≡ part_items (encoding_in self.now) (groups.Pair rho first second) u) }
     {
         if !self.domain(first).has(u) {
             into.truncate(0);
@@ -225,7 +226,7 @@ impl Terms {
 
     /// The items of a part.
     pub(crate) fn list_items(&self, g: &Group, i: u16, into: &mut Items) -> Result<(), AllocError>
-        ensures { OnOk result (into.new ≡ items (encoding_in self.now) g.now i) }
+        ensures { OnOk result (into.new ≡ part_items (encoding_in self.now) g.now i) }
     {
         match *g {
             Group::Outside(s) => self.list_outside(s, into),
@@ -312,8 +313,7 @@ impl Terms {
         ensures { OnOk result (into.new ≡ into.old ++ no_to (has (encoding_in self.now) first u)
             ∷ no_to (has (encoding_in self.now) second v) ∷ []) }
     {
-        into.push(no_to(self.has(first, u)))?;
-        into.push(no_to(self.has(second, v)))
+        add_two(into, no_to(self.has(first, u)), no_to(self.has(second, v)))
     }
 
     // That one user alone has a step.
@@ -322,18 +322,13 @@ impl Terms {
     {
         let before = u.saturating_sub(1);
         match k {
-            0 => {
-                into.push(no_to(self.has(s, u)))?;
-                into.push(yes_to(self.has_by(s, u)))
-            }
-            1 => {
-                into.push(no_to(self.has_by(s, before)))?;
-                into.push(yes_to(self.has_by(s, u)))
-            }
-            _ => {
-                into.push(no_to(self.has(s, u)))?;
-                into.push(no_to(self.has_by(s, before)))
-            }
+            0 => add_two(into, no_to(self.has(s, u)), yes_to(self.has_by(s, u))),
+            1 => add_two(
+                into,
+                no_to(self.has_by(s, before)),
+                yes_to(self.has_by(s, u)),
+            ),
+            _ => add_two(into, no_to(self.has(s, u)), no_to(self.has_by(s, before))),
         }
     }
 

@@ -11,7 +11,7 @@ use Rattle.policy_book.specs.Plans.{Problem}
 use Rattle.cnf_export.specs.Encodings.{Encoding, blocks, counts, encoding_of, has, has_by, height, numbers, step_blocks, takes}
 use Rattle.cnf_export.proofs.Listing.{numbers_at}
 use Rattle.cnf_export.specs.Models.{SaysCount, SaysPlan, SaysRule, SaysRules, has_some, last_below, plan_said}
-use Rattle.cnf_models.specs.Saying.{count_flags, flags_of, grid, has_variable, rule_flags, rules_flags}
+use Rattle.cnf_models.specs.Saying.{count_flags, grid, has_variable, plan_flags, rule_flags, rules_flags}
 
 -- ---- places
 
@@ -183,7 +183,7 @@ says_rules e plan before block (r ∷ rules) len = (
 
 -- the model made of a plan says it
 pub says_plan : (p : Problem) (plan : List ℕ) (assigned : List (Option ℕ)) (finished : List Bool) →
-    SaysPlan (encoding_of p assigned finished) p.rules (has_variable (flags_of p plan)) plan
+    SaysPlan (encoding_of p assigned finished) p.rules (has_variable (plan_flags p plan)) plan
 says_plan p plan assigned finished =
     let e = encoding_of p assigned finished in
     let users = grid (λ s u. planned plan s == u) p.steps p.users in
@@ -222,13 +222,13 @@ map_planned (u ∷ plan) f k each =
 
 pub said_back : (p : Problem) (plan : List ℕ) (assigned : List (Option ℕ)) (finished : List Bool) → length plan ≡ p.steps →
     ((s : ℕ) → s < p.steps → planned plan s < p.users) →
-    plan_said (encoding_of p assigned finished) (has_variable (flags_of p plan)) ≡ plan
+    plan_said (encoding_of p assigned finished) (has_variable (plan_flags p plan)) ≡ plan
 said_back p plan assigned finished whole known =
     let e = encoding_of p assigned finished in
     let says = says_plan p plan assigned finished in
-    let f = λ (s : ℕ). last_below p.users (λ u. has_variable (flags_of p plan) (has e s u)) in
+    let f = λ (s : ℕ). last_below p.users (λ u. has_variable (plan_flags p plan) (has e s u)) in
     ap (λ n. map f (numbers 0 n)) (sym whole)
     ∙ map_planned plan f 0 (λ s i below same.
     let here : i ≡ s = omega (arith, same) in
     let high : s < p.steps = omega (arith, below, whole) in
-    ap f here ∙ last_said p.users (planned plan s) (λ u. has_variable (flags_of p plan) (has e s u)) (known s high) (λ u low. says.has_it s u high low))
+    ap f here ∙ last_said p.users (planned plan s) (λ u. has_variable (plan_flags p plan) (has e s u)) (known s high) (λ u low. says.has_it s u high low))

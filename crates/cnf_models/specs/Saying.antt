@@ -38,7 +38,7 @@ rules_flags n plan [] = []
 rules_flags n plan (r ∷ rs) = rule_flags n plan r ++ rules_flags n plan rs
 
 -- the model that says a plan: who has each step, who has it by then, and what the rules count
-abbrev pub flags_of : Problem → List ℕ → List Bool
-flags_of p plan =
+abbrev pub plan_flags : Problem → List ℕ → List Bool
+plan_flags p plan =
     grid (λ s u. planned plan s == u) p.steps p.users
     ++ (grid (λ s u. nat_le (planned plan s) u) p.steps p.users ++ rules_flags p.users plan p.rules)

@@ -45,8 +45,8 @@ is_misspelt digits =
     (length digits == 0) || ((slice_index digits 0 == 48) && nat_lt 1 (length digits))
 
 -- the number that digits say, where it is not above a limit
-abbrev pub number_of : ℕ → List ℕ → Option ℕ
-number_of limit digits = if is_misspelt digits then None else number_behind limit 0 digits
+abbrev pub number_said : ℕ → List ℕ → Option ℕ
+number_said limit digits = if is_misspelt digits then None else number_behind limit 0 digits
 
 -- how far a model is read: which variables it has, and how many words were read; no number of
 -- words where a 0 has ended it
@@ -68,8 +68,8 @@ take_no k flags (Some n) = if n == 0 then Err k else Ok (flags, Some (k + 1))
 abbrev pub take_word : ℕ → ℕ → List Bool → List ℕ → Result SoFar ℕ
 take_word limit k flags word =
     if slice_index word 0 == 45
-    then take_no k flags (number_of limit (drop 1 word))
-    else take_yes k flags (number_of limit word)
+    then take_no k flags (number_said limit (drop 1 word))
+    else take_yes k flags (number_said limit word)
 
 -- what stands between two blanks; nothing is no word, and nothing is read behind the end
 abbrev pub next_part : ℕ → SoFar → List ℕ → Result SoFar ℕ
@@ -77,8 +77,8 @@ next_part limit (flags, None) part = Ok (flags, None)
 next_part limit (flags, Some k) part =
     if length part == 0 then Ok (flags, Some k) else take_word limit k flags part
 
-abbrev pub next_line : ℕ → SoFar → List ℕ → Result SoFar ℕ
-next_line limit so_far line =
+abbrev pub take_line : ℕ → SoFar → List ℕ → Result SoFar ℕ
+take_line limit so_far line =
     if is_passed_over line
     then Ok so_far
     else each (next_part limit) so_far (slice_split is_blank (without_v line))
@@ -86,13 +86,13 @@ next_line limit so_far line =
 -- the model that a text says, of `variables` variables, or its first word that is none
 abbrev pub model_of_text : ℕ → List ℕ → Result (List Bool) ℕ
 model_of_text variables text =
-    each (next_line variables) (replicate variables false, Some 0) (slice_split is_lf text)
+    each (take_line variables) (replicate variables false, Some 0) (slice_split is_lf text)
     >>= (λ so_far. Ok so_far.0)
 
 -- how many words were read, where that is told
-abbrev pub count_of : Option ℕ → ℕ
-count_of None = 0
-count_of (Some k) = k
+abbrev pub words_read : Option ℕ → ℕ
+words_read None = 0
+words_read (Some k) = k
 
 -- the word that a fault is; want of memory is none
 abbrev pub fault_word : ModelFault → Option ℕ

@@ -1,7 +1,7 @@
 //! The model that says a plan.
 ghost use Rattle.std.specs.Prelude.{◌≡◌, ◌<◌, length, IfOk};
 ghost use Rattle.policy_book.specs.Policies.{problem_of};
-ghost use Rattle.cnf_models.specs.Saying.{flags_of, has_variable};
+ghost use Rattle.cnf_models.specs.Saying.{has_variable, plan_flags};
 ghost use Rattle.cnf_models.specs.Readings.{ReadsBack, SatisfiesWherever};
 
 use crate::Model;
@@ -15,7 +15,7 @@ use wf_names::{FlowId, STEP_LIMIT};
 /// and is read back as the plan.
 pub fn model_of(alloc: Global, p: &Policy, f: FlowId, plan: &Plan) -> Result<Model, AllocError>
     requires { f < length p.now.flows }
-    ensures flags { IfOk result (λ m. m ≡ flags_of (problem_of p.now f) plan.now) }
+    ensures flags { IfOk result (λ m. m ≡ plan_flags (problem_of p.now f) plan.now) }
     ensures satisfies { IfOk result
         (λ m. SatisfiesWherever (problem_of p.now f) plan.now (has_variable m)) }
     ensures back { IfOk result (λ m. ReadsBack (problem_of p.now f) plan.now (has_variable m)) }

@@ -6,8 +6,9 @@ ghost use Rattle.std.specs.List.{slice_split};
 ghost use Rattle.memchr.specs.Find.{IsFirstByte};
 ghost use Rattle.basics.specs.Reading.{each, Gives};
 ghost use Rattle.cnf_models.specs.declared.text.ModelFault.TheVariants.{NoMemory};
-ghost use Rattle.cnf_models.specs.Texts.{count_of, is_blank, is_lf, is_passed_over, model_of_text};
-ghost use Rattle.cnf_models.specs.Texts.{next_line, next_part, without_v, fault_word, IsWordOf};
+ghost use Rattle.cnf_models.specs.Texts.{is_blank, is_lf, is_passed_over, model_of_text};
+ghost use Rattle.cnf_models.specs.Texts.{words_read};
+ghost use Rattle.cnf_models.specs.Texts.{take_line, next_part, without_v, fault_word, IsWordOf};
 
 use crate::Model;
 use crate::word::read_part;
@@ -48,7 +49,7 @@ pub fn read_model(alloc: Global, text: &[u8], variables: u32) -> Result<Model, M
 fn read_lines(limit: u32, text: &[u8], flags: &mut [bool]) -> Result<Option<usize>, usize>
     requires { limit ≤ length flags.old }
     ensures read { Gives Some (λ words. (flags.new, words)) result
-        (each (next_line limit) (flags.old, Some 0) (slice_split is_lf text.now)) }
+        (each (take_line limit) (flags.old, Some 0) (slice_split is_lf text.now)) }
     ensures word { IfErr result (λ k. k ≤ length text.now) }
 {
     prove!(text.len() <= usize::MAX);
@@ -72,11 +73,11 @@ fn read_line(
     flags: &mut [bool],
 ) -> Result<Option<usize>, usize>
     requires places { limit ≤ length flags.old }
-    requires fits { count_of words + length line.now < 2 ^ 64 }
+    requires fits { words_read words + length line.now < 2 ^ 64 }
     ensures read { Gives Some (λ after. (flags.new, after)) result
-        (next_line limit (flags.old, words) line.now) }
-    ensures word { IfErr result (λ k. k ≤ count_of words + length line.now) }
-    ensures few { IfOk result (λ after. count_of after ≤ count_of words + length line.now) }
+        (take_line limit (flags.old, words) line.now) }
+    ensures word { IfErr result (λ k. k ≤ words_read words + length line.now) }
+    ensures few { IfOk result (λ after. words_read after ≤ words_read words + length line.now) }
     ensures places { length flags.new ≡ length flags.old }
 {
     if passes_over(line) {
@@ -94,11 +95,11 @@ fn read_parts(
     flags: &mut [bool],
 ) -> Result<Option<usize>, usize>
     requires places { limit ≤ length flags.old }
-    requires fits { count_of words + length line.now < 2 ^ 64 }
+    requires fits { words_read words + length line.now < 2 ^ 64 }
     ensures read { Gives Some (λ after. (flags.new, after)) result
         (each (next_part limit) (flags.old, words) (slice_split is_blank line.now)) }
-    ensures word { IfErr result (λ k. k ≤ count_of words + length line.now) }
-    ensures few { IfOk result (λ after. count_of after ≤ count_of words + length line.now) }
+    ensures word { IfErr result (λ k. k ≤ words_read words + length line.now) }
+    ensures few { IfOk result (λ after. words_read after ≤ words_read words + length line.now) }
     ensures places { length flags.new ≡ length flags.old }
 {
     let mut after = words;

@@ -1,7 +1,7 @@
 //! The words of a model's text.
 ghost use Rattle.std.specs.Prelude.{◌≡◌, ◌≤◌, ◌<◌, ◌+◌, ◌^◌, length, Some, IfErr, IfOk, IfSome};
 ghost use Rattle.basics.specs.Reading.{Gives};
-ghost use Rattle.cnf_models.specs.Texts.{count_of, is_digit, next_part, number_of, take_no};
+ghost use Rattle.cnf_models.specs.Texts.{is_digit, next_part, number_said, take_no, words_read};
 ghost use Rattle.cnf_models.specs.Texts.{take_yes, with_digit};
 
 /// Reads what stands between two blanks. `words` says how many words were read, where no 0 has
@@ -13,11 +13,11 @@ pub(crate) fn read_part(
     flags: &mut [bool],
 ) -> Result<Option<usize>, usize>
     requires places { limit ≤ length flags.old }
-    requires fits { count_of words + length part.now < 2 ^ 64 }
+    requires fits { words_read words + length part.now < 2 ^ 64 }
     ensures read { Gives Some (λ after. (flags.new, after)) result
         (next_part limit (flags.old, words) part.now) }
-    ensures word { IfErr result (λ k. k ≤ count_of words) }
-    ensures few { IfOk result (λ after. count_of after ≤ count_of words + length part.now) }
+    ensures word { IfErr result (λ k. k ≤ words_read words) }
+    ensures few { IfOk result (λ after. words_read after ≤ words_read words + length part.now) }
     ensures places { length flags.new ≡ length flags.old }
 {
     let Some(k) = words else {
@@ -37,7 +37,7 @@ fn take_no(k: usize, number: Option<u32>, flags: &[bool]) -> Result<Option<usize
     requires { k + 1 < 2 ^ 64 }
     ensures read { Gives Some (λ after. (flags.now, after)) result (take_no k flags.now number) }
     ensures word { IfErr result (λ n. n ≤ k) }
-    ensures few { IfOk result (λ after. count_of after ≤ k + 1) }
+    ensures few { IfOk result (λ after. words_read after ≤ k + 1) }
 {
     let _ = flags;
     match number {
@@ -51,7 +51,7 @@ fn take_yes(k: usize, number: Option<u32>, flags: &mut [bool]) -> Result<Option<
     requires places { IfSome number (λ n. n ≤ length flags.old) }
     ensures read { Gives Some (λ after. (flags.new, after)) result (take_yes k flags.old number) }
     ensures word { IfErr result (λ n. n ≤ k) }
-    ensures few { IfOk result (λ after. count_of after ≤ k + 1) }
+    ensures few { IfOk result (λ after. words_read after ≤ k + 1) }
     ensures places { length flags.new ≡ length flags.old }
 {
     match number {
@@ -69,7 +69,7 @@ fn take_yes(k: usize, number: Option<u32>, flags: &mut [bool]) -> Result<Option<
 
 // The number that digits say, where it is not above a limit.
 fn number_of(limit: u32, digits: &[u8]) -> Option<u32>
-    ensures number { result ≡ number_of limit digits.now }
+    ensures number { result ≡ number_said limit digits.now }
     ensures few { IfSome result (λ n. n ≤ limit) }
 {
     if digits.len() == 0 || (digits[0] == b'0' && digits.len() > 1) {

@@ -14,7 +14,8 @@ use Rattle.run_record.specs.Fault.{refused, how_of, CountsLoads, LoadsSo}
 use Rattle.wf_commands.specs.Load.{GivesBytes, GivesPolicy}
 use Rattle.transcript_resume.specs.Resumed.{first_long, whole_lines}
 use Rattle.resume_command.specs.declared.start.TheConstants.{TRANSCRIPT_FILE_LIMIT}
-use Rattle.resume_command.specs.Load.{GivesCut, IsCutOf, Names, OverBoth, OverFiled, OverFiles, OverLong, GoesOverPolicy, OverRequests, OverStop, GoesOverText}
+use Rattle.resume_command.specs.Load.{GivesCut, IsCutOf, FileNames, OverBoth, OverFiled, OverFiles, OverLong, GoesOverPolicy, OverRequests, OverStop}
+use Rattle.resume_command.specs.Load.{GoesOverText}
 use Rattle.resume_command.specs.Load.{OverTranscript, OverTranscriptFile, ending_at}
 
 -- ---- the policy file
@@ -143,7 +144,7 @@ both_map lanes S T G H requests transcript stops goes at =
     (transcript_map S T (G cut) (H cut) transcript stops (goes text)))) at
 
 -- what stops stops, and what goes on goes on
-pub files_map : (files : List ℕ → Filed) (names : Names) (lanes : ℕ) (S T : RunFault → Type 0) (G H : PolicyShape → Cut → List ℕ → Type 0) →
+pub files_map : (files : List ℕ → Filed) (names : FileNames) (lanes : ℕ) (S T : RunFault → Type 0) (G H : PolicyShape → Cut → List ℕ → Type 0) →
     ((x : RunFault) → S x → T x)
     → ((p : PolicyShape) (text x : List ℕ) → IsFilePolicy p → G p (jobs_of_input text true lanes) x → H p (jobs_of_input text true lanes) x)
     → OverFiles files names lanes S G → OverFiles files names lanes T H
@@ -198,7 +199,7 @@ both_goal lanes S G requests transcript T stops goes at =
     (λ text. let cut = jobs_of_input text true lanes in
     stop_goal S (OverTranscriptFile S (G cut) transcript) cut.stop T stops (transcript_goal S (G cut) transcript T stops (goes cut)))) at
 
-pub files_goal : (files : List ℕ → Filed) (names : Names) (lanes : ℕ) (S : RunFault → Type 0) (G : PolicyShape → Cut → List ℕ → Type 0) (T : Type 0) →
+pub files_goal : (files : List ℕ → Filed) (names : FileNames) (lanes : ℕ) (S : RunFault → Type 0) (G : PolicyShape → Cut → List ℕ → Type 0) (T : Type 0) →
     ((x : RunFault) → S x → T)
     → ((p : PolicyShape) (c : Cut) (x : List ℕ) → G p c x → T) → OverFiles files names lanes S G → T
 files_goal files names lanes S G T stops goes at =

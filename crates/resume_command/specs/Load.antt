@@ -19,7 +19,7 @@ use Rattle.transcript_resume.specs.Resumed.{first_long, whole_lines}
 use Rattle.resume_command.specs.declared.start.TheConstants.{TRANSCRIPT_FILE_LIMIT}
 
 -- the names of the files
-pub record Names : Type 0 where
+pub record FileNames : Type 0 where
   pub policy : List ℕ
   pub requests : List ℕ
   pub transcript : List ℕ
@@ -83,7 +83,7 @@ OverBoth lanes Stops Goes requests transcript =
     OverTranscriptFile Stops (Goes cut) transcript))) requests
 
 -- the policy file, behind it that of the requests, and behind that one the file of the transcript
-abbrev pub OverFiles : (List ℕ → Filed) → Names → ℕ → (RunFault → Type 0) →
+abbrev pub OverFiles : (List ℕ → Filed) → FileNames → ℕ → (RunFault → Type 0) →
     (PolicyShape → Cut → List ℕ → Type 0) → Type 0
 OverFiles files names lanes Stops Goes =
     OverFiled Stops (GoesOverPolicy Stops (λ p.

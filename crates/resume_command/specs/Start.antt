@@ -4,10 +4,10 @@ use Rattle.wf_names.specs.declared.limits.TheConstants.{SESSION_LINE_LIMIT}
 use Rattle.line_cutter.specs.declared.whole.CutText.{CutText}
 use Rattle.line_cutter.specs.Laws.{AreInOrder, AreNamedJobs}
 use Rattle.resume_command.specs.declared.start.Earlier.{Earlier}
-use Rattle.resume_command.specs.Load.{Names}
+use Rattle.resume_command.specs.Load.{FileNames}
 
 -- the names of its files
-abbrev pub names_in : Earlier → Names
+abbrev pub names_in : Earlier → FileNames
 names_in e =
     record { policy = e.policy.now; requests = e.requests.now; transcript = e.transcript.now }
 

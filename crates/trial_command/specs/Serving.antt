@@ -14,8 +14,8 @@ use Rattle.trial_command.specs.declared.session.TheConstants.{LANES}
 use Rattle.trial_command.specs.Run.{AreBatchesByTurns}
 
 -- what a session tells
-abbrev pub told_of : Served → Told
-told_of s = record { entries = s.entries.entries; jobs = s.jobs; batch_ends = s.batch_ends }
+abbrev pub trial_told : Served → Told
+trial_told s = record { entries = s.entries.entries; jobs = s.jobs; batch_ends = s.batch_ends }
 
 -- a desk stays one of the same session
 pub record IsSameSession (before after : DeskShape) : Type 0 where

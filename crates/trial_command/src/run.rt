@@ -3,7 +3,7 @@ ghost use Rattle.std.specs.Prelude.{◌≡◌, false};
 ghost use Rattle.run_record.specs.Fault.{is_before_input, status_of};
 ghost use Rattle.run_record.specs.Report.{told_by};
 ghost use Rattle.trial_command.specs.Run.{RunsTrial};
-ghost use Rattle.trial_command.specs.Serving.{told_of};
+ghost use Rattle.trial_command.specs.Serving.{trial_told};
 
 use crate::session::{Served, serve_trial};
 use crate::summary::summary_of;
@@ -43,7 +43,7 @@ pub fn run_trial<V: Decider, K: Sink>(alloc: Global, decider: &V, seed: u64, sin
 fn report_of(fault: RunFault, served: Served) -> Report
     ensures status { result.status ≡ status_of fault }
     ensures fault { result.fault ≡ fault }
-    ensures told { told_by result ≡ told_of served }
+    ensures told { told_by result ≡ trial_told served }
 {
     let Served {
         entries,

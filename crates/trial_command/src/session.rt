@@ -3,7 +3,8 @@ ghost use Rattle.std.specs.Prelude.{◌≡◌, ◌<◌, ◌≤◌, ◌+◌, [], 
 ghost use Rattle.wf_names.specs.declared.limits.TheConstants.{BATCH_LINE_LIMIT};
 ghost use Rattle.wf_desk.specs.Desks.{AreOfLanes, IsDone, IsSoundDesk};
 ghost use Rattle.trial_command.specs.Run.{IsServedTrial};
-ghost use Rattle.trial_command.specs.Serving.{AreForTrial, HasServedAll, HasServedBatch, told_of};
+ghost use Rattle.trial_command.specs.Serving.{AreForTrial, HasServedAll, HasServedBatch};
+ghost use Rattle.trial_command.specs.Serving.{trial_told};
 
 use std::alloc::{AllocError, Global};
 use trial_maker::laws::trials_come_in_batches;
@@ -36,7 +37,7 @@ pub(crate) fn serve_trial<V: Decider>(
     seed: u64,
 ) -> Result<Served, AllocError>
     requires ready { V.ready decider.now }
-    ensures { IfOk result (λ s. IsServedTrial seed (told_of s)) }
+    ensures { IfOk result (λ s. IsServedTrial seed (trial_told s)) }
 {
     let Trial { policy, jobs, ends } = make(alloc, seed, CASES)?;
     trials_come_in_batches();

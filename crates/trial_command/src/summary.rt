@@ -1,7 +1,7 @@
 //! The summary of a session.
 ghost use Rattle.std.specs.Prelude.{◌≡◌, ◌++◌, IfOk, OnOk, decimal, string_bytes};
 ghost use Rattle.trial_command.specs.Run.{summary, summary_line};
-ghost use Rattle.trial_command.specs.Serving.{told_of};
+ghost use Rattle.trial_command.specs.Serving.{trial_told};
 
 use crate::counts::{Counts, count_replies};
 use crate::session::Served;
@@ -10,7 +10,7 @@ use std::alloc::{AllocError, Global};
 
 /// The summary of the session of a seed's trial, as one line.
 pub(crate) fn summary_of(alloc: Global, seed: u64, served: &Served) -> Result<String, AllocError>
-    ensures { IfOk result (λ text. string_bytes text ≡ summary seed (told_of served.now)) }
+    ensures { IfOk result (λ text. string_bytes text ≡ summary seed (trial_told served.now)) }
 {
     let counts = count_replies(served.entries.as_slice());
     summary_line(alloc, seed, served.jobs.len() as u64, &counts)

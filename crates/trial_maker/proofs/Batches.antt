@@ -13,7 +13,8 @@ use Rattle.wf_talk.specs.declared.request.Ask.TheVariants as ask
 use Rattle.wf_talk.specs.declared.request.Request.{Request}
 use Rattle.trial_maker.specs.Draws.{after}
 use Rattle.trial_maker.specs.TrialLaws.{AreEndsOf, AreTrialJobs, AreTrials}
-use Rattle.trial_maker.specs.Jobs.{Made, batch_ends, is_edited, job_count, openings, rounds, trial_jobs, turn, turns, with_edit, with_job, with_round}
+use Rattle.trial_maker.specs.Jobs.{Made, batch_ends, begins_with_edit, job_count, openings, rounds, trial_jobs, turn, turns, with_edit, with_request}
+use Rattle.trial_maker.specs.Jobs.{with_round}
 use Rattle.trial_maker.proofs.Growing.{job_more, jobs_count}
 
 lines_more : (n : ℕ) → range_with_len 0 (n + 1) ≡ range_with_len 0 n ++ n ∷ []
@@ -23,7 +24,7 @@ lines_more n = sym (map-id (range_with_len 0 (n + 1))) ∙ map-range_with_len_mo
 fits_none : AreTrialJobs []
 fits_none = record { lines = refl; lanes = All-nil (λ j. j.lane < 4) }
 
-fits_more : (jobs : List Job) (lane : ℕ) (what : Request) → lane < 4 → AreTrialJobs jobs → AreTrialJobs (with_job jobs lane what)
+fits_more : (jobs : List Job) (lane : ℕ) (what : Request) → lane < 4 → AreTrialJobs jobs → AreTrialJobs (with_request jobs lane what)
 fits_more jobs lane what low fits =
     let j : Job = record { lane = lane; line = length jobs; ask = ask.Request what } in
     record {
@@ -56,7 +57,7 @@ begun_fits m false fits = fits
 
 round_fits : (n v : ℕ) (m : Made) → AreTrialJobs m.jobs → AreTrialJobs (with_round n v m).jobs
 unfolding with_round
-round_fits n v m fits = turns_fit v n (if is_edited v then with_edit m else m) (begun_fits m (is_edited v) fits)
+round_fits n v m fits = turns_fit v n (if begins_with_edit v then with_edit m else m) (begun_fits m (begins_with_edit v) fits)
 
 rounds_fit : (n v : ℕ) (m : Made) → AreTrialJobs m.jobs → AreTrialJobs (rounds n v m).jobs
 unfolding rounds

@@ -15,7 +15,8 @@ use Rattle.trial_maker.specs.Draws.{after, next_state}
 use Rattle.trial_maker.specs.Draws as draws
 use Rattle.trial_maker.specs.Named.{flow_name, step_name, user_name}
 use Rattle.trial_maker.specs.Policy.{drawn_members}
-use Rattle.trial_maker.specs.Jobs.{Made, is_edited, job_count, openings, rounds, step_of, trial_jobs, turn, turn_user, turns, with_edit, with_job, with_round}
+use Rattle.trial_maker.specs.Jobs.{Made, begins_with_edit, job_count, openings, rounds, step_of, trial_jobs, turn, turn_user, turns, with_edit, with_request}
+use Rattle.trial_maker.specs.Jobs.{with_round}
 
 pub after_none : (s : ℕ) → after 0 s ≡ s
 unfolding after
@@ -29,7 +30,7 @@ pub members_none : (seed : ℕ) → drawn_members seed 0 ≡ set.empty
 unfolding drawn_members
 members_none seed = refl
 
-pub members_more : (seed u : ℕ) → drawn_members seed (u + 1) ≡ set.insert (set.insert (drawn_members seed u) (u, u % 5)) (u, draws.below 5 (after u seed))
+pub members_more : (seed u : ℕ) → drawn_members seed (u + 1) ≡ set.insert (set.insert (drawn_members seed u) (u, u % 5)) (u, draws.drawn_below 5 (after u seed))
 unfolding drawn_members
 members_more seed u = rw (add-one u) refl
 
@@ -41,11 +42,11 @@ pub openings_none : openings 0 ≡ []
 unfolding openings
 openings_none = refl
 
-pub openings_more : (n : ℕ) → openings (n + 1) ≡ with_job (openings n) 0 (request.OpenCase flow_name)
+pub openings_more : (n : ℕ) → openings (n + 1) ≡ with_request (openings n) 0 (request.OpenCase flow_name)
 unfolding openings
 openings_more n = rw (add-one n) refl
 
-pub job_more : (jobs : List Job) (lane : ℕ) (what : Request) → length (with_job jobs lane what) ≡ length jobs + 1
+pub job_more : (jobs : List Job) (lane : ℕ) (what : Request) → length (with_request jobs lane what) ≡ length jobs + 1
 job_more jobs lane what = length-append jobs _
 
 pub openings_count : (n : ℕ) → length (openings n) ≡ n
@@ -65,7 +66,7 @@ pub turn_count : (v c : ℕ) (m : Made) → length (turn v c m).jobs ≡ length 
 unfolding turn
 turn_count v c m =
     let u = turn_user v m.state in
-    let claimed = with_job m.jobs (c % 4) (request.Claim c (step_name (step_of v)) (user_name u)) in
+    let claimed = with_request m.jobs (c % 4) (request.Claim c (step_name (step_of v)) (user_name u)) in
     omega (
       arith,
       job_more m.jobs (c % 4) (request.Claim c (step_name (step_of v)) (user_name u)),
@@ -93,22 +94,22 @@ rounds_more n v m = rw (add-one v) refl
 abbrev edits : ℕ → ℕ
 edits v = (v - 1) / 4
 
-begun_count : (v : ℕ) (m : Made) (b : Bool) → is_edited v ≡ b → length (if b then with_edit m else m).jobs ≡ length m.jobs + cond b 1 0
+begun_count : (v : ℕ) (m : Made) (b : Bool) → begins_with_edit v ≡ b → length (if b then with_edit m else m).jobs ≡ length m.jobs + cond b 1 0
 begun_count v m true is = edit_count m
 begun_count v m false is = omega arith
 
-edit_more : (v : ℕ) (b : Bool) → is_edited v ≡ b → edits (v + 1) ≡ edits v + cond b 1 0
+edit_more : (v : ℕ) (b : Bool) → begins_with_edit v ≡ b → edits (v + 1) ≡ edits v + cond b 1 0
 edit_more v true is = grind (arith, nat_tests)
 edit_more v false is = grind (arith, nat_tests)
 
-pub round_count : (n v : ℕ) (m : Made) → length (with_round n v m).jobs ≡ length m.jobs + 2 * n + cond (is_edited v) 1 0
+pub round_count : (n v : ℕ) (m : Made) → length (with_round n v m).jobs ≡ length m.jobs + 2 * n + cond (begins_with_edit v) 1 0
 unfolding with_round
-round_count n v m = turns_count v n _ ∙ omega (arith, begun_count v m (is_edited v) refl)
+round_count n v m = turns_count v n _ ∙ omega (arith, begun_count v m (begins_with_edit v) refl)
 
 pub rounds_count : (n v : ℕ) (m : Made) → length (rounds n v m).jobs ≡ length m.jobs + 2 * n * v + edits v
 unfolding rounds
 rounds_count n zero m = omega arith
-rounds_count n (suc v) m = omega (arith, round_count n v (rounds n v m), rounds_count n v m, edit_more v (is_edited v) refl)
+rounds_count n (suc v) m = omega (arith, round_count n v (rounds n v m), rounds_count n v m, edit_more v (begins_with_edit v) refl)
 
 -- the ends of batches within
 pub ends_more : (first b : ℕ) → map (λ b. first + BATCH_LINE_LIMIT * b) (range_with_len 1 (b + 1)) ≡ map (λ b. first + BATCH_LINE_LIMIT * b)

@@ -16,5 +16,5 @@ unfoldable pub drawn : ℕ → ℕ
 drawn s = next_state s / 2 ^ 33
 
 -- the number below n that is drawn from a state
-unfoldable pub below : ℕ → ℕ → ℕ
-below n s = drawn s % n
+unfoldable pub drawn_below : ℕ → ℕ → ℕ
+drawn_below n s = drawn s % n

@@ -8,7 +8,7 @@ use Rattle.wf_talk.specs.declared.job.Job.{Job}
 use Rattle.wf_talk.specs.declared.request.Ask.TheVariants as ask
 use Rattle.wf_talk.specs.declared.request.Request.{Request}
 use Rattle.wf_talk.specs.declared.request.Request.TheVariants as request
-use Rattle.trial_maker.specs.Draws.{after, below, next_state}
+use Rattle.trial_maker.specs.Draws.{after, drawn_below, next_state}
 use Rattle.trial_maker.specs.Named.{user_name, step_name, role_name, flow_name}
 
 -- what has been made so far: the generator's state and the jobs
@@ -17,14 +17,14 @@ pub record Made : Type 0 where
   pub jobs : List Job
 
 -- one more job for a lane, on the next line
-abbrev pub with_job : List Job → ℕ → Request → List Job
-with_job jobs lane what =
+abbrev pub with_request : List Job → ℕ → Request → List Job
+with_request jobs lane what =
     jobs ++ record { lane = lane; line = length jobs; ask = ask.Request what } ∷ []
 
 -- n cases are opened
 unfoldable pub openings : ℕ → List Job
 openings zero = []
-openings (suc i) = with_job (openings i) 0 (request.OpenCase flow_name)
+openings (suc i) = with_request (openings i) 0 (request.OpenCase flow_name)
 
 -- there are 24 rounds, two for each step
 abbrev pub step_of : ℕ → ℕ
@@ -33,12 +33,12 @@ step_of v = v / 2
 -- the user of a turn: in an even round one of the twelve who have the step's role by their number,
 -- in an odd round anybody
 unfoldable pub turn_user : ℕ → ℕ → ℕ
-turn_user v s = if v % 2 == 0 then 5 * below 12 s + step_of v % 5 else below 60 s
+turn_user v s = if v % 2 == 0 then 5 * drawn_below 12 s + step_of v % 5 else drawn_below 60 s
 
 -- the user claims and finishes the round's step of the case c
 abbrev pub with_turn : ℕ → ℕ → ℕ → List Job → List Job
 with_turn v c u jobs =
-    with_job (with_job jobs (c % 4) (request.Claim c (step_name (step_of v)) (user_name u)))
+    with_request (with_request jobs (c % 4) (request.Claim c (step_name (step_of v)) (user_name u)))
     (c % 4) (request.Finish c (step_name (step_of v)) (user_name u))
 
 -- the turn of the case c in the round v
@@ -52,20 +52,21 @@ turns v zero m = m
 turns v (suc c) m = turn v c (turns v c m)
 
 -- the rounds 4, 8, 12, 16 and 20 begin with an edit
-abbrev pub is_edited : ℕ → Bool
-is_edited v = nat_lt 0 v && (v % 4 == 0)
+abbrev pub begins_with_edit : ℕ → Bool
+begins_with_edit v = nat_lt 0 v && (v % 4 == 0)
 
 -- the administrator `u00` takes from the user e the role e mod 5
 unfoldable pub with_edit : Made → Made
 with_edit m = record {
   state = next_state m.state;
-  jobs = with_job m.jobs 0 (request.Change (user_name 0)
-      (change.Dismiss (role_name (below 60 m.state % 5)) (user_name (below 60 m.state))));
+  jobs = with_request m.jobs 0 (request.Change (user_name 0)
+      (change.Dismiss (role_name (drawn_below 60 m.state % 5))
+      (user_name (drawn_below 60 m.state))));
 }
 
 -- the round v with n cases
 unfoldable pub with_round : ℕ → ℕ → Made → Made
-with_round n v m = turns v n (if is_edited v then with_edit m else m)
+with_round n v m = turns v n (if begins_with_edit v then with_edit m else m)
 
 -- the first v rounds with n cases
 unfoldable pub rounds : ℕ → ℕ → Made → Made

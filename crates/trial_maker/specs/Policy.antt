@@ -11,7 +11,7 @@ use Rattle.constraint_forms.specs.Assign.{no_steps}
 use Rattle.constraint_forms.specs.declared.rule.Rule.{Rule}
 use Rattle.constraint_forms.specs.declared.rule.Rule.TheVariants.{Pair, SomeOf, AllOf}
 use Rattle.policy_book.specs.Shapes.{PolicyShape}
-use Rattle.trial_maker.specs.Draws.{after, below}
+use Rattle.trial_maker.specs.Draws.{after, drawn_below}
 use Rattle.trial_maker.specs.Named.{user_name, step_name, role_name, admin_name, flow_name}
 
 -- who has which role among the first n users: the user i has the role i mod 5, and one of the first
@@ -19,7 +19,7 @@ use Rattle.trial_maker.specs.Named.{user_name, step_name, role_name, admin_name,
 unfoldable pub drawn_members : ℕ → ℕ → Pairs
 drawn_members seed zero = set.empty
 drawn_members seed (suc i) =
-    set.insert (set.insert (drawn_members seed i) (i, i % 5)) (i, below 5 (after i seed))
+    set.insert (set.insert (drawn_members seed i) (i, i % 5)) (i, drawn_below 5 (after i seed))
 
 -- the users and roles; the user 0 is an administrator too
 unfoldable pub trial_roster : ℕ → RosterShape

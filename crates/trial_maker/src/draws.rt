@@ -1,6 +1,6 @@
 //! The generator of numbers.
 ghost use Rattle.std.specs.Prelude.{◌≡◌, ◌<◌};
-ghost use Rattle.trial_maker.specs.Draws.{below, drawn, next_state};
+ghost use Rattle.trial_maker.specs.Draws.{drawn, drawn_below, next_state};
 
 use std::marker::Model;
 
@@ -35,10 +35,10 @@ impl Generator {
     }
 
     /// A number below a limit.
-    #[tactic(auto, unfolding(crate::specs::Draws::below))]
+    #[tactic(auto, unfolding(crate::specs::Draws::drawn_below))]
     pub(crate) fn below(&mut self, limit: u16) -> u16
         requires { 0 < limit }
-        ensures value { result ≡ below limit self.old }
+        ensures value { result ≡ drawn_below limit self.old }
         ensures within { result < limit }
         ensures drawn { self.new ≡ next_state self.old }
     {

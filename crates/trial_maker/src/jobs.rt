@@ -2,7 +2,7 @@
 ghost use Rattle.std.specs.Prelude.{◌≡◌, ◌≤◌, ◌<◌, ◌+◌, ◌*◌, ◌^◌, length, IfOk, OnOk};
 ghost use Rattle.trial_maker.specs.Draws.{next_state};
 ghost use Rattle.trial_maker.specs.Jobs.{batch_ends, openings, rounds, turn, turn_user, turns};
-ghost use Rattle.trial_maker.specs.Jobs.{with_edit, with_job, with_round, with_turn};
+ghost use Rattle.trial_maker.specs.Jobs.{with_edit, with_request, with_round, with_turn};
 
 use crate::draws::Generator;
 use crate::named::{named, role_name, step_name, user_name};
@@ -83,7 +83,7 @@ fn openings(alloc: Global, cases: u16) -> Result<Jobs, AllocError>
 // Adds a job for a lane, on the next line.
 fn add_job(jobs: &mut Jobs, lane: u8, request: Request) -> Result<(), AllocError>
     requires { length jobs.old < 2 ^ 32 }
-    ensures { OnOk result (jobs.new ≡ with_job jobs.old lane request) }
+    ensures { OnOk result (jobs.new ≡ with_request jobs.old lane request) }
 {
     let line = jobs.len() as u32;
     let ask = Ask::Request(request);

@@ -29,8 +29,8 @@ abbrev pub number_named : List (List ℕ) → List ℕ → Option ℕ
 number_named names text = if is_name text then place_of names text else None
 
 -- the next user of a plan; one who is not known is named by their place
-unfoldable pub next_user : PolicyShape → List ℕ → Data → Result (List ℕ) InputFault
-next_user p so_far d = do
+unfoldable pub next_in_plan : PolicyShape → List ℕ → Data → Result (List ℕ) InputFault
+next_in_plan p so_far d = do
   u ← or_fault (option_and_then (number_named p.roster.users) (as_str d)) (NoUser (length so_far))
   Ok (so_far ++ u ∷ [])
 
@@ -41,7 +41,7 @@ plan_of_input p steps input = do
   items ← or_fault (option_and_then as_array (value_of input)) Syntax
   _ ← check (list_all is_text (listed_items items)) Syntax
   _ ← check (length (listed_items items) == steps) Length
-  each (next_user p) [] (listed_items items)
+  each (next_in_plan p) [] (listed_items items)
 
 -- each user of a plan is among the first n
 abbrev pub AreAmong : ℕ → List ℕ → Type 0

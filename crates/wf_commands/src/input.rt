@@ -9,7 +9,7 @@ ghost use Rattle.wf_names.specs.declared.limits.TheConstants.{STEP_LIMIT};
 ghost use Rattle.policy_book.specs.Policies.{flow_at};
 ghost use Rattle.wire_json.specs.Values.{value_of};
 ghost use Rattle.run_record.specs.declared.fault.InputFault.TheVariants.{Syntax};
-ghost use Rattle.wf_commands.specs.Input.{plan_of_input, number_named, next_user, is_text};
+ghost use Rattle.wf_commands.specs.Input.{plan_of_input, number_named, next_in_plan, is_text};
 ghost use Rattle.wf_commands.specs.Input.{listed_items, input_fault, AreAmong, HasOneMoreUser};
 ghost use Rattle.wf_commands.specs.Input.{IsOfInput};
 
@@ -85,7 +85,7 @@ fn are_texts(items: &[Value]) -> bool
 fn read_users(alloc: Global, p: &Policy, items: &[Value]) -> Result<Vec<UserId>, InputError>
     requires { length items.now ≤ STEP_LIMIT }
     ensures users { Gives input_fault (λ users. users.items) result
-        (each (next_user p.now) [] (listed_items (items_view items.now))) }
+        (each (next_in_plan p.now) [] (listed_items (items_view items.now))) }
     ensures whole { IfOk result (λ users. length users.items ≡ length items.now) }
     ensures fault { IfErr result IsOfInput }
     ensures known { IfOk result (λ users. AreAmong (length p.now.roster.users) users.items) }
@@ -98,11 +98,11 @@ fn read_users(alloc: Global, p: &Policy, items: &[Value]) -> Result<Vec<UserId>,
 }
 
 // The user that an item names, behind those before.
-#[tactic(auto, unfolding(crate::specs::Input::next_user))]
+#[tactic(auto, unfolding(crate::specs::Input::next_in_plan))]
 fn read_user(p: &Policy, users: &mut Vec<UserId>, item: &Value) -> Result<(), InputError>
     requires { length users.old.items < 2 ^ 32 }
     ensures user { Gives input_fault (λ _. users.new.items) result
-        (next_user p.now users.old.items (view item.now)) }
+        (next_in_plan p.now users.old.items (view item.now)) }
     ensures fault { IfErr result IsOfInput }
     ensures pushed { OnOk result
         (HasOneMoreUser (length p.now.roster.users) users.old.items users.new.items) }

@@ -23,14 +23,14 @@ use Rattle.run_record.specs.Fault.{how_of, is_before_input, CountsLoads, CountsR
 use Rattle.run_record.specs.Report.{Told, nothing_told}
 use Rattle.run_record.specs.Run.{Run, IsOrderly, IsUntouched, Streams}
 use Rattle.transcript_audit.specs.declared.fault.AuditKind.{AuditKind}
-use Rattle.audit_command.specs.Finding.{fault_line}
+use Rattle.audit_command.specs.Finding.{audit_fault_line}
 use Rattle.transcript_resume.specs.Resumed.{IsRefused, Session}
 use Rattle.resume_command.specs.declared.start.Beginning.{Beginning}
 use Rattle.resume_command.specs.declared.start.TheConstants.{PIECE}
 use Rattle.resume_command.specs.declared.refusal.Refusal.{Refusal}
 use Rattle.resume_command.specs.declared.refusal.Refusal.TheVariants.{Ends, Line}
 use Rattle.resume_command.specs.Begun.{BeginsBy, EndsBeginning, HasBegun, StopsBy, fault_by, session_of}
-use Rattle.resume_command.specs.Load.{Names, OverFiles}
+use Rattle.resume_command.specs.Load.{FileNames, OverFiles}
 use Rattle.resume_command.proofs.Files.{files_goal, files_map}
 use Rattle.command_words.specs.Words.{AreOptions, Command, Options, may_repeat, resume}
 use Rattle.wf_server.specs.Runs.{HasRun}
@@ -249,7 +249,7 @@ told_orderly text r tells loads reads writes = record {
 -- a transcript that is refused
 told_refusal : (s : Session) (cut : Cut) (transcript : List ℕ) (repeats : Bool) (number : ℕ) (kind : AuditKind) (r : Run) → IsRefused s transcript number kind
     → r.after.input ≡ r.before.input → r.told ≡ nothing_told → (ending : RunFault) → r.fault ≡ ending →
-    TellsAs (fault_line number kind) r.before.output r.after.output ending
+    TellsAs (audit_fault_line number kind) r.before.output r.after.output ending
     → ResumesFrom s cut transcript repeats r
 told_refusal s cut transcript repeats number kind r refused unread untold fault.NoMemory is tells =
     inl (is, record { unread = unread; unwritten = tells; untold = untold })
@@ -261,7 +261,7 @@ told_refusal s cut transcript repeats number kind r refused unread untold ending
       unread = unread;
       untold = untold;
       tells =
-          subst (TellsAs (fault_line number kind) r.before.output r.after.output) (sym is) tells;
+          subst (TellsAs (audit_fault_line number kind) r.before.output r.after.output) (sym is) tells;
     }))
 
 -- entries behind a place are answered once where all are
@@ -273,7 +273,7 @@ once_behind (suc n) (e ∷ es) once = once_behind n es once.1
 -- ---- over the files
 
 -- a run that ended before its session
-pub ended_run : (names : Names) (options : Options) (repeats : Bool) (ending : RunFault) (r : Run) → AreOptions options → r.fault ≡ ending → IsUntouched r →
+pub ended_run : (names : FileNames) (options : Options) (repeats : Bool) (ending : RunFault) (r : Run) → AreOptions options → r.fault ≡ ending → IsUntouched r →
     IsOrderly r
     → OverFiles r.files names options.lanes (StopsBy (Err (Ends ending)))
     (λ p cut transcript. BeginsBy (session_of p options.lanes options.rounds cut) cut transcript (Err (Ends ending)))
@@ -289,8 +289,8 @@ ended_run names options repeats ending r within is nothing orderly over = record
 }
 
 -- a run that told the first line of the transcript that is none
-pub refused_run : (names : Names) (options : Options) (repeats : Bool) (number : ℕ) (kind : AuditKind) (r : Run) → AreOptions options
-    → r.after.input ≡ r.before.input → r.told ≡ nothing_told → TellsAs (fault_line number kind) r.before.output r.after.output r.fault → IsOrderly r
+pub refused_run : (names : FileNames) (options : Options) (repeats : Bool) (number : ℕ) (kind : AuditKind) (r : Run) → AreOptions options
+    → r.after.input ≡ r.before.input → r.told ≡ nothing_told → TellsAs (audit_fault_line number kind) r.before.output r.after.output r.fault → IsOrderly r
     → OverFiles r.files names options.lanes (StopsBy (Err (Line number kind)))
     (λ p cut transcript. BeginsBy (session_of p options.lanes options.rounds cut) cut transcript (Err (Line number kind)))
     → ResumesRun names options repeats r
@@ -307,7 +307,7 @@ refused_run names options repeats number kind r within unread untold tells order
 }
 
 -- what begins a session is there
-pub begun_there : (files : List ℕ → Filed) (names : Names) (options : Options) (b : Beginning)
+pub begun_there : (files : List ℕ → Filed) (names : FileNames) (options : Options) (b : Beginning)
     → OverFiles files names options.lanes (StopsBy (Ok b)) (λ p cut transcript. BeginsBy (session_of p options.lanes options.rounds cut) cut transcript (Ok b))
     → (s : Session) × ((cut : Cut) × ((transcript : List ℕ) × HasBegun s cut transcript b))
 begun_there files names options b over =
@@ -328,7 +328,7 @@ went_orderly s cut n r served loads =
     }
 
 -- a run whose session went on
-pub gone_on : (names : Names) (options : Options) (repeats : Bool) (b : Beginning) (r : Run) → AreOptions options → r.load_faults_after ≡ r.load_faults
+pub gone_on : (names : FileNames) (options : Options) (repeats : Bool) (b : Beginning) (r : Run) → AreOptions options → r.load_faults_after ≡ r.load_faults
     → ((s : Session) (cut : Cut) (transcript : List ℕ) → HasBegun s cut transcript b →
     Served (setting_behind s (length b.desk.entries)) (next_input cut) PIECE r.before r.after r.told r.fault)
     → take (length b.desk.entries) r.told.entries ≡ b.desk.entries → AreRightful (drop (length b.desk.entries) r.told.entries)
@@ -363,7 +363,7 @@ gone_on names options repeats b r within loads served begins wants law stay name
 }
 
 -- a run whose session does not go on, whatever the cause
-pub all_refused : (names : Names) (options : Options) (repeats : Bool) (refusal : Refusal) (r : Run) → AreOptions options → r.after.input ≡ r.before.input →
+pub all_refused : (names : FileNames) (options : Options) (repeats : Bool) (refusal : Refusal) (r : Run) → AreOptions options → r.after.input ≡ r.before.input →
     r.told ≡ nothing_told
     → r.after.read_faults ≡ r.before.read_faults → EndsBeginning (how_of (fault_by (Err refusal))) →
     CountsLoads (fault_by (Err refusal)) r.load_faults r.load_faults_after
@@ -377,7 +377,7 @@ all_refused names options repeats (Ends ending) r within still untold reads quie
     (ended_orderly r nothing (subst (λ f. EndsBeginning (how_of f)) (sym refuses.0) quiet)
     (subst (λ f. CountsLoads f r.load_faults r.load_faults_after) (sym refuses.0) loads) reads counts) over
 all_refused names options repeats (Line number kind) r within still untold reads quiet loads refuses counts over =
-    refused_run names options repeats number kind r within still untold refuses (told_orderly (fault_line number kind) r refuses loads reads counts) over
+    refused_run names options repeats number kind r within still untold refuses (told_orderly (audit_fault_line number kind) r refuses loads reads counts) over
 
 -- the words are a command
 tells_usage : (text : List ℕ) (before after : Option (List ℕ)) (ending : RunFault) → TellsAs text before after ending → ending ≡ fault.Usage → ⊥
@@ -386,14 +386,14 @@ tells_usage text before after ending tells is = subst (TellsAs text before after
 pub refused_usage : (refusal : Refusal) (before after : Option (List ℕ)) (ending : RunFault) → EndsBeginning (how_of (fault_by (Err refusal))) →
     RefusesAs refusal before after ending → ending ≡ fault.Usage → ⊥
 refused_usage (Ends fault) before after ending quiet refuses is = subst (λ f. EndsBeginning (how_of f)) (sym refuses.0 ∙ is) quiet
-refused_usage (Line number kind) before after ending quiet refuses is = tells_usage (fault_line number kind) before after ending refuses is
+refused_usage (Line number kind) before after ending quiet refuses is = tells_usage (audit_fault_line number kind) before after ending refuses is
 
 pub served_usage : (set : Setting) (first : Cut) (room : ℕ) (before after : Streams) (told : Told) (ending : RunFault) →
     Served set first room before after told ending → ending ≡ fault.Usage → ⊥
 served_usage set first room before after told ending served is = subst (ReadsFor before.input after.input room (handed_in first told)) is served.reads
 
 -- on threads
-pub threaded : {A : Type 0} (command : Option Command) (names : Names) (options : Options) (r : Run) →
+pub threaded : {A : Type 0} (command : Option Command) (names : FileNames) (options : Options) (r : Run) →
     command ≡ Some (resume names.policy names.requests names.transcript options)
     → nat_lt 1 options.lanes ≡ true → ((repeats : Bool) → (repeats ≡ false → A ⊎ (options.rounds ≡ 0)) → ResumesRun names options repeats r) →
     HasRun (may_repeat command) command r

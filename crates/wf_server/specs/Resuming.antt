@@ -14,13 +14,13 @@ use Rattle.run_record.specs.Fault.{CountsWrites}
 use Rattle.run_record.specs.Report.{nothing_told}
 use Rattle.run_record.specs.Run.{Run, IsOrderly, IsUntouched}
 use Rattle.transcript_audit.specs.declared.fault.AuditKind.{AuditKind}
-use Rattle.audit_command.specs.Finding.{fault_line}
+use Rattle.audit_command.specs.Finding.{audit_fault_line}
 use Rattle.transcript_resume.specs.Resumed.{IsRefused, IsTakenUp, Session}
 use Rattle.resume_command.specs.declared.start.TheConstants.{PIECE}
 use Rattle.resume_command.specs.declared.refusal.Refusal.{Refusal}
 use Rattle.resume_command.specs.declared.refusal.Refusal.TheVariants.{Ends, Line}
 use Rattle.resume_command.specs.Begun.{session_of}
-use Rattle.resume_command.specs.Load.{Names, OverFiles}
+use Rattle.resume_command.specs.Load.{FileNames, OverFiles}
 use Rattle.command_words.specs.Words.{AreOptions, Options}
 use Rattle.wf_server.specs.Sessions.{Served, Setting}
 
@@ -47,7 +47,7 @@ pub record RefusesFrom (s : Session) (transcript : List ℕ) (r : Run) : Type 0 
   pub refused : IsRefused s transcript number kind
   pub unread : r.after.input ≡ r.before.input
   pub untold : r.told ≡ nothing_told
-  pub tells : TellsAs (fault_line number kind) r.before.output r.after.output r.fault
+  pub tells : TellsAs (audit_fault_line number kind) r.before.output r.after.output r.fault
 
 -- the entries of the transcript are taken up, and a session goes on behind them: it answers the
 -- jobs of the requests that have none, and then what is read; what was taken up stays as it is and
@@ -73,7 +73,8 @@ ResumesFrom s cut transcript repeats r =
     EndsBy r NoMemory ⊎ (RefusesFrom s transcript r ⊎ GoesOnFrom s cut transcript repeats r)
 
 -- a run of `resume` with its files and options
-pub record ResumesRun (names : Names) (options : Options) (repeats : Bool) (r : Run) : Type 0 where
+pub record ResumesRun (names : FileNames) (options : Options) (repeats : Bool) (r : Run)
+    : Type 0 where
   pub within : AreOptions options
   pub resumes : OverFiles r.files names options.lanes (EndsBy r)
       (λ p cut transcript. ResumesFrom (session_of p options.lanes options.rounds cut) cut
@@ -84,7 +85,7 @@ pub record ResumesRun (names : Names) (options : Options) (repeats : Bool) (r : 
 abbrev pub RefusesAs : Refusal → Option (List ℕ) → Option (List ℕ) → RunFault → Type 0
 RefusesAs (Ends fault) before after ending = (ending ≡ fault) × (after ≡ before)
 RefusesAs (Line number kind) before after ending =
-    TellsAs (fault_line number kind) before after ending
+    TellsAs (audit_fault_line number kind) before after ending
 
 abbrev pub CountsRefusal : Refusal → ℕ → ℕ → RunFault → Type 0
 CountsRefusal (Ends fault) before after ending = after ≡ before

@@ -12,7 +12,7 @@ ghost use Rattle.transcript_resume.specs.Resumed.{Session};
 ghost use Rattle.resume_command.specs.declared.start.TheConstants.{PIECE};
 ghost use Rattle.resume_command.specs.Begun.{HasBegun};
 ghost use Rattle.resume_command.specs.Start.{names_in};
-ghost use Rattle.audit_command.specs.Finding.{fault_line};
+ghost use Rattle.audit_command.specs.Finding.{audit_fault_line};
 ghost use Rattle.command_words.specs.Words.{AreOptions};
 ghost use Rattle.wf_server.specs.GoingOn.{GoOnBehind, options_by};
 ghost use Rattle.wf_server.specs.Sessions.{Served};
@@ -125,7 +125,7 @@ fn go_on<S: Source, K: Sink, W: Way>(
 
 // Writes the line that tells the fault of a transcript; how the run ends.
 fn tell_fault<K: Sink>(alloc: Global, n: u32, kind: AuditKind, sink: &mut K) -> RunFault
-    ensures tells { TellsAs (fault_line n kind) (K.held sink.old) (K.held sink.new) result }
+    ensures tells { TellsAs (audit_fault_line n kind) (K.held sink.old) (K.held sink.new) result }
     ensures counts { CountsWrites result (K.faults sink.old) (K.faults sink.new) }
 {
     let Ok(text) = fault_text(alloc, n, kind) else {

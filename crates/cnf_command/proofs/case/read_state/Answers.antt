@@ -4,6 +4,6 @@ use Rattle.cnf_command.proofs.case.read_state.Goals as goal
 
 pub returns-in-Some-Some-clause-sound : goal.returns-in-Some-Some-clause-sound
 returns-in-Some-Some-clause-sound c =
-    rw c.with_state.ensures.case
+    rw c.with_said.ensures.case
     (said_on (length c.args.p.now.roster.users) c.args.c.now c.in-Some-Some.state c.requires.room c.requires.sound
     (rw c.in-Some-Some.field-0-is at c.in-Some-Some.ensures.known))

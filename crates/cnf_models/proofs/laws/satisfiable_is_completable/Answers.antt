@@ -1,6 +1,6 @@
 use Rattle.cnf_export.specs.Encodings.{encoding_of}
 use Rattle.cnf_export.specs.Models.{plan_said}
-use Rattle.cnf_models.specs.Saying.{flags_of, has_variable}
+use Rattle.cnf_models.specs.Saying.{has_variable, plan_flags}
 use Rattle.cnf_models.proofs.Grids.{says_plan}
 use Rattle.cnf_models.proofs.laws.satisfiable_is_completable.Goals as goal
 
@@ -8,7 +8,7 @@ pub returns : goal.returns
 returns c p assigned finished sound within all = (
   λ one. (plan_said (encoding_of p assigned finished) one.0, c.models_are_plans.ensures p assigned finished one.0 sound within one.1),
   λ done. (
-    has_variable (flags_of p done.0),
-    c.plans_are_models.ensures p assigned finished done.0 (has_variable (flags_of p done.0)) sound all done.1 (says_plan p done.0 assigned finished),
+    has_variable (plan_flags p done.0),
+    c.plans_are_models.ensures p assigned finished done.0 (has_variable (plan_flags p done.0)) sound all done.1 (says_plan p done.0 assigned finished),
   ),
 )

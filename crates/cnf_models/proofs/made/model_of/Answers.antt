@@ -5,7 +5,7 @@ use Rattle.policy_book.specs.Policies.{problem_of}
 use Rattle.cnf_export.specs.Clauses.{IsModelOf}
 use Rattle.cnf_export.specs.Encodings.{clauses_of, encoding_of}
 use Rattle.cnf_export.specs.Models.{AreSound, plan_said}
-use Rattle.cnf_models.specs.Saying.{flags_of, grid, has_variable, rules_flags}
+use Rattle.cnf_models.specs.Saying.{grid, has_variable, plan_flags, rules_flags}
 use Rattle.cnf_models.proofs.Grids.{said_back, says_plan}
 use Rattle.cnf_models.proofs.made.model_of.Goals as goal
 
@@ -32,7 +32,7 @@ returns-clause-satisfies c assigned finished all valid =
     let plan = c.args.plan.now in
     let sound : AreSound problem = record { named = c.rules.ensures.well_formed; members = λ k r is. (c.rules.ensures.ruled k r is).members } in
     subst (λ m. IsModelOf (has_variable m) (clauses_of problem assigned finished)) (sym (returns-clause-flags c))
-    (c.plans_are_models.ensures problem assigned finished plan (has_variable (flags_of problem plan)) sound all valid
+    (c.plans_are_models.ensures problem assigned finished plan (has_variable (plan_flags problem plan)) sound all valid
     (says_plan problem plan assigned finished))
 
 pub returns-clause-back : goal.returns-clause-back

@@ -1,7 +1,7 @@
 use Rattle.std.proofs.Common.{◌≡◌, ◌≤◌, ◌+◌, length}
 use Rattle.std.specs.List.{slice_split}
 use Rattle.basics.specs.Reading.{each}
-use Rattle.cnf_models.specs.Texts.{count_of, is_blank, next_part}
+use Rattle.cnf_models.specs.Texts.{is_blank, next_part, words_read}
 use Rattle.cnf_models.proofs.text.read_parts.Given as goal
 
 -- the rest of the parts say the same
@@ -10,7 +10,7 @@ invariant-parts l = record {
   rest : each (next_part l.limit) (l.flags, l.after) (slice_split is_blank l.rest) ≡ each (next_part l.limit) (l.fn.flags, l.fn.words)
       (slice_split is_blank l.line);
   places : length l.flags ≡ length l.fn.flags;
-  few : count_of l.after + length l.rest ≤ count_of l.fn.words + length l.line;
+  few : words_read l.after + length l.rest ≤ words_read l.fn.words + length l.line;
 }
 
 abbrev pub decreases-parts : goal.decreases-parts

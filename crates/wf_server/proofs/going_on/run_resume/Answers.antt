@@ -1,5 +1,5 @@
 use Rattle.std.proofs.Common.{inl, inr, refl}
-use Rattle.resume_command.specs.Load.{Names}
+use Rattle.resume_command.specs.Load.{FileNames}
 use Rattle.resume_command.specs.Start.{names_in}
 use Rattle.wf_server.specs.GoingOn.{options_by}
 use Rattle.wf_server.proofs.ResumeLaws.{all_refused, begun_there, gone_on, refused_usage, served_usage}
@@ -14,12 +14,12 @@ begin-requires-clause-within g c = record {
 
 pub go_on-requires-clause-begun : goal.go_on-requires-clause-begun
 go_on-requires-clause-begun g c =
-    let names : Names = names_in c.args.earlier in
+    let names : FileNames = names_in c.args.earlier in
     begun_there (g.F.Shelf.file c.args.shelf.now) names (options_by c.args.earlier) c.in-Ok.beginning c.in-Ok.ensures.begins
 
 pub returns-in-Ok-clause-resumes : goal.returns-in-Ok-clause-resumes
 returns-in-Ok-clause-resumes g c repeats once =
-    let names : Names = names_in c.args.earlier in
+    let names : FileNames = names_in c.args.earlier in
     gone_on names (options_by c.args.earlier) repeats c.in-Ok.beginning _ c.requires.options
     c.in-Ok.ensures.loads c.go_on.ensures.served c.go_on.ensures.behind.begins c.go_on.ensures.behind.wants
     c.lines_fit.ensures c.jobs_stay_named.ensures c.go_on.ensures.named
@@ -31,13 +31,13 @@ returns-in-Ok-clause-resumes g c repeats once =
 
 pub returns-in-Ok-clause-usage : goal.returns-in-Ok-clause-usage
 returns-in-Ok-clause-usage g c is =
-    let names : Names = names_in c.args.earlier in
+    let names : FileNames = names_in c.args.earlier in
     let h = begun_there (g.F.Shelf.file c.args.shelf.now) names (options_by c.args.earlier) c.in-Ok.beginning c.in-Ok.ensures.begins in
     served_usage _ _ _ _ _ _ _ (c.go_on.ensures.served h.0 h.1.0 h.1.1.0 h.1.1.1) is
 
 pub returns-in-Err-clause-resumes : goal.returns-in-Err-clause-resumes
 returns-in-Err-clause-resumes g c repeats once =
-    let names : Names = names_in c.args.earlier in
+    let names : FileNames = names_in c.args.earlier in
     all_refused names (options_by c.args.earlier) repeats c.in-Err.refusal _ c.requires.options refl c.refuse.ensures.told refl c.in-Err.ensures.ending
     c.in-Err.ensures.loads
     c.refuse.ensures.refuses c.refuse.ensures.counts c.in-Err.ensures.begins

@@ -2,7 +2,7 @@ use Rattle.std.proofs.Common.{◌≡◌, Some, map, nat_lt, rules, true}
 use Rattle.std.specs.Prelude.{string_bytes}
 use Rattle.command_words.specs.Asked.{options_in}
 use Rattle.command_words.specs.Words.{command_of, resume}
-use Rattle.resume_command.specs.Load.{Names}
+use Rattle.resume_command.specs.Load.{FileNames}
 use Rattle.wf_server.proofs.ResumeLaws.{threaded}
 use Rattle.wf_server.proofs.runs.run.Goals as goal
 
@@ -12,7 +12,7 @@ returns-in-Ok-clause-does g c = search rules
 pub returns-in-Ok-Resume-clause-does : goal.returns-in-Ok-Resume-clause-does
 returns-in-Ok-Resume-clause-does g c =
     let a = c.in-Ok-Resume in
-    let names : Names = record { policy = a.policy.now; requests = a.requests.now; transcript = a.transcript.now } in
+    let names : FileNames = record { policy = a.policy.now; requests = a.requests.now; transcript = a.transcript.now } in
     let command : command_of (map string_bytes c.args.words.now) ≡ Some (resume a.policy.now a.requests.now a.transcript.now (options_in a.options)) =
     search rules in
     let lanes : nat_lt 1 a.options.lanes ≡ true = search rules in
