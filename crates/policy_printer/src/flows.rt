@@ -168,29 +168,47 @@ fn put_pair(
     put_name(alloc, table, "first", steps, first.0 as u16)
 }
 
+/// A rule over a group of steps.
+#[derive(Clone, Copy)]
+struct Grouped {
+    form: Form,
+    rho: RelId,
+    group: StepSet,
+    step: StepId,
+}
+
+fn over_group(form: Form, rho: RelId, group: StepSet, step: StepId) -> Grouped
+    ensures { result ≡ record { form = form; rho = rho; group = group; step = step } }
+{
+    Grouped {
+        form,
+        rho,
+        group,
+        step,
+    }
+}
+
 #[tactic(auto, unfolding(crate::specs::Documents::grouped_members))]
 fn put_grouped(
     alloc: Global,
     table: &mut Table,
-    form: Form,
     relations: &Relations,
     steps: &NameTable,
-    rho: RelId,
-    group: &StepSet,
-    step: StepId,
+    rule: Grouped,
 ) -> Result<(), AllocError>
     requires none { table_view table.old ≡ no_members }
     requires few { length steps.now.names ≤ STEP_LIMIT }
-    requires relation { rho < length relations.now + 2 }
-    requires step { step < length steps.now.names }
+    requires relation { rule.rho < length relations.now + 2 }
+    requires step { rule.step < length steps.now.names }
     ensures table { OnOk result (table_view table.new
-        ≡ spec.grouped_members form relations.now steps.now.names rho group.now step) }
-    ensures flags { OnOk result (length group.now ≡ STEP_LIMIT) }
+        ≡ spec.grouped_members rule.form relations.now steps.now.names rule.rho rule.group
+        rule.step) }
+    ensures flags { OnOk result (length rule.group ≡ STEP_LIMIT) }
 {
-    put_name(alloc, table, "step", steps, step.0 as u16)?;
-    put_related(alloc, table, "relation", relations, rho)?;
-    put_group(alloc, table, steps, group)?;
-    put_word(alloc, table, "form", form.word())
+    put_name(alloc, table, "step", steps, rule.step.0 as u16)?;
+    put_related(alloc, table, "relation", relations, rule.rho)?;
+    put_group(alloc, table, steps, &rule.group)?;
+    put_word(alloc, table, "form", rule.form.word())
 }
 
 #[tactic(auto, unfolding(crate::specs::Documents::counting_members))]
@@ -234,20 +252,20 @@ fn put_rule(
             put_pair(alloc, table, relations, steps, rho, first, second)
         }
         Rule::SomeOf { rho, group, step } => {
-            let form = Form::SomeOf;
-            put_grouped(alloc, table, form, relations, steps, rho, &group, step)
+            let rule = over_group(Form::SomeOf, rho, group, step);
+            put_grouped(alloc, table, relations, steps, rule)
         }
         Rule::AllOf { rho, group, step } => {
-            let form = Form::AllOf;
-            put_grouped(alloc, table, form, relations, steps, rho, &group, step)
+            let rule = over_group(Form::AllOf, rho, group, step);
+            put_grouped(alloc, table, relations, steps, rule)
         }
         Rule::SomeTo { rho, step, group } => {
-            let form = Form::SomeTo;
-            put_grouped(alloc, table, form, relations, steps, rho, &group, step)
+            let rule = over_group(Form::SomeTo, rho, group, step);
+            put_grouped(alloc, table, relations, steps, rule)
         }
         Rule::AllTo { rho, step, group } => {
-            let form = Form::AllTo;
-            put_grouped(alloc, table, form, relations, steps, rho, &group, step)
+            let rule = over_group(Form::AllTo, rho, group, step);
+            put_grouped(alloc, table, relations, steps, rule)
         }
         Rule::AtMost { limit, group } => {
             put_counting(alloc, table, Form::AtMost, steps, limit, &group)

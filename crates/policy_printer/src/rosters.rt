@@ -176,7 +176,7 @@ fn put_relation(
 }
 
 /// A table of the relations.
-#[tactic(auto, using(crate::proofs::Writing::table_more, crate::proofs::Writing::number_fits, crate::proofs::Writing::one_further))]
+#[tactic(auto, using(crate::proofs::Writing::number_fits))]
 pub(crate) fn relations_value(
     alloc: Global,
     users: &NameTable,
