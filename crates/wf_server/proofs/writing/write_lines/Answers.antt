@@ -19,8 +19,8 @@ returns-in_err-line-clause-part g c = part_none _ _
 
 pub returns-in_err-write_one-clause-part : goal.returns-in_err-write_one-clause-part
 returns-in_err-write_one-clause-part g c =
-    put_part (entry_text c.args.p.now) (g.K.Sink.held c.args.sink.now) (g.K.Sink.held c.writing.sink) _ c.args.entries.now c.writing.entry-index c.entry-item.result
-    c.writing-test.true c.entry-item.is
+    put_part (entry_text c.args.p.now) (g.K.Sink.held c.args.sink.now) (g.K.Sink.held c.writing.sink) _ c.args.entries.now c.writing.entry-index
+    c.entry-item.result c.writing-test.true c.entry-item.is
     c.writing.invariant.written (rw c.writing.invariant.policy at c.write_one.ensures.part)
 
 pub returns-clause-part : goal.returns-clause-part
