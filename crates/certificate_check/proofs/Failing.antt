@@ -1,5 +1,5 @@
 -- The first of some numbers that fails a test.
-use Rattle.std.proofs.Common.{◌≡◌, ap, ℕ, suc, ◌+◌, ◌-◌, ◌<◌, ◌≤◌, Bool, Some, if◌then◌else◌, arith}
+use Rattle.std.proofs.Common.{◌≡◌, ap, ℕ, suc, ◌+◌, ◌-◌, ◌<◌, Bool, Some, if◌then◌else◌, arith}
 use Rattle.certificate_check.specs.Plan.{first_failing}
 
 -- the number looked at next fails, or the first that fails is behind it

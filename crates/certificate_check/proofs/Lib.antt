@@ -4,6 +4,7 @@ pub mod Dropped
 pub mod Failing
 pub mod Moving
 pub mod Refuted
+pub mod Rows
 pub mod Trees
 pub mod TwinLaws
 pub mod Verdicts

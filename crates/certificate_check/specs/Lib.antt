@@ -1,3 +1,4 @@
+pub mod Alike
 pub mod Plan
 pub mod Laws
 pub mod Walks

@@ -1,16 +1,22 @@
 //! Whether two users are twins, so that nothing depends on which of them is given a step.
-ghost use Rattle.std.specs.Prelude.{◌≡◌, ◌<◌, ◌&&◌, ◌||◌, ◌==◌, length, slice_get};
+ghost use Rattle.std.specs.Prelude.{◌≡◌, ◌<◌, ◌↔◌, ◌&&◌, ◌||◌, ◌==◌, ℕ, Some, not, true, length};
+ghost use Rattle.std.specs.Prelude.{slice_get, IsTrue};
 ghost use Rattle.wf_names.specs.declared.limits.TheConstants.{STEP_LIMIT};
+ghost use Rattle.wf_names.specs.UserSets.{has_user};
 ghost use Rattle.constraint_forms.specs.Assign.{user_at};
-ghost use Rattle.constraint_forms.specs.Rules.{all_read};
+ghost use Rattle.constraint_forms.specs.Rules.{all_read, reads};
 ghost use Rattle.policy_book.specs.Policies.{problem_of};
 ghost use Rattle.policy_book.specs.Twins.{agree, all_below, are_related_alike, are_twins};
 ghost use Rattle.policy_book.specs.Twins.{has_no_step, is_alike_to, is_given_to, is_rule_alike};
 ghost use Rattle.policy_book.specs.Twins.{may_do_the_same, treats_alike};
+ghost use Rattle.certificate_check.specs.Alike.{AreSameBut, HasNoMoreThan, reads_as};
 
-use constraint_forms::{Holds, Rule};
+use constraint_forms::{Holds, RelatedRows, Rule};
 use policy_book::{Assign, Policy};
-use wf_names::{FlowId, RelId, STEP_LIMIT, StepId, UserId};
+use wf_names::{FlowId, RelId, STEP_LIMIT, StepId, USER_LIMIT, UserId, UserSet};
+
+// Up to how many users are looked at one by one.
+const FEW: u16 = 64;
 
 /// Whether two users are twins under an assignment: neither has a step, both are authorised for the
 /// same steps, and every relation that a rule reads treats them alike. Takes no memory.
@@ -81,16 +87,69 @@ fn agree(one: bool, other: bool) -> bool
     if one { other } else { !other }
 }
 
-fn are_related_alike(p: &Policy, f: FlowId, u: UserId, v: UserId) -> bool
-    requires { f < length p.now.flows }
+/// Whether every relation that a rule reads treats two users alike. A rule is passed over where an
+/// earlier one reads all that it reads. Takes no memory.
+pub fn are_related_alike(p: &Policy, f: FlowId, u: UserId, v: UserId) -> bool
+    requires flow { f < length p.now.flows }
     ensures { result ≡ are_related_alike (problem_of p.now f) u v }
 {
     'rules: for k in 0..p.rules(f).len() {
+        if read_before(p, f, k) < k {
+            continue;
+        }
         if !is_rule_alike(p, f, k, u, v) {
             return false;
         }
     }
     true
+}
+
+// An earlier rule that reads all that a rule reads, or else the rule itself.
+fn read_before(p: &Policy, f: FlowId, k: usize) -> usize
+    requires flow { f < length p.now.flows }
+    ensures { (u v : ℕ)
+        → IsTrue (is_rule_alike (problem_of p.now f) u v
+        (slice_get (problem_of p.now f).rules result))
+        → IsTrue (is_rule_alike (problem_of p.now f) u v
+        (slice_get (problem_of p.now f).rules k)) }
+{
+    'earlier: for j in 0..k {
+        if reads_as(p, f, j, k) {
+            return j;
+        }
+    }
+    k
+}
+
+// Whether one rule reads all that another rule reads.
+fn reads_as(p: &Policy, f: FlowId, j: usize, k: usize) -> bool
+    requires flow { f < length p.now.flows }
+    ensures { result ≡ reads_as (slice_get (problem_of p.now f).rules j)
+        (slice_get (problem_of p.now f).rules k) }
+{
+    match p.rules(f).as_slice().get(j) {
+        Some(rule) => reads_all_of(p, f, rule, k),
+        None => false,
+    }
+}
+
+fn reads_all_of(p: &Policy, f: FlowId, rule: &Rule, k: usize) -> bool
+    requires flow { f < length p.now.flows }
+    ensures { result ≡ reads_as (Some rule.now) (slice_get (problem_of p.now f).rules k) }
+{
+    match p.rules(f).as_slice().get(k) {
+        Some(other) => reads_all(rule, other),
+        None => false,
+    }
+}
+
+fn reads_all(rule: &Rule, other: &Rule) -> bool
+    ensures { result ≡ all_read other.now (reads rule.now) }
+{
+    match other.relation() {
+        Some(rho) => rule.reads(rho),
+        None => true,
+    }
 }
 
 fn is_rule_alike(p: &Policy, f: FlowId, k: usize, u: UserId, v: UserId) -> bool
@@ -132,6 +191,17 @@ fn are_alike_to_all(p: &Policy, f: FlowId, rho: RelId, u: UserId, v: UserId) -> 
     ensures { result ≡ all_below (problem_of p.now f).users
         (λ w. (w == u || w == v) || is_alike_to ((problem_of p.now f).related rho) u v w) }
 {
+    if p.roster().users().len() <= FEW {
+        are_alike_to_each(p, f, rho, u, v)
+    } else {
+        have_same_rows(p, f, rho, u, v)
+    }
+}
+
+fn are_alike_to_each(p: &Policy, f: FlowId, rho: RelId, u: UserId, v: UserId) -> bool
+    ensures { result ≡ all_below (problem_of p.now f).users
+        (λ w. (w == u || w == v) || is_alike_to ((problem_of p.now f).related rho) u v w) }
+{
     'users: for w in 0..p.roster().users().len() {
         if !are_alike_to(p, f, rho, u, v, UserId(w)) {
             return false;
@@ -151,4 +221,43 @@ fn is_alike_to(p: &Policy, f: FlowId, rho: RelId, u: UserId, v: UserId, w: UserI
     ensures { result ≡ is_alike_to ((problem_of p.now f).related rho) u v w }
 {
     agree(p.holds(rho, u, w), p.holds(rho, v, w)) && agree(p.holds(rho, w, u), p.holds(rho, w, v))
+}
+
+// By the rows of all whom a relation relates to each of the two.
+fn have_same_rows(p: &Policy, f: FlowId, rho: RelId, u: UserId, v: UserId) -> bool
+    ensures { result ≡ all_below (problem_of p.now f).users
+        (λ w. (w == u || w == v) || is_alike_to ((problem_of p.now f).related rho) u v w) }
+{
+    let users = p.roster().users().len();
+    prove!(users <= USER_LIMIT);
+    if !are_same_but(&p.after(rho, u, users), &p.after(rho, v, users), u, v) {
+        return false;
+    }
+    are_same_but(&p.ahead(rho, u, users), &p.ahead(rho, v, users), u, v)
+}
+
+// Whether two sets have the same users, two users aside.
+fn are_same_but(one: &UserSet, other: &UserSet, u: UserId, v: UserId) -> bool
+    ensures { result ≡ true ↔ AreSameBut one.now other.now u v }
+{
+    has_no_more_than(one, other, u, v) && has_no_more_than(other, one, u, v)
+}
+
+// Whether a set has no user, two users aside, who is not in another set.
+fn has_no_more_than(one: &UserSet, other: &UserSet, u: UserId, v: UserId) -> bool
+    ensures { result ≡ true ↔ HasNoMoreThan one.now other.now u v }
+{
+    let mut more = *one;
+    more.strike(other);
+    take_out(&mut more, u);
+    take_out(&mut more, v);
+    more.next(0).is_none()
+}
+
+fn take_out(set: &mut UserSet, u: UserId)
+    ensures { (w : ℕ) → has_user set.new w ≡ (not (w == u) && has_user set.old w) }
+{
+    if set.has(u) {
+        set.remove(u);
+    }
 }

@@ -10,8 +10,8 @@ use Rattle.wf_names.specs.declared.limits.TheConstants.{STEP_LIMIT}
 use Rattle.constraint_forms.specs.declared.rule.Rule.{Rule}
 use Rattle.constraint_forms.specs.Flags.{word_of}
 use Rattle.constraint_forms.specs.Assign.{is_member, no_steps, user_at}
-use Rattle.constraint_forms.specs.Rules.{any_read, reads}
-use Rattle.constraint_forms.proofs.Reading.{all_as_each, each_read, some_read}
+use Rattle.constraint_forms.specs.Rules.{any_read}
+use Rattle.constraint_forms.proofs.Reading.{some_read}
 use Rattle.constraint_forms.proofs.Members.{none_member}
 use Rattle.policy_book.specs.Plans.{Problem}
 use Rattle.policy_book.specs.Twins.{agree, are_related_alike, are_twins, has_no_step, has_twin, is_alike_to, is_rule_alike, may_do_the_same}
@@ -19,7 +19,7 @@ use Rattle.policy_book.specs.Twins.{treats_alike}
 use Rattle.certificate_check.proofs.Below.{all_pass, one_fails, same_agree}
 use Rattle.certificate_check.proofs.TwinLaws.{mean_twins, twins_chain, twins_mean, twins_turned}
 use Rattle.certificate_check.proofs.Assigned.{given}
-use Rattle.wsp_solver.specs.Crews.{AreDutiesBelow, AreFirstTwins, IsFirstTwin, duties_below, duties_of, is_told_apart, reads_as, tells_apart}
+use Rattle.wsp_solver.specs.Crews.{AreDutiesBelow, AreFirstTwins, IsFirstTwin, duties_below, duties_of, is_told_apart, tells_apart}
 use Rattle.wsp_solver.proofs.Members.{length_set, member_added, passing_more}
 
 -- ---- steps
@@ -113,15 +113,6 @@ alike_by_duties p duties u v u_in v_in few right one =
     (all_pass p.steps (λ s. agree (p.authorised s u) (p.authorised s v))
     (λ s below. same_agree (p.authorised s u) (p.authorised s v)
     (sym (duties-known p u s few below) ∙ ap (λ d. is_member d s) (sym (right u u_in) ∙ same ∙ right v v_in) ∙ duties-known p v s few below)))
-
--- a rule treats users alike where another does that reads all that it reads
-pub read_alike : (p : Problem) (u v : ℕ) (a b : Option Rule) → reads_as a b ≡ true → is_rule_alike p u v a ≡ true → is_rule_alike p u v b ≡ true
-read_alike p u v None b h alike = absurd (false≢true h)
-read_alike p u v (Some x) None h alike = absurd (false≢true h)
-read_alike p u v (Some x) (Some y) h alike = all_as_each y test (λ rho read. each_read x test alike rho (each_read y (reads x) h rho read))
-  where
-    test : ℕ → Bool
-    test rho = treats_alike p.users (p.related rho) u v
 
 -- a rule that reads a relation that treats two users differently at a third one tells them apart
 apart_by_rule : (p : Problem) (k : ℕ) (r : Rule) (u v w : ℕ) → k < length p.rules → slice_get p.rules k ≡ Some r → w < p.users →

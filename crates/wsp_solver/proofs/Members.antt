@@ -1,6 +1,6 @@
 -- Sets of steps with one more, and what trees mention.
 use Rattle.std.proofs.Common.{◌≡◌, ◌≢◌, refl, sym, ap, ◌∙◌, ℕ, ◌+◌, ◌<◌, ◌≤◌, Bool, true, false, ◌&&◌, ◌||◌, ◌==◌, nat_lt, List}
-use Rattle.std.proofs.Common.{[], ◌∷◌, length, slice_set, ◌⊎◌, inl, inr, eqb, leb, arith}
+use Rattle.std.proofs.Common.{length, slice_set, ◌⊎◌, inl, inr, eqb, leb, arith}
 use Rattle.std.proofs.lemmas.Bool.Decides.{eqb_tells, leb_tells}
 use Rattle.std.proofs.lemmas.List.{get_or-set_same, get_or-set_other, length-set}
 use Rattle.constraint_forms.specs.declared.rule.Rule.{Rule}

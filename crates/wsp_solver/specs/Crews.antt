@@ -1,11 +1,11 @@
 -- Inside: what a search knows of each user.
 use Rattle.std.specs.Prelude.{◌≡◌, ℕ, ◌<◌, ◌≤◌, ◌+◌, Bool, true, false, not, ◌&&◌, ◌||◌, ◌==◌}
-use Rattle.std.specs.Prelude.{nat_lt, List, [], length, Option, None, Some, slice_index_or}
+use Rattle.std.specs.Prelude.{nat_lt, List, [], Option, None, Some, slice_index_or}
 use Rattle.wf_names.specs.declared.limits.TheConstants.{STEP_LIMIT}
 use Rattle.constraint_forms.specs.declared.rule.Rule.{Rule}
 use Rattle.constraint_forms.specs.Assign.{no_steps}
 use Rattle.constraint_forms.specs.Flags.{word_of}
-use Rattle.constraint_forms.specs.Rules.{all_read, any_read, reads}
+use Rattle.constraint_forms.specs.Rules.{any_read}
 use Rattle.policy_book.specs.Duties.{steps_below}
 use Rattle.policy_book.specs.Plans.{Problem}
 use Rattle.policy_book.specs.Twins.{are_twins, is_alike_to}
@@ -66,9 +66,3 @@ abbrev pub is_told_apart : Problem → ℕ → ℕ → ℕ → Option Rule → B
 is_told_apart p u v w None = false
 is_told_apart p u v w (Some rule) = nat_lt w p.users &&
     any_read rule (λ rho. tells_apart (p.related rho) u v w)
-
--- there are two rules, and the second reads no relation but those that the first reads
-abbrev pub reads_as : Option Rule → Option Rule → Bool
-reads_as None other = false
-reads_as (Some rule) None = false
-reads_as (Some rule) (Some other) = all_read other (reads rule)

@@ -1,18 +1,18 @@
 //! What a search knows of each user: the steps for which the user is authorised, and the first
 //! twin, so that users with one first twin are twins wherever neither has a step.
-ghost use Rattle.std.specs.Prelude.{◌≡◌, ◌<◌, ◌≤◌, ◌||◌, ◌==◌, ℕ, [], None, Some, length};
+ghost use Rattle.std.specs.Prelude.{◌≡◌, ◌<◌, ◌≤◌, ℕ, [], None, length};
 ghost use Rattle.std.specs.Prelude.{replicate, slice_get, false, IfOk, IsTrue, MatchOption};
 ghost use Rattle.policy_book.specs.Policies.{problem_of};
-ghost use Rattle.constraint_forms.specs.Rules.{all_read, any_read, reads};
-ghost use Rattle.policy_book.specs.Twins.{agree, all_below, are_related_alike, are_twins};
-ghost use Rattle.policy_book.specs.Twins.{is_alike_to, is_rule_alike, treats_alike};
+ghost use Rattle.constraint_forms.specs.Rules.{any_read};
+ghost use Rattle.policy_book.specs.Twins.{are_related_alike, are_twins};
 ghost use Rattle.wsp_solver.specs.Crews.{AreDutiesBelow, AreFirstTwins, IsCrewOf, IsFirstTwin};
 ghost use Rattle.wsp_solver.specs.Crews.{IsNextWith, class_in, duties_below, duties_of, has_steps};
-ghost use Rattle.wsp_solver.specs.Crews.{is_told_apart, reads_as, tells_apart};
+ghost use Rattle.wsp_solver.specs.Crews.{is_told_apart, tells_apart};
 ghost use Rattle.wsp_solver.specs.Searches.{NamesSteps};
 
 use crate::leaf::steps_of_rule;
 use crate::steps::step_count;
+use certificate_check::are_related_alike;
 use constraint_forms::{Holds, Rule};
 use plan_finder::Finder;
 use policy_book::{Policy, StepSet};
@@ -196,123 +196,6 @@ fn are_alike(
         return false;
     }
     are_related_alike(p, f, u, v)
-}
-
-// Whether every relation that a rule reads treats two users alike. A rule is passed over where an
-// earlier one reads all that it reads.
-fn are_related_alike(p: &Policy, f: FlowId, u: UserId, v: UserId) -> bool
-    requires flow { f < length p.now.flows }
-    ensures { result ≡ are_related_alike (problem_of p.now f) u v }
-{
-    'rules: for k in 0..p.rules(f).len() {
-        if read_before(p, f, k) < k {
-            continue;
-        }
-        if !is_rule_alike(p, f, k, u, v) {
-            return false;
-        }
-    }
-    true
-}
-
-// An earlier rule that reads all that a rule reads, or else the rule itself.
-fn read_before(p: &Policy, f: FlowId, k: usize) -> usize
-    requires flow { f < length p.now.flows }
-    ensures { (u v : ℕ)
-        → IsTrue (is_rule_alike (problem_of p.now f) u v
-        (slice_get (problem_of p.now f).rules result))
-        → IsTrue (is_rule_alike (problem_of p.now f) u v
-        (slice_get (problem_of p.now f).rules k)) }
-{
-    'earlier: for j in 0..k {
-        if reads_as(p, f, j, k) {
-            return j;
-        }
-    }
-    k
-}
-
-// Whether one rule reads all that another rule reads.
-fn reads_as(p: &Policy, f: FlowId, j: usize, k: usize) -> bool
-    requires flow { f < length p.now.flows }
-    ensures { result ≡ reads_as (slice_get (problem_of p.now f).rules j)
-        (slice_get (problem_of p.now f).rules k) }
-{
-    match p.rules(f).as_slice().get(j) {
-        Some(rule) => reads_all_of(p, f, rule, k),
-        None => false,
-    }
-}
-
-fn reads_all_of(p: &Policy, f: FlowId, rule: &Rule, k: usize) -> bool
-    requires flow { f < length p.now.flows }
-    ensures { result ≡ reads_as (Some rule.now) (slice_get (problem_of p.now f).rules k) }
-{
-    match p.rules(f).as_slice().get(k) {
-        Some(other) => reads_all(rule, other),
-        None => false,
-    }
-}
-
-fn reads_all(rule: &Rule, other: &Rule) -> bool
-    ensures { result ≡ all_read other.now (reads rule.now) }
-{
-    match other.relation() {
-        Some(rho) => rule.reads(rho),
-        None => true,
-    }
-}
-
-fn is_rule_alike(p: &Policy, f: FlowId, k: usize, u: UserId, v: UserId) -> bool
-    requires flow { f < length p.now.flows }
-    ensures { result ≡ is_rule_alike (problem_of p.now f) u v
-        (slice_get (problem_of p.now f).rules k) }
-{
-    match p.rules(f).as_slice().get(k) {
-        Some(rule) => are_read_alike(p, f, rule, u, v),
-        None => true,
-    }
-}
-
-fn are_read_alike(p: &Policy, f: FlowId, rule: &Rule, u: UserId, v: UserId) -> bool
-    ensures { result ≡ all_read rule.now (λ rho. treats_alike (problem_of p.now f).users
-        ((problem_of p.now f).related rho) u v) }
-{
-    match rule.relation() {
-        Some(rho) => treats_alike(p, f, rho, u, v),
-        None => true,
-    }
-}
-
-fn treats_alike(p: &Policy, f: FlowId, rho: RelId, u: UserId, v: UserId) -> bool
-    ensures { result ≡ treats_alike (problem_of p.now f).users
-        ((problem_of p.now f).related rho) u v }
-{
-    if !agree(p.holds(rho, u, u), p.holds(rho, v, v)) {
-        return false;
-    }
-    if !agree(p.holds(rho, u, v), p.holds(rho, v, u)) {
-        return false;
-    }
-    are_alike_to_all(p, f, rho, u, v)
-}
-
-fn are_alike_to_all(p: &Policy, f: FlowId, rho: RelId, u: UserId, v: UserId) -> bool
-    ensures { result ≡ all_below (problem_of p.now f).users
-        (λ w. (w == u || w == v) || is_alike_to ((problem_of p.now f).related rho) u v w) }
-{
-    'users: for w in 0..p.roster().users().len() {
-        if is_treated_apart(p, f, rho, u, v, UserId(w)) {
-            return false;
-        }
-    }
-    true
-}
-
-fn agree(one: bool, other: bool) -> bool
-    ensures { result ≡ agree one other }
-{
-    if one { other } else { !other }
 }
 
 // Whether some relation that a rule reads is known to tell two users apart.

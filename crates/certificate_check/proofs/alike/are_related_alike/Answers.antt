@@ -1,8 +1,15 @@
-use Rattle.std.proofs.Common.{length, slice_get, sym, ap, ◌∙◌, arith}
+use Rattle.std.proofs.Common.{ℕ, Bool, length, slice_get, sym, ap, ◌∙◌, arith}
 use Rattle.policy_book.specs.Policies.{problem_of}
 use Rattle.policy_book.specs.Twins.{is_rule_alike}
-use Rattle.certificate_check.proofs.Below.{one_fails}
+use Rattle.certificate_check.proofs.Below.{each_passes, one_fails, one_more_passes}
 use Rattle.certificate_check.proofs.alike.are_related_alike.Goals as goal
+
+pub rules-preserved-then-read_before-k : goal.rules-preserved-then-read_before-k
+rules-preserved-then-read_before-k c =
+    let p = problem_of c.args.p.now c.args.f in
+    let test : ℕ → Bool = λ k. is_rule_alike p c.args.u c.args.v (slice_get p.rules k) in
+    one_more_passes c.rules.k test c.rules.invariant
+    (c.read_before.ensures c.args.u c.args.v (each_passes c.rules.k test c.rules.invariant c.read_before.result (omega (arith, c.if-read_before-k.true))))
 
 pub returns-then-not-is_rule_alike : goal.returns-then-not-is_rule_alike
 returns-then-not-is_rule_alike c =

@@ -1,7 +1,7 @@
 use Rattle.std.proofs.Common.{slice_get, sym}
 use Rattle.policy_book.specs.Policies.{problem_of}
-use Rattle.wsp_solver.proofs.Crews.{read_alike}
-use Rattle.wsp_solver.proofs.crew.read_before.Goals as goal
+use Rattle.certificate_check.proofs.Rows.{read_alike}
+use Rattle.certificate_check.proofs.alike.read_before.Goals as goal
 
 pub returns-then-reads_as : goal.returns-then-reads_as
 returns-then-reads_as c = λ u v alike.

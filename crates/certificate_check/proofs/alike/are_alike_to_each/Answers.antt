@@ -2,7 +2,7 @@ use Rattle.std.proofs.Common.{◌≡◌, ℕ, List, ◌||◌, ◌==◌, length, 
 use Rattle.policy_book.specs.Policies.{problem_of}
 use Rattle.policy_book.specs.Twins.{is_alike_to}
 use Rattle.certificate_check.proofs.Below.{one_fails}
-use Rattle.certificate_check.proofs.alike.are_alike_to_all.Goals as goal
+use Rattle.certificate_check.proofs.alike.are_alike_to_each.Goals as goal
 
 users_known : (n : ℕ) (names users : List (List ℕ)) → n ≡ length names → names ≡ users → n ≡ length users
 users_known n names users count same = count ∙ ap length same
