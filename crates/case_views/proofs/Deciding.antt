@@ -3,7 +3,7 @@ use Rattle.std.proofs.Common.{◌≡◌, ℕ, ◌<◌, Bool, true, false, List, 
 use Rattle.std.proofs.Common.{subst, ◌∙◌}
 use Rattle.std.proofs.lemmas.Bool.Decides.{eqb_tells}
 use Rattle.basics.specs.Reading.{Gives}
-use Rattle.constraint_forms.specs.Assign.{no_steps, no_users, planned, user_at}
+use Rattle.constraint_forms.specs.Assign.{no_steps, no_users, user_at}
 use Rattle.policy_book.specs.Shapes.{PolicyShape}
 use Rattle.policy_book.specs.Policies.{problem_of}
 use Rattle.policy_book.specs.Plans.{AreAssigned, IsValidPlan, IsWithin, Problem}

@@ -20,7 +20,6 @@ use Rattle.admin_edits.specs.ClaimCauses.{assigned_with, first_cause, first_of}
 use Rattle.wsp_solver.specs.Searches.{HasSolved}
 use Rattle.wsp_solver.specs.declared.search.Outcome.{Outcome}
 use Rattle.wsp_solver.specs.declared.search.Outcome.TheVariants as outcome
-use Rattle.wf_board.specs.Boards.{numbered}
 use Rattle.wf_board.specs.Edition.{CanBeCompleted}
 use Rattle.wf_board.specs.States.{Numbered}
 use Rattle.wf_board.specs.Views.{AreThose, IsGrantable, Place, item_of, steps_from, steps_of}

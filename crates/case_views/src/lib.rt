@@ -2,6 +2,7 @@
 //! open cases spread over many.
 #![tactic(auto)]
 
+mod caching;
 mod decider;
 mod edit_decider;
 mod found;
@@ -10,10 +11,13 @@ mod seen;
 mod spread;
 mod spread_parts;
 mod stranded;
+mod tree_cache;
 mod work_lists;
 
+pub use caching::CachingDecider;
 pub use decider::PlainDecider;
 pub use found::Unfound;
 pub use spread::SpreadDecider;
 pub use stranded::what_if;
+pub use tree_cache::TreeCache;
 pub use work_lists::worklist;

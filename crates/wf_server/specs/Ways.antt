@@ -10,9 +10,9 @@ abbrev pub setting_of : DeskShape → Setting
 setting_of d =
     record { policy = d.opening; lanes = d.lanes; rounds = d.rounds; restored = d.restored }
 
--- what serves a desk, by what it asks of it and what comes of it: it asks no more than that each job
--- is of one of the lanes, and then none is left without an entry, and nothing is changed but by the
--- entries
+-- what serves a desk, by what it asks of it and what comes of it: it asks no more than that each
+-- job is of one of the lanes, and then none is left without an entry, and nothing is changed but by
+-- the entries
 pub record IsWay (Asks : DeskShape → Type 0) (Leaves : DeskShape → DeskShape → Type 0) :
     Type 0 where
   pub asks : (d : DeskShape) → 0 < d.lanes → AreOfLanes d.lanes d.jobs → Asks d

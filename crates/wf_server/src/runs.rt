@@ -15,7 +15,7 @@ use crate::going_on::run_resume;
 use crate::serve::run_serve;
 use crate::way::{ByTurns, OnLanes};
 use audit_command::{AuditedSession, run_audit};
-use case_views::{PlainDecider, SpreadDecider};
+use case_views::{CachingDecider, PlainDecider, SpreadDecider, TreeCache};
 use cnf_command::{run_clauses, run_model};
 use command_words::{Command, Options, read_words};
 use resume_command::Earlier;
@@ -55,10 +55,14 @@ pub fn run<R: Threads + Wait + Sync, F: Shelf, S: Source, K: Sink, G: Gate + Syn
         → may_repeat (command_of (map string_bytes words.now)) ≡ false
         → AreAnsweredOnce (told_by result).entries }
 {
+    let trees = TreeCache::new(alloc);
     let on_lanes = |desk: Desk| -> Desk
         requires { (0 < desk.lanes) × AreOfLanes desk.lanes desk.jobs }
         ensures { HasGrown desk result × IsDone result }
-    { serve_by_lanes(rt, alloc, &SpreadDecider::new(rt), gate, desk) };
+    {
+        let spread = SpreadDecider::new(rt);
+        serve_by_lanes(rt, alloc, &CachingDecider::new(&spread, &trees), gate, desk)
+    };
     let way = OnLanes {
         rt,
         serve: &on_lanes,
@@ -184,7 +188,8 @@ fn run_command<F: Shelf, S: Source, K: Sink>(
             model: Some(model),
         } => run_model(alloc, policy, flow, model, shelf, source, sink),
         Command::Serve { policy, options } => {
-            run_serve(alloc, &ByTurns, policy, options, shelf, source, sink)
+            let turns = ByTurns::new(alloc);
+            run_serve(alloc, &turns, policy, options, shelf, source, sink)
         }
         Command::Audit {
             policy,
@@ -212,7 +217,8 @@ fn run_command<F: Shelf, S: Source, K: Sink>(
                 lanes: options.lanes,
                 rounds: options.rounds,
             };
-            run_resume(alloc, &ByTurns, earlier, shelf, source, sink)
+            let turns = ByTurns::new(alloc);
+            run_resume(alloc, &turns, earlier, shelf, source, sink)
         }
         Command::Trial { seed } => run_trial(alloc, &PlainDecider, seed, sink),
     }

@@ -7,7 +7,7 @@ ghost use Rattle.wf_lanes.specs.Turns.{HasServedOn};
 ghost use Rattle.wire_json.specs.Replies.{entry_text};
 
 use crate::side::{are_long, lines_beside};
-use case_views::PlainDecider;
+use case_views::{CachingDecider, PlainDecider, TreeCache};
 use policy_book::Policy;
 use std::alloc::Global;
 use std::thread::Threads;
@@ -43,13 +43,23 @@ pub(crate) trait Way {
 
 /// By turns, on the caller's thread. None is answered again.
 #[derive(Drop)]
-pub(crate) struct ByTurns;
+pub(crate) struct ByTurns {
+    trees: TreeCache,
+}
+
+impl ByTurns {
+    pub(crate) fn new(alloc: Global) -> ByTurns {
+        ByTurns {
+            trees: TreeCache::new(alloc),
+        }
+    }
+}
 
 impl Way for ByTurns {
     ghost leaves = { λ _ d e. HasServedOn d e };
 
     fn serve(&self, alloc: Global, desk: Desk) -> Desk {
-        turned(alloc, desk)
+        turned(alloc, &self.trees, desk)
     }
 
     fn make_lines(&self, _alloc: Global, _p: &Policy, _entries: &[Entry]) -> Option<Vec<Vec<u8>>> {
@@ -91,11 +101,11 @@ impl<R: Threads + Sync, W: Fn(Desk) -> Desk> Way for OnLanes<'_, R, W> {
 }
 
 // The desk after the jobs of its batch are served by turns.
-fn turned(alloc: Global, mut desk: Desk) -> Desk
+fn turned(alloc: Global, trees: &TreeCache, mut desk: Desk) -> Desk
     requires lanes { AreOfLanes desk.lanes desk.jobs }
     ensures on { HasServedOn desk result }
     ensures done { IsDone result }
 {
-    serve_by_turns(alloc, &PlainDecider, &mut desk);
+    serve_by_turns(alloc, &CachingDecider::new(&PlainDecider, trees), &mut desk);
     desk
 }

@@ -1,5 +1,4 @@
-use Rattle.std.proofs.Common.{◌≡◌, IfOk, arith}
-use Rattle.policy_book.specs.Policies.{problem_of}
+use Rattle.std.proofs.Common.{IfOk, arith}
 use Rattle.wsp_solver.specs.Searches.{HasSolved}
 use Rattle.admin_edits.specs.ClaimCauses.{assigned_with}
 use Rattle.case_record.specs.Cases.{finished_of}

@@ -1,4 +1,4 @@
-use Rattle.std.proofs.Common.{◌∙◌, IfOk, ap, subst}
+use Rattle.std.proofs.Common.{IfOk, subst}
 use Rattle.policy_book.specs.Shapes.{PolicyShape}
 use Rattle.grant_table.specs.Cases.{CasesShape}
 use Rattle.wf_board.specs.Boards.{book_of}
