@@ -28,9 +28,11 @@ const PLACE: Place = Place {
 };
 
 const LINES: [&str; 4] = [
-    "{\"at\":4,\"lane\":1,\"line\":7,\"reply\":{\"granted\":{\"plan\":[\"ann\",\"cyd\",\"bob\"]}}}\n",
+    "{\"at\":4,\"lane\":1,\"line\":7,\
+    \"reply\":{\"granted\":{\"plan\":[\"ann\",\"cyd\",\"bob\"]}}}\n",
     "{\"at\":4,\"lane\":1,\"line\":7,\"reply\":{\"finished\":{\"done\":true}}}\n",
-    "{\"at\":4,\"lane\":1,\"line\":7,\"reply\":{\"opened\":{\"case\":3,\"plan\":[\"ann\",\"cyd\",\"bob\"]}}}\n",
+    "{\"at\":4,\"lane\":1,\"line\":7,\
+    \"reply\":{\"opened\":{\"case\":3,\"plan\":[\"ann\",\"cyd\",\"bob\"]}}}\n",
     "{\"at\":4,\"lane\":1,\"line\":7,\"reply\":\"returned\"}\n",
 ];
 

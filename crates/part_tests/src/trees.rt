@@ -30,8 +30,11 @@ const TREE: &str = r#"{"step":"b","users":[
     ["max",{"step":"c","users":[["kim",{"rule":0}],["lee",{"rule":0}],["max",{"rule":1}]]}]]}]]}"#;
 
 // All three are twins for the first step. Once kim has it, lee and max are twins still.
-const LEAN: &str =
-    r#"{"step":"a","users":[["kim",{"step":"c","users":[["kim",{"rule":1}],["lee",{"rule":0}],["max",{"twin":"lee"}]]}],["lee",{"twin":"kim"}],["max",{"twin":"kim"}]]}"#;
+const LEAN: &str = concat!(
+    r#"{"step":"a","users":["#,
+    r#"["kim",{"step":"c","users":[["kim",{"rule":1}],["lee",{"rule":0}],["max",{"twin":"lee"}]]}],"#,
+    r#"["lee",{"twin":"kim"}],["max",{"twin":"kim"}]]}"#
+);
 
 #[test]
 fn a_step_that_is_not_mentioned_goes_and_makes_twins(rt: HostRuntime) -> Result<(), Fail> {
