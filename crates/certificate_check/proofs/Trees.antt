@@ -18,6 +18,7 @@ use Rattle.policy_book.specs.Refuting.{refutes, all_refute, have_users, authoris
 use Rattle.certificate_check.specs.Walks.{AreUsersBelow, begins_with, tree_users, user_onto}
 use Rattle.basics.proofs.Booleans.{and_both, or_cases, or_right}
 use Rattle.certificate_check.proofs.Assigned.{given, either}
+use Rattle.policy_book.proofs.Passing.{passing_at}
 
 -- ---- mentions
 
@@ -141,6 +142,35 @@ pub none_next : (bs : List Branch) (i : ℕ) → i ≤ length bs → have_users 
 none_next bs i within =
     let left : kid_count (kids_of_items (drop i bs)) ≡ length bs - i = kid_count-items (drop i bs) ∙ length-drop i bs in
     have_none (kids_of_items (drop i bs)) ∙ ap (λ n. n == 0) left ∙ grind (arith, nat_tests)
+
+-- where nobody passes up to a number, those from there on are left
+passing_skip : (test : ℕ → Bool) (from k n : ℕ) → from + k ≤ n → ((v : ℕ) → from ≤ v → v < from + k → test v ≡ false) →
+    passing test from (n - from) ≡ passing test (from + k) (n - (from + k))
+passing_skip test from zero n within none =
+    let same : from ≡ from + zero = omega arith in
+    ap (λ m. passing test m (n - m)) same
+passing_skip test from (suc k) n within none =
+    let u = from + k in
+    let left = passing test (u + 1) (n - (u + 1)) in
+    let next : u + 1 ≡ from + suc k = omega arith in
+    passing_skip test from k n (omega (arith, within)) (λ v low lt. none v low (omega (arith, lt))) ∙ passing_at test u n (omega (arith, within)) ∙
+    ap (λ b. if b then u ∷ left else left) (none u (omega arith) (omega arith)) ∙ ap (λ m. passing test m (n - m)) next
+
+-- the next who passes comes first
+pub passing_next : (test : ℕ → Bool) (from u n : ℕ) → from ≤ u → u < n → ((v : ℕ) → from ≤ v → v < u → test v ≡ false) → test u ≡ true →
+    passing test from (n - from) ≡ u ∷ passing test (u + 1) (n - (u + 1))
+passing_next test from u n low within none passes =
+    let at : from + (u - from) ≡ u = omega (arith, low) in
+    let left = passing test (u + 1) (n - (u + 1)) in
+    passing_skip test from (u - from) n (omega (arith, at, within)) (λ v h lt. none v h (omega (arith, lt, at))) ∙ ap (λ m. passing test m (n - m)) at ∙
+    passing_at test u n within ∙ ap (λ b. if b then u ∷ left else left) passes
+
+-- nobody is left where nobody passes any more
+pub passing_end : (test : ℕ → Bool) (from n : ℕ) → from ≤ n → ((v : ℕ) → from ≤ v → test v ≡ false) → passing test from (n - from) ≡ []
+passing_end test from n low none =
+    let at : from + (n - from) ≡ n = omega (arith, low) in
+    let over : n - n ≡ zero = omega arith in
+    passing_skip test from (n - from) n (omega (arith, at)) (λ v h lt. none v h) ∙ ap (λ m. passing test m (n - m)) at ∙ ap (passing test n) over
 
 pub passing_below : (test : ℕ → Bool) (k n most : ℕ) → k + n ≤ most → (kids : Kids) → have_users (passing test k n) kids ≡ true → AreUsersBelow most kids
 passing_below test k zero most few no_kids h = tt

@@ -173,14 +173,14 @@ fn have_users(p: &Policy, f: FlowId, s: StepId, branches: &[Branch]) -> bool
     ensures { result ≡ have_users (authorised_users (problem_of p.now f) s)
         (kids_of_items branches.now) }
 {
+    let row = p.authorised_row(f, s);
+    let mut from = 0;
     let mut next = 0;
-    'users: for u in 0..p.roster().users().len() {
-        if !p.authorised(f, s, UserId(u)) {
-            continue;
-        }
-        if !is_of(branches, next, UserId(u)) {
+    'users: while let Some(user) = row.next(from) {
+        if !is_of(branches, next, user) {
             return false;
         }
+        from = user.0 as u32 + 1;
         next += 1;
     }
     next == branches.len()

@@ -1,51 +1,44 @@
-use Rattle.std.proofs.Common.{zero, if◌then◌else◌, ◌≡◌, ◌+◌, ◌-◌, ℕ, length, ◌∷◌, drop, true, false, List, refl, sym, ap, ◌∙◌, arith}
+use Rattle.std.proofs.Common.{◌≡◌, ◌≤◌, ◌<◌, ◌+◌, ◌-◌, length, drop, true, false, refl, sym, ap, subst, ◌∙◌, arith}
 use Rattle.refutation_tree.specs.Views.{kids_of_items}
 use Rattle.policy_book.specs.Policies.{problem_of}
-use Rattle.policy_book.specs.Refuting.{have_users, passing}
-use Rattle.policy_book.proofs.Passing.{passing_at}
-use Rattle.certificate_check.proofs.Trees.{users_next, none_next}
+use Rattle.policy_book.specs.Refuting.{authorised_users, have_users, passing}
+use Rattle.certificate_check.proofs.Trees.{none_next, passing_end, passing_next, users_next}
 use Rattle.certificate_check.proofs.tree.have_users.Goals as goal
-
-users_known : (n : ℕ) (names users : List (List ℕ)) → n ≡ length names → names ≡ users → n ≡ length users
-users_known n names users count same = count ∙ ap length same
-
-pub users-preserved-then-not-authorised : goal.users-preserved-then-not-authorised
-users-preserved-then-not-authorised c =
-    let p = problem_of c.args.p.now c.args.f in
-    let known = users_known _ _ _ c.len-u-end.ensures.count (c.users-2.ensures.names ∙ ap (λ r. r.users) c.roster.ensures.roster) in
-    let left = passing (p.authorised c.args.s) (c.users.u + 1) (p.users - (c.users.u + 1)) in
-    let skip = passing_at (p.authorised c.args.s) c.users.u p.users (omega (arith, known, c.users-test.true)) ∙
-    ap (λ b. if b then c.users.u ∷ left else left) (sym c.if-not-authorised.ensures) in
-    (c.users.invariant.0, ap (λ us. have_users us (kids_of_items (drop c.users.next c.args.branches.now))) (sym skip) ∙ c.users.invariant.1)
 
 pub returns-then-not-is_of : goal.returns-then-not-is_of
 returns-then-not-is_of c =
     let p = problem_of c.args.p.now c.args.f in
-    let known = users_known _ _ _ c.len-u-end.ensures.count (c.users-2.ensures.names ∙ ap (λ r. r.users) c.roster.ensures.roster) in
-    let left = passing (p.authorised c.args.s) (c.users.u + 1) (p.users - (c.users.u + 1)) in
-    let take = passing_at (p.authorised c.args.s) c.users.u p.users (omega (arith, known, c.users-test.true)) ∙
-    ap (λ b. if b then c.users.u ∷ left else left) (sym c.if-not-authorised.ensures) in
-    sym (users_next c.users.u left c.args.branches.now c.users.next false c.if-not-is_of.ensures.user) ∙
-    ap (λ us. have_users us (kids_of_items (drop c.users.next c.args.branches.now))) (sym take) ∙ c.users.invariant.1
+    let row = c.authorised_row-row.ensures in
+    let u = c.in-Some.user in
+    let found = c.in-Some.ensures in
+    let step = passing_next (p.authorised c.args.s) c.users.from u p.users found.from_on (row.known u found.member)
+    (λ v low lt. sym (row.authorised v) ∙ found.least v low lt) (sym (row.authorised u) ∙ found.member) in
+    sym (users_next u (passing (p.authorised c.args.s) (u + 1) (p.users - (u + 1))) c.args.branches.now c.users.next false c.if-not-is_of.ensures.user) ∙
+    ap (λ us. have_users us (kids_of_items (drop c.users.next c.args.branches.now))) (sym step) ∙ c.users.invariant.2
 
 pub users-preserved : goal.users-preserved
 users-preserved c =
     let p = problem_of c.args.p.now c.args.f in
-    let known = users_known _ _ _ c.len-u-end.ensures.count (c.users-2.ensures.names ∙ ap (λ r. r.users) c.roster.ensures.roster) in
-    let left = passing (p.authorised c.args.s) (c.users.u + 1) (p.users - (c.users.u + 1)) in
-    let take = passing_at (p.authorised c.args.s) c.users.u p.users (omega (arith, known, c.users-test.true)) ∙
-    ap (λ b. if b then c.users.u ∷ left else left) (sym c.if-not-authorised.ensures) in
-    let within = c.if-not-is_of.ensures.within refl in (
-      omega (arith, within),
-      sym (users_next c.users.u left c.args.branches.now c.users.next true c.if-not-is_of.ensures.user) ∙
-          ap (λ us. have_users us (kids_of_items (drop c.users.next c.args.branches.now))) (sym take) ∙ c.users.invariant.1,
-    )
+    let row = c.authorised_row-row.ensures in
+    let u = c.in-Some.user in
+    let found = c.in-Some.ensures in
+    let known : u < p.users = row.known u found.member in
+    let step = passing_next (p.authorised c.args.s) c.users.from u p.users found.from_on known
+    (λ v low lt. sym (row.authorised v) ∙ found.least v low lt) (sym (row.authorised u) ∙ found.member) in
+    let left = sym (users_next u (passing (p.authorised c.args.s) (u + 1) (p.users - (u + 1))) c.args.branches.now c.users.next true c.if-not-is_of.ensures.user) ∙
+    ap (λ us. have_users us (kids_of_items (drop c.users.next c.args.branches.now))) (sym step) ∙ c.users.invariant.2 in
+    let here : c.users.next + 1 ≤ length c.args.branches.now = omega (arith, c.if-not-is_of.ensures.within refl) in
+    let on : u + 1 ≤ p.users = omega (arith, known) in
+    subst
+    (λ k. (c.users.next + 1 ≤ length c.args.branches.now) × (k + 1 ≤ p.users) ×
+    (have_users (passing (p.authorised c.args.s) (k + 1) (p.users - (k + 1))) (kids_of_items (drop (c.users.next + 1) c.args.branches.now)) ≡
+    have_users (authorised_users p c.args.s) (kids_of_items c.args.branches.now)))
+    (sym c.user.view_is) (here, on, left)
 
 pub returns : goal.returns
 returns c =
     let p = problem_of c.args.p.now c.args.f in
-    let known = users_known _ _ _ c.len-u-end.ensures.count (c.users-2.ensures.names ∙ ap (λ r. r.users) c.roster.ensures.roster) in
-    let over : p.users - c.users.u ≡ zero = omega (arith, known, c.users-test.false) in
+    let row = c.authorised_row-row.ensures in
+    let over = passing_end (p.authorised c.args.s) c.users.from p.users c.users.invariant.1 (λ v low. sym (row.authorised v) ∙ c.in_default.ensures v low) in
     sym (none_next c.args.branches.now c.users.next c.users.invariant.0) ∙
-    ap (λ n. have_users (passing (p.authorised c.args.s) c.users.u n) (kids_of_items (drop c.users.next c.args.branches.now))) (sym over) ∙
-    c.users.invariant.1
+    ap (λ us. have_users us (kids_of_items (drop c.users.next c.args.branches.now))) (sym over) ∙ c.users.invariant.2

@@ -6,6 +6,9 @@ use Rattle.certificate_check.proofs.tree.have_users.Given as goal
 
 abbrev pub invariant-users : goal.invariant-users
 invariant-users l =
-    (l.next ≤ length l.branches) ×
-    (have_users (passing ((problem_of l.p l.f).authorised l.s) l.u ((problem_of l.p l.f).users - l.u)) (kids_of_items (drop l.next l.branches)) ≡ have_users
-    (authorised_users (problem_of l.p l.f) l.s) (kids_of_items l.branches))
+    (l.next ≤ length l.branches) × (l.from ≤ (problem_of l.p l.fn.f).users) ×
+    (have_users (passing ((problem_of l.p l.fn.f).authorised l.fn.s) l.from ((problem_of l.p l.fn.f).users - l.from)) (kids_of_items (drop l.next l.branches)) ≡
+    have_users (authorised_users (problem_of l.p l.fn.f) l.fn.s) (kids_of_items l.branches))
+
+abbrev pub decreases-users : goal.decreases-users
+decreases-users l = length l.branches - l.next
