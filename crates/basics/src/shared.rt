@@ -54,6 +54,14 @@ impl<T: Drop> Shared<T> {
     }
 }
 
+impl<T: Drop> Clone for Shared<T> {
+    ghost is_clone = { λ x y. y ≡ x };
+
+    fn clone(&self) -> Result<Shared<T>, AllocError> {
+        self.share()
+    }
+}
+
 impl<T: Copied> Shared<T> {
     /// The value, to be changed for this holder alone: where others hold it too, a copy of it
     /// takes its place first.

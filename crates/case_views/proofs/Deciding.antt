@@ -1,6 +1,7 @@
 -- What the decider finds on a deed.
 use Rattle.std.proofs.Common.{◌≡◌, ℕ, ◌<◌, Bool, true, false, List, length, Option, Some, Result, Ok, Err, IfOk, MatchResult, slice_set, refl, sym, ap}
-use Rattle.std.proofs.Common.{subst, ◌∙◌}
+use Rattle.std.proofs.Common.{subst, ◌∙◌, inl, inr}
+use Rattle.refutation_tree.specs.declared.tree.Tree.{Tree}
 use Rattle.std.proofs.lemmas.Bool.Decides.{eqb_tells}
 use Rattle.basics.specs.Reading.{Gives}
 use Rattle.constraint_forms.specs.Assign.{no_steps, no_users, user_at}
@@ -62,7 +63,14 @@ search_assigned c t u below = still_assigned (finished_of c) (assigned_of c) t u
 -- what a search found is a verdict
 pub verdict_decides : (p : Problem) (a : List (Option ℕ)) (d : List Bool) (o : Outcome) (v : Verdict) → HasSolved p a d o → IsVerdictOf o v → DecidesFor p a d v
 verdict_decides p a d (outcome.Plan plan) v found is = subst (DecidesFor p a d) (sym is) found
-verdict_decides p a d (outcome.Refuted tree) v found is = subst (DecidesFor p a d) (sym is) found.refutes
+verdict_decides p a d (outcome.Refuted tree) v found (inl is) = subst (DecidesFor p a d) (sym is) found.refutes
+verdict_decides p a d (outcome.Refuted tree) v found (inr is) = subst (DecidesFor p a d) (sym is) tt
+
+-- a tree is a verdict where there was memory to hand it on
+pub tree_verdict : {E : Type 0} (tree : Tree) (made : Result Tree E) (v : Verdict) → IfOk made (λ t. t ≡ tree) →
+    MatchResult made (λ t. v ≡ verdict.Refuted t) (λ _. v ≡ verdict.NoMemory) → IsVerdictOf (outcome.Refuted tree) v
+tree_verdict tree (Ok t) v is told = inl (told ∙ ap verdict.Refuted is)
+tree_verdict tree (Err e) v is told = inr told
 
 -- what was not found out is one of two verdicts
 pub unfound_is : (Q : Verdict → Type 0) (u : Unfound) (v : Verdict) → v ≡ verdict_without u → Q verdict.NoMemory → Q verdict.OverBudget → Q v

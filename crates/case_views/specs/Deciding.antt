@@ -1,6 +1,6 @@
 -- Inside: what the decider finds on a deed.
 use Rattle.std.specs.Prelude.{◌≡◌, ℕ, Bool, true, List, [], ◌∷◌, ◌++◌, Option, None, Some, Ok}
-use Rattle.std.specs.Prelude.{IsTrue}
+use Rattle.std.specs.Prelude.{IsTrue, ◌⊎◌}
 use Rattle.refutation_tree.specs.declared.tree.Tree.{Tree}
 use Rattle.refutation_tree.specs.Views.{shape_of}
 use Rattle.policy_book.specs.Shapes.{PolicyShape}
@@ -60,10 +60,10 @@ DecidesWhatIf b a verdict.OverBudget = Unit {0}
 DecidesWhatIf b a (verdict.View v) = IsViewFor b (Ok (deed.WhatIf a)) v
 DecidesWhatIf b a v = ⊥
 
--- what a search found, as a verdict
+-- what a search found, as a verdict; or there was no memory to hand its tree on
 abbrev pub IsVerdictOf : Outcome → Verdict → Type 0
 IsVerdictOf (outcome.Plan plan) v = v ≡ verdict.Plan plan
-IsVerdictOf (outcome.Refuted tree) v = v ≡ verdict.Refuted tree
+IsVerdictOf (outcome.Refuted tree) v = (v ≡ verdict.Refuted tree) ⊎ (v ≡ verdict.NoMemory)
 
 -- what a changed policy leaves these cases: a plan each, or the first of them has none
 abbrev pub IsLeft : PolicyShape → List Numbered → Left → Type 0

@@ -1,40 +1,33 @@
-//! A decider that keeps the trees that it finds.
-ghost use Rattle.std.specs.Prelude.{◌≡◌, IfSome, Ok, true};
-ghost use Rattle.refutation_tree.specs.Views.{shape_of};
-ghost use Rattle.policy_book.specs.Policies.{problem_of};
-ghost use Rattle.policy_book.specs.Refuting.{refutes};
-ghost use Rattle.case_record.specs.Cases.{finished_of};
-ghost use Rattle.admin_edits.specs.ClaimCauses.{assigned_with};
+//! A decider that keeps the plans and trees that it finds.
+ghost use Rattle.std.specs.Prelude.{◌≡◌, IfSome, Ok};
 ghost use Rattle.wf_board.specs.Boards.{book_of};
 ghost use Rattle.wf_board.specs.Deeds.{DecidesDeed};
-ghost use Rattle.wf_board.specs.Found.{AreFound, IsFound};
+ghost use Rattle.wf_board.specs.Found.{IsFound};
 ghost use Rattle.wf_board.specs.Kept.{ArePlanned};
-ghost use Rattle.wf_board.specs.Verdicts.{IsTreeFor};
+ghost use Rattle.wf_board.specs.Verdicts.{IsPlanFor};
 
 use crate::decider::no_verdict;
-use crate::tree_cache::{Subject, TreeCache};
-use case_record::Case;
-use certificate_check::check_tree;
+use crate::verdict_cache::{Found, Subject, VerdictCache};
 use constraint_forms::{Assign, Plan, StepSet};
 use grant_table::Cases;
 use policy_book::Policy;
 use refutation_tree::Tree;
 use std::alloc::Global;
-use wf_board::{Decider, Deed, Snap, Verdict, decision_aside};
-use wf_names::{CaseId, STEP_LIMIT, StepId, UserId};
+use wf_board::{Decider, Deed, Snap, Verdict, decides, decision_aside};
+use wf_names::STEP_LIMIT;
 use wf_talk::Ask;
 
-/// Finds the verdicts of another decider, and keeps the trees that it finds for claims and openings
-/// in a cache: where no plan is at hand and a tree that is kept refutes, it is the verdict, and
-/// nothing is searched.
+/// Finds the verdicts of another decider, and keeps the plans and trees that it finds for claims and
+/// openings in a cache. A plan that is kept and valid is at hand, as one that the other finds with no
+/// search; where none is and a tree that is kept refutes, it is the verdict, and nothing is searched.
 pub struct CachingDecider<'a, V> {
     decider: &'a V,
-    cache: &'a TreeCache,
+    cache: &'a VerdictCache,
 }
 
 impl<'a, V> CachingDecider<'a, V> {
-    /// A decider that asks another one where the cache has no tree that refutes.
-    pub fn new(decider: &'a V, cache: &'a TreeCache) -> CachingDecider<'a, V>
+    /// A decider that asks another one where the cache has nothing that decides.
+    pub fn new(decider: &'a V, cache: &'a VerdictCache) -> CachingDecider<'a, V>
         ensures { result.decider.now ≡ decider.now }
     {
         CachingDecider { decider, cache }
@@ -61,45 +54,72 @@ impl<V: Decider> Decider for CachingDecider<'_, V> {
     }
 
     fn decide_deed(&self, alloc: Global, p: &Policy, cases: &Cases, deed: &Deed) -> Verdict {
-        if let Some(plan) = self.decider.decide_near(p, cases, deed) {
+        if let Some(plan) = self.decide_near(p, cases, deed) {
             return Verdict::Plan(plan);
         }
-        if let Some(tree) = known_tree(self.cache, p, cases, deed) {
-            return Verdict::Refuted(tree);
+        if let Some(verdict) = known_tree(self.cache, p, cases, deed) {
+            return verdict;
         }
         let verdict = self.decider.decide_deed(alloc, p, cases, deed);
-        keep_tree(alloc, self.cache, deed, &verdict);
+        keep(alloc, self.cache, deed, &verdict);
         verdict
     }
 
     fn decide_near(&self, p: &Policy, cases: &Cases, deed: &Deed) -> Option<Plan> {
-        self.decider.decide_near(p, cases, deed)
+        match self.decider.decide_near(p, cases, deed) {
+            Some(plan) => Some(plan),
+            None => known_plan(self.cache, p, cases, deed),
+        }
     }
 }
 
-// A copy of the tree that is kept for a deed, if there is one that refutes.
-fn known_tree(cache: &TreeCache, p: &Policy, cases: &Cases, deed: &Deed) -> Option<Tree>
+// The plan that is kept for a deed, if there is one that is valid.
+fn known_plan(cache: &VerdictCache, p: &Policy, cases: &Cases, deed: &Deed) -> Option<Plan>
+    requires planned { ArePlanned p.now cases.now.rows }
     requires found { IsFound p.now cases.now.rows deed.now }
-    ensures { IfSome result (IsTreeFor (book_of p.now cases.now) (Ok deed.now)) }
+    ensures { IfSome result (IsPlanFor (book_of p.now cases.now) (Ok deed.now)) }
 {
-    let tree = cache.get(&subject_of(deed)?)?;
-    if is_tree_for(p, cases, deed, &tree) {
-        tree.copy().ok()
+    let plan = cache.plan(&subject_of(deed)?)?;
+    if decides(p, cases, deed, &Verdict::Plan(plan)) {
+        Some(plan)
     } else {
         None
     }
 }
 
-// Keeps the tree of a verdict, unless it is a leaf, which is found with no search.
-fn keep_tree(alloc: Global, cache: &TreeCache, deed: &Deed, verdict: &Verdict) {
-    if let Verdict::Refuted(tree) = verdict {
-        if let (Tree::Step(..), Some(subject)) = (tree, subject_of(deed)) {
-            cache.put(alloc, &subject, tree);
-        }
+// The tree that is kept for a deed, if there is one that refutes, as a verdict.
+fn known_tree(cache: &VerdictCache, p: &Policy, cases: &Cases, deed: &Deed) -> Option<Verdict>
+    requires planned { ArePlanned p.now cases.now.rows }
+    requires found { IsFound p.now cases.now.rows deed.now }
+    ensures { IfSome result (DecidesDeed (book_of p.now cases.now) deed.now) }
+{
+    let verdict = Verdict::Refuted(cache.tree(&subject_of(deed)?)?);
+    if decides(p, cases, deed, &verdict) {
+        Some(verdict)
+    } else {
+        None
     }
 }
 
-// What a tree for a deed is about; none where no tree may be its verdict.
+// Keeps what was found for a deed.
+fn keep(alloc: Global, cache: &VerdictCache, deed: &Deed, verdict: &Verdict) {
+    if let (Some(found), Some(subject)) = (found_by_search(verdict), subject_of(deed)) {
+        cache.put(alloc, &subject, found);
+    }
+}
+
+// The plan or the tree of a verdict; none where the tree is a leaf, which is found with no search.
+fn found_by_search(verdict: &Verdict) -> Option<Found> {
+    match verdict {
+        Verdict::Plan(plan) => Some(Found::Plan(*plan)),
+        Verdict::Refuted(tree) if matches!(tree.get(), Tree::Step(..)) => {
+            Some(Found::Tree(tree.share().ok()?))
+        }
+        _ => None,
+    }
+}
+
+// What a plan or a tree for a deed is about; none where neither may be its verdict.
 fn subject_of(deed: &Deed) -> Option<Subject> {
     match deed {
         Deed::Open { flow } => Some(Subject {
@@ -119,42 +139,4 @@ fn subject_of(deed: &Deed) -> Option<Subject> {
         }),
         _ => None,
     }
-}
-
-// Whether a tree shows that the case of a deed cannot be completed.
-fn is_tree_for(p: &Policy, cases: &Cases, deed: &Deed, tree: &Tree) -> bool
-    requires found { IsFound p.now cases.now.rows deed.now }
-    ensures { result ≡ true → IsTreeFor (book_of p.now cases.now) (Ok deed.now) tree.now }
-{
-    match deed {
-        Deed::Open { flow } => { check_tree(p, *flow, &Assign::empty(), &StepSet::empty(), tree) }
-        Deed::Claim {
-            number,
-            case,
-            step,
-            user,
-        } => is_claim_tree(p, cases, *number, case, *step, *user, tree),
-        _ => false,
-    }
-}
-
-// Whether a tree shows that a case could not be completed once its step is given to a user.
-fn is_claim_tree(
-    p: &Policy,
-    cases: &Cases,
-    number: CaseId,
-    case: &Case,
-    step: StepId,
-    user: UserId,
-    tree: &Tree,
-) -> bool
-    requires { AreFound p.now cases.now.rows number case.now step user }
-    ensures { result ≡ refutes (problem_of p.now case.now.flow) (assigned_with case.now step user)
-        (finished_of case.now) (shape_of tree.now) }
-{
-    let _ = cases;
-    let _ = number;
-    let _within = case.steps();
-    let assigned = case.assigned().with(step, user);
-    check_tree(p, case.flow(), &assigned, &case.finished(), tree)
 }

@@ -18,11 +18,13 @@ use crate::found::{Unfound, outcome_fresh, outcome_with, plan_fresh, plan_with};
 use crate::stranded::stranded_by;
 use crate::work_lists::work_of;
 use admin_edits::Amendment;
+use basics::Shared;
 use case_record::Case;
 use constraint_forms::Plan;
 use grant_table::Cases;
 use policy_book::Policy;
-use std::alloc::Global;
+use refutation_tree::Tree;
+use std::alloc::{AllocError, Global};
 use wf_board::{Decider, Deed, Refused, Snap, Verdict, View, decision_aside};
 use wf_names::{CaseId, FlowId, StepId, UserId};
 use wf_talk::{Ask, CaseList, WorkList};
@@ -149,7 +151,7 @@ fn claim_verdict(
         unreachable!()
     };
     match outcome_with(alloc, p, case, kept, step, user) {
-        Ok(outcome) => verdict_of(outcome),
+        Ok(outcome) => verdict_of(alloc, outcome),
         Err(unfound) => verdict_without(unfound),
     }
 }
@@ -160,18 +162,27 @@ fn open_verdict(alloc: Global, p: &Policy, f: FlowId, recent: Option<Plan>) -> V
     ensures { DecidesFor (problem_of p.now f) no_users no_steps result }
 {
     match outcome_fresh(alloc, p, f, recent) {
-        Ok(outcome) => verdict_of(outcome),
+        Ok(outcome) => verdict_of(alloc, outcome),
         Err(unfound) => verdict_without(unfound),
     }
 }
 
 // What was found of an assignment, as a verdict.
-fn verdict_of(outcome: Outcome) -> Verdict
+fn verdict_of(alloc: Global, outcome: Outcome) -> Verdict
     ensures { IsVerdictOf outcome result }
 {
     match outcome {
         Outcome::Plan(plan) => Verdict::Plan(plan),
-        Outcome::Refuted(tree) => Verdict::Refuted(tree),
+        Outcome::Refuted(tree) => verdict_by(Shared::new(alloc, tree)),
+    }
+}
+
+fn verdict_by(tree: Result<Shared<Tree>, AllocError>) -> Verdict
+    ensures { MatchResult tree (λ t. result ≡ Verdict.Refuted t) (λ _. result ≡ Verdict.NoMemory) }
+{
+    match tree {
+        Ok(tree) => Verdict::Refuted(tree),
+        Err(_) => Verdict::NoMemory,
     }
 }
 

@@ -17,7 +17,7 @@ ghost use Rattle.case_views.specs.Listing.{IsLeftAt, open_in};
 use crate::decider::verdict_without;
 use crate::found::{Unfound, outcome_near};
 use admin_edits::{Amendment, amended};
-use basics::List;
+use basics::{List, Shared};
 use case_record::Case;
 use constraint_forms::{Assign, Plan, StepSet};
 use grant_table::{Cases, Row};
@@ -35,7 +35,7 @@ pub(crate) enum Left {
     /// A plan each, by ascending number.
     Plans(Plans),
     /// This one cannot be completed, as the tree shows, and each before it can.
-    Stranded(CaseId, Tree),
+    Stranded(CaseId, Shared<Tree>),
 }
 
 /// The verdict on a change. The plan that a case has is kept where it stays valid, and a search is
@@ -105,7 +105,7 @@ fn add_plan(
     row: &Row,
     recent: &mut Option<Plan>,
     plans: &mut Vec<Plan>,
-) -> Result<Option<Tree>, Unfound>
+) -> Result<Option<Shared<Tree>>, Unfound>
     requires allowed { IsAllowed p.now a.now }
     requires after { after.now ≡ amended p.now a.now }
     requires known { IsOfPolicy p.now row.now.case }
@@ -121,7 +121,7 @@ fn add_plan(
 pub(crate) fn add_part(
     left: &Option<Outcome>,
     plans: &mut Vec<Plan>,
-) -> Result<Option<Tree>, AllocError>
+) -> Result<Option<Shared<Tree>>, AllocError>
     ensures { IfOk result (IsPartAdded left.now plans.old.items plans.new.items) }
 {
     match left {
@@ -130,7 +130,7 @@ pub(crate) fn add_part(
     }
 }
 
-fn add_outcome(outcome: &Outcome, plans: &mut Vec<Plan>) -> Result<Option<Tree>, AllocError>
+fn add_outcome(outcome: &Outcome, plans: &mut Vec<Plan>) -> Result<Option<Shared<Tree>>, AllocError>
     ensures { IfOk result (AddsPlan outcome.now plans.old.items plans.new.items) }
 {
     match outcome {
@@ -138,7 +138,7 @@ fn add_outcome(outcome: &Outcome, plans: &mut Vec<Plan>) -> Result<Option<Tree>,
             plans.push(*plan)?;
             Ok(None)
         }
-        Outcome::Refuted(tree) => Ok(Some(tree.copy()?)),
+        Outcome::Refuted(tree) => Ok(Some(Shared::new(*plans.allocator(), tree.copy()?)?)),
     }
 }
 

@@ -11,7 +11,7 @@ mod seen;
 mod spread;
 mod spread_parts;
 mod stranded;
-mod tree_cache;
+mod verdict_cache;
 mod work_lists;
 
 pub use caching::CachingDecider;
@@ -19,5 +19,5 @@ pub use decider::PlainDecider;
 pub use found::Unfound;
 pub use spread::SpreadDecider;
 pub use stranded::what_if;
-pub use tree_cache::TreeCache;
+pub use verdict_cache::VerdictCache;
 pub use work_lists::worklist;

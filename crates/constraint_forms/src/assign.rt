@@ -7,7 +7,7 @@ use std::marker::Model;
 use wf_names::{STEP_LIMIT, StepId, UserId};
 
 /// A finite map from steps to users. Contracts see the list of what each step below the limit has.
-#[derive(Clone, Copy)]
+#[derive(Clone, Copy, PartialEq, Eq, Hash)]
 pub struct Assign {
     users: [Option<UserId>; STEP_LIMIT],
 }

@@ -9,7 +9,7 @@ use std::marker::Model;
 use wf_names::{STEP_LIMIT, StepId};
 
 /// A set of steps. Contracts see one flag a step, in the order of the steps' numbers.
-#[derive(Clone, Copy, PartialEq, Eq)]
+#[derive(Clone, Copy, PartialEq, Eq, Hash)]
 pub struct StepSet {
     bits: u32,
 }

@@ -11,6 +11,7 @@ use crate::kind::{DenialKind, denial_word, missing_word};
 use crate::list::roles_of;
 use crate::parts::{case_of, only, rule_of, state_of, step_of, user_of};
 use crate::tree::read_tree;
+use basics::Shared;
 use policy_book::Policy;
 use refutation_tree::Tree;
 use serde_json::Value;
@@ -122,14 +123,14 @@ fn tree_by(
     p: &Policy,
     flow: Option<FlowId>,
     value: &Value,
-) -> Result<(FlowId, Tree), TextFault>
+) -> Result<(FlowId, Shared<Tree>), TextFault>
     ensures { Reads (λ t. t) result (told.tree_by p.now flow (view value.now)) }
 {
     let Some(flow) = flow_within(p, flow) else {
         return Err(TextFault::NotText);
     };
     let tree = read_tree(alloc, p, flow, value)?;
-    Ok((flow, tree))
+    Ok((flow, Shared::new(alloc, tree)?))
 }
 
 /// A workflow of the policy, with a step of it.

@@ -9,6 +9,7 @@ use crate::TextFault;
 use crate::kind::{DenialKind, denial_word, missing_word};
 use crate::plain_tree::{guess_tree, take_rule, take_step, take_user};
 use crate::rest::Rest;
+use basics::Shared;
 use policy_book::Policy;
 use refutation_tree::Tree;
 use std::alloc::Global;
@@ -82,12 +83,12 @@ fn guess_by<F: FlowOf>(
     match kind {
         DenialKind::Unsatisfiable => {
             let flow = flow_within(p, flow)?;
-            let tree = guess_tree(alloc, p, flow, STEP_LIMIT, rest)?;
+            let tree = Shared::new(alloc, guess_tree(alloc, p, flow, STEP_LIMIT, rest)?)?;
             Ok(Denial::Unsatisfiable { flow, tree })
         }
         DenialKind::Stranded => {
             let flow = flow_within(p, flow)?;
-            let tree = guess_tree(alloc, p, flow, STEP_LIMIT, rest)?;
+            let tree = Shared::new(alloc, guess_tree(alloc, p, flow, STEP_LIMIT, rest)?)?;
             Ok(Denial::Stranded { flow, tree })
         }
         DenialKind::Strands => guess_strands(alloc, p, cases, flow, rest),
@@ -111,7 +112,7 @@ fn guess_strands<F: FlowOf>(
     let case = take_case(rest)?;
     rest.skip(b",\"tree\":")?;
     let flow = flow_within(p, cases.flow_of(case))?;
-    let tree = guess_tree(alloc, p, flow, STEP_LIMIT, rest)?;
+    let tree = Shared::new(alloc, guess_tree(alloc, p, flow, STEP_LIMIT, rest)?)?;
     Ok(Denial::Strands { case, flow, tree })
 }
 

@@ -15,9 +15,6 @@ use Rattle.pair_set.specs.PairLaws.{remove_inserted}
 use Rattle.pair_set.proofs.Ascending.{none_after_remove}
 
 module _ {K : Type 0} {R : K → K → Ordering} (o : IsTotalOrder R) (exact : IsAntisymmetric R) where
-  set_of : List K → set.FinSet R
-  set_of xs = set.from_list xs
-
   pub from_list-insert : (xs : List K) (i : ℕ) (k : K) → set.from_list {R = R} (insert xs i k) ≡ set.insert (set.from_list xs) k
   from_list-insert xs i k = set.same_set o exact _ _ (λ q.
       set.contains-from_list o (insert xs i k) q

@@ -2,7 +2,7 @@
 //! memory.
 
 use crate::fixture::PAY;
-use case_views::{CachingDecider, PlainDecider, TreeCache};
+use case_views::{CachingDecider, PlainDecider, VerdictCache};
 use constraint_forms::Plan;
 use grant_table::Cases;
 use policy_book::Policy;
@@ -47,7 +47,7 @@ enum Told {
 type Row = (Request, Told, u64);
 
 #[test]
-fn a_tree_serves_again_as_long_as_it_refutes(rt: HostRuntime) -> Result<(), Fail> {
+fn what_was_found_serves_again_as_long_as_it_decides(rt: HostRuntime) -> Result<(), Fail> {
     let alloc = rt.alloc();
     let mut board = Board::new(alloc, policy_reader::read(alloc, PAY.as_bytes())?)?;
     assert!(rt; are_answered(alloc, &mut board));
@@ -61,7 +61,7 @@ fn are_answered(alloc: Global, board: &mut Board) -> bool {
     let below = Counted {
         deeds: AtomicU64::new(0),
     };
-    let cache = TreeCache::new(alloc);
+    let cache = VerdictCache::new(alloc);
     let decider = CachingDecider::new(&below, &cache);
     for (asked, told, deeds) in rows {
         let reply = answer(alloc, &decider, board, asked);
@@ -84,7 +84,7 @@ fn answer<V: Decider>(alloc: Global, decider: &V, board: &mut Board, asked: Requ
 
 // Ann prepares two payments. Where bob approves, ann and bob alone could pay, and neither may; once
 // cyd is a clerk too, cyd can. (That a role is given breaks no plan, so no deed is left for it.)
-fn rows() -> Option<[Row; 13]> {
+fn rows() -> Option<[Row; 15]> {
     let (flow, clerk) = (Name::read("pay")?, Name::read("clerk")?);
     let (prepare, approve) = (Name::read("prepare")?, Name::read("approve")?);
     let (ann, bob) = (Name::read("ann")?, Name::read("bob")?);
@@ -103,16 +103,18 @@ fn rows() -> Option<[Row; 13]> {
         (Request::OpenCase { flow }, Told::Done, 1),
         (claim(0, prepare, ann), Told::Done, 2),
         (finish(0, prepare, ann), Told::Done, 2),
-        (Request::OpenCase { flow }, Told::Done, 3),
-        (claim(1, prepare, ann), Told::Done, 4),
-        (finish(1, prepare, ann), Told::Done, 4),
-        (claim(0, approve, bob), Told::Stranded, 5),
-        (claim(1, approve, bob), Told::Stranded, 5),
-        (change(eve, enrol), Told::Done, 5),
-        (claim(0, approve, bob), Told::Done, 6),
-        (give_back(0, approve, bob), Told::Done, 6),
-        (change(eve, dismiss), Told::Done, 7),
-        (claim(1, approve, bob), Told::Stranded, 7),
+        (Request::OpenCase { flow }, Told::Done, 2),
+        (claim(1, prepare, ann), Told::Done, 2),
+        (finish(1, prepare, ann), Told::Done, 2),
+        (claim(0, approve, bob), Told::Stranded, 3),
+        (claim(1, approve, bob), Told::Stranded, 3),
+        (change(eve, enrol), Told::Done, 3),
+        (claim(0, approve, bob), Told::Done, 4),
+        (claim(1, approve, bob), Told::Done, 4),
+        (give_back(0, approve, bob), Told::Done, 4),
+        (give_back(1, approve, bob), Told::Done, 4),
+        (change(eve, dismiss), Told::Done, 5),
+        (claim(1, approve, bob), Told::Stranded, 6),
     ])
 }
 
@@ -137,7 +139,7 @@ fn change(by: Name, edit: Edit) -> Request {
 
 fn told_by(reply: &Reply) -> Told {
     match reply {
-        Reply::Denied(Denial::Stranded { tree, .. }) => told_by_tree(tree),
+        Reply::Denied(Denial::Stranded { tree, .. }) => told_by_tree(tree.get()),
         Reply::Denied(_) | Reply::NoMemory => Told::Other,
         _ => Told::Done,
     }

@@ -49,11 +49,11 @@ pub(crate) fn push_refused(
                 users: Assign::empty(),
                 done: StepSet::empty(),
             };
-            push_told(alloc, out, p, &held, tree, telling)
+            push_told(alloc, out, p, &held, tree.get(), telling)
         }
         Reply::Denied(Denial::Stranded { tree, .. }) => {
             match held_with(p, cases, &entry.ask) {
-                Some(held) => push_told(alloc, out, p, &held, tree, telling),
+                Some(held) => push_told(alloc, out, p, &held, tree.get(), telling),
                 None => Ok(()),
             }
         }
@@ -78,7 +78,7 @@ fn push_strands(
         return Ok(());
     };
     match held_in(&after, cases, *case) {
-        Some(held) => push_told(alloc, out, &after, &held, tree, telling),
+        Some(held) => push_told(alloc, out, &after, &held, tree.get(), telling),
         None => Ok(()),
     }
 }

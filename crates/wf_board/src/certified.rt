@@ -36,7 +36,7 @@ pub(crate) fn accepts(p: &Policy, cases: &Cases, ask: &Ask, verdict: &Verdict) -
 }
 
 /// Whether a verdict is a plan or a tree that decides a deed.
-fn decides(p: &Policy, cases: &Cases, deed: &Deed, verdict: &Verdict) -> bool
+pub fn decides(p: &Policy, cases: &Cases, deed: &Deed, verdict: &Verdict) -> bool
     requires planned { ArePlanned p.now cases.now.rows }
     requires found { IsFound p.now cases.now.rows deed.now }
     ensures { result ≡ true ↔ IsCertificate (book_of p.now cases.now) (Ok deed.now) verdict.now }
@@ -86,7 +86,7 @@ fn is_certificate(p: &Policy, f: FlowId, a: &Assign, done: &StepSet, verdict: &V
 {
     match verdict {
         Verdict::Plan(plan) => is_valid_plan(p, f, a, done, plan),
-        Verdict::Refuted(tree) => check_tree(p, f, a, done, tree),
+        Verdict::Refuted(tree) => check_tree(p, f, a, done, tree.get()),
         _ => false,
     }
 }

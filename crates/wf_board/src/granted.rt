@@ -106,7 +106,7 @@ fn admit_unsatisfiable(
     let _ = cases;
     match denial {
         Denial::Unsatisfiable { flow: named, tree } => {
-            when(*named == flow && is_opening_tree(p, flow, tree))
+            when(*named == flow && is_opening_tree(p, flow, tree.get()))
         }
         _ => Err(AdmitFault::NotStep),
     }
@@ -205,7 +205,7 @@ fn admit_stranded(
 {
     match denial {
         Denial::Stranded { flow, tree } => {
-            when(*flow == case.flow() && is_claim_tree(p, cases, n, case, s, u, tree))
+            when(*flow == case.flow() && is_claim_tree(p, cases, n, case, s, u, tree.get()))
         }
         _ => Err(AdmitFault::NotStep),
     }

@@ -27,6 +27,7 @@ mod views;
 pub use admit::AdmitFault;
 pub use board::Board;
 pub use breaking::may_break;
+pub use certified::decides;
 pub use counting::counts;
 pub use decider::Decider;
 pub use decision::{Refused, decision_aside, is_view};

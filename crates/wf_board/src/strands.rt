@@ -43,7 +43,7 @@ pub(crate) fn admit_change(
     ensures { HasAdmitted p.now cases.now cases.now (Ok (deeds.Change a)) reply.now result }
 {
     match verdict {
-        Verdict::Strands(n, tree) => admit_denied_change(p, cases, a, reply, *n, tree),
+        Verdict::Strands(n, tree) => admit_denied_change(p, cases, a, reply, *n, tree.get()),
         _ => unreachable!(),
     }
 }
@@ -88,7 +88,7 @@ fn admit_strands(
     let _ = shown;
     match denial {
         Denial::Strands { case, flow, tree } => {
-            admit_strands_of(p, cases, a, *case, *flow, tree, n)
+            admit_strands_of(p, cases, a, *case, *flow, tree.get(), n)
         }
         _ => Err(AdmitFault::NotStep),
     }

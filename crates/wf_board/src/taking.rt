@@ -29,6 +29,7 @@ use crate::decision::{Refused, decision_of, is_full, needs_plan};
 use crate::resolve::resolve;
 use crate::views::by_view;
 use crate::{Answered, Deed, Stepped, Verdict};
+use basics::Shared;
 use case_record::Case;
 use constraint_forms::Plan;
 use grant_table::Cases;
@@ -226,7 +227,7 @@ fn plan_for(p: &Policy, cases: &mut Cases, deed: Deed, plan: Plan) -> Reply
 }
 
 /// Answers by a tree that shows that a case cannot be completed.
-fn by_tree(p: &Policy, cases: &Cases, ask: &Ask, tree: Tree) -> Reply
+fn by_tree(p: &Policy, cases: &Cases, ask: &Ask, tree: Shared<Tree>) -> Reply
     requires kept { IsKept p.now cases.now }
     requires tree { IsTreeFor (book_of p.now cases.now)
         (decision_aside (book_of p.now cases.now) ask.now) tree }
@@ -244,7 +245,7 @@ fn by_tree(p: &Policy, cases: &Cases, ask: &Ask, tree: Tree) -> Reply
 }
 
 /// Denies a deed by a tree that shows that its case cannot be completed.
-fn tree_for(p: &Policy, cases: &Cases, deed: Deed, tree: Tree) -> Reply
+fn tree_for(p: &Policy, cases: &Cases, deed: Deed, tree: Shared<Tree>) -> Reply
     requires kept { IsKept p.now cases.now }
     requires tree { IsTreeFor (book_of p.now cases.now) (Ok deed) tree }
     requires fits { is_large tree ≡ false }
@@ -266,7 +267,7 @@ fn tree_for(p: &Policy, cases: &Cases, deed: Deed, tree: Tree) -> Reply
 }
 
 /// Denies to open a case of a workflow that has no valid plan.
-fn unsatisfiable(p: &Policy, cases: &Cases, flow: FlowId, tree: Tree) -> Reply
+fn unsatisfiable(p: &Policy, cases: &Cases, flow: FlowId, tree: Shared<Tree>) -> Reply
     requires kept { IsKept p.now cases.now }
     requires tree { IsTreeFor (book_of p.now cases.now) (Ok (deeds.Open flow)) tree }
     requires fits { is_large tree ≡ false }
@@ -284,7 +285,7 @@ fn unsatisfiable(p: &Policy, cases: &Cases, flow: FlowId, tree: Tree) -> Reply
 }
 
 /// Denies an edit by a tree that shows that an open case could not be completed any more.
-fn by_stranding(p: &Policy, cases: &Cases, ask: &Ask, number: CaseId, tree: Tree) -> Reply
+fn by_stranding(p: &Policy, cases: &Cases, ask: &Ask, number: CaseId, tree: Shared<Tree>) -> Reply
     requires kept { IsKept p.now cases.now }
     requires tree { IsStrandingFor (book_of p.now cases.now)
         (decision_aside (book_of p.now cases.now) ask.now) number tree }

@@ -4,6 +4,7 @@ ghost use Rattle.wf_board.specs.Trees.{is_large};
 ghost use Rattle.wf_board.specs.Verdicts.{is_unusable, is_want};
 
 use crate::{Deed, Edition, TREE_LIMIT};
+use basics::Shared;
 use constraint_forms::Plan;
 use refutation_tree::Tree;
 use wf_names::CaseId;
@@ -27,11 +28,11 @@ pub enum Verdict {
     /// By this plan.
     Plan(Plan),
     /// It does not, as the tree shows.
-    Refuted(Tree),
+    Refuted(Shared<Tree>),
     /// The edit leaves each open case a plan: the policy after it, with these plans.
     Edited(Edition),
     /// The edit leaves this open case, and none before it, without one, as the tree shows.
-    Strands(CaseId, Tree),
+    Strands(CaseId, Shared<Tree>),
     /// What is to be seen of the open cases.
     View(View),
     /// There was no memory to find out.
@@ -54,7 +55,7 @@ impl Verdict {
         ensures { result ≡ is_unusable self.now }
     {
         match self {
-            Verdict::Refuted(tree) | Verdict::Strands(_, tree) => is_large(tree),
+            Verdict::Refuted(tree) | Verdict::Strands(_, tree) => is_large(tree.get()),
             Verdict::NoMemory | Verdict::OverBudget => true,
             Verdict::Nothing | Verdict::Plan(_) | Verdict::Edited(_) | Verdict::View(_) => false,
         }

@@ -4,7 +4,7 @@
 use std::marker::Model;
 
 /// A user's number in a policy: users are numbered from 0 and keep their numbers.
-#[derive(Clone, Copy, PartialEq, Eq)]
+#[derive(Clone, Copy, PartialEq, Eq, Hash)]
 pub struct UserId(pub u16);
 
 impl Model for UserId {
@@ -67,7 +67,7 @@ impl Model for StepId {
 }
 
 /// A workflow's number in a policy, counted from 0.
-#[derive(Clone, Copy, PartialEq, Eq)]
+#[derive(Clone, Copy, PartialEq, Eq, Hash)]
 pub struct FlowId(pub u8);
 
 impl Model for FlowId {

@@ -3,6 +3,7 @@ use denote.Hole.{as_row}
 use denote.Param.Send.{IsSync, sendable}
 use denote.Param.SendFields.{declared_sync, variants_sync}
 use Rattle.std.proofs.Crossing.{crosses}
+use Rattle.basics.specs.contracts.shared.Shared as Shared
 use Rattle.refutation_tree.specs.contracts.tree.Tree as Tree
 use Rattle.refutation_tree.proofs.tree.Branches.TheLaws.TheKnot as knot
 use Rattle.wf_talk.specs.contracts.entry.Entry as Entry
@@ -13,8 +14,8 @@ use Rattle.wf_talk.specs.contracts.request.Ask as Ask
 use Rattle.wf_talk.proofs.reply.Face.TheSendSync as faces
 use Rattle.wf_talk.proofs.request.Ask.TheSendSync as asks
 
-tree_sync : IsSync (as_row Tree.the_field)
-tree_sync = search (sendable, crosses, knot.crosses) depth 20 fits 20000
+tree_sync : IsSync (as_row (Shared.the_field Tree.the_row))
+tree_sync = search (sendable, crosses, knot.crosses) depth 30 fits 20000
 
 face_sync : IsSync (as_row Face.the_field)
 face_sync = search (faces.the_field_sync, sendable, crosses) depth 20

@@ -15,7 +15,7 @@ use crate::going_on::run_resume;
 use crate::serve::run_serve;
 use crate::way::{ByTurns, OnLanes};
 use audit_command::{AuditedSession, run_audit};
-use case_views::{CachingDecider, PlainDecider, SpreadDecider, TreeCache};
+use case_views::{CachingDecider, PlainDecider, SpreadDecider, VerdictCache};
 use cnf_command::{run_clauses, run_model};
 use command_words::{Command, Options, read_words};
 use resume_command::Earlier;
@@ -55,13 +55,13 @@ pub fn run<R: Threads + Wait + Sync, F: Shelf, S: Source, K: Sink, G: Gate + Syn
         → may_repeat (command_of (map string_bytes words.now)) ≡ false
         → AreAnsweredOnce (told_by result).entries }
 {
-    let trees = TreeCache::new(alloc);
+    let found = VerdictCache::new(alloc);
     let on_lanes = |desk: Desk| -> Desk
         requires { (0 < desk.lanes) × AreOfLanes desk.lanes desk.jobs }
         ensures { HasGrown desk result × IsDone result }
     {
         let spread = SpreadDecider::new(rt);
-        serve_by_lanes(rt, alloc, &CachingDecider::new(&spread, &trees), gate, desk)
+        serve_by_lanes(rt, alloc, &CachingDecider::new(&spread, &found), gate, desk)
     };
     let way = OnLanes {
         rt,

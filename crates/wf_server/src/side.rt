@@ -66,7 +66,7 @@ fn tree_of(reply: &Reply) -> Option<&Tree> {
             Denial::Unsatisfiable { tree, .. }
             | Denial::Stranded { tree, .. }
             | Denial::Strands { tree, .. },
-        ) => Some(tree),
+        ) => Some(tree.get()),
         _ => None,
     }
 }

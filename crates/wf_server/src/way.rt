@@ -7,7 +7,7 @@ ghost use Rattle.wf_lanes.specs.Turns.{HasServedOn};
 ghost use Rattle.wire_json.specs.Replies.{entry_text};
 
 use crate::side::{are_long, lines_beside};
-use case_views::{CachingDecider, PlainDecider, TreeCache};
+use case_views::{CachingDecider, PlainDecider, VerdictCache};
 use policy_book::Policy;
 use std::alloc::Global;
 use std::thread::Threads;
@@ -44,13 +44,13 @@ pub(crate) trait Way {
 /// By turns, on the caller's thread. None is answered again.
 #[derive(Drop)]
 pub(crate) struct ByTurns {
-    trees: TreeCache,
+    found: VerdictCache,
 }
 
 impl ByTurns {
     pub(crate) fn new(alloc: Global) -> ByTurns {
         ByTurns {
-            trees: TreeCache::new(alloc),
+            found: VerdictCache::new(alloc),
         }
     }
 }
@@ -59,7 +59,7 @@ impl Way for ByTurns {
     ghost leaves = { λ _ d e. HasServedOn d e };
 
     fn serve(&self, alloc: Global, desk: Desk) -> Desk {
-        turned(alloc, &self.trees, desk)
+        turned(alloc, &self.found, desk)
     }
 
     fn make_lines(&self, _alloc: Global, _p: &Policy, _entries: &[Entry]) -> Option<Vec<Vec<u8>>> {
@@ -101,11 +101,11 @@ impl<R: Threads + Sync, W: Fn(Desk) -> Desk> Way for OnLanes<'_, R, W> {
 }
 
 // The desk after the jobs of its batch are served by turns.
-fn turned(alloc: Global, trees: &TreeCache, mut desk: Desk) -> Desk
+fn turned(alloc: Global, found: &VerdictCache, mut desk: Desk) -> Desk
     requires lanes { AreOfLanes desk.lanes desk.jobs }
     ensures on { HasServedOn desk result }
     ensures done { IsDone result }
 {
-    serve_by_turns(alloc, &CachingDecider::new(&PlainDecider, trees), &mut desk);
+    serve_by_turns(alloc, &CachingDecider::new(&PlainDecider, found), &mut desk);
     desk
 }

@@ -10,6 +10,7 @@ use denote.Hole.{as_row}
 use Rattle.std.proofs.Crossing.{crosses}
 use Rattle.basics.specs.contracts.list.List as Items
 use Rattle.basics.specs.contracts.log.Log as Log
+use Rattle.basics.specs.contracts.shared.Shared as Shared
 use Rattle.wf_names.specs.contracts.ids.CaseId as CaseId
 use Rattle.wf_names.specs.contracts.ids.FlowId as FlowId
 use Rattle.wf_names.specs.contracts.ids.RoleId as RoleId
@@ -82,8 +83,8 @@ missing_crosses = search (sendable, crosses) depth 20
 plan_crosses : Crosses (as_row Plan.the_field)
 plan_crosses = search (sendable, crosses) depth 20
 
-tree_crosses : Crosses (as_row Tree.the_field)
-tree_crosses = search (sendable, crosses, knot.crosses) depth 20 fits 20000
+tree_crosses : Crosses (as_row (Shared.the_field Tree.the_row))
+tree_crosses = search (sendable, crosses, knot.crosses) depth 30 fits 20000
 
 face_crosses : Crosses (as_row Face.the_field)
 face_crosses = search (faces.the_field_send, faces.the_field_sync, sendable, crosses) depth 20

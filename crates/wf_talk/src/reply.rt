@@ -1,6 +1,7 @@
 //! What the server answers.
 
 use crate::{Bad, CaseList, Missing, RoleList, States, WorkList};
+use basics::Shared;
 use constraint_forms::Plan;
 use refutation_tree::Tree;
 use wf_names::{CaseId, FlowId, Phase, StepId, StepState, UserId};
@@ -67,7 +68,7 @@ pub enum Denial {
     /// The workflow has no valid plan, as the tree shows.
     Unsatisfiable {
         flow: FlowId,
-        tree: Tree,
+        tree: Shared<Tree>,
     },
     /// There is no case of that number.
     NoCase,
@@ -91,7 +92,7 @@ pub enum Denial {
     /// The claim would leave the case without a valid plan, as the tree shows.
     Stranded {
         flow: FlowId,
-        tree: Tree,
+        tree: Shared<Tree>,
     },
     /// The step is not held by the user, or by nobody at all; it stands so.
     NotHeld(StepState),
@@ -111,6 +112,6 @@ pub enum Denial {
     Strands {
         case: CaseId,
         flow: FlowId,
-        tree: Tree,
+        tree: Shared<Tree>,
     },
 }

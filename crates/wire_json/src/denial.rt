@@ -26,7 +26,7 @@ pub(crate) fn push_denial(out: &mut Vec<u8>, p: &Policy, denial: &Denial) -> Res
         Denial::Retired => push(out, b"\"retired\""),
         Denial::Full => push(out, b"\"full\""),
         Denial::Unsatisfiable { flow, tree } => {
-            push_tree_in(out, b"{\"unsatisfiable\":", p, *flow, tree)
+            push_tree_in(out, b"{\"unsatisfiable\":", p, *flow, tree.get())
         }
         Denial::NoCase => push(out, b"\"no_case\""),
         Denial::Closed => push(out, b"\"closed\""),
@@ -36,7 +36,9 @@ pub(crate) fn push_denial(out: &mut Vec<u8>, p: &Policy, denial: &Denial) -> Res
         Denial::Order { flow, step } => push_step_in(out, b"{\"order\":", p, *flow, *step),
         Denial::Role(roles) => push_roles_in(out, b"{\"role\":", p, roles.as_slice()),
         Denial::Rule(rule) => push_rule(out, *rule),
-        Denial::Stranded { flow, tree } => { push_tree_in(out, b"{\"stranded\":", p, *flow, tree) }
+        Denial::Stranded { flow, tree } => {
+            push_tree_in(out, b"{\"stranded\":", p, *flow, tree.get())
+        }
         Denial::NotHeld(state) => push_not_held(out, p, *state),
         Denial::NotAdmin => push(out, b"\"not_admin\""),
         Denial::Unknown(missing) => push_unknown(out, *missing),
@@ -44,7 +46,7 @@ pub(crate) fn push_denial(out: &mut Vec<u8>, p: &Policy, denial: &Denial) -> Res
         Denial::Already => push(out, b"\"already\""),
         Denial::Absent => push(out, b"\"absent\""),
         Denial::LastAdmin => push(out, b"\"last_admin\""),
-        Denial::Strands { case, flow, tree } => push_strands(out, p, *case, *flow, tree),
+        Denial::Strands { case, flow, tree } => push_strands(out, p, *case, *flow, tree.get()),
     }
 }
 
