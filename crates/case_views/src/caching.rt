@@ -17,9 +17,10 @@ use wf_board::{Decider, Deed, Snap, Verdict, decides, decision_aside};
 use wf_names::STEP_LIMIT;
 use wf_talk::Ask;
 
-/// Finds the verdicts of another decider, and keeps the plans and trees that it finds for claims and
-/// openings in a cache. A plan that is kept and valid is at hand, as one that the other finds with no
-/// search; where none is and a tree that is kept refutes, it is the verdict, and nothing is searched.
+/// Finds the verdicts of another decider, and keeps the plans and trees that it finds for claims
+/// and openings in a cache. A plan that is kept and valid is at hand, as one that the other finds
+/// with no search. Where none is and a tree that is kept refutes, it is the verdict, and nothing is
+/// searched.
 pub struct CachingDecider<'a, V> {
     decider: &'a V,
     cache: &'a VerdictCache,

@@ -27,7 +27,7 @@ pub(crate) struct Subject {
     pub(crate) finished: StepSet,
 }
 
-/// What was found.
+/// What was found by a search.
 #[derive(Drop)]
 pub(crate) enum Found {
     Plan(Plan),
@@ -35,9 +35,8 @@ pub(crate) enum Found {
 }
 
 /// Plans and trees that were found for claims and openings: the last ones, at most 1,024, the trees
-/// with 524,288 leaves and nodes together. Threads may share it. What one shows has to be
-/// checked where it is used, since the policy may have changed; so nothing is promised of what is
-/// kept.
+/// with 524,288 leaves and nodes together. Threads may share it. Each has to be checked where it is
+/// used, since the policy may have changed; so nothing is promised of what is kept.
 #[derive(Drop)]
 pub struct VerdictCache {
     verdicts: Mutex<Verdicts>,
