@@ -15,7 +15,8 @@ const VERDICTS: usize = 1_024;
 /// How many leaves and nodes the trees have together at most; each takes about 50 bytes.
 const NODES: u64 = 524_288;
 
-/// How often the lock is tried: whoever has it gives it back in some microseconds.
+/// How often the lock is tried: whoever has it gives it back in some microseconds, or later where
+/// one large tree takes the place of many.
 const TRIES: u16 = 1_000;
 
 /// What a plan or a tree is about: a case of a workflow, by what is assigned in it and what is
