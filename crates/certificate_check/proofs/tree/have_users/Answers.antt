@@ -25,7 +25,8 @@ users-preserved c =
     let known : u < p.users = row.known u found.member in
     let step = passing_next (p.authorised c.args.s) c.users.from u p.users found.from_on known
     (λ v low lt. sym (row.authorised v) ∙ found.least v low lt) (sym (row.authorised u) ∙ found.member) in
-    let left = sym (users_next u (passing (p.authorised c.args.s) (u + 1) (p.users - (u + 1))) c.args.branches.now c.users.next true c.if-not-is_of.ensures.user) ∙
+    let more = passing (p.authorised c.args.s) (u + 1) (p.users - (u + 1)) in
+    let left = sym (users_next u more c.args.branches.now c.users.next true c.if-not-is_of.ensures.user) ∙
     ap (λ us. have_users us (kids_of_items (drop c.users.next c.args.branches.now))) (sym step) ∙ c.users.invariant.2 in
     let here : c.users.next + 1 ≤ length c.args.branches.now = omega (arith, c.if-not-is_of.ensures.within refl) in
     let on : u + 1 ≤ p.users = omega (arith, known) in
