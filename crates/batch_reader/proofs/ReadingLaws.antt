@@ -1,9 +1,9 @@
 -- How what was read goes on.
-use Rattle.std.proofs.Common.{◌≡◌, ℕ, ◌+◌, ◌-◌, ◌<◌, ◌≤◌, Bool, true, false, List, [], ◌∷◌, ◌++◌, length, map, take, drop, Option, None, Some, inl, inr, refl}
+use Rattle.std.proofs.Common.{◌≡◌, ℕ, ◌+◌, ◌<◌, Bool, true, false, List, [], ◌∷◌, ◌++◌, length, map, Option, None, Some, inl, inr, refl}
 use Rattle.std.proofs.Common.{sym, ◌∙◌, ap, subst, arith, append_assoc}
 use Rattle.std.specs.Prelude.{◌≢◌, is_some}
 use Rattle.std.proofs.lemmas.Grind.{common_steps}
-use Rattle.std.proofs.lemmas.List.{append-nil, length-append, take-append-drop, drop-drop, drop-take}
+use Rattle.std.proofs.lemmas.List.{append-nil, length-append}
 use Rattle.wf_outside.specs.Outside.{HasTaken, IsAtEnd, bytes_before}
 use Rattle.wf_outside.proofs.OutsideLaws.{more_taken}
 use Rattle.wf_talk.specs.declared.job.Job.{Job}
@@ -55,16 +55,6 @@ take_more before left after h r s empty same taken read =
       closed = read.closed;
     }
 
--- what is left of the bytes between two places, some of which are cut
-pub split_between : (bytes : List ℕ) (at filled n : ℕ) → at ≤ filled
-    → drop at (take filled bytes) ≡ take n (take (filled - at) (drop at bytes)) ++ drop (at + n) (take filled bytes)
-split_between bytes at filled n begun =
-    let whole : filled ≡ at + (filled - at) = omega (arith, begun) in
-    let between : drop at (take filled bytes) ≡ take (filled - at) (drop at bytes) =
-    ap (λ m. drop at (take m bytes)) whole ∙ drop-take at (filled - at) bytes in
-    sym (take-append-drop n (drop at (take filled bytes))) ∙ ap (λ xs. take n xs ++ drop n (drop at (take filled bytes))) between
-    ∙ ap (λ xs. take n (take (filled - at) (drop at bytes)) ++ xs) (drop-drop n at (take filled bytes))
-
 -- ---- at the end of a batch, or of what can be read
 
 -- what was read is up to an end
@@ -83,13 +73,6 @@ up_read before after h r read =
       at_end = λ e. cc;
       up = subst (λ (c : Cut). UpToAnEnd h.jobs h.batch_ends c) (sym all) (up_to_end h.jobs h.batch_ends (end_batch (flush false rest)) read.closed);
     }
-
--- and so with no more jobs
-pub up_none : (before after : Option (List ℕ)) (h : Handed) (r : BatchReaderShape) (none : List Job) → none ≡ [] → HasRead before after h r →
-    IsReadUp before after (handed_more h none)
-up_none before after h r none e read =
-    let same : h.jobs ++ [] ≡ h.jobs = append-nil h.jobs in
-    rw (e, same) (up_read before after h r read)
 
 -- what reading had read, however it paused
 pub read_by : (before after : Option (List ℕ)) (h : Handed) (r : BatchReaderShape) (paused : Paused) → PausesBy before after h r paused →
@@ -140,24 +123,43 @@ finish_over before after ended h r d read is closed =
     ap (λ c. end_batch (flush ended c)) (sym read.cut) ∙ handed_finish h.jobs h.batch_ends r.cut ended ∙ ap (after_handing h.jobs h.batch_ends) (sym is)
     ∙ handed_over h.jobs h.batch_ends d closed
 
--- so are the jobs of all that was taken, where nothing is pending
-all_taken : (before after : Option (List ℕ)) (h : Handed) (r : BatchReaderShape) (read : HasRead before after h r) → r.pending ≡ [] →
-    HasTaken before after read.bytes
-all_taken before after h r read none = subst (λ xs. HasTaken before after xs) (ap (λ xs. read.bytes ++ xs) none ∙ append-nil read.bytes) read.taken
+-- so are the jobs of all that was taken, where nothing of what is pending can be cut
+all_over : (before after : Option (List ℕ)) (ended : Bool) (h : Handed) (r : BatchReaderShape) (d : Cut) (read : HasRead before after h r) →
+    d ≡ end_batch (flush ended r.cut) → IsEnded d → cut_all r.cut r.pending ≡ r.cut
+    → jobs_from h.first (read.bytes ++ r.pending) ended ≡ after_handing (h.jobs ++ d.jobs) (ends_after h.batch_ends (length h.jobs) d.jobs) (emptied d)
+unfolding jobs_from
+all_over before after ended h r d read is closed rest =
+    ap (λ c. end_batch (flush ended c)) (cut_all-append h.first read.bytes r.pending ∙ ap (λ c. cut_all c r.pending) (sym read.cut)
+    ∙ handed_all h.jobs h.batch_ends r.cut r.pending ∙ ap (after_handing h.jobs h.batch_ends) rest ∙ read.cut)
+    ∙ finish_over before after ended h r d read is closed
 
 all_read : (before after : Option (List ℕ)) (ended : Bool) (h : Handed) (r : BatchReaderShape) (d : Cut) → HasRead before after h r →
     d ≡ end_batch (flush ended r.cut) → IsEnded d
-    → r.pending ≡ [] → r.cut.stop ≡ None → (ended ≡ true → IsAtEnd after) → HasReadAll before after ended (handed_more h d.jobs)
-all_read before after ended h r d read is closed none going at_end =
-    let over = finish_over before after ended h r d read is closed in
+    → cut_all r.cut r.pending ≡ r.cut → r.cut.stop ≡ None → (ended ≡ true → IsAtEnd after) → HasReadAll before after ended (handed_more h d.jobs)
+all_read before after ended h r d read is closed rest going at_end =
+    let over = all_over before after ended h r d read is closed rest in
     record {
-      bytes = read.bytes;
-      taken = all_taken before after h r read none;
+      bytes = read.bytes ++ r.pending;
+      taken = read.taken;
       at_end = at_end;
       jobs = sym (ap (λ (c : Cut). c.jobs) over ∙ append-nil (h.jobs ++ d.jobs));
       ends = sym (ap (λ (c : Cut). c.ends) over ∙ append-nil (ends_after h.batch_ends (length h.jobs) d.jobs));
       going = ap (λ (c : Cut). c.stop) over ∙ ap (λ (c : Cut). c.stop) is ∙ finished_stop r.cut ended ∙ going;
     }
+
+-- and are up to an end
+all_up : (before after : Option (List ℕ)) (ended : Bool) (h : Handed) (r : BatchReaderShape) (d : Cut) → HasRead before after h r →
+    d ≡ end_batch (flush ended r.cut) → IsEnded d
+    → cut_all r.cut r.pending ≡ r.cut → (ended ≡ true → IsAtEnd after) → IsReadUp before after (handed_more h d.jobs)
+all_up before after ended h r d read is closed rest at_end = record {
+  bytes = read.bytes ++ r.pending;
+  ended = ended;
+  taken = read.taken;
+  at_end = at_end;
+  up = subst (λ (c : Cut). UpToAnEnd (h.jobs ++ d.jobs) (ends_after h.batch_ends (length h.jobs) d.jobs) c)
+      (sym (all_over before after ended h r d read is closed rest))
+      (up_to_end (h.jobs ++ d.jobs) (ends_after h.batch_ends (length h.jobs) d.jobs) (emptied d) (closed_after h.jobs d.jobs h.batch_ends read.closed));
+}
 
 stop_read : (before after : Option (List ℕ)) (h : Handed) (r : BatchReaderShape) (d : Cut) (stop : Stop) → HasCut before after h r →
     d ≡ end_batch (flush false r.cut) → IsEnded d
@@ -175,28 +177,6 @@ stop_read before after h r d stop cut is closed stops ahead =
       before_last = cut.going;
       stopped = ap (λ (c : Cut). c.stop) over ∙ ap (λ (c : Cut). c.stop) is ∙ finished_stop r.cut false ∙ stops;
       ahead = ahead;
-    }
-
--- its jobs are up to an end, where nothing is pending or the cutting has stopped
-all_up : (before after : Option (List ℕ)) (ended : Bool) (h : Handed) (r : BatchReaderShape) (d : Cut) → HasRead before after h r →
-    d ≡ end_batch (flush ended r.cut) → IsEnded d
-    → cut_all r.cut r.pending ≡ r.cut → (ended ≡ true → IsAtEnd after) → IsReadUp before after (handed_more h d.jobs)
-unfolding jobs_from
-all_up before after ended h r d read is closed rest at_end =
-    let cut : cut_all h.first (read.bytes ++ r.pending) ≡ after_handing h.jobs h.batch_ends r.cut =
-    cut_all-append h.first read.bytes r.pending ∙ ap (λ c. cut_all c r.pending) (sym read.cut) ∙ handed_all h.jobs h.batch_ends r.cut r.pending
-    ∙ ap (after_handing h.jobs h.batch_ends) rest in
-    let over : end_batch (flush ended (cut_all h.first (read.bytes ++ r.pending))) ≡ after_handing (h.jobs ++ d.jobs)
-    (ends_after h.batch_ends (length h.jobs) d.jobs) (emptied d) =
-    ap (λ c. end_batch (flush ended c)) cut ∙ handed_finish h.jobs h.batch_ends r.cut ended ∙ ap (after_handing h.jobs h.batch_ends) (sym is) ∙
-    handed_over h.jobs h.batch_ends d closed in
-    record {
-      bytes = read.bytes ++ r.pending;
-      ended = ended;
-      taken = read.taken;
-      at_end = at_end;
-      up = subst (λ (c : Cut). UpToAnEnd (h.jobs ++ d.jobs) (ends_after h.batch_ends (length h.jobs) d.jobs) c) (sym over)
-          (up_to_end (h.jobs ++ d.jobs) (ends_after h.batch_ends (length h.jobs) d.jobs) (emptied d) (closed_after h.jobs d.jobs h.batch_ends read.closed));
     }
 
 -- what a closed reading has read, and that its jobs are up to an end
@@ -224,10 +204,10 @@ closed_reads before after h r d Batch result read pauses closes memory =
 closed_reads before after h r d NoMemory result read pauses closes memory = absurd (memory closes.0)
 closed_reads before after h r d End result read pauses closes memory =
     finished before after true h r d End result read closes memory (ap (cut_all r.cut) pauses.1) (λ e. pauses.2)
-    (λ is closed. all_read before after true h r d read is closed pauses.1 pauses.0.going (λ e. pauses.2))
+    (λ is closed. all_read before after true h r d read is closed (ap (cut_all r.cut) pauses.1) pauses.0.going (λ e. pauses.2))
 closed_reads before after h r d Failed result read pauses closes memory =
     finished before after false h r d Failed result read closes memory (ap (cut_all r.cut) pauses.1) (λ e. cc)
-    (λ is closed. all_read before after false h r d read is closed pauses.1 pauses.0.going (λ e. cc))
+    (λ is closed. all_read before after false h r d read is closed (ap (cut_all r.cut) pauses.1) pauses.0.going (λ e. cc))
 closed_reads before after h r d (Stopped stop) result read pauses closes memory =
     finished before after false h r d (Stopped stop) result (read_behind before after h r read) closes memory
     (stopped r.cut r.pending (ap is_some pauses.0)) (λ e. cc)
@@ -241,21 +221,16 @@ closed_at before after h r d jobs room paused result read pauses closes memory s
     rw (same, is) (closed_reads before after h r d paused result read pauses closes memory)
 
 -- after a batch reading goes on
-pub closed_on : (before after : Option (List ℕ)) (h : Handed) (r t : BatchReaderShape) (jobs : List Job) (paused : Paused)
-    → PausesBy before after h r paused → PausesAs r after paused → paused ≡ Batch → jobs ≡ r.cut.jobs → t.cut ≡ emptied r.cut → t.pending ≡ r.pending
-    → HasRead before after (handed_more h jobs) t
-closed_on before after h r t jobs Batch read pauses e same cut pending =
-    let on = batch_read before after h r read pauses.1 in
+pub closed_on : (before after : Option (List ℕ)) (h : Handed) (r t : BatchReaderShape) (jobs : List Job) → HasCut before after h r → IsEnded r.cut
+    → jobs ≡ r.cut.jobs → t.cut ≡ emptied r.cut → t.pending ≡ r.pending → HasRead before after (handed_more h jobs) t
+closed_on before after h r t jobs read ended same cut pending =
+    let on = batch_read before after h r read ended in
     rw same (record {
       bytes = on.bytes;
       taken = subst (λ (p : List ℕ). HasTaken before after (on.bytes ++ p)) (sym pending) on.taken;
       cut = ap (after_handing (h.jobs ++ r.cut.jobs) (ends_after h.batch_ends (length h.jobs) r.cut.jobs)) cut ∙ on.cut;
       closed = on.closed;
     })
-closed_on before after h r t jobs NoMemory read pauses e same cut pending = cc
-closed_on before after h r t jobs End read pauses e same cut pending = cc
-closed_on before after h r t jobs Failed read pauses e same cut pending = cc
-closed_on before after h r t jobs (Stopped stop) read pauses e same cut pending = cc
 
 -- what was handed over before is up to an end
 pub up_before : (before after : Option (List ℕ)) (h : Handed) (r : BatchReaderShape) (paused : Paused) → PausesBy before after h r paused →
@@ -265,7 +240,9 @@ up_before before after h r paused read = up_read before after h r (read_by befor
 -- where memory was refused
 pub closed_none : (before after : Option (List ℕ)) (h : Handed) (r : BatchReaderShape) (none : List Job) (paused : Paused)
     → PausesBy before after h r paused → none ≡ [] → IsReadUp before after (handed_more h none)
-closed_none before after h r none paused read e = up_none before after h r none e (read_by before after h r paused read)
+closed_none before after h r none paused read e =
+    let same : h.jobs ++ [] ≡ h.jobs = append-nil h.jobs in
+    rw (e, same) (up_before before after h r paused read)
 
 -- only a batch that had ended closes so
 pub closed_batch : (c d : Cut) (paused result : Paused) → ClosesAs c d paused result → result ≡ Batch → (paused ≡ Batch) × (d ≡ c)

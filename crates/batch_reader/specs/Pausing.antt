@@ -1,8 +1,9 @@
 -- Inside: how reading goes on, step by step.
-use Rattle.std.specs.Prelude.{◌≡◌, ℕ, ◌+◌, ◌-◌, ◌*◌, ◌<◌, Bool, true, false, List, [], ◌∷◌, ◌++◌}
+use Rattle.std.specs.Prelude.{◌≡◌, ℕ, ◌<◌, Bool, true, false, List, [], ◌∷◌, ◌++◌}
 use Rattle.std.specs.Prelude.{length, Option, None, Some}
 use Rattle.std.proofs.Common.{◌⊎◌}
 use Rattle.wf_outside.specs.Outside.{HasTaken, IsAtEnd}
+use Rattle.line_reader.specs.Pieces.{steps_left}
 use Rattle.line_cutter.specs.Jobs.{Cut, cut_all, flush, end_batch, last_or}
 use Rattle.line_cutter.specs.Cutter.{after_handing, IsEnded}
 use Rattle.batch_reader.specs.declared.reader.Paused.{Paused}
@@ -48,13 +49,13 @@ PausesAs r left (Stopped stop) = (r.cut.stop ≡ Some stop) × (r.cut.ends ≡ [
     (length r.pending < r.room)
 PausesAs r left NoMemory = Unit {0}
 
--- how much reading still has to do at most: cut bytes, and take a piece where none is left
-abbrev pub steps_left : BatchReaderShape → ℕ
-steps_left r = 2 * left_to_read r + (1 - length r.pending)
+-- how much reading still has to do at most: cut bytes, piece by piece
+abbrev pub reading_steps : BatchReaderShape → ℕ
+reading_steps r = steps_left (left_to_read r) r.pending
 
 -- one step goes on, or pauses
 abbrev pub StepsAs : BatchReaderShape → BatchReaderShape → Option (List ℕ) → Option Paused → Type 0
-StepsAs r s left None = CanReadOn s × (steps_left s < steps_left r)
+StepsAs r s left None = CanReadOn s × (reading_steps s < reading_steps r)
 StepsAs r s left (Some paused) = PausesAs s left paused
 
 -- the input is ended, unless memory was refused

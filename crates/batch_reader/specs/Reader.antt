@@ -112,3 +112,8 @@ CountsPause NoMemory before after = before ≤ after
 -- how far reading still has to go at most: less after each batch
 abbrev pub left_to_read : BatchReaderShape → ℕ
 left_to_read r = last_place - place r.cut
+
+-- a reader can go on, and less is left to read
+pub record GoesOnReading (before after : BatchReaderShape) : Type 0 where
+  pub ready : CanReadOn after
+  pub less : left_to_read after < left_to_read before

@@ -1,21 +1,20 @@
 //! Reading an input up to the end of each batch, and no further than the piece in which it ends.
-ghost use Rattle.std.specs.Prelude.{◌≡◌, ◌≢◌, ◌≤◌, ◌<◌, ◌+◌, ◌-◌, ◌*◌, ℕ, List, [], length, take};
-ghost use Rattle.std.specs.Prelude.{Option, None, Some, true, false, IfOk, OnOk, OnErr, Ok};
-ghost use Rattle.std.specs.Prelude.{MatchResult};
-ghost use Rattle.wf_outside.specs.Outside.{Rose, HasTaken, IsAtEnd};
+ghost use Rattle.std.specs.Prelude.{◌≡◌, ◌≢◌, ◌≤◌, ◌<◌, ℕ, List, [], length, Option, None, Some};
+ghost use Rattle.std.specs.Prelude.{true, false, IfOk, OnOk, OnErr};
 ghost use Rattle.wf_names.specs.declared.limits.TheConstants.{SESSION_LINE_LIMIT};
 ghost use Rattle.line_cutter.specs.Jobs.{start_at};
-ghost use Rattle.line_cutter.specs.Cutter.{IsEnded};
+ghost use Rattle.line_cutter.specs.Cutter.{CutsOn};
 ghost use Rattle.batch_reader.specs.Reader.{BatchReaderShape, Handed, handed_more, HasRead};
-ghost use Rattle.batch_reader.specs.Reader.{IsReadUp};
-ghost use Rattle.batch_reader.specs.Reader.{ReadsBatch, CanReadOn, CountsPause, left_to_read};
+ghost use Rattle.batch_reader.specs.Reader.{IsReadUp, ReadsBatch, CanReadOn, CountsPause};
+ghost use Rattle.batch_reader.specs.Reader.{GoesOnReading, left_to_read};
 ghost use Rattle.batch_reader.specs.Pausing.{HasCut, PausesBy, AdvancesTo, PausesAs, StepsAs};
 ghost use Rattle.batch_reader.specs.Pausing.{ClosesAs, FinishesAs, CountsPauseStep};
 
 use line_cutter::{Cutter, Stop};
+use line_reader::Pieces;
 use std::alloc::{AllocError, Global};
 use std::marker::Model;
-use wf_outside::{Failed, Source};
+use wf_outside::Source;
 use wf_talk::Jobs;
 
 /// Where reading paused.
@@ -41,34 +40,24 @@ pub struct Reading {
     pub paused: Paused,
 }
 
-/// A reader of an input: what is cut of it and not handed over, and the piece that is being cut.
+/// A reader of an input: what is cut of it and not handed over, and the pieces that are cut.
 #[derive(Drop)]
 pub struct Reader {
     alloc: Global,
     cutter: Cutter,
-    piece: Vec<u8>,
-    // How many bytes of the piece are cut.
-    at: usize,
-    // How many bytes of the piece were taken.
-    filled: usize,
+    // What is passed is cut.
+    pieces: Pieces,
 }
 
 impl Model for Reader {
-    ghost use Rattle.std.specs.Prelude.{◌≤◌, ◌<◌, length, take, drop};
     ghost use Rattle.line_cutter.specs.Cutter.{IsSound};
     ghost use Rattle.batch_reader.specs.Reader.{BatchReaderShape};
 
     ghost Value = { BatchReaderShape };
 
-    ghost view = { λ r. record {
-      cut = r.cutter;
-      pending =
-          drop r.at (take r.filled r.piece.items);
-      room = length r.piece.items;
-    } };
+    ghost view = { λ r. record { cut = r.cutter; pending = r.pieces.ahead; room = r.pieces.room } };
 
-    ghost invariant = { λ r. (r.at ≤ r.filled) × (r.filled ≤ length r.piece.items) ×
-        (0 < length r.piece.items) × IsSound r.cutter };
+    ghost invariant = { λ r. IsSound r.cutter };
 }
 
 impl Reader {
@@ -83,11 +72,10 @@ impl Reader {
         Ok(Reader {
             alloc,
             cutter: Cutter::new(alloc, lanes, number),
-            piece: vec![in alloc; 0u8; room]?,
-            at: 0,
-            filled: 0,
+            pieces: Pieces::new(alloc, room)?,
         })
     }
+
     /// Reads on up to the end of the next batch that has a job, and hands its jobs over. Where the
     /// input ends, or no more of it can be read, so does the open batch. Where there is no memory,
     /// nothing is handed over, and what was read is kept.
@@ -99,20 +87,16 @@ impl Reader {
             result.paused }
         ensures up { (before : Option (List ℕ)) (h : Handed)
             → HasRead before (S.left source.old) h self.old →
-            IsReadUp before (S.left source.new) (handed_more h result.jobs) }
-        ensures up_before { (before : Option (List ℕ)) (h : Handed)
-            → HasRead before (S.left source.old) h self.old →
-            IsReadUp before (S.left source.new) h }
+            IsReadUp before (S.left source.new) h
+            × IsReadUp before (S.left source.new) (handed_more h result.jobs) }
         ensures goes_on { result.paused ≡ Paused.Batch → (before : Option (List ℕ)) (h : Handed)
             → HasRead before (S.left source.old) h self.old →
             HasRead before (S.left source.new) (handed_more h result.jobs) self.new }
-        ensures kept { result.paused ≡ Paused.NoMemory → (before : Option (List ℕ)) (h : Handed) →
-            HasRead before (S.left source.old) h self.old →
-            HasRead before (S.left source.new) h self.new }
-        ensures none { result.paused ≡ Paused.NoMemory → result.jobs ≡ [] }
-        ensures ready { result.paused ≡ Paused.Batch → CanReadOn self.new }
-        ensures less { result.paused ≡ Paused.Batch
-            → left_to_read self.new < left_to_read self.old }
+        ensures kept { result.paused ≡ Paused.NoMemory → (result.jobs ≡ [])
+            × ((before : Option (List ℕ)) (h : Handed)
+            → HasRead before (S.left source.old) h self.old →
+            HasRead before (S.left source.new) h self.new) }
+        ensures ready { result.paused ≡ Paused.Batch → GoesOnReading self.old self.new }
         ensures room { self.new.room ≡ self.old.room }
         ensures counts { CountsPause result.paused (S.faults source.old) (S.faults source.new) }
     {
@@ -159,15 +143,16 @@ impl Reader {
         ensures room { self.new.room ≡ self.old.room }
         ensures counts { CountsPauseStep result (S.faults source.old) (S.faults source.new) }
     {
-        if self.at < self.filled {
+        if !self.pieces.ahead().is_empty() {
             return self.cut_on();
         }
-        match self.take_piece(source) {
+        match self.pieces.fill(source) {
             Ok(true) => None,
             Ok(false) => Some(Paused::End),
             Err(_) => Some(Paused::Failed),
         }
     }
+
     // Cuts some of what is left of the piece; reading pauses where that ends a batch or stops the
     // cutting.
     fn cut_on(&mut self) -> Option<Paused>
@@ -199,39 +184,14 @@ impl Reader {
         requires some { 0 < length self.old.pending }
         ensures reads { OnOk result ((before after : Option (List ℕ)) (h : Handed)
             → HasRead before after h self.old → HasCut before after h self.new) }
-        ensures ended { OnOk result (self.new.cut.ends ≢ [] → IsEnded self.new.cut) }
-        ensures stopped { OnOk result ((s : Stop) → self.new.cut.stop ≡ Some s
-            → self.new.cut.ends ≡ []) }
-        ensures further { OnOk result (self.new.cut.stop ≡ None
-            → left_to_read self.new < left_to_read self.old) }
+        ensures on { OnOk result (CutsOn self.old.cut self.new.cut) }
         ensures ahead { OnOk result (length self.new.pending < self.new.room) }
         ensures room { self.new.room ≡ self.old.room }
         ensures unchanged { OnErr result (self.new ≡ self.old) }
     {
-        let count = self.cutter.feed(&self.piece[self.at..self.filled])?;
-        self.at += count;
+        let count = self.cutter.feed(self.pieces.ahead())?;
+        self.pieces.pass(count);
         Ok(())
-    }
-
-    // Takes the next piece, where the last one is cut. False is the end of the input.
-    fn take_piece<S: Source>(&mut self, source: &mut S) -> Result<bool, Failed>
-        requires { self.old.pending ≡ [] }
-        ensures cut { self.new.cut ≡ self.old.cut }
-        ensures reads { (before : Option (List ℕ)) (h : Handed)
-            → HasRead before (S.left source.old) h self.old
-            → HasRead before (S.left source.new) h self.new }
-        ensures more { result ≡ Ok true → 0 < length self.new.pending }
-        ensures ended { result ≡ Ok false → (self.new.pending ≡ []) × IsAtEnd (S.left source.new) }
-        ensures nothing { OnErr result (self.new.pending ≡ []) }
-        ensures room { self.new.room ≡ self.old.room }
-        ensures faults { S.faults source.old ≤ S.faults source.new }
-        ensures rose { OnErr result (Rose (S.faults source.old) (S.faults source.new)) }
-        ensures stays { OnOk result (S.faults source.new ≡ S.faults source.old) }
-    {
-        self.at = 0;
-        self.filled = 0;
-        self.filled = take_into(self.piece.as_mut_slice(), source)?;
-        Ok(self.filled > 0)
     }
 
     // Ends the open batch where reading paused otherwise than at the end of a batch.
@@ -260,20 +220,4 @@ impl Reader {
             Err(_) => Paused::NoMemory,
         }
     }
-}
-
-// The next bytes, at the front of the piece; how many there are.
-fn take_into<S: Source>(piece: &mut [u8], source: &mut S) -> Result<usize, Failed>
-    requires { 0 < length piece.old }
-    ensures taken { IfOk result (λ n. HasTaken (S.left source.old) (S.left source.new)
-        (take n piece.new)) }
-    ensures within { IfOk result (λ n. n ≤ length piece.new) }
-    ensures room { length piece.new ≡ length piece.old }
-    ensures ended { IfOk result (λ n. n ≡ 0 → IsAtEnd (S.left source.new)) }
-    ensures kept { OnErr result (S.left source.new ≡ S.left source.old) }
-    ensures faults { S.faults source.old ≤ S.faults source.new }
-    ensures rose { OnErr result (Rose (S.faults source.old) (S.faults source.new)) }
-    ensures stays { OnOk result (S.faults source.new ≡ S.faults source.old) }
-{
-    source.take(piece)
 }

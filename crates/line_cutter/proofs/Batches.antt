@@ -1,10 +1,11 @@
 -- No batch of an input has an empty line in it.
 use Rattle.std.proofs.Common.{refl, sym, ap, subst, ◌∙◌, arith}
-use Rattle.std.specs.Prelude.{◌≡◌, ℕ, ◌+◌, ◌-◌, ◌==◌, ◌≤◌, nat_lt, nat_le, Bool, true, false, List, [], ◌∷◌, ◌++◌, length, take, drop, is_some, if◌then◌else◌}
+use Rattle.std.specs.Prelude.{◌≡◌, ℕ, ◌+◌, ◌-◌, ◌==◌, ◌≤◌, nat_lt, nat_le, Bool, List, [], ◌∷◌, ◌++◌, length, take, drop, is_some}
 use Rattle.std.proofs.lemmas.Grind.{common_steps}
 use Rattle.std.proofs.lemmas.List.{length-append, length-drop, take_all, take-append-le, drop_all, drop-append-le, drop-drop}
 use Rattle.wf_names.specs.declared.limits.TheConstants.{LINE_LIMIT, SESSION_LINE_LIMIT, BATCH_LINE_LIMIT}
 use Rattle.wf_talk.specs.declared.job.Job.{Job}
+use Rattle.line_cutter.proofs.CutLaws.{if_both}
 use Rattle.line_cutter.specs.Jobs.{Cut, start_at, without_cr, job_of, end_batch, end_full_batch, next_line, with_job, end_line, step, cut_all, flush}
 use Rattle.line_cutter.specs.Lines.{AreBatches, FollowOn, LeadUpTo}
 
@@ -78,16 +79,12 @@ pub record HasRuns (c : Cut) : Type 0 where
 none_lead : (n : ℕ) (jobs : List Job) → jobs ≡ [] → LeadUpTo n jobs
 none_lead n jobs none = subst (LeadUpTo n) (sym none) tt
 
-runs_if : (b : Bool) (c d : Cut) → (b ≡ true → HasRuns c) → (b ≡ false → HasRuns d) → HasRuns (if b then c else d)
-runs_if true c d first second = first refl
-runs_if false c d first second = second refl
-
 runs_end : (c : Cut) → HasBatches c → HasRuns (end_batch c)
 unfolding end_batch
 runs_end c h =
     let begins = h.begins in
     let same : c.from ≡ c.from - 0 = omega arith in
-    runs_if (nat_lt c.from (length c.jobs)) (record c { from = length c.jobs; ends = c.ends ++ length c.jobs ∷ [] }) c
+    if_both HasRuns (nat_lt c.from (length c.jobs)) (record c { from = length c.jobs; ends = c.ends ++ length c.jobs ∷ [] }) c
     (λ more.
     let none = drop_all (length c.jobs) c.jobs (omega arith) in
     record {
@@ -106,7 +103,7 @@ runs_end c h =
 
 runs_full : (c : Cut) → HasRuns c → HasRuns (end_full_batch c)
 unfolding end_full_batch
-runs_full c h = runs_if (nat_le (c.from + BATCH_LINE_LIMIT) (length c.jobs)) (end_batch c) c (λ full. runs_end c h.all) (λ room. h)
+runs_full c h = if_both HasRuns (nat_le (c.from + BATCH_LINE_LIMIT) (length c.jobs)) (end_batch c) c (λ full. runs_end c h.all) (λ room. h)
 
 -- behind one more job
 one_more : (c : Cut) (job : Job) (number : ℕ) → HasRuns c → job.line ≡ c.number → HasBatches (record c { jobs = c.jobs ++ job ∷ []; number = number }) ×
@@ -129,7 +126,7 @@ runs_line : (c : Cut) → HasRuns c → HasRuns (end_line c)
 unfolding end_line
 runs_line c h =
     let job = job_of c.lanes c.number (without_cr c.line) in
-    runs_if (length (without_cr c.line) == 0) (end_batch (next_line c)) (end_full_batch (with_job c job))
+    if_both HasRuns (length (without_cr c.line) == 0) (end_batch (next_line c)) (end_full_batch (with_job c job))
     (λ empty. runs_end (next_line c) (record { begins = h.all.begins; ends = h.all.ends; batches = h.all.batches; follows = h.all.follows }))
     (λ some.
     let more = one_more c job (c.number + 1) h refl in
@@ -152,10 +149,10 @@ runs_still c d h number jobs ends from = record {
 runs_step : (c : Cut) (b : ℕ) → HasRuns c → HasRuns (step c b)
 unfolding step
 runs_step c b h =
-    runs_if (is_some c.stop) c _ (λ stopped. h) (λ going.
-    runs_if (nat_lt c.number SESSION_LINE_LIMIT) _ _ (λ below.
-    runs_if (b == 10) (end_line c) _ (λ lf. runs_line c h) (λ other.
-    runs_if (nat_lt (length c.line) LINE_LIMIT) _ _
+    if_both HasRuns (is_some c.stop) c _ (λ stopped. h) (λ going.
+    if_both HasRuns (nat_lt c.number SESSION_LINE_LIMIT) _ _ (λ below.
+    if_both HasRuns (b == 10) (end_line c) _ (λ lf. runs_line c h) (λ other.
+    if_both HasRuns (nat_lt (length c.line) LINE_LIMIT) _ _
     (λ short. runs_still c _ h refl refl refl refl)
     (λ long. runs_still c _ h refl refl refl refl)))
     (λ above. runs_still c _ h refl refl refl refl))
@@ -170,16 +167,12 @@ runs_start lanes first = record {
   run = tt;
 }
 
-batches_if : (b : Bool) (c d : Cut) → (b ≡ true → HasBatches c) → (b ≡ false → HasBatches d) → HasBatches (if b then c else d)
-batches_if true c d first second = first refl
-batches_if false c d first second = second refl
-
 batches_flush : (c : Cut) (ended : Bool) → HasRuns c → HasBatches (flush ended c)
 unfolding flush
 batches_flush c ended h =
-    batches_if ended _ c (λ yes.
-    batches_if (is_some c.stop) c _ (λ stopped. h.all) (λ going.
-    batches_if (length c.line == 0) c _ (λ empty. h.all)
+    if_both HasBatches ended _ c (λ yes.
+    if_both HasBatches (is_some c.stop) c _ (λ stopped. h.all) (λ going.
+    if_both HasBatches (length c.line == 0) c _ (λ empty. h.all)
     (λ full.
     let more = one_more c (job_of c.lanes c.number c.line) c.number h refl in
     record { begins = more.0.begins; ends = more.0.ends; batches = more.0.batches; follows = more.0.follows })))

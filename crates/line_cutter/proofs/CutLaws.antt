@@ -1,5 +1,5 @@
 -- Laws of the cutting, for the proofs over it.
-use Rattle.std.proofs.Common.{refl, ap, subst, sym, ◌∙◌, arith}
+use Rattle.std.proofs.Common.{refl, ap, sym, ◌∙◌, arith}
 use Rattle.std.specs.Prelude.{◌≡◌, ◌≢◌, ℕ, suc, ◌+◌, ◌-◌, ◌==◌, ◌<◌, ◌≤◌, Bool, true, false, List, [], ◌∷◌, ◌++◌, length, map, take, slice_index, Some, None}
 use Rattle.std.specs.Prelude.{is_some, if◌then◌else◌}
 use Rattle.std.proofs.lemmas.Grind.{common_steps}
@@ -9,7 +9,12 @@ use Rattle.wf_names.specs.declared.limits.TheConstants.{LINE_LIMIT, SESSION_LINE
 use Rattle.wf_talk.specs.declared.job.Job.{Job}
 use Rattle.line_cutter.specs.declared.stop.Stop.{Stop}
 use Rattle.line_cutter.specs.Jobs.{Cut, without_cr, job_of, end_batch, end_full_batch, next_line, with_job, end_line, step, cut_all, flush, last_or, UpToAnEnd}
-use Rattle.line_cutter.specs.Cutter.{IsSound, IsEnded, Cuts, emptied, after_handing, ends_after, place}
+use Rattle.line_cutter.specs.Cutter.{CanCut, IsSound, IsEnded, Cuts, CutsOn, emptied, after_handing, ends_after, place}
+
+-- either case of a test
+pub if_both : (P : Cut → Type 0) (b : Bool) (c d : Cut) → (b ≡ true → P c) → (b ≡ false → P d) → P (if b then c else d)
+if_both P true c d first second = first refl
+if_both P false c d first second = second refl
 
 -- ---- soundness
 
@@ -45,7 +50,7 @@ ends_of_line : (c : Cut) → ((end_line c).number ≡ c.number + 1) × ((end_lin
 unfolding end_line end_full_batch end_batch
 ends_of_line c = grind (arith, common_steps)
 
-pub further : (c : Cut) (b : ℕ) → IsSound c → (step c b).stop ≡ None → place c < place (step c b)
+further : (c : Cut) (b : ℕ) → IsSound c → (step c b).stop ≡ None → place c < place (step c b)
 unfolding step
 further c b h going = grind (arith, common_steps, h.short, ends_of_line, length-append)
 
@@ -67,20 +72,22 @@ ended_finish c ended h none =
     let kept = flush_keeps c ended in
     ended_end (flush ended c) (kept.0 ∙ begins_first c h none) (kept.1 ∙ none)
 
+pub ruleset finished = (sound_finish, ended_finish)
+
 ended_step : (c : Cut) (b : ℕ) → c.from ≡ 0 → c.ends ≡ [] → (step c b).ends ≢ [] → IsEnded (step c b)
 unfolding step end_line end_full_batch end_batch
 ended_step c b from none some = record { closed = grind (arith, common_steps, length-append); ends = grind (arith, common_steps, length-append) }
-
-pub ended_byte : (c d : Cut) (b : ℕ) → IsSound c → c.ends ≡ [] → d ≡ step c b → d.ends ≢ [] → IsEnded d
-ended_byte c d b h none e some = subst IsEnded (sym e) (ended_step c b (begins_first c h none) none (λ q. some (ap (λ (x : Cut). x.ends) e ∙ q)))
 
 stops_step : (c : Cut) (b : ℕ) (stop : Stop) → c.stop ≡ None → c.ends ≡ [] → (step c b).stop ≡ Some stop → (step c b).ends ≡ []
 unfolding step
 stops_step c b stop going none e = grind (arith, common_steps, ends_of_line)
 
-pub stops_byte : (c d : Cut) (b : ℕ) → c.stop ≡ None → c.ends ≡ [] → d ≡ step c b → (stop : Stop) → d.stop ≡ Some stop → d.ends ≡ []
-stops_byte c d b going none e stop stopped =
-    ap (λ (x : Cut). x.ends) e ∙ stops_step c b stop going none (sym (ap (λ (x : Cut). x.stop) e) ∙ stopped)
+pub byte_on : (c : Cut) (b : ℕ) → CanCut c → CutsOn c (step c b)
+byte_on c b h = record {
+  ended = ended_step c b (begins_first c h.sound h.handed) h.handed;
+  stopped = λ stop e. stops_step c b stop h.going h.handed e;
+  further = further c b h.sound;
+}
 
 -- ---- runs
 
@@ -138,6 +145,13 @@ one_cut c d piece some going e =
     }
 
 -- more of the line, within the limit
+pub plain_on : (c d : Cut) (bytes : List ℕ) → CanCut c → 0 < length bytes → d ≡ record c { line = c.line ++ bytes } → CutsOn c d
+plain_on c d bytes h some e = rw e (record {
+  ended = λ ends. absurd (ends h.handed);
+  stopped = λ stop is. h.handed;
+  further = λ on. omega (arith, some, length-append c.line bytes);
+})
+
 pub plain_sound : (c d : Cut) (bytes : List ℕ) → IsSound c → d ≡ record c { line = c.line ++ bytes } → length c.line + length bytes ≤ LINE_LIMIT → IsSound d
 plain_sound c d bytes h e short = rw e (record {
   lines = h.lines;

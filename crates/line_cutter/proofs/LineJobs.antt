@@ -5,7 +5,8 @@ use Rattle.std.proofs.lemmas.Grind.{common_steps}
 use Rattle.std.proofs.lemmas.List.{append_assoc, append-nil, length-append}
 use Rattle.std.proofs.Math.Seq.{take-append_seam}
 use Rattle.wf_names.specs.declared.limits.TheConstants.{LINE_LIMIT, SESSION_LINE_LIMIT}
-use Rattle.line_reader.specs.Reader.{before_lines, has_end, line_length, lines_of}
+use Rattle.line_reader.specs.Reader.{has_end, line_length, lines_of}
+use Rattle.line_reader.proofs.FirstLines.{goes_on, lines_first, open_line}
 use Rattle.line_cutter.specs.declared.stop.Stop.{Stop}
 use Rattle.line_cutter.specs.declared.stop.Stop.TheVariants.{LineTooLong, TooManyLines}
 use Rattle.line_cutter.specs.Jobs.{Cut, start_at, without_cr, end_batch, end_full_batch, end_line, step, cut_all, flush, jobs_from}
@@ -19,65 +20,39 @@ bool_cases false = inr refl
 
 -- ---- a line without its LF
 
-not_lf : (x : ℕ) (xs : List ℕ) → has_end (x ∷ xs) ≡ false → ((x == 10) ≡ false) × (has_end xs ≡ false)
-not_lf x xs none = at_test (x == 10) none
-  where
-    at_test : (b : Bool) → (if b then true else has_end xs) ≡ false → (b ≡ false) × (has_end xs ≡ false)
-    at_test true h = absurd (cc)
-    at_test false h = (refl, h)
-
 -- with an LF behind it, it is the first line
 line_before : (l : List ℕ) (b : ℕ) (more : List ℕ) → has_end l ≡ false → (b == 10) ≡ true → lines_of (l ++ b ∷ more) ≡ (l ++ b ∷ []) ∷ lines_of more
 line_before [] b more none lf = rw lf refl
-line_before (x ∷ xs) b more none lf =
-    let other = not_lf x xs none in
-    rw other.0 (ap (before_lines x) (line_before xs b more other.1 lf))
+line_before (x ∷ xs) b more none lf = grind (arith, common_steps, line_before xs b more)
 
 -- alone it is the one line
 one_line : (x : ℕ) (xs : List ℕ) → has_end (x ∷ xs) ≡ false → lines_of (x ∷ xs) ≡ (x ∷ xs) ∷ []
-one_line x [] none = rw (not_lf x [] none).0 refl
-one_line x (y ∷ ys) none =
-    let other = not_lf x (y ∷ ys) none in
-    rw other.0 (ap (before_lines x) (one_line y ys other.1))
+one_line x [] none = grind (arith, common_steps)
+one_line x (y ∷ ys) none = grind (arith, common_steps, one_line y ys)
 
-ends_with : (l : List ℕ) (b : ℕ) → (b == 10) ≡ true → has_end (l ++ b ∷ []) ≡ true
-ends_with [] b lf = rw lf refl
-ends_with (x ∷ xs) b lf = at_test (x == 10) (ends_with xs b lf)
-  where
-    at_test : (t : Bool) → has_end (xs ++ b ∷ []) ≡ true → (if t then true else has_end (xs ++ b ∷ [])) ≡ true
-    at_test true h = refl
-    at_test false h = h
+ends_with : (l : List ℕ) (b : ℕ) → has_end l ≡ false → (b == 10) ≡ true → has_end (l ++ b ∷ []) ≡ true
+ends_with l b none lf = (goes_on l (b ∷ []) none).ended ∙ (rw lf refl)
 
-goes_on : (l : List ℕ) (b : ℕ) → has_end l ≡ false → (b == 10) ≡ false → has_end (l ++ b ∷ []) ≡ false
-goes_on [] b none other = rw other refl
-goes_on (x ∷ xs) b none other = let first = not_lf x xs none in rw first.0 (goes_on xs b first.1 other)
+goes_with : (l : List ℕ) (b : ℕ) → has_end l ≡ false → (b == 10) ≡ false → has_end (l ++ b ∷ []) ≡ false
+goes_with l b none other = (goes_on l (b ∷ []) none).ended ∙ (rw other refl)
 
 length_with : (l : List ℕ) (b : ℕ) → has_end l ≡ false → (b == 10) ≡ true → line_length (l ++ b ∷ []) ≡ length l
-length_with [] b none lf = rw lf refl
-length_with (x ∷ xs) b none lf = let first = not_lf x xs none in rw first.0 (ap suc (length_with xs b first.1 lf))
+length_with l b none lf = grind (arith, common_steps, (goes_on l (b ∷ []) none).counted)
 
 length_alone : (l : List ℕ) → has_end l ≡ false → line_length l ≡ length l
-length_alone [] none = refl
-length_alone (x ∷ xs) none = let first = not_lf x xs none in rw first.0 (ap suc (length_alone xs first.1))
+length_alone l none = (open_line l none).counted
 
 -- its text
 text_with : (l : List ℕ) (b : ℕ) (e : Bool) → has_end l ≡ false → (b == 10) ≡ true → text_of e (l ++ b ∷ []) ≡ without_cr l
 text_with l b e none lf =
-    rw (ends_with l b lf) (ap (λ n. without_cr (take n (l ++ b ∷ []))) (length_with l b none lf) ∙ ap without_cr (take-append_seam l (b ∷ [])))
+    rw (ends_with l b none lf) (ap (λ n. without_cr (take n (l ++ b ∷ []))) (length_with l b none lf) ∙ ap without_cr (take-append_seam l (b ∷ [])))
 
 -- ---- lines one behind the other
 
-some_line : (x : ℕ) (xs : List ℕ) → 0 < length (lines_of (x ∷ xs))
-some_line x xs = at_test (x == 10) (lines_of xs)
-  where
-    at_test : (t : Bool) (rest : List (List ℕ)) → 0 < length (if t then (x ∷ []) ∷ rest else before_lines x rest)
-    at_test true rest = omega arith
-    at_test false [] = omega arith
-    at_test false (line ∷ lines) = omega arith
-
 some_lines : (l : List ℕ) (b : ℕ) → 0 < length (lines_of (l ++ b ∷ []))
-some_lines [] b = some_line b []
-some_lines (x ∷ xs) b = some_line x (xs ++ b ∷ [])
+some_lines l b =
+    let some : 0 < length (l ++ b ∷ []) = omega (arith, length-append l (b ∷ [])) in
+    omega (arith, ap length (lines_first (l ++ b ∷ []) some))
 
 within_more : (xs ys : List (List ℕ)) → AreWithin xs → AreWithin ys → AreWithin (xs ++ ys)
 within_more [] ys some more = more
@@ -193,7 +168,7 @@ has_byte lanes first front c b h below room other =
       stop = h.stop;
       same = h.same;
       number = h.number;
-      going = goes_on c.line b h.going other;
+      going = goes_with c.line b h.going other;
       short = h.short;
       size = omega (arith, size, room);
       few = h.few;
@@ -239,7 +214,7 @@ meets_long : (lanes first : ℕ) (front : List ℕ) (c : Cut) (b : ℕ) → HasC
     MeetsLimit first (front ++ b ∷ []) (LineTooLong c.number)
 meets_long lanes first front c b h below other full =
     let line = c.line ++ b ∷ [] in
-    let none = goes_on c.line b h.going other in
+    let none = goes_with c.line b h.going other in
     let all : lines_of (front ++ b ∷ []) ≡ h.lines ++ line ∷ [] = h.cut (b ∷ []) ∙ ap (λ ls. h.lines ++ ls) (one c.line none) in
     let count : length (h.lines ++ line ∷ []) ≡ length h.lines + 1 = length-append h.lines (line ∷ []) in
     let more = ap length all in

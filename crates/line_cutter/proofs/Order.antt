@@ -1,6 +1,6 @@
 -- The jobs of every input are in order.
 use Rattle.std.proofs.Common.{◌⊎◌, inl, inr, nat_eq, None, refl, sym, subst, ◌∙◌, arith}
-use Rattle.std.specs.Prelude.{◌≡◌, ℕ, ◌+◌, ◌==◌, ◌<◌, ◌≤◌, nat_lt, nat_le, Bool, true, false, List, [], ◌∷◌, ◌++◌, length, is_some, if◌then◌else◌}
+use Rattle.std.specs.Prelude.{◌≡◌, ℕ, ◌+◌, ◌==◌, ◌<◌, ◌≤◌, nat_lt, nat_le, Bool, true, false, List, [], ◌∷◌, ◌++◌, length, is_some}
 use Rattle.std.proofs.lemmas.Grind.{common_steps}
 use Rattle.std.proofs.lemmas.List.{append-nil, length-append}
 use Rattle.wf_names.specs.declared.limits.TheConstants.{LINE_LIMIT, SESSION_LINE_LIMIT, BATCH_LINE_LIMIT}
@@ -9,7 +9,7 @@ use Rattle.wf_talk.specs.Jobs.{AreOfLanes}
 use Rattle.wire_json.proofs.RequestLaws.{lane_below}
 use Rattle.line_cutter.specs.Jobs.{Cut, start, without_cr, job_of, end_batch, end_full_batch, next_line, with_job, end_line, step, cut_all, flush, jobs_from}
 use Rattle.line_cutter.specs.Jobs.{last_or, next_input}
-use Rattle.line_cutter.proofs.CutLaws.{finished_stop}
+use Rattle.line_cutter.proofs.CutLaws.{finished_stop, if_both}
 use Rattle.line_cutter.specs.Laws.{AreLinesBelow, LinesAscend, LeadTo, AreInOrder, GoesOn, InputsGoOn, JobsAreInOrder}
 
 -- the line after the last of the jobs
@@ -58,14 +58,9 @@ pub record Keeps (lanes spare : ℕ) (c : Cut) : Type 0 where
   pub begins : c.from ≤ length c.jobs
   pub batch : length c.jobs < c.from + BATCH_LINE_LIMIT + spare
 
-keeps_if : (lanes spare : ℕ) (b : Bool) (c d : Cut) → (b ≡ true → Keeps lanes spare c) → (b ≡ false → Keeps lanes spare d) →
-    Keeps lanes spare (if b then c else d)
-keeps_if lanes spare true c d first second = first refl
-keeps_if lanes spare false c d first second = second refl
-
--- a batch that may have one line more stays open
-keeps_open : (lanes : ℕ) (c : Cut) → Keeps lanes 1 c → length c.jobs < c.from + BATCH_LINE_LIMIT → Keeps lanes 0 c
-keeps_open lanes c k room = record {
+-- a batch may have as many lines more as there is room
+keeps_spare : (lanes spare more : ℕ) (c : Cut) → Keeps lanes spare c → length c.jobs < c.from + BATCH_LINE_LIMIT + more → Keeps lanes more c
+keeps_spare lanes spare more c k room = record {
   same = k.same;
   number = k.number;
   within = k.within;
@@ -75,13 +70,13 @@ keeps_open lanes c k room = record {
   of_lanes = k.of_lanes;
   ends = k.ends;
   begins = k.begins;
-  batch = omega (arith, room);
+  batch = room;
 }
 
 keeps_end : (lanes : ℕ) (c : Cut) → Keeps lanes 1 c → Keeps lanes 0 (end_batch c)
 unfolding end_batch
 keeps_end lanes c k =
-    keeps_if lanes 0 (nat_lt c.from (length c.jobs)) (record c { from = length c.jobs; ends = c.ends ++ length c.jobs ∷ [] }) c
+    if_both (Keeps lanes 0) (nat_lt c.from (length c.jobs)) (record c { from = length c.jobs; ends = c.ends ++ length c.jobs ∷ [] }) c
     (λ more.
     let above : c.from < length c.jobs = grind (arith, common_steps) in
     record {
@@ -98,15 +93,15 @@ keeps_end lanes c k =
     })
     (λ none.
     let same : length c.jobs ≤ c.from = grind (arith, common_steps) in
-    keeps_open lanes c k (omega (arith, same)))
+    keeps_spare lanes 1 0 c k (omega (arith, same)))
 
 keeps_full : (lanes : ℕ) (c : Cut) → Keeps lanes 1 c → Keeps lanes 0 (end_full_batch c)
 unfolding end_full_batch
 keeps_full lanes c k =
-    keeps_if lanes 0 (nat_le (c.from + BATCH_LINE_LIMIT) (length c.jobs)) (end_batch c) c
+    if_both (Keeps lanes 0) (nat_le (c.from + BATCH_LINE_LIMIT) (length c.jobs)) (end_batch c) c
     (λ full. keeps_end lanes c k)
     (λ room.
-    keeps_open lanes c k (grind (arith, common_steps)))
+    keeps_spare lanes 1 0 c k (grind (arith, common_steps)))
 
 keeps_next : (lanes : ℕ) (c : Cut) → Keeps lanes 0 c → c.number < SESSION_LINE_LIMIT → Keeps lanes 1 (next_line c)
 keeps_next lanes c k within = record {
@@ -146,7 +141,8 @@ job_below lanes c line same some = rw same (lane_below lanes line some)
 keeps_line : (lanes : ℕ) (c : Cut) → 0 < lanes → Keeps lanes 0 c → c.number < SESSION_LINE_LIMIT → Keeps lanes 0 (end_line c)
 unfolding end_line
 keeps_line lanes c some k within =
-    keeps_if lanes 0 (length (without_cr c.line) == 0) (end_batch (next_line c)) (end_full_batch (with_job c (job_of c.lanes c.number (without_cr c.line))))
+    if_both (Keeps lanes 0) (length (without_cr c.line) == 0) (end_batch (next_line c))
+    (end_full_batch (with_job c (job_of c.lanes c.number (without_cr c.line))))
     (λ empty. keeps_end lanes (next_line c) (keeps_next lanes c k within))
     (λ full. keeps_full lanes (with_job c (job_of c.lanes c.number (without_cr c.line)))
     (keeps_job lanes c (job_of c.lanes c.number (without_cr c.line)) k within (job_below lanes c (without_cr c.line) k.same some) refl))
@@ -154,18 +150,7 @@ keeps_line lanes c some k within =
 keeps_still : (lanes : ℕ) (c d : Cut) → Keeps lanes 0 c → d.lanes ≡ c.lanes → d.number ≡ c.number → d.jobs ≡ c.jobs → d.ends ≡ c.ends → d.from ≡ c.from
     → (0 < length d.line → c.number < SESSION_LINE_LIMIT) → Keeps lanes 0 d
 keeps_still lanes c d k same number jobs ends from within =
-    let kept : Keeps lanes 0 (record c { line = d.line }) = record {
-      same = k.same;
-      number = k.number;
-      within = within;
-      few = k.few;
-      lines = k.lines;
-      next = k.next;
-      of_lanes = k.of_lanes;
-      ends = k.ends;
-      begins = k.begins;
-      batch = k.batch;
-    } in record {
+    record {
       same = same ∙ k.same;
       number = rw number k.number;
       within = rw number within;
@@ -181,11 +166,11 @@ keeps_still lanes c d k same number jobs ends from within =
 keeps_step : (lanes : ℕ) (c : Cut) (b : ℕ) → 0 < lanes → Keeps lanes 0 c → Keeps lanes 0 (step c b)
 unfolding step
 keeps_step lanes c b some k =
-    keeps_if lanes 0 (is_some c.stop) c _ (λ stopped. k) (λ going.
-    keeps_if lanes 0 (nat_lt c.number SESSION_LINE_LIMIT) _ _ (λ below.
+    if_both (Keeps lanes 0) (is_some c.stop) c _ (λ stopped. k) (λ going.
+    if_both (Keeps lanes 0) (nat_lt c.number SESSION_LINE_LIMIT) _ _ (λ below.
     let within : c.number < SESSION_LINE_LIMIT = grind (arith, common_steps) in
-    keeps_if lanes 0 (b == 10) (end_line c) _ (λ lf. keeps_line lanes c some k within) (λ other.
-    keeps_if lanes 0 (nat_lt (length c.line) LINE_LIMIT) _ _
+    if_both (Keeps lanes 0) (b == 10) (end_line c) _ (λ lf. keeps_line lanes c some k within) (λ other.
+    if_both (Keeps lanes 0) (nat_lt (length c.line) LINE_LIMIT) _ _
     (λ short. keeps_still lanes c _ k refl refl refl refl refl (λ line. within))
     (λ long. keeps_still lanes c _ k refl refl refl refl refl k.within)))
     (λ above. keeps_still lanes c _ k refl refl refl refl refl k.within))
@@ -229,10 +214,6 @@ done_kept lanes c k = record {
   batch = let h = k.batch in omega arith;
 }
 
-done_if : (lanes : ℕ) (b : Bool) (c d : Cut) → (b ≡ true → IsDone lanes c) → (b ≡ false → IsDone lanes d) → IsDone lanes (if b then c else d)
-done_if lanes true c d first second = first refl
-done_if lanes false c d first second = second refl
-
 done_job : (lanes : ℕ) (c : Cut) (job : Job) → Keeps lanes 0 c → 0 < length c.line → job.lane < lanes → job.line ≡ c.number →
     IsDone lanes (record c { jobs = c.jobs ++ job ∷ [] })
 done_job lanes c job k some lane line =
@@ -250,21 +231,17 @@ done_job lanes c job k some lane line =
 done_flush : (lanes : ℕ) (c : Cut) (ended : Bool) → 0 < lanes → Keeps lanes 0 c → IsDone lanes (flush ended c)
 unfolding flush
 done_flush lanes c ended some k =
-    done_if lanes ended _ c (λ yes.
-    done_if lanes (is_some c.stop) c _ (λ stopped. done_kept lanes c k) (λ going.
-    done_if lanes (length c.line == 0) c _ (λ empty. done_kept lanes c k)
+    if_both (IsDone lanes) ended _ c (λ yes.
+    if_both (IsDone lanes) (is_some c.stop) c _ (λ stopped. done_kept lanes c k) (λ going.
+    if_both (IsDone lanes) (length c.line == 0) c _ (λ empty. done_kept lanes c k)
     (λ full. done_job lanes c (job_of c.lanes c.number c.line) k (grind (arith, common_steps)) (job_below lanes c c.line k.same some) refl)))
     (λ no. done_kept lanes c k)
-
-in_order_if : (lanes : ℕ) (b : Bool) (c d : Cut) → (b ≡ true → AreInOrder lanes c.jobs c.ends) → (b ≡ false → AreInOrder lanes d.jobs d.ends)
-    → AreInOrder lanes (if b then c else d).jobs (if b then c else d).ends
-in_order_if lanes true c d first second = first refl
-in_order_if lanes false c d first second = second refl
 
 in_order_end : (lanes : ℕ) (c : Cut) → IsDone lanes c → AreInOrder lanes (end_batch c).jobs (end_batch c).ends
 unfolding end_batch
 in_order_end lanes c h =
-    in_order_if lanes (nat_lt c.from (length c.jobs)) (record c { from = length c.jobs; ends = c.ends ++ length c.jobs ∷ [] }) c
+    if_both (λ (x : Cut). AreInOrder lanes x.jobs x.ends) (nat_lt c.from (length c.jobs))
+    (record c { from = length c.jobs; ends = c.ends ++ length c.jobs ∷ [] }) c
     (λ more. record {
       few = h.few;
       lines = h.lines;
@@ -288,20 +265,6 @@ bool_cases : (b : Bool) → (b ≡ true) ⊎ (b ≡ false)
 bool_cases true = inl refl
 bool_cases false = inr refl
 
-keeps_one : (lanes : ℕ) (c : Cut) → Keeps lanes 0 c → Keeps lanes 1 c
-keeps_one lanes c k = record {
-  same = k.same;
-  number = k.number;
-  within = k.within;
-  few = k.few;
-  lines = k.lines;
-  next = k.next;
-  of_lanes = k.of_lanes;
-  ends = k.ends;
-  begins = k.begins;
-  batch = let h = k.batch in omega arith;
-}
-
 next_empty : (c : Cut) → c.stop ≡ None → length c.line ≡ 0 → next_input (end_batch (flush true c)) ≡ record (end_batch c) { line = [] }
 unfolding flush end_batch
 next_empty c going empty = grind (arith, common_steps)
@@ -315,7 +278,7 @@ pub next_keeps : (lanes : ℕ) (c : Cut) → 0 < lanes → Keeps lanes 0 c → c
 next_keeps lanes c some k going = elim (bool_cases (nat_eq (length c.line) 0)) [
   | inl empty ↦
       let same = next_empty c going (grind (arith, common_steps)) in
-      let kept = keeps_end lanes c (keeps_one lanes c k) in
+      let kept = keeps_end lanes c (keeps_spare lanes 0 1 c k (omega (arith, k.batch))) in
       subst (Keeps lanes 0) (sym same)
       (keeps_still lanes (end_batch c) (record (end_batch c) { line = [] }) kept refl refl refl refl refl (λ line. absurd (omega (arith, line))))
   | inr other ↦

@@ -1,13 +1,12 @@
 -- A line that stands whole in a piece, with its end behind it, where no line is open.
 use Rattle.std.proofs.Common.{ap, subst, sym, ◌∙◌, arith}
-use Rattle.std.specs.Prelude.{◌≡◌, ◌≢◌, ℕ, ◌+◌, ◌<◌, ◌≤◌, List, [], ◌∷◌, ◌++◌, length, take, slice_index, Some, None}
+use Rattle.std.specs.Prelude.{◌≡◌, ◌≢◌, ℕ, ◌+◌, ◌<◌, ◌≤◌, List, [], ◌∷◌, ◌++◌, length, take, slice_index, None}
 use Rattle.std.proofs.lemmas.Grind.{common_steps}
 use Rattle.std.proofs.lemmas.List.{length-take-le, get_or-take, take_more}
 use Rattle.wf_names.specs.declared.limits.TheConstants.{LINE_LIMIT, SESSION_LINE_LIMIT}
-use Rattle.line_cutter.specs.declared.stop.Stop.{Stop}
 use Rattle.line_cutter.specs.Jobs.{Cut, end_line, step, cut_all}
-use Rattle.line_cutter.specs.Cutter.{IsSound, IsEnded, Cuts, place}
-use Rattle.line_cutter.proofs.CutLaws.{cut_all-append, ended_byte, further, plain_all, sound_step, stops_byte}
+use Rattle.line_cutter.specs.Cutter.{CanCut, IsSound, Cuts, CutsOn}
+use Rattle.line_cutter.proofs.CutLaws.{cut_all-append, byte_on, plain_all, sound_step}
 
 ends_step : (c : Cut) → c.stop ≡ None → c.number < SESSION_LINE_LIMIT → step c 10 ≡ end_line c
 unfolding step
@@ -49,25 +48,19 @@ line_cut c d piece n within end empty going lines short others e =
       going = ap (λ (x : Cut). x.stop) before ∙ going;
     }
 
-pub line_ended : (c d : Cut) (bytes : List ℕ) → IsSound c → c.ends ≡ [] → c.stop ≡ None → c.number < SESSION_LINE_LIMIT
-    → length bytes ≤ LINE_LIMIT → d ≡ end_line (record c { line = bytes }) → d.ends ≢ [] → IsEnded d
-line_ended c d bytes h none going lines short e some =
-    ended_byte (record c { line = bytes }) d 10 (line_open c bytes h short) none (line_step c d bytes going lines e) some
-
-pub line_stopped : (c d : Cut) (bytes : List ℕ) → c.ends ≡ [] → c.stop ≡ None → c.number < SESSION_LINE_LIMIT
-    → d ≡ end_line (record c { line = bytes }) → (stop : Stop) → d.stop ≡ Some stop → d.ends ≡ []
-line_stopped c d bytes none going lines e =
-    stops_byte (record c { line = bytes }) d 10 going none (line_step c d bytes going lines e)
-
-pub line_further : (c d : Cut) (bytes : List ℕ) → IsSound c → c.line ≡ [] → c.stop ≡ None → c.number < SESSION_LINE_LIMIT
-    → length bytes ≤ LINE_LIMIT → d ≡ end_line (record c { line = bytes }) → d.stop ≡ None → place c < place d
-line_further c d bytes h empty going lines short e on =
-    let here : d ≡ step (record c { line = bytes }) 10 = line_step c d bytes going lines e in
-    let past = further (record c { line = bytes }) 10 (line_open c bytes h short)
-    (sym (ap (λ (x : Cut). x.stop) here) ∙ on) in
-    let places = ap place here in
-    let none = ap length empty in
-    omega (arith, past, places, none)
+pub line_on : (c d : Cut) (bytes : List ℕ) → CanCut c → c.line ≡ [] → c.number < SESSION_LINE_LIMIT
+    → length bytes ≤ LINE_LIMIT → d ≡ end_line (record c { line = bytes }) → CutsOn c d
+line_on c d bytes h empty lines short e =
+    let here : d ≡ step (record c { line = bytes }) 10 = line_step c d bytes h.going lines e in
+    let open_line = line_open c bytes h.sound short in
+    let on : CutsOn (record c { line = bytes }) d =
+    subst (CutsOn (record c { line = bytes })) (sym here)
+    (byte_on (record c { line = bytes }) 10 (record { sound = open_line; going = h.going; handed = h.handed })) in
+    record {
+      ended = on.ended;
+      stopped = on.stopped;
+      further = λ going. omega (arith, on.further going, ap length empty);
+    }
 
 pub line_sound : (c d : Cut) (bytes : List ℕ) → IsSound c → c.stop ≡ None → c.number < SESSION_LINE_LIMIT
     → length bytes ≤ LINE_LIMIT → d ≡ end_line (record c { line = bytes }) → IsSound d

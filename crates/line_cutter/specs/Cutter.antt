@@ -1,9 +1,10 @@
 -- The cutter: it keeps of a cutting what is not handed over yet, and cuts on from there.
-use Rattle.std.specs.Prelude.{◌≡◌, ℕ, ◌+◌, ◌*◌, ◌<◌, ◌≤◌, nat_lt, if◌then◌else◌, List, [], ◌∷◌}
-use Rattle.std.specs.Prelude.{◌++◌, length, map, None}
+use Rattle.std.specs.Prelude.{◌≡◌, ◌≢◌, ℕ, ◌+◌, ◌*◌, ◌<◌, ◌≤◌, nat_lt, if◌then◌else◌, List, []}
+use Rattle.std.specs.Prelude.{◌∷◌, ◌++◌, length, map, None, Some}
 use Rattle.wf_names.specs.declared.limits.TheConstants.{LINE_LIMIT, SESSION_LINE_LIMIT}
 use Rattle.wf_names.specs.declared.limits.TheConstants.{BATCH_LINE_LIMIT}
 use Rattle.wf_talk.specs.declared.job.Job.{Job}
+use Rattle.line_cutter.specs.declared.stop.Stop.{Stop}
 use Rattle.line_cutter.specs.Jobs.{Cut, last_or, cut_all}
 
 -- what every cutter meets
@@ -44,6 +45,19 @@ last_place = SESSION_LINE_LIMIT * (LINE_LIMIT + 1) + LINE_LIMIT
 pub record IsEnded (c : Cut) : Type 0 where
   pub closed : c.from ≡ length c.jobs
   pub ends : c.ends ≡ ends_after [] 0 c.jobs
+
+-- more can be cut: the cutting has not stopped, and all batches that have ended are handed over
+pub record CanCut (c : Cut) : Type 0 where
+  pub sound : IsSound c
+  pub going : c.stop ≡ None
+  pub handed : c.ends ≡ []
+
+-- how bytes leave the cutting, which could go on before them: a batch that has ended is all that is
+-- there, none has ended where the cutting stopped, and the place is further where it did not
+pub record CutsOn (c d : Cut) : Type 0 where
+  pub ended : d.ends ≢ [] → IsEnded d
+  pub stopped : (s : Stop) → d.stop ≡ Some s → d.ends ≡ []
+  pub further : d.stop ≡ None → place c < place d
 
 -- these bytes were cut, and before the last of them no batch ended and the cutting did not stop
 pub record Cuts (c d : Cut) (bytes : List ℕ) : Type 0 where

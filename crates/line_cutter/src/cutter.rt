@@ -5,7 +5,7 @@ ghost use Rattle.wf_names.specs.declared.limits.TheConstants.{LINE_LIMIT, SESSIO
 ghost use Rattle.wf_names.specs.declared.limits.TheConstants.{BATCH_LINE_LIMIT};
 ghost use Rattle.line_cutter.specs.declared.stop.Stop.{Stop};
 ghost use Rattle.line_cutter.specs.Jobs as jobs;
-ghost use Rattle.line_cutter.specs.Cutter.{IsSound, IsEnded, Cuts, emptied, place, last_place};
+ghost use Rattle.line_cutter.specs.Cutter.{CanCut, Cuts, CutsOn, IsEnded, IsSound, emptied};
 
 use crate::Stop;
 use memchr::memchr;
@@ -104,23 +104,18 @@ impl Cutter {
     /// Cuts the next bytes of a piece: a whole line with its end, a run of a line without it, or
     /// one byte. Answers how many bytes were cut. No byte is cut after one that ends a batch, or at
     /// which the cutting stops.
-    #[tactic(auto, using(crate::proofs::CutLaws::one_cut, crate::proofs::CutLaws::plain_cut, crate::proofs::CutLaws::plain_sound))]
     pub fn feed(&mut self, piece: &[u8]) -> Result<usize, AllocError>
         requires some { 0 < length piece.now }
-        requires handed { self.old.ends ≡ [] }
-        requires going { self.old.stop ≡ None }
-        requires sound { IsSound self.old }
+        requires ready { CanCut self.old }
         ensures within { IfOk result (λ n. n ≤ length piece.now) }
         ensures cuts { IfOk result (λ n. Cuts self.old self.new (take n piece.now)) }
-        ensures ended { OnOk result (self.new.ends ≢ [] → IsEnded self.new) }
-        ensures stopped { OnOk result ((s : Stop) → self.new.stop ≡ Some s → self.new.ends ≡ []) }
-        ensures further { OnOk result (self.new.stop ≡ None → place self.old < place self.new) }
+        ensures on { OnOk result (CutsOn self.old self.new) }
         ensures sound { IsSound self.new }
         ensures unchanged { OnErr result (self.new ≡ self.old) }
     {
         let run = self.plain_len(piece);
         if run == 0 {
-            self.feed_byte(piece[0])?;
+            self.step(piece[0])?;
             return Ok(1);
         }
         if self.has_line(piece, run) {
@@ -133,7 +128,7 @@ impl Cutter {
 
     /// Ends the input, or what was read of it: where it has ended, what follows the last line end
     /// is a line too, unless it is empty. The open batch ends.
-    #[tactic(auto, using(crate::proofs::CutLaws::sound_finish, crate::proofs::CutLaws::ended_finish))]
+    #[tactic(auto, using(crate::proofs::CutLaws::finished))]
     pub fn finish(&mut self, ended: bool) -> Result<(), AllocError>
         requires handed { self.old.ends ≡ [] }
         requires sound { IsSound self.old }
@@ -198,25 +193,10 @@ impl Cutter {
         self.line.push_all(bytes)
     }
 
-    // The next byte, with the laws that a loop rests on.
-    #[tactic(auto, using(crate::proofs::CutLaws::sound_step, crate::proofs::CutLaws::further))]
-    fn feed_byte(&mut self, byte: u8) -> Result<(), AllocError>
-        requires handed { self.old.ends ≡ [] }
-        requires going { self.old.stop ≡ None }
-        requires sound { IsSound self.old }
-        ensures fed { OnOk result (self.new ≡ jobs.step self.old byte) }
-        ensures sound { IsSound self.new }
-        ensures further { OnOk result (self.new.stop ≡ None → place self.old < place self.new) }
-        ensures unchanged { OnErr result (self.new ≡ self.old) }
-    {
-        self.step(byte)
-    }
-
+    // The next byte.
     #[tactic(auto, unfolding(crate::specs::Jobs::step))]
     fn step(&mut self, byte: u8) -> Result<(), AllocError>
-        requires handed { self.old.ends ≡ [] }
-        requires going { self.old.stop ≡ None }
-        requires sound { IsSound self.old }
+        requires { CanCut self.old }
         ensures fed { OnOk result (self.new ≡ jobs.step self.old byte) }
         ensures unchanged { OnErr result (self.new ≡ self.old) }
     {

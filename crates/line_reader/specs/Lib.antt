@@ -1,2 +1,3 @@
+pub mod Pieces
 pub mod Reader
 pub mod Steps

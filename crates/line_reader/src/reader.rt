@@ -1,33 +1,30 @@
 //! A reader of lines.
-ghost use Rattle.std.specs.Prelude.{◌≡◌, ◌≤◌, ◌<◌, ◌+◌, ◌++◌, ℕ, List, [], length, take, drop};
-ghost use Rattle.std.specs.Prelude.{Option, None, Some, true, false, Ok, IfOk, OnOk, OnErr};
+ghost use Rattle.std.specs.Prelude.{◌≡◌, ◌≤◌, ◌<◌, ◌+◌, ◌-◌, ◌++◌, ℕ, List, [], length, take, drop};
+ghost use Rattle.std.specs.Prelude.{Option, None, Some, true, false, IfOk, OnOk, OnErr};
 ghost use Rattle.wf_outside.specs.Outside.{HasTaken, IsAtEnd};
 ghost use Rattle.line_reader.specs.Reader.{has_end, pending, ReadsTo, CountsAs};
-ghost use Rattle.line_reader.specs.Steps.{StepsTo, CountsStep, CountsTake, FindsEnd};
+ghost use Rattle.line_reader.specs.Steps.{IsReadingLine, StepsTo, CountsStep, FindsEnd};
 
-use crate::Read;
+use crate::{Pieces, Read};
 use basics::List as Bytes;
 use memchr::memchr;
 use std::alloc::{AllocError, Global};
 use std::marker::Model;
-use wf_outside::{Failed, Source};
+use wf_outside::Source;
 
-/// A reader of lines: the line that was read last, and the piece of the input behind it.
+/// A reader of lines: the line that was read last, and the pieces of the input behind it.
 #[derive(Drop)]
 pub struct LineReader {
     // The line that was handed over last, or the front of the next one.
     line: Bytes<u8>,
     handed: bool,
-    piece: Vec<u8>,
-    // How many bytes of the piece are in lines.
-    at: usize,
-    // How many bytes of the piece were taken.
-    filled: usize,
+    // What is passed is in lines.
+    pieces: Pieces,
     limit: usize,
 }
 
 impl Model for LineReader {
-    ghost use Rattle.std.specs.Prelude.{◌≡◌, ◌≤◌, ◌<◌, false, length, take, drop};
+    ghost use Rattle.std.specs.Prelude.{◌≡◌, ◌≤◌, ◌<◌, false, length};
     ghost use Rattle.line_reader.specs.Reader.{ReaderShape, has_end};
 
     ghost Value = { ReaderShape };
@@ -35,14 +32,12 @@ impl Model for LineReader {
     ghost view = { λ r. record {
       line = r.line;
       handed = r.handed;
-      ahead = drop r.at
-          (take r.filled r.piece.items);
+      ahead = r.pieces.ahead;
       limit = r.limit;
-      room = length r.piece.items;
+      room = r.pieces.room;
     } };
 
-    ghost invariant = { λ r. (r.at ≤ r.filled) × (r.filled ≤ length r.piece.items) ×
-        (0 < length r.piece.items)
+    ghost invariant = { λ r. (0 < r.pieces.room)
         × (r.handed ≡ false → length r.line ≤ r.limit) ×
         (r.handed ≡ false → has_end r.line ≡ false) };
 }
@@ -58,9 +53,7 @@ impl LineReader {
         Ok(LineReader {
             line: Bytes::new(alloc),
             handed: false,
-            piece: vec![in alloc; 0u8; room]?,
-            at: 0,
-            filled: 0,
+            pieces: Pieces::new(alloc, room)?,
             limit,
         })
     }
@@ -91,7 +84,7 @@ impl LineReader {
     // Begins the next line, where one was handed over.
     fn begin(&mut self)
         ensures pending { pending self.new ≡ pending self.old }
-        ensures handed { self.new.handed ≡ false }
+        ensures begun { IsReadingLine self.new }
         ensures limit { self.new.limit ≡ self.old.limit }
         ensures room { self.new.room ≡ self.old.room }
     {
@@ -103,16 +96,16 @@ impl LineReader {
 
     // Reads on in the piece, or takes the next one where all of it is in lines.
     fn advance<S: Source>(&mut self, source: &mut S) -> Option<Read>
-        requires { self.old.handed ≡ false }
+        requires { IsReadingLine self.old }
         ensures steps { StepsTo (S.left source.old) (S.left source.new) self.old self.new result }
         ensures limit { self.new.limit ≡ self.old.limit }
         ensures room { self.new.room ≡ self.old.room }
         ensures counts { CountsStep result (S.faults source.old) (S.faults source.new) }
     {
-        if self.at < self.filled {
+        if !self.ahead().is_empty() {
             return self.read_on();
         }
-        match self.take_piece(source) {
+        match self.pieces.fill(source) {
             Ok(true) => None,
             Ok(false) => Some(self.finish()),
             Err(_) => Some(Read::Failed),
@@ -121,15 +114,15 @@ impl LineReader {
 
     // Reads on in the piece.
     fn read_on(&mut self) -> Option<Read>
-        requires kept { self.old.handed ≡ false }
+        requires begun { IsReadingLine self.old }
         requires some { 0 < length self.old.ahead }
         ensures steps { (left : Option (List ℕ)) → StepsTo left left self.old self.new result }
         ensures limit { self.new.limit ≡ self.old.limit }
         ensures room { self.new.room ≡ self.old.room }
         ensures counts { (count : ℕ) → CountsStep result count count }
     {
-        let count = self.filled - self.at;
-        let free = self.limit - self.line.len();
+        let count = self.ahead().len();
+        let free = self.free();
         match self.find_end() {
             Some(n) if n <= free => match self.read_line(n + 1) {
                 Ok(()) => Some(Read::Line),
@@ -143,11 +136,27 @@ impl LineReader {
         }
     }
 
+    // What was taken and is not in lines.
+    fn ahead(&self) -> &[u8]
+        ensures ahead { result.now ≡ self.now.ahead }
+        ensures within { length self.now.ahead ≤ self.now.room }
+    {
+        self.pieces.ahead()
+    }
+
+    // How many bytes the line may still have.
+    fn free(&self) -> usize
+        requires { IsReadingLine self.now }
+        ensures { result ≡ self.now.limit - length self.now.line }
+    {
+        self.limit - self.line.len()
+    }
+
     // The place of the first LF in what was taken.
     fn find_end(&self) -> Option<usize>
         ensures { FindsEnd self.now.ahead result }
     {
-        memchr(b'\n', &self.piece[self.at..self.filled])
+        memchr(b'\n', self.ahead())
     }
 
     // Takes the rest of the line from the piece, and hands the line over.
@@ -162,8 +171,8 @@ impl LineReader {
             }) }
         ensures unchanged { OnErr result (self.new ≡ self.old) }
     {
-        self.line.push_all(&self.piece[self.at..self.at + count])?;
-        self.at += count;
+        self.line.push_all(&self.pieces.ahead()[..count])?;
+        self.pieces.pass(count);
         self.handed = true;
         Ok(())
     }
@@ -177,14 +186,16 @@ impl LineReader {
             ≡ record self.old { line = self.old.line ++ self.old.ahead; ahead = [] }) }
         ensures unchanged { OnErr result (self.new ≡ self.old) }
     {
-        self.line.push_all(&self.piece[self.at..self.filled])?;
-        self.at = self.filled;
+        let ahead = self.pieces.ahead();
+        let count = ahead.len();
+        self.line.push_all(ahead)?;
+        self.pieces.pass(count);
         Ok(())
     }
 
     // Hands over the last line of the input, if there is one.
     fn finish(&mut self) -> Read
-        requires kept { self.old.handed ≡ false }
+        requires begun { IsReadingLine self.old }
         requires none { self.old.ahead ≡ [] }
         ensures reads { (before after : Option (List ℕ)) → HasTaken before after [] → IsAtEnd after
             → ReadsTo before after self.old self.new result }
@@ -198,36 +209,4 @@ impl LineReader {
         self.handed = true;
         Read::Line
     }
-
-    // Takes the next piece, where all of the last one is in lines. False is the end of the input.
-    fn take_piece<S: Source>(&mut self, source: &mut S) -> Result<bool, Failed>
-        requires { self.old.ahead ≡ [] }
-        ensures same { self.new ≡ record self.old { ahead = self.new.ahead } }
-        ensures taken { OnOk result (HasTaken (S.left source.old) (S.left source.new)
-            self.new.ahead) }
-        ensures more { result ≡ Ok true → 0 < length self.new.ahead }
-        ensures ended { result ≡ Ok false → (self.new.ahead ≡ []) × IsAtEnd (S.left source.new) }
-        ensures nothing { OnErr result ((self.new.ahead ≡ [])
-            × (S.left source.new ≡ S.left source.old)) }
-        ensures counts { CountsTake result (S.faults source.old) (S.faults source.new) }
-    {
-        self.at = 0;
-        self.filled = 0;
-        self.filled = take_into(self.piece.as_mut_slice(), source)?;
-        Ok(self.filled > 0)
-    }
-}
-
-// The next bytes, at the front of the piece; how many there are.
-fn take_into<S: Source>(piece: &mut [u8], source: &mut S) -> Result<usize, Failed>
-    requires { 0 < length piece.old }
-    ensures taken { IfOk result (λ n. HasTaken (S.left source.old) (S.left source.new)
-        (take n piece.new)) }
-    ensures within { IfOk result (λ n. n ≤ length piece.new) }
-    ensures room { length piece.new ≡ length piece.old }
-    ensures ended { IfOk result (λ n. n ≡ 0 → IsAtEnd (S.left source.new)) }
-    ensures kept { OnErr result (S.left source.new ≡ S.left source.old) }
-    ensures counts { CountsTake result (S.faults source.old) (S.faults source.new) }
-{
-    source.take(piece)
 }

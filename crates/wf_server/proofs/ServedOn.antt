@@ -6,7 +6,7 @@ use Rattle.wf_talk.specs.declared.job.Job.{Job}
 use Rattle.line_cutter.specs.declared.stop.Stop.TheVariants as stop
 use Rattle.batch_reader.specs.declared.reader.Paused.{Paused}
 use Rattle.batch_reader.specs.declared.reader.Paused.TheVariants as paused
-use Rattle.batch_reader.specs.Reader.{CanReadOn, BatchReaderShape, left_to_read}
+use Rattle.batch_reader.specs.Reader.{BatchReaderShape, GoesOnReading}
 use Rattle.wf_board.specs.States.{opening_state}
 use Rattle.wf_board.specs.Histories.{AreAnsweredOnce, AreRightful, IsLegal}
 use Rattle.wf_desk.specs.Desks.{AreOfLanes, DeskShape, IsSoundDesk}
@@ -15,7 +15,7 @@ use Rattle.wf_server.specs.declared.batch.Answered.{Answered}
 use Rattle.wf_server.specs.Batches.{ending_after, told_of}
 use Rattle.wf_server.specs.Batch.{CanBeServed, IsServedOn}
 use Rattle.wf_server.specs.GoingOn.{GoOnBehind}
-use Rattle.wf_server.specs.Session.{AreBehind, GoesOnReading}
+use Rattle.wf_server.specs.Session.{AreBehind}
 use Rattle.wf_server.specs.Sessions.{Setting}
 use Rattle.wf_server.specs.Ways.{setting_of}
 
@@ -95,11 +95,10 @@ told_then Leaves d e told a is size on sound =
     (behind_then Leaves d e e.entries size on (behind_on Leaves e e (same_on Leaves e) sound))
 
 -- where reading has paused between two batches a session goes on
-pub pauses_on : (how : Paused) (r t : BatchReaderShape) → (how ≡ paused.Batch → CanReadOn t) → (how ≡ paused.Batch → left_to_read t < left_to_read r) →
-    ending_after how ≡ None → GoesOnReading r t
-pauses_on paused.Batch r t ready less none = record { ready = ready refl; less = less refl }
-pauses_on paused.End r t ready less none = cc
-pauses_on paused.Failed r t ready less none = cc
-pauses_on (paused.Stopped (stop.LineTooLong line)) r t ready less none = cc
-pauses_on (paused.Stopped stop.TooManyLines) r t ready less none = cc
-pauses_on paused.NoMemory r t ready less none = cc
+pub pauses_on : (how : Paused) (r t : BatchReaderShape) → (how ≡ paused.Batch → GoesOnReading r t) → ending_after how ≡ None → GoesOnReading r t
+pauses_on paused.Batch r t ready none = ready refl
+pauses_on paused.End r t ready none = cc
+pauses_on paused.Failed r t ready none = cc
+pauses_on (paused.Stopped (stop.LineTooLong line)) r t ready none = cc
+pauses_on (paused.Stopped stop.TooManyLines) r t ready none = cc
+pauses_on paused.NoMemory r t ready none = cc

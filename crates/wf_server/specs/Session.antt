@@ -1,16 +1,10 @@
 -- Inside: how a session goes on after a batch.
-use Rattle.std.specs.Prelude.{◌≡◌, ◌<◌, List, take, drop}
+use Rattle.std.specs.Prelude.{◌≡◌, List, take, drop}
 use Rattle.wf_talk.specs.declared.entry.Entry.{Entry}
-use Rattle.batch_reader.specs.Reader.{CanReadOn, BatchReaderShape, left_to_read}
 use Rattle.wf_board.specs.States.{opening_state}
 use Rattle.wf_board.specs.Histories.{AreAnsweredOnce, AreRightful, IsLegal}
 use Rattle.wf_desk.specs.Desks.{DeskShape}
 use Rattle.wf_server.specs.Ways.{ServesOnce}
-
--- a reader can go on, and less is left to read
-pub record GoesOnReading (before after : BatchReaderShape) : Type 0 where
-  pub ready : CanReadOn after
-  pub less : left_to_read after < left_to_read before
 
 -- entries go on behind those of a desk: they are legal, what was taken up stays as it was, what
 -- comes is rightful, and by a way of serving that answers no request again none is

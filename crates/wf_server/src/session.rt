@@ -4,7 +4,7 @@ ghost use Rattle.wf_board.specs.States.{opening_state};
 ghost use Rattle.wf_board.specs.Histories.{AreAnsweredOnce, AreRightful, IsLegal};
 ghost use Rattle.wf_desk.specs.Desks.{IsSoundDesk};
 ghost use Rattle.line_cutter.specs.Jobs.{Cut, start};
-ghost use Rattle.batch_reader.specs.Reader.{CanReadOn};
+ghost use Rattle.batch_reader.specs.Reader.{CanReadOn, GoesOnReading};
 ghost use Rattle.run_record.specs.Fault.{status_of};
 ghost use Rattle.run_record.specs.Report.{told_by};
 ghost use Rattle.run_record.specs.Run.{Streams, streams_of};
@@ -13,7 +13,7 @@ ghost use Rattle.command_words.specs.Asked.{options_in};
 ghost use Rattle.wf_server.specs.Serving.{setting};
 ghost use Rattle.wf_server.specs.Batches.{told_of, ending_after, IsServing, BatchEnds, Serves};
 ghost use Rattle.wf_server.specs.Batch.{IsServedOn};
-ghost use Rattle.wf_server.specs.Session.{AreBehind, GoesOnReading};
+ghost use Rattle.wf_server.specs.Session.{AreBehind};
 ghost use Rattle.wf_server.specs.Ways.{ServesOnce, setting_of};
 
 use crate::batch::{Answered, answer_batch};

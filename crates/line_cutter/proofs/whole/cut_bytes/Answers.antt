@@ -1,4 +1,4 @@
-use Rattle.std.proofs.Common.{◌-◌, take, arith}
+use Rattle.std.proofs.Common.{take, arith}
 use Rattle.std.proofs.lemmas.List.{length-take-le}
 use Rattle.std.proofs.lemmas.Grind.{common_steps}
 use Rattle.line_cutter.proofs.CutUp.{cut_stopped, cut_rest, cut_to_end}

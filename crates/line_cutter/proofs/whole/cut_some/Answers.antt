@@ -16,7 +16,7 @@ returns-in_ok-add_batch-clause-cut c lanes seen before =
     cut_batch lanes seen (take c.in_ok-count.count c.args.left.now) c.args.whole.now.jobs c.add_batch.new.whole.jobs c.args.whole.now.ends
     c.add_batch.new.whole.ends
     c.args.cutter.now c.feed.new.self c.take_batch.new.self c.as_slice-then-has_batch.result.now before c.in_ok-count.ensures.cuts c.in_ok-count.ensures.sound
-    (c.in_ok-count.ensures.ended c.if-has_batch.ensures) (cc) c.take_batch.ensures.left c.in_ok-add_batch.ensures.jobs c.in_ok-add_batch.ensures.ends
+    (c.in_ok-count.ensures.on.ended c.if-has_batch.ensures) (cc) c.take_batch.ensures.left c.in_ok-add_batch.ensures.jobs c.in_ok-add_batch.ensures.ends
 
 pub returns-else-has_batch-clause-cut : goal.returns-else-has_batch-clause-cut
 returns-else-has_batch-clause-cut c lanes seen before =

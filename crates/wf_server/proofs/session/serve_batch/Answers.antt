@@ -18,7 +18,7 @@ answer_batch-served-requires-clause-takes g c =
       whole = serving.answered.fills.whole;
       follows = rw c.as_slice.ensures
           (next_batch d.lanes first _ _ told c.next_batch-jobs.result.jobs serving.order serving.read.closed
-          (c.next_batch-jobs.ensures.up c.requires.serving.1.0.input (handed_in first told) serving.read));
+          (c.next_batch-jobs.ensures.up c.requires.serving.1.0.input (handed_in first told) serving.read).1);
     }
 
 pub returns-in-NoMemory-clause-batch : goal.returns-in-NoMemory-clause-batch
@@ -38,7 +38,7 @@ returns-in-NoMemory-clause-batch g c first before serving =
       write_faults = g.K.Sink.faults c.args.sink.now;
     })
     c.args.reader.now c.args.desk (told_of c.args.desk c.args.told.now) c.next_batch-jobs.result.paused serving
-    (c.next_batch-jobs.ensures.up_before before.input (handed_in first (told_of c.args.desk c.args.told.now)) serving.read) refl
+    (c.next_batch-jobs.ensures.up before.input (handed_in first (told_of c.args.desk c.args.told.now)) serving.read).0 refl
     c.next_batch-jobs.ensures.counts refl
 
 pub returns-in-Ok-clause-batch : goal.returns-in-Ok-clause-batch
@@ -84,6 +84,7 @@ returns-clause-batch g c first before serving =
     let answers = rw c.in-Err.is at c.answer_batch-served.ensures.answers before.output serving.answered in
     let ending = rw c.in-Err.is at c.answer_batch-served.ensures.ending in
     let writes = rw c.in-Err.is at c.answer_batch-served.ensures.counts in
+    let up = c.next_batch-jobs.ensures.up before.input h serving.read in
     fault_ends first c.next_batch-jobs.new.self.room before (record {
       input = g.S.Source.left c.args.source.now;
       output =
@@ -100,13 +101,11 @@ returns-clause-batch g c first before serving =
     })
     c.args.reader.now d e told (told_of e c.answer_batch-served.new.told) jobs how c.in-Err.fault serving c.answer_batch-served.ensures.on.setting
     (rw same (c.next_batch-jobs.ensures.reads before.input h serving.read)) c.in_default.not-NoMemory
-    (rw same (c.next_batch-jobs.ensures.up before.input h serving.read)) (c.next_batch-jobs.ensures.up_before before.input h serving.read)
-    answers ending c.next_batch-jobs.ensures.counts writes
+    (rw same up.1) up.0 answers ending c.next_batch-jobs.ensures.counts writes
 
 pub returns-in-NoMemory-clause-on : goal.returns-in-NoMemory-clause-on
 returns-in-NoMemory-clause-on g c = same_on _ c.args.desk
 
 pub returns-in-Ok-clause-goes_on : goal.returns-in-Ok-clause-goes_on
 returns-in-Ok-clause-goes_on g c none =
-    pauses_on c.next_batch-jobs.result.paused c.args.reader.now c.next_batch-jobs.new.self c.next_batch-jobs.ensures.ready c.next_batch-jobs.ensures.less
-    (sym c.ending_after.ensures ∙ none)
+    pauses_on c.next_batch-jobs.result.paused c.args.reader.now c.next_batch-jobs.new.self c.next_batch-jobs.ensures.ready (sym c.ending_after.ensures ∙ none)

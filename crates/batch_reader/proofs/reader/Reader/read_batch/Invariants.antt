@@ -1,6 +1,6 @@
 use Rattle.std.proofs.Common.{◌≡◌, ◌≤◌, ℕ, List, Option}
 use Rattle.batch_reader.specs.Reader.{Handed, HasRead, CanReadOn, left_to_read}
-use Rattle.batch_reader.specs.Pausing.{steps_left}
+use Rattle.batch_reader.specs.Pausing.{reading_steps}
 use Rattle.batch_reader.proofs.reader.Reader.read_batch.Given as goal
 
 abbrev pub invariant-reading : goal.invariant-reading
@@ -15,4 +15,4 @@ invariant-reading g l =
     }
 
 abbrev pub decreases-reading : goal.decreases-reading
-decreases-reading g l = steps_left l.self
+decreases-reading g l = reading_steps l.self

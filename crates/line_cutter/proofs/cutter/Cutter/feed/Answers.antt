@@ -1,24 +1,20 @@
-use Rattle.std.proofs.Common.{arith}
+use Rattle.std.proofs.Common.{arith, subst, sym}
 use Rattle.std.proofs.lemmas.Grind.{common_steps}
-use Rattle.line_cutter.proofs.CutLaws.{one_cut, plain_cut, ended_byte, stops_byte}
-use Rattle.line_cutter.proofs.WholeLines.{front_short, line_cut, line_ended, line_further, line_sound, line_stopped}
+use Rattle.std.proofs.lemmas.List.{length-take-le}
+use Rattle.line_cutter.specs.Cutter.{CutsOn, IsSound}
+use Rattle.line_cutter.proofs.CutLaws.{byte_on, one_cut, plain_cut, plain_on, plain_sound, sound_step}
+use Rattle.line_cutter.proofs.WholeLines.{front_short, line_cut, line_on, line_sound}
 use Rattle.line_cutter.proofs.cutter.Cutter.feed.Goals as goal
 
 pub returns-then-run-eq0-clause-cuts : goal.returns-then-run-eq0-clause-cuts
 returns-then-run-eq0-clause-cuts c =
-    one_cut c.args.self.now c.feed_byte.new.self c.args.piece.now c.requires.some c.requires.going (grind (arith, common_steps))
+    one_cut c.args.self.now c.step.new.self c.args.piece.now c.requires.some c.requires.ready.going (grind (arith, common_steps))
 
-pub returns-clause-cuts : goal.returns-clause-cuts
-returns-clause-cuts c =
-    plain_cut c.args.self.now c.push_plain.new.self c.args.piece.now c.plain_len-run.result (grind (arith, common_steps)) c.plain_len-run.ensures.within
-    c.requires.going (c.plain_len-run.ensures.lines (grind (arith, common_steps))) c.plain_len-run.ensures.short c.plain_len-run.ensures.plain
-    c.in_ok-push_plain.ensures.pushed
+pub returns-then-run-eq0-clause-on : goal.returns-then-run-eq0-clause-on
+returns-then-run-eq0-clause-on c = subst (CutsOn c.args.self.now) (sym c.in_ok-step.ensures.fed) (byte_on c.args.self.now _ c.requires.ready)
 
-pub returns-then-run-eq0-clause-ended : goal.returns-then-run-eq0-clause-ended
-returns-then-run-eq0-clause-ended c = ended_byte c.args.self.now c.feed_byte.new.self _ c.requires.sound c.requires.handed c.in_ok-feed_byte.ensures.fed
-
-pub returns-then-run-eq0-clause-stopped : goal.returns-then-run-eq0-clause-stopped
-returns-then-run-eq0-clause-stopped c = stops_byte c.args.self.now c.feed_byte.new.self _ c.requires.going c.requires.handed c.in_ok-feed_byte.ensures.fed
+pub returns-then-run-eq0-clause-sound : goal.returns-then-run-eq0-clause-sound
+returns-then-run-eq0-clause-sound c = subst IsSound (sym c.in_ok-step.ensures.fed) (sound_step c.args.self.now _ c.requires.ready.sound)
 
 pub returns-then-has_line-clause-cuts : goal.returns-then-has_line-clause-cuts
 returns-then-has_line-clause-cuts c =
@@ -26,31 +22,36 @@ returns-then-has_line-clause-cuts c =
     let line = c.has_line in
     let is = c.if-has_line.true in
     line_cut c.args.self.now c.end_whole_line.new.self c.args.piece.now run.result (line.ensures.within is) (line.ensures.end is)
-    (line.ensures.empty is) c.requires.going (run.ensures.lines (grind (arith, common_steps))) run.ensures.short
+    (line.ensures.empty is) c.requires.ready.going (run.ensures.lines (grind (arith, common_steps))) run.ensures.short
     run.ensures.plain c.in_ok-end_whole_line.ensures.ended
 
-pub returns-then-has_line-clause-ended : goal.returns-then-has_line-clause-ended
-returns-then-has_line-clause-ended c =
+pub returns-then-has_line-clause-on : goal.returns-then-has_line-clause-on
+returns-then-has_line-clause-on c =
     let run = c.plain_len-run in
-    line_ended c.args.self.now c.end_whole_line.new.self _ c.requires.sound c.requires.handed c.requires.going
+    line_on c.args.self.now c.end_whole_line.new.self _ c.requires.ready (c.has_line.ensures.empty c.if-has_line.true)
     (run.ensures.lines (grind (arith, common_steps)))
     (front_short c.args.piece.now run.result _ run.ensures.within run.ensures.short) c.in_ok-end_whole_line.ensures.ended
-
-pub returns-then-has_line-clause-stopped : goal.returns-then-has_line-clause-stopped
-returns-then-has_line-clause-stopped c =
-    line_stopped c.args.self.now c.end_whole_line.new.self _ c.requires.handed c.requires.going
-    (c.plain_len-run.ensures.lines (grind (arith, common_steps))) c.in_ok-end_whole_line.ensures.ended
-
-pub returns-then-has_line-clause-further : goal.returns-then-has_line-clause-further
-returns-then-has_line-clause-further c on =
-    let run = c.plain_len-run in
-    line_further c.args.self.now c.end_whole_line.new.self _ c.requires.sound (c.has_line.ensures.empty c.if-has_line.true)
-    c.requires.going (run.ensures.lines (grind (arith, common_steps)))
-    (front_short c.args.piece.now run.result _ run.ensures.within run.ensures.short) c.in_ok-end_whole_line.ensures.ended on
 
 pub returns-then-has_line-clause-sound : goal.returns-then-has_line-clause-sound
 returns-then-has_line-clause-sound c =
     let run = c.plain_len-run in
-    line_sound c.args.self.now c.end_whole_line.new.self _ c.requires.sound c.requires.going
+    line_sound c.args.self.now c.end_whole_line.new.self _ c.requires.ready.sound c.requires.ready.going
     (run.ensures.lines (grind (arith, common_steps)))
     (front_short c.args.piece.now run.result _ run.ensures.within run.ensures.short) c.in_ok-end_whole_line.ensures.ended
+
+pub returns-clause-cuts : goal.returns-clause-cuts
+returns-clause-cuts c =
+    plain_cut c.args.self.now c.push_plain.new.self c.args.piece.now c.plain_len-run.result (grind (arith, common_steps)) c.plain_len-run.ensures.within
+    c.requires.ready.going (c.plain_len-run.ensures.lines (grind (arith, common_steps))) c.plain_len-run.ensures.short c.plain_len-run.ensures.plain
+    c.in_ok-push_plain.ensures.pushed
+
+pub returns-clause-on : goal.returns-clause-on
+returns-clause-on c =
+    let size = length-take-le c.plain_len-run.result c.args.piece.now c.plain_len-run.ensures.within in
+    plain_on c.args.self.now c.push_plain.new.self _ c.requires.ready (grind (arith, common_steps, size)) c.in_ok-push_plain.ensures.pushed
+
+pub returns-clause-sound : goal.returns-clause-sound
+returns-clause-sound c =
+    let size = length-take-le c.plain_len-run.result c.args.piece.now c.plain_len-run.ensures.within in
+    plain_sound c.args.self.now c.push_plain.new.self _ c.requires.ready.sound c.in_ok-push_plain.ensures.pushed
+    (omega (arith, size, c.plain_len-run.ensures.short))

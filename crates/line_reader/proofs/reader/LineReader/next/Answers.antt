@@ -5,7 +5,7 @@ use Rattle.line_reader.proofs.reader.LineReader.next.Goals as goal
 pub reading-init : goal.reading-init
 reading-init g c = record {
   seen = seen_here (g.S.Source.left c.args.source.now) c.args.self.now _ c.begin.ensures.pending;
-  kept = c.begin.ensures.handed;
+  begun = c.begin.ensures.begun;
   limit = c.begin.ensures.limit;
   room = c.begin.ensures.room;
   faults = refl;
@@ -18,7 +18,7 @@ reading-preserved g c =
     c.reading.invariant.seen c.advance.ensures.steps c.in-None.is in
     record {
       seen = on.0;
-      kept = on.1;
+      begun = on.1;
       limit = c.advance.ensures.limit ∙ c.reading.invariant.limit;
       room = c.advance.ensures.room ∙ c.reading.invariant.room;
       faults = counts_still c.advance.result _ _ c.advance.ensures.counts c.in-None.is ∙ c.reading.invariant.faults;

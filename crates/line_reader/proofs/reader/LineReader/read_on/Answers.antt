@@ -1,56 +1,33 @@
-use Rattle.std.proofs.Common.{◌-◌, false, length, ◌∙◌, arith}
-use Rattle.line_reader.proofs.FirstLines.{goes_on}
-use Rattle.line_reader.proofs.Going.{IsSound, sound, line_ends, line_grows, line_passes, long_end, long_open, nothing_read, sizes}
+use Rattle.std.proofs.Common.{length, ap, arith}
+use Rattle.line_reader.proofs.FirstLines.{open_line}
+use Rattle.line_reader.proofs.Going.{goes_behind, line_ends, line_grows, line_passes, nothing_read}
 use Rattle.line_reader.proofs.reader.LineReader.read_on.Goals as goal
 
 pub read_all-requires-clause-going : goal.read_all-requires-clause-going
-read_all-requires-clause-going c =
-    let r = c.self.inside in
-    let h : IsSound c.args.self.now = sound c.args.self.now r.line r.handed r.at r.filled r.limit r.piece.items c.self.view_is c.self.invariant.1
-    c.self.invariant.2 c.self.invariant.3 c.self.invariant.4 in
-    (goes_on c.args.self.now.line c.args.self.now.ahead (h.going c.requires.kept)).ended ∙ c.in-None.ensures
+read_all-requires-clause-going c = goes_behind c.args.self.now c.requires.begun c.in-None.ensures
 
 pub returns-in-Ok-clause-steps : goal.returns-in-Ok-clause-steps
 returns-in-Ok-clause-steps c left =
-    let r = c.self.inside in
-    let h : IsSound c.args.self.now = sound c.args.self.now r.line r.handed r.at r.filled r.limit r.piece.items c.self.view_is c.self.invariant.1
-    c.self.invariant.2 c.self.invariant.3 c.self.invariant.4 in
-    let size = sizes c.args.self.now r.line r.handed r.at r.filled r.limit r.piece.items c.self.view_is in
-    line_ends left c.args.self.now c.read_line.new.self c.in-Some.n c.requires.kept (h.going c.requires.kept) (h.short c.requires.kept) h.less c.in-Some.ensures
-    (omega (arith, c.if-n-free.true, c.len.ensures, size.0, size.1)) c.in-Ok.ensures.read
+    line_ends left c.args.self.now c.read_line.new.self c.in-Some.n c.free-free.result c.requires.begun c.ahead-count.ensures.within c.in-Some.ensures
+    c.if-n-free.true c.free-free.ensures c.in-Ok.ensures.read
 
 pub returns-in-Err-clause-steps : goal.returns-in-Err-clause-steps
 returns-in-Err-clause-steps c left = nothing_read left c.args.self.now c.read_line.new.self c.in-Err.ensures.unchanged
 
 pub returns-in-Ok-read_all-clause-steps : goal.returns-in-Ok-read_all-clause-steps
 returns-in-Ok-read_all-clause-steps c left =
-    let r = c.self.inside in
-    let h : IsSound c.args.self.now = sound c.args.self.now r.line r.handed r.at r.filled r.limit r.piece.items c.self.view_is c.self.invariant.1
-    c.self.invariant.2 c.self.invariant.3 c.self.invariant.4 in
-    let short = h.short c.requires.kept in
-    let size = sizes c.args.self.now r.line r.handed r.at r.filled r.limit r.piece.items c.self.view_is in
-    line_grows left c.args.self.now c.read_all.new.self c.requires.kept c.requires.some
-    (omega (arith, c.if-count-free.true, c.len.ensures, size.0, size.1, size.2 c.self.invariant.0 c.self.invariant.1, short)) c.in-Ok-read_all.ensures.read
+    line_grows left c.args.self.now c.read_all.new.self c.free-free.result c.requires.begun c.requires.some c.in-None.ensures
+    (omega (arith, c.if-count-free.true, ap length c.ahead-count.ensures.ahead)) c.free-free.ensures c.in-Ok-read_all.ensures.read
 
 pub returns-in-Err-read_all-clause-steps : goal.returns-in-Err-read_all-clause-steps
 returns-in-Err-read_all-clause-steps c left = nothing_read left c.args.self.now c.read_all.new.self c.in-Err-read_all.ensures.unchanged
 
 pub returns-in_default-clause-steps : goal.returns-in_default-clause-steps
 returns-in_default-clause-steps c left =
-    let r = c.self.inside in
-    let h : IsSound c.args.self.now = sound c.args.self.now r.line r.handed r.at r.filled r.limit r.piece.items c.self.view_is c.self.invariant.1
-    c.self.invariant.2 c.self.invariant.3 c.self.invariant.4 in
-    let size = sizes c.args.self.now r.line r.handed r.at r.filled r.limit r.piece.items c.self.view_is in
-    line_passes left c.args.self.now c.requires.kept (h.going c.requires.kept) (h.short c.requires.kept) h.less
-    (long_end c.args.self.now.ahead c.in-Some.n c.args.self.now.limit (length c.args.self.now.line) (h.short c.requires.kept) c.in-Some.ensures
-    (omega (arith, c.if-n-free.false, c.len.ensures, size.0, size.1)))
+    line_passes left c.args.self.now c.free-free.result c.requires.begun c.ahead-count.ensures.within c.free-free.ensures
+    (omega (arith, c.in-Some.ensures.counted, c.if-n-free.false))
 
 pub returns-in_default-2-clause-steps : goal.returns-in_default-2-clause-steps
 returns-in_default-2-clause-steps c left =
-    let r = c.self.inside in
-    let h : IsSound c.args.self.now = sound c.args.self.now r.line r.handed r.at r.filled r.limit r.piece.items c.self.view_is c.self.invariant.1
-    c.self.invariant.2 c.self.invariant.3 c.self.invariant.4 in
-    let size = sizes c.args.self.now r.line r.handed r.at r.filled r.limit r.piece.items c.self.view_is in
-    line_passes left c.args.self.now c.requires.kept (h.going c.requires.kept) (h.short c.requires.kept) h.less
-    (long_open c.args.self.now.ahead (r.filled - r.at) c.args.self.now.limit (length c.args.self.now.line) (h.short c.requires.kept) c.in-None.ensures
-    (size.2 c.self.invariant.0 c.self.invariant.1) (omega (arith, c.if-count-free.false, c.len.ensures, size.0, size.1)))
+    line_passes left c.args.self.now c.free-free.result c.requires.begun c.ahead-count.ensures.within c.free-free.ensures
+    (omega (arith, (open_line c.args.self.now.ahead c.in-None.ensures).counted, c.if-count-free.false, ap length c.ahead-count.ensures.ahead))
