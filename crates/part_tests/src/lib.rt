@@ -1,4 +1,5 @@
-//! Tests of the crates below the server: what no clause of theirs says, and no row of a file shows.
+//! Tests of the crates below the server, and of the sentences of rules: what no clause of theirs
+//! says, and no row of a file shows.
 #![tactic(auto)]
 
 #[cfg(test)]
@@ -11,6 +12,8 @@ mod lines;
 mod rules;
 #[cfg(test)]
 mod searches;
+#[cfg(test)]
+mod sentences;
 #[cfg(test)]
 mod trees;
 #[cfg(test)]
