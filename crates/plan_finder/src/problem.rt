@@ -337,35 +337,33 @@ fn read_law(
     width: usize,
     relations: &mut Vec<Relation>,
 ) -> Result<Law, AllocError> {
+    let over = match rule.relation() {
+        Some(rho) => read_over(alloc, p, rho, width, relations)?,
+        None => Over::Same,
+    };
+    Ok(law_of(rule, over))
+}
+
+// The law that a rule is, whose relation, if it has one, is over `over`.
+fn law_of(rule: Rule, over: Over) -> Law {
     match rule {
-        Rule::Pair { rho, first, second } => {
-            let over = read_over(alloc, p, rho, width, relations)?;
-            Ok(make_law(Demand::Each, over, bit(first.0), second.0))
+        Rule::Pair { first, second, .. } => { make_law(Demand::Each, over, bit(first.0), second.0) }
+        Rule::SomeOf { group, step, .. } => {
+            make_law(Demand::Some, over, bits_of(&group), step.0)
         }
-        Rule::SomeOf { rho, group, step } => {
-            let over = read_over(alloc, p, rho, width, relations)?;
-            Ok(make_law(Demand::Some, over, bits_of(&group), step.0))
+        Rule::AllOf { group, step, .. } => { make_law(Demand::Each, over, bits_of(&group), step.0) }
+        Rule::SomeTo { step, group, .. } => {
+            make_law(Demand::Some, turned(over), bits_of(&group), step.0)
         }
-        Rule::AllOf { rho, group, step } => {
-            let over = read_over(alloc, p, rho, width, relations)?;
-            Ok(make_law(Demand::Each, over, bits_of(&group), step.0))
+        Rule::AllTo { step, group, .. } => {
+            make_law(Demand::Each, turned(over), bits_of(&group), step.0)
         }
-        Rule::SomeTo { rho, step, group } => {
-            let over = turned(read_over(alloc, p, rho, width, relations)?);
-            Ok(make_law(Demand::Some, over, bits_of(&group), step.0))
+        Rule::AtMost { limit, group } => {
+            counting_law(Demand::AtMost(limit as u32), bits_of(&group))
         }
-        Rule::AllTo { rho, step, group } => {
-            let over = turned(read_over(alloc, p, rho, width, relations)?);
-            Ok(make_law(Demand::Each, over, bits_of(&group), step.0))
+        Rule::AtLeast { limit, group } => {
+            counting_law(Demand::AtLeast(limit as u32), bits_of(&group))
         }
-        Rule::AtMost { limit, group } => Ok(counting_law(
-            Demand::AtMost(limit as u32),
-            bits_of(&group),
-        )),
-        Rule::AtLeast { limit, group } => Ok(counting_law(
-            Demand::AtLeast(limit as u32),
-            bits_of(&group),
-        )),
     }
 }
 

@@ -87,31 +87,52 @@ impl Finder {
         a: &Assign,
         done: &StepSet,
     ) -> Result<Option<Plan>, AllocError> {
+        if self.space.is_none() && !self.over {
+            self.begin(alloc, p, a, done)?;
+        }
         if self.over {
             return Ok(None);
         }
-        if self.space.is_none() {
-            self.problem.learn_all(p)?;
-            let mut space = Space::new(alloc, &self.problem)?;
-            self.work.begin(0, FIRST_WORK);
-            if !start(&self.problem, &mut space.root, &mut self.work, a, done) {
-                self.over = true;
-                return Ok(None);
-            }
-            self.space = Some(space);
-        }
-        let mut found = None;
-        if let Some(space) = &mut self.space {
-            let limit = (self.guide.tries() as u64).saturating_mul(work_a_try(&self.problem));
-            self.work.begin(self.run, limit);
-            match run_once(alloc, &self.problem, space, &mut self.work, self.run)? {
-                Ending::Found(plan) => found = Some(plan),
-                Ending::Exhausted => self.over = true,
-                Ending::Stopped => {}
-            }
-        }
+        let ending = self.run_on(alloc)?;
         self.run = self.run.saturating_add(1);
-        Ok(found)
+        match ending {
+            Ending::Found(plan) => Ok(Some(plan)),
+            Ending::Exhausted => {
+                self.over = true;
+                Ok(None)
+            }
+            Ending::Stopped => Ok(None),
+        }
+    }
+
+    // Makes the space of the runs, unless there is nothing to be found in it.
+    fn begin(
+        &mut self,
+        alloc: Global,
+        p: &Policy,
+        a: &Assign,
+        done: &StepSet,
+    ) -> Result<(), AllocError> {
+        self.problem.learn_all(p)?;
+        let mut space = Space::new(alloc, &self.problem)?;
+        self.work.begin(0, FIRST_WORK);
+        if start(&self.problem, &mut space.root, &mut self.work, a, done) {
+            self.space = Some(space);
+        } else {
+            self.over = true;
+        }
+        Ok(())
+    }
+
+    // One more run in the space.
+    fn run_on(&mut self, alloc: Global) -> Result<Ending, AllocError> {
+        let tries = self.guide.tries() as u64;
+        let limit = tries.saturating_mul(work_a_try(&self.problem));
+        self.work.begin(self.run, limit);
+        match &mut self.space {
+            Some(space) => run_once(alloc, &self.problem, space, &mut self.work, self.run),
+            None => Ok(Ending::Stopped),
+        }
     }
 
     /// Begins a run of a search for a tree, which may go further than the run before.
