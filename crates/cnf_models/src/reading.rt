@@ -49,12 +49,34 @@ pub fn plan_of(
 {
     models_are_plans();
     let _ruled = p.rules(f);
-    let mut encoder = Encoder::new(alloc, p, f, a, done)?;
-    let mut one = Literals::new(alloc);
-    match first_unsatisfied(&mut encoder, &mut one, m)? {
+    match first_of_case(alloc, p, f, a, done, m)? {
         Some(i) => Ok(Reading::Clause(i)),
         None => Ok(Reading::Plan(plan_said(alloc, p, f, m)?)),
     }
+}
+
+// The first clause of a case that a model does not satisfy, if there is one.
+fn first_of_case(
+    alloc: Global,
+    p: &Policy,
+    f: FlowId,
+    a: &Assign,
+    done: &StepSet,
+    m: &Model,
+) -> Result<Option<u32>, CnfFault>
+    requires flow { f < length p.now.flows }
+    requires within { IsWithin (problem_of p.now f) a.now }
+    ensures first { IfOk result (λ found. found ≡ first_false 0 (has_variable m.now)
+        (clauses_of (problem_of p.now f) a.now done.now)) }
+    ensures few { OnOk result (literals
+        (clauses_of (problem_of p.now f) a.now done.now) ≤ LITERAL_LIMIT) }
+    ensures large { IsErrOf result TooLarge
+        → LITERAL_LIMIT < literals (clauses_of (problem_of p.now f) a.now done.now) }
+{
+    let mut encoder = Encoder::new(alloc, p, f, a, done)?;
+    let mut one = Literals::new(alloc);
+    let first = first_unsatisfied(&mut encoder, &mut one, m)?;
+    Ok(first)
 }
 
 // The first clause that a model does not satisfy, if there is one.

@@ -1,6 +1,6 @@
 -- Absences: a policy in which some users have no role, and which of them a workflow can do without.
 use Rattle.std.specs.Prelude.{◌≡◌, ℕ, ◌+◌, ◌<◌, ◌≤◌, Bool, true, false, not, ◌&&◌, ◌||◌, ◌==◌}
-use Rattle.std.specs.Prelude.{nat_lt, List, [], ◌∷◌, length, IsTrue}
+use Rattle.std.specs.Prelude.{nat_lt, List, [], ◌∷◌, length}
 use Rattle.std.specs.FinSet as set
 use Rattle.pair_set.specs.Pairs.{Pairs}
 use Rattle.constraint_forms.specs.Assign.{no_users, no_steps}

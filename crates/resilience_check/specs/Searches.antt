@@ -1,7 +1,6 @@
 -- Inside: how far the search for the least absence has come.
-use Rattle.std.specs.Prelude.{◌≡◌, ℕ, ◌+◌, ◌<◌, Bool, true, false, not, ◌&&◌, ◌==◌, nat_lt, List}
-use Rattle.std.specs.Prelude.{[], ◌∷◌, ◌++◌, length, Option, None, Some, IsTrue}
-use Rattle.std.specs.List.{All}
+use Rattle.std.specs.Prelude.{◌≡◌, ℕ, ◌+◌, true, not, ◌&&◌, ◌==◌, nat_lt, List}
+use Rattle.std.specs.Prelude.{◌∷◌, ◌++◌, length, Option, None, Some, IsTrue}
 use Rattle.std.specs.FinSet as set
 use Rattle.pair_set.specs.Pairs.{Pairs}
 use Rattle.constraint_forms.specs.Assign.{no_users, no_steps}
@@ -9,7 +8,6 @@ use Rattle.refutation_tree.specs.Views.{shape_of}
 use Rattle.refutation_tree.specs.declared.tree.Tree.{Tree}
 use Rattle.policy_book.specs.Shapes.{PolicyShape}
 use Rattle.policy_book.specs.Policies.{problem_of, with_roster}
-use Rattle.policy_book.specs.Plans.{IsValidPlan}
 use Rattle.policy_book.specs.Refuting.{refutes}
 use Rattle.resilience_check.specs.Left.{AreUsersInOrder, is_less, problem_without}
 use Rattle.resilience_check.specs.Covering.{AreValidPlans, leaves_some}

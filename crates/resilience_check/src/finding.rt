@@ -1,7 +1,9 @@
 //! The search for the least absence that leaves no valid plan.
 ghost use Rattle.std.specs.Prelude.{◌≡◌, ◌+◌, ◌<◌, ◌≤◌, ◌^◌, ◌∷◌, ◌++◌, [], ℕ, true, false, length};
 ghost use Rattle.std.specs.Prelude.{None, Some, IfOk, OnOk};
-ghost use Rattle.resilience_check.specs.Left.{AreUsers};
+ghost use Rattle.constraint_forms.specs.Assign.{no_steps, no_users};
+ghost use Rattle.wsp_solver.specs.Searches.{HasSolved};
+ghost use Rattle.resilience_check.specs.Left.{AreUsers, problem_without};
 ghost use Rattle.policy_book.specs.Policies.{problem_of};
 ghost use Rattle.resilience_check.specs.Covering.{AreValidPlans};
 ghost use Rattle.resilience_check.specs.Searches.{HasTriedAbsences, HasTriedOne, HasTriedWith};
@@ -96,12 +98,26 @@ fn try_absence(
     requires family { AreValidPlans (problem_of p.now f) family.old }
     ensures { IfOk result (HasTriedOne p.now f family.old absent.now family.new) }
 {
-    let left = without(p, absent)?;
-    match solve(alloc, &left, f, &Assign::empty(), &StepSet::empty())? {
+    match solve_without(alloc, p, f, absent)? {
         Outcome::Plan(plan) => {
             family.push(plan)?;
             Ok(None)
         }
         Outcome::Refuted(tree) => Ok(Some(tree)),
     }
+}
+
+// What a search finds without some users.
+fn solve_without(
+    alloc: Global,
+    p: &Policy,
+    f: FlowId,
+    absent: &Absent,
+) -> Result<Outcome, AllocError>
+    requires flow { f < length p.now.flows }
+    requires users { AreUsers (length p.now.roster.users) absent.now }
+    ensures { IfOk result (HasSolved (problem_without p.now f absent.now) no_users no_steps) }
+{
+    let left = without(p, absent)?;
+    solve(alloc, &left, f, &Assign::empty(), &StepSet::empty())
 }

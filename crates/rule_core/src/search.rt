@@ -1,10 +1,12 @@
 //! The rules that cannot be met together, by leaving out one after the other.
-ghost use Rattle.std.specs.Prelude.{◌≡◌, ◌<◌, length, IfOk};
+ghost use Rattle.std.specs.Prelude.{◌≡◌, ◌<◌, ◌≤◌, length, IfOk};
+ghost use Rattle.wf_names.specs.declared.limits.TheConstants.{RULE_LIMIT};
 ghost use Rattle.policy_book.specs.Plans.{AreAssigned, IsWithin};
 ghost use Rattle.policy_book.specs.Policies.{problem_of};
-ghost use Rattle.rule_core.specs.Search.{AreAscending, IsCore, IsBlocked};
+ghost use Rattle.rule_core.specs.Search.{AreAscending, IsCore, IsBlocked, problem_with};
 ghost use Rattle.rule_core.specs.Trials.{HasTried, HasStarted};
 ghost use Rattle.rule_core.specs.Whys.{IsWhy};
+ghost use Rattle.wsp_solver.specs.Searches.{HasSolved};
 
 use crate::crowd::StepList;
 use crate::fewer::{RuleList, with_rules};
@@ -154,12 +156,31 @@ fn tried(
     }
     let _ = p.rules(f);
     let fewer = without(alloc, &numbers, k)?;
-    let left = with_rules(alloc, p, f, &fewer)?;
-    match solve(alloc, &left, FlowId(0), a, done)? {
+    match solve_with(alloc, p, f, a, done, &fewer)? {
         Outcome::Plan(_) => Ok(numbers),
         Outcome::Refuted(tree) => {
             let used = used(alloc, &fewer, &tree)?;
             Ok(used)
         }
     }
+}
+
+// What a search finds under the rules of these numbers alone.
+fn solve_with(
+    alloc: Global,
+    p: &Policy,
+    f: FlowId,
+    a: &Assign,
+    done: &StepSet,
+    numbers: &RuleList,
+) -> Result<Outcome, AllocError>
+    requires flow { f < length p.now.flows }
+    requires within { IsWithin (problem_of p.now f) a.now }
+    requires assigned { AreAssigned done.now a.now }
+    requires few { length numbers.now ≤ RULE_LIMIT }
+    ensures { IfOk result (HasSolved (problem_with (problem_of p.now f) numbers.now)
+        a.now done.now) }
+{
+    let left = with_rules(alloc, p, f, numbers)?;
+    solve(alloc, &left, FlowId(0), a, done)
 }

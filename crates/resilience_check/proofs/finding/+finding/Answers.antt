@@ -1,4 +1,4 @@
-use Rattle.std.proofs.Common.{◌≡◌, ◌<◌, ◌-◌, ◌+◌, ◌∙◌, ℕ, List, length, true, not, refl, sym, ap, subst, arith, Option}
+use Rattle.std.proofs.Common.{◌≡◌, ◌<◌, ◌-◌, ◌+◌, ◌∙◌, ℕ, List, length, not, refl, sym, ap, subst, arith, Option}
 use Rattle.refutation_tree.specs.declared.tree.Tree.{Tree}
 use Rattle.resilience_check.specs.Left.{AreUsers}
 use Rattle.resilience_check.specs.Lists.{Withstands}

@@ -1,4 +1,4 @@
-use Rattle.std.proofs.Common.{◌≡◌, ℕ, ◌+◌, ◌-◌, ◌*◌, ◌<◌, ◌≤◌, List, ◌∷◌, ◌++◌, true, length}
+use Rattle.std.proofs.Common.{◌≡◌, ℕ, ◌+◌, ◌*◌, ◌<◌, ◌≤◌, List, ◌∷◌, ◌++◌, true, length}
 use Rattle.resilience_check.specs.Left.{AreUsersInOrder}
 use Rattle.resilience_check.specs.Covering.{leaves_some}
 use Rattle.resilience_check.specs.Searches.{FamilyGrows}

@@ -1,4 +1,4 @@
-use Rattle.std.proofs.Common.{ℕ, List, length, true, refl, subst, arith, Option}
+use Rattle.std.proofs.Common.{ℕ, List, length, refl, subst, arith, Option}
 use Rattle.std.proofs.lemmas.Bool.{false≢true}
 use Rattle.policy_book.specs.Policies.{problem_of}
 use Rattle.refutation_tree.specs.declared.tree.Tree.{Tree}

@@ -1,4 +1,4 @@
-use Rattle.std.proofs.Common.{◌≡◌, ℕ, List, Option, IfSome, subst}
+use Rattle.std.proofs.Common.{ℕ, List, Option, IfSome, subst}
 use Rattle.policy_book.specs.Policies.{problem_of}
 use Rattle.rule_core.specs.Crowds.{IsCrowd}
 use Rattle.rule_core.proofs.Crowding.{crowds_block}
