@@ -1,7 +1,8 @@
 -- What a policy says.
-use Rattle.std.specs.Prelude.{ℕ, zero, suc, Bool, false, ◌&&◌, ◌||◌, [], length, slice_index_or}
-use Rattle.std.specs.Prelude.{slice_set}
+use Rattle.std.specs.Prelude.{◌≡◌, ℕ, zero, suc, Bool, false, ◌&&◌, ◌||◌, List, [], length, is_some}
+use Rattle.std.specs.Prelude.{slice_index_or, slice_set}
 use Rattle.std.specs.FinSet as set
+use Rattle.wf_names.specs.Table.{place_of}
 use Rattle.rbac_state.specs.Rosters.{RosterShape, has_role}
 use Rattle.user_relations.specs.Relations.{is_related, with_kind, listed}
 use Rattle.pair_set.specs.Pairs.{Pairs}
@@ -20,6 +21,11 @@ no_workflow = record {
 -- the workflow with a number
 abbrev pub flow_at : PolicyShape → ℕ → WorkflowShape
 flow_at p f = slice_index_or p.flows f no_workflow
+
+-- a workflow that is added under this name gets this number: the next, and no other has the name
+pub record IsNextFlow (p : PolicyShape) (name : List ℕ) (f : ℕ) : Type 0 where
+  pub place : f ≡ length p.flows
+  pub fresh : is_some (place_of p.flow_names name) ≡ false
 
 -- some number below n passes
 abbrev pub any_below : ℕ → (ℕ → Bool) → Bool

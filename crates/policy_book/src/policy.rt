@@ -10,7 +10,7 @@ ghost use Rattle.wf_names.specs.UserSets.{has_user};
 ghost use Rattle.user_relations.specs.Relations.{pairs_of};
 ghost use Rattle.user_relations.specs.Kinds.{AnswersFault, relate_fault, unrelate_fault};
 ghost use Rattle.policy_book.specs.Policies.{flow_at, is_authorised, problem_of, with_roster};
-ghost use Rattle.policy_book.specs.Policies.{with_pairs, with_permits, with_flow};
+ghost use Rattle.policy_book.specs.Policies.{IsNextFlow, with_pairs, with_permits, with_flow};
 ghost use Rattle.policy_book.specs.Plans.{IsWellFormed};
 ghost use Rattle.policy_book.specs.Refuting.{is_unassigned};
 ghost use Rattle.policy_book.specs.Candidates.{is_candidate};
@@ -101,12 +101,11 @@ impl Policy {
         requires few { length rules ≤ RULE_LIMIT }
         requires ruled { AreSoundRules (length flow.steps) (length self.old.relations) rules }
 
-        ensures place { IfOk result (λ f. f ≡ length self.old.flows) }
+        ensures place { IfOk result (IsNextFlow self.old name) }
         ensures added { OnOk result (self.new ≡ record self.old {
           flow_names = self.old.flow_names ++ name ∷ [];
           flows = self.old.flows ++ record { flow = flow; rules = rules; retired = false } ∷ [];
         }) }
-        ensures fresh { OnOk result (is_some (place_of self.old.flow_names name) ≡ false) }
 
         ensures twice { IsErrOf result NameFault.Twice
             ↔ (is_some (place_of self.old.flow_names name) ≡ true) }

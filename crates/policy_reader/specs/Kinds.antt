@@ -1,6 +1,6 @@
 -- Inside: what is true of the relations as they are read.
-use Rattle.std.specs.Prelude.{◌≡◌, ℕ, ◌+◌, ◌<◌, ◌≤◌, Bool, true, false, List, [], ◌∷◌, length}
-use Rattle.std.specs.Prelude.{nat_eq, if◌then◌else◌, Some}
+use Rattle.std.specs.Prelude.{◌≡◌, ℕ, ◌+◌, ◌<◌, ◌≤◌, Bool, true, false, List, [], ◌∷◌, ◌++◌}
+use Rattle.std.specs.Prelude.{length, nat_eq, if◌then◌else◌, Some}
 use Rattle.std.specs.List.{IsDistinct}
 use Rattle.std.specs.Cmp.Lexicographic.{pointwise}
 use Rattle.std.specs.FinSet as set
@@ -9,7 +9,7 @@ use Rattle.user_relations.specs.Relations.{RelationKind, listed, complement, Rel
 use Rattle.user_relations.specs.Relations.{known_names}
 use Rattle.wf_names.specs.declared.limits.TheConstants.{PAIR_LIMIT}
 use Rattle.policy_reader.specs.Bounds.{AreBelow}
-use Rattle.policy_reader.specs.Relations.{first_declared, is_complement}
+use Rattle.policy_reader.specs.Relations.{first_declared, is_complement, names_of}
 
 -- the value of the entry with number m is that of a complement, where the entries are numbered from
 -- n
@@ -36,3 +36,9 @@ pub record AreReadRelations (users : ℕ) (all : List (List ℕ × Data))
   pub names : IsDistinct (pointwise nat_eq) (known_names relations)
   pub kinds : (rho : ℕ) (kind : RelationKind) → kind_of relations rho ≡ Some kind →
       IsReadKind users all (is_marked first_declared all rho) kind
+
+-- one relation more was read, of this name
+pub record HasReadNext (users : ℕ) (all : List (List ℕ × Data))
+    (before after : List RelationShape) (name : List ℕ) : Type 0 where
+  pub names : names_of after ≡ names_of before ++ name ∷ []
+  pub kept : AreReadRelations users all after

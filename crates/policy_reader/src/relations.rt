@@ -11,6 +11,7 @@ ghost use Rattle.user_relations.specs.Relations.{listed, complement};
 ghost use Rattle.policy_book.specs.Facts.{AreOfUsers};
 ghost use Rattle.policy_reader.specs.Bounds.{AreBelow};
 ghost use Rattle.policy_reader.specs.Kinds.{is_marked, IsTarget, IsReadKind, AreReadRelations};
+ghost use Rattle.policy_reader.specs.Kinds.{HasReadNext};
 ghost use Rattle.policy_reader.specs.Printable.{Ascend};
 ghost use Rattle.user_relations.specs.Soundness.{AreSoundRelations};
 ghost use Rattle.user_relations.specs.View.{kind_view, shapes};
@@ -216,10 +217,9 @@ fn next_relation(
     ensures read { Gives fault_of (λ _. shapes relations.new.items) result
         (spec.next_relation users.now.names (table_view all.now) (shapes relations.old.items)
         (key.now, view value.now)) }
-    ensures names { OnOk result (names_of (shapes relations.new.items)
-        ≡ names_of (shapes relations.old.items) ++ key.now ∷ []) }
-    ensures kept { OnOk result (AreReadRelations (length users.now.names)
-        (entries (table_view all.now)) (shapes relations.new.items)) }
+    ensures next { OnOk result (HasReadNext (length users.now.names)
+        (entries (table_view all.now)) (shapes relations.old.items)
+        (shapes relations.new.items) key.now) }
 {
     let number = relations.len() as u32 + 2;
     let name = free_name(key, number)?;

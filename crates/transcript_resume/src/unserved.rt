@@ -4,7 +4,7 @@ ghost use Rattle.wf_names.specs.declared.limits.TheConstants.{BATCH_LINE_LIMIT, 
 ghost use Rattle.line_cutter.specs.Laws.{LeadTo};
 ghost use Rattle.wf_desk.specs.Desks.{AnswersPart};
 ghost use Rattle.wf_desk.specs.Parts.{FillsPart};
-ghost use Rattle.transcript_resume.specs.Unserved.{end_at, jobs_between, start_at};
+ghost use Rattle.transcript_resume.specs.Unserved.{HasStoppedIn, end_at, jobs_between, start_at};
 
 use line_cutter::Batch;
 use std::alloc::{AllocError, Global};
@@ -28,11 +28,8 @@ pub fn rest(alloc: Global, batch: &Batch, journal: &Journal) -> Result<Unserved,
     requires few { length batch.now.jobs ≤ SESSION_LINE_LIMIT }
     requires ends { LeadTo 0 batch.now.ends (length batch.now.jobs) }
     requires part { FillsPart journal.now.entries batch.now.jobs batch.now.ends }
-    ensures from { IfOk result (λ u. u.from
-        ≡ start_at 0 (length journal.now.entries) batch.now.ends) }
-    ensures next { IfOk result (λ u. u.next ≡ end_at (length journal.now.entries) batch.now.ends) }
-    ensures jobs { IfOk result (λ u. u.jobs ≡ jobs_between u.from u.next batch.now.jobs) }
-    ensures earlier { IfOk result (λ u. u.earlier ≡ take u.from batch.now.jobs) }
+    ensures stopped { IfOk result
+        (HasStoppedIn batch.now.jobs batch.now.ends (length journal.now.entries)) }
     ensures answers { IfOk result (λ u. AnswersPart journal.now.entries u.from u.jobs) }
     ensures short { IfOk result (λ u. length u.jobs ≤ BATCH_LINE_LIMIT) }
 {

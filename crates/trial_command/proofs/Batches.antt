@@ -11,7 +11,7 @@ use Rattle.wf_board.specs.Histories.{AreAnsweredOnce, FillsJobs, batch_end, batc
 use Rattle.wf_board.proofs.HistoryLaws.{once_all}
 use Rattle.wf_desk.specs.BatchLaws.{AnswersBatch, EndAt}
 use Rattle.wf_desk.proofs.BatchLaws.{batch_fills, end_before, end_last, start_before}
-use Rattle.wf_desk.specs.Desks.{AreOfLanes, DeskShape, IsDone, IsSoundDesk, with_batch, with_room}
+use Rattle.wf_desk.specs.Desks.{AreOfLanes, DeskShape, IsDone, IsSoundDesk, with_batch_from, with_room}
 use Rattle.wf_desk.proofs.DocketLaws.{batch_done}
 use Rattle.wf_desk.proofs.Ends.{end_more}
 use Rattle.wf_lanes.specs.Turns.{AreByTurns, HasServedByTurns}
@@ -20,11 +20,12 @@ use Rattle.trial_command.specs.Run.{AreBatchesByTurns, batch_entries}
 use Rattle.trial_command.specs.Serving.{HasServedAll, HasServedBatch}
 
 -- a batch that was loaded and served by turns
-pub batch_served : (old loaded d : DeskShape) (batch : List Job) (spare cases : ℕ) → loaded ≡ with_room (with_batch old batch) spare cases
+pub batch_served : (old loaded d : DeskShape) (batch : List Job) (spare cases : ℕ) →
+    loaded ≡ with_room (with_batch_from old batch (length old.entries)) spare cases
     → HasServedByTurns loaded d → IsDone d → IsSoundDesk d → HasServedBatch old d batch
 batch_served old loaded d batch spare cases is by_turns done sound = at (subst (λ x. HasServedByTurns x d) is by_turns)
   where
-    at : HasServedByTurns (with_room (with_batch old batch) spare cases) d → HasServedBatch old d batch
+    at : HasServedByTurns (with_room (with_batch_from old batch (length old.entries)) spare cases) d → HasServedBatch old d batch
     at by_turns =
         let on = by_turns.on in
         let new = on.grown.more in

@@ -1,10 +1,12 @@
 -- The relations between users, as contracts see them.
-use Rattle.std.specs.Prelude.{◌≡◌, ℕ, Bool, true, false, not, ◌==◌, List, [], ◌∷◌, map, codes, refl}
-use Rattle.std.specs.Prelude.{Option, Some, None, option_map, slice_get}
+use Rattle.std.specs.Prelude.{◌≡◌, ℕ, ◌<◌, Bool, true, false, not, ◌==◌, List, [], ◌∷◌, length, map}
+use Rattle.std.specs.Prelude.{codes, refl, Option, Some, None, is_some, option_map, slice_get}
 use Rattle.std.proofs.Common.{zero, suc, ◌⊎◌, inl, inr}
 use Rattle.std.specs.Coded.{Coded, code_by, coded×, coded⊎, coded_list, coded_ℕ}
 use Rattle.std.specs.FinSet as set
 use Rattle.pair_set.specs.Pairs.{Pairs, pairs_code}
+use Rattle.wf_names.specs.declared.limits.TheConstants.{RELATION_LIMIT}
+use Rattle.wf_names.specs.Table.{place_of}
 
 -- a relation that is declared: its pairs are listed, or it holds where the listed relation with
 -- this number does not
@@ -91,6 +93,11 @@ is_related relations (suc (suc n)) u v = kind_holds relations (kind_of relations
 -- the names of all relations by their numbers
 abbrev pub known_names : List RelationShape → List (List ℕ)
 known_names relations = codes "same" ∷ codes "other" ∷ map (λ r. r.name) relations
+
+-- no relation has this name, and there is room for one more
+pub record CanDeclare (relations : List RelationShape) (name : List ℕ) : Type 0 where
+  pub fresh : is_some (place_of (known_names relations) name) ≡ false
+  pub room : length relations < RELATION_LIMIT
 
 -- the relations with another kind at this number
 abbrev pub change_kind : List RelationShape → ℕ → RelationKind → List RelationShape

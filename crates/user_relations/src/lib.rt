@@ -13,7 +13,7 @@ ghost use Rattle.wf_names.specs.Table.{place_of};
 ghost use Rattle.wf_names.specs.UserSets.{has_user};
 ghost use Rattle.user_relations.specs.Relations.{RelationShape, listed, complement, kind_of};
 ghost use Rattle.user_relations.specs.Relations.{pairs_of, is_listed, complement_of, is_related};
-ghost use Rattle.user_relations.specs.Relations.{known_names, with_kind};
+ghost use Rattle.user_relations.specs.Relations.{CanDeclare, known_names, with_kind};
 ghost use Rattle.user_relations.specs.Soundness.{AreSoundRelations};
 ghost use Rattle.user_relations.specs.View.{shapes};
 ghost use Rattle.user_relations.specs.Kinds.{relate_fault, unrelate_fault, AnswersFault};
@@ -90,8 +90,7 @@ impl Relations {
         ensures number { IfOk result (λ rho. rho ≡ length self.old + 2) }
         ensures added { OnOk result (self.new
             ≡ self.old ++ (record { name = name; kind = listed set.empty }) ∷ []) }
-        ensures fresh { OnOk result (is_some (place_of (known_names self.old) name) ≡ false) }
-        ensures room { OnOk result (length self.old < RELATION_LIMIT) }
+        ensures free { OnOk result (CanDeclare self.old name) }
 
         ensures twice { IsErrOf result NameFault.Twice
             ↔ (is_some (place_of (known_names self.old) name) ≡ true) }
@@ -130,8 +129,7 @@ impl Relations {
         ensures number { IfOk result (λ rho. rho ≡ length self.old + 2) }
         ensures added { OnOk result (self.new
             ≡ self.old ++ (record { name = name; kind = listed pairs }) ∷ []) }
-        ensures fresh { OnOk result (is_some (place_of (known_names self.old) name) ≡ false) }
-        ensures room { OnOk result (length self.old < RELATION_LIMIT) }
+        ensures free { OnOk result (CanDeclare self.old name) }
 
         ensures twice { IsErrOf result NameFault.Twice
             ↔ (is_some (place_of (known_names self.old) name) ≡ true) }

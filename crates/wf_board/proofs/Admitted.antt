@@ -9,7 +9,8 @@ use Rattle.wf_board.specs.declared.admit.AdmitFault.{AdmitFault}
 use Rattle.wf_board.specs.declared.admit.AdmitFault.TheVariants.{NotStep, NoMemory}
 use Rattle.wf_board.specs.declared.verdict.Verdict.{Verdict}
 use Rattle.wf_board.specs.declared.verdict.Verdict.TheVariants as verdict
-use Rattle.wf_board.specs.Admission.{HasAdmitted, HasAdmittedStep, HasTakenReply}
+use Rattle.wf_board.specs.Admission.{HasAdmitted}
+use Rattle.wf_board.specs.Admit.{HasAdmittedStep, HasTakenReply}
 use Rattle.wf_board.specs.Boards.{BoardShape, EditionShape, book_of, state_on}
 use Rattle.wf_board.specs.Decisions.{decision_of}
 use Rattle.wf_board.specs.Taking.{HasTakenStep, board_of}

@@ -1,8 +1,7 @@
 -- Inside: how a board takes a reply over its policy and its table of cases.
-use Rattle.std.specs.Prelude.{◌≡◌, ℕ, ◌+◌, ◌≤◌, Bool, false, true, Result, Ok, Err}
+use Rattle.std.specs.Prelude.{◌≡◌, ℕ, Bool, false, true, Result, Ok, Err}
 use Rattle.policy_book.specs.Shapes.{PolicyShape}
 use Rattle.grant_table.specs.Cases.{CasesShape}
-use Rattle.wf_talk.specs.declared.request.Ask.{Ask}
 use Rattle.wf_talk.specs.declared.reply.Reply.{Reply}
 use Rattle.wf_talk.specs.declared.reply.Denial.{Denial}
 use Rattle.wf_talk.specs.declared.reply.Denial.TheVariants as denial
@@ -14,10 +13,8 @@ use Rattle.wf_board.specs.declared.verdict.Verdict.{Verdict}
 use Rattle.wf_board.specs.declared.verdict.Verdict.TheVariants as verdict
 use Rattle.wf_board.specs.Admit.{MayLackMemoryFor}
 use Rattle.wf_board.specs.States.{Book}
-use Rattle.wf_board.specs.Boards.{BoardShape, state_on}
-use Rattle.wf_board.specs.Decisions.{decision_of}
-use Rattle.wf_board.specs.KeptPlans.{KeepsPlans}
-use Rattle.wf_board.specs.Steps.{Answers, IsStep, room_taken, state_after_step}
+use Rattle.wf_board.specs.Boards.{state_on}
+use Rattle.wf_board.specs.Steps.{Answers}
 use Rattle.wf_board.specs.Taking.{board_of, HasTakenStep}
 use Rattle.wf_board.specs.Verdicts.{IsStrandingFor, IsViewFor}
 
@@ -59,20 +56,3 @@ IsVerdictFor b (deed.Work u) v = ⊥
 IsVerdictFor b (deed.WhatIf a) (verdict.View v) = IsViewFor b (Ok (deed.WhatIf a)) v
 IsVerdictFor b (deed.WhatIf a) v = ⊥
 IsVerdictFor b given v = Unit {0}
-
--- a board has taken the step of a reply, with a verdict
-pub record HasTakenReply (before after : BoardShape) (what : Ask) (v : Verdict)
-    (given : Reply) : Type 0 where
-  pub step : IsStep (state_on before) what given
-  pub next : state_on after ≡ state_after_step (state_on before) what given
-  pub plans : KeepsPlans before after what v given
-  pub spare : before.cases.spare ≤ after.cases.spare + room_taken given
-
--- it has, or it has not changed
-abbrev pub HasAdmittedStep : BoardShape → BoardShape → Ask → Verdict → Reply →
-    Result (Unit {0}) AdmitFault → Type 0
-HasAdmittedStep before after what v given (Ok done) = HasTakenReply before after what v given
-HasAdmittedStep before after what v given (Err NotStep) = (after ≡ before) ×
-    (¬ IsStep (state_on before) what given)
-HasAdmittedStep before after what v given (Err NoMemory) =
-    (after ≡ before) × MayLackMemoryFor before.cases.spare (decision_of (state_on before).book what)

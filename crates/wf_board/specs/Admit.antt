@@ -1,16 +1,21 @@
 -- Taking the step of a reply that somebody else gave.
-use Rattle.std.specs.Prelude.{◌≡◌, ◌≢◌, ℕ, Bool, true, false, Result, Ok}
+use Rattle.std.specs.Prelude.{◌≡◌, ◌≢◌, ℕ, ◌+◌, ◌≤◌, Bool, true, false, Result, Ok, Err}
 use Rattle.std.proofs.Common.{◌⊎◌}
 use Rattle.wf_talk.specs.declared.request.Ask.{Ask}
 use Rattle.wf_talk.specs.declared.reply.Reply.{Reply}
 use Rattle.wf_talk.specs.declared.reply.Reply.TheVariants as reply
 use Rattle.wf_talk.specs.declared.reply.Denial.{Denial}
+use Rattle.wf_board.specs.declared.admit.AdmitFault.{AdmitFault}
+use Rattle.wf_board.specs.declared.admit.AdmitFault.TheVariants.{NotStep, NoMemory}
 use Rattle.wf_board.specs.declared.deed.Deed.{Deed}
 use Rattle.wf_board.specs.declared.deed.Deed.TheVariants as deed
 use Rattle.wf_board.specs.declared.verdict.Verdict.{Verdict}
 use Rattle.wf_board.specs.declared.verdict.Verdict.TheVariants as verdict
 use Rattle.wf_board.specs.States.{State}
+use Rattle.wf_board.specs.Boards.{BoardShape, state_on}
 use Rattle.wf_board.specs.Decisions.{decision_of, takes_memory}
+use Rattle.wf_board.specs.KeptPlans.{KeepsPlans}
+use Rattle.wf_board.specs.Steps.{IsStep, room_taken, state_after_step}
 use Rattle.wf_board.specs.Verdicts.{is_opening, is_want}
 
 -- an edit against which there is no cause
@@ -37,3 +42,21 @@ HasVerdict s what given v =
 abbrev pub MayLackMemoryFor : ℕ → Result Deed Denial → Type 0
 MayLackMemoryFor spare r =
     (takes_memory r ≡ true) ⊎ (((is_opening r ≡ true) × (spare ≡ 0)) ⊎ (is_edit_left r ≡ true))
+
+-- a board has taken the step of a reply, with a verdict
+pub record HasTakenReply (before after : BoardShape) (what : Ask) (v : Verdict)
+    (given : Reply) : Type 0 where
+  pub step : IsStep (state_on before) what given
+  pub next : state_on after ≡ state_after_step (state_on before) what given
+  pub plans : KeepsPlans before after what v given
+  pub spare : before.cases.spare ≤ after.cases.spare + room_taken given
+
+-- a board has taken the step of a reply; or the reply is no step, or there was no memory, and
+-- nothing has changed
+abbrev pub HasAdmittedStep : BoardShape → BoardShape → Ask → Verdict → Reply →
+    Result (Unit {0}) AdmitFault → Type 0
+HasAdmittedStep before after what v given (Ok done) = HasTakenReply before after what v given
+HasAdmittedStep before after what v given (Err NotStep) = (after ≡ before) ×
+    (¬ IsStep (state_on before) what given)
+HasAdmittedStep before after what v given (Err NoMemory) =
+    (after ≡ before) × MayLackMemoryFor before.cases.spare (decision_of (state_on before).book what)

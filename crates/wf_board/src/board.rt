@@ -1,9 +1,8 @@
 //! The board: a policy and its cases.
 ghost use Rattle.std.specs.Prelude.{◌≡◌, ◌≢◌, ◌<◌, ◌≤◌, ◌+◌, ◌↔◌, map, false, true, IfOk, IfSome};
-ghost use Rattle.std.specs.Prelude.{IsErrOf, Ok, OnErr, OnOk, Some};
+ghost use Rattle.std.specs.Prelude.{Ok, OnErr, OnOk, Some};
 ghost use Rattle.std.specs.Arc.{arc_value};
-ghost use Rattle.wf_board.specs.Admission.{HasAdmittedStep};
-ghost use Rattle.wf_board.specs.Admit.{HasVerdict, MayLackMemoryFor};
+ghost use Rattle.wf_board.specs.Admit.{HasAdmittedStep, HasVerdict};
 ghost use Rattle.wf_board.specs.Boards.{book_of, state_on};
 ghost use Rattle.wf_board.specs.Decisions.{decision_aside, decision_of, needs_plan, needs_verdict};
 ghost use Rattle.wf_board.specs.Deeds.{answered_of, is_over_open, FitsDeed, HasSettled};
@@ -12,7 +11,7 @@ ghost use Rattle.wf_board.specs.Found.{IsAllowed, IsFound};
 ghost use Rattle.wf_board.specs.KeptPlans.{kept_plans, KeepsPlans, KeepsPlansBy};
 ghost use Rattle.wf_board.specs.Kept.{AreNumbered, ArePlanned, IsSoundState, KeepsCompletable};
 ghost use Rattle.wf_board.specs.States.{opening_state};
-ghost use Rattle.wf_board.specs.Steps.{room_taken, state_after_step, IsStep};
+ghost use Rattle.wf_board.specs.Steps.{room_taken, state_after_step};
 ghost use Rattle.wf_board.specs.Taking.{keeps_policy, KeepsAll};
 ghost use Rattle.wf_board.specs.Verdicts.{has_shown_large, HasAnswered, IsCertified, IsDecided};
 ghost use Rattle.wf_board.specs.Verdicts.{IsEditionFor, IsPlanFor, IsRight, MayLackMemory};
@@ -132,17 +131,7 @@ impl Board {
         requires right { IsRight (state_on self.old).book ask.now verdict }
         requires few { self.old.edits < 4294967295 }
         requires verdict { HasVerdict (state_on self.old) ask.now reply.now verdict }
-        ensures step { OnOk result (IsStep (state_on self.old) ask.now reply.now) }
-        ensures next { OnOk result
-            (state_on self.new ≡ state_after_step (state_on self.old) ask.now reply.now) }
-        ensures plans { OnOk result (KeepsPlans self.old self.new ask.now verdict reply.now) }
-        ensures none { IsErrOf result AdmitFault.NotStep
-            → ¬ IsStep (state_on self.old) ask.now reply.now }
-        ensures memory { IsErrOf result AdmitFault.NoMemory
-            → MayLackMemoryFor self.old.cases.spare (decision_of (state_on self.old).book ask.now) }
-        ensures spare { OnOk result
-            (self.old.cases.spare ≤ self.new.cases.spare + room_taken reply.now) }
-        ensures unchanged { OnErr result (self.new ≡ self.old) }
+        ensures { HasAdmittedStep self.old self.new ask.now verdict reply.now result }
     {
         match verdict {
             Verdict::Edited(edition) => self.admit_edit(ask, reply, edition),

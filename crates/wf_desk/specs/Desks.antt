@@ -1,6 +1,8 @@
 -- The desk: one history, the state after it, and the jobs of a batch.
 use Rattle.std.specs.Prelude.{◌≡◌, ℕ, ◌+◌, ◌-◌, ◌≤◌, List, [], ◌∷◌, ◌++◌, length, take, drop, map}
 use Rattle.std.specs.Prelude.{replicate, slice_get, slice_index_or, slice_set, Option, None}
+use Rattle.std.specs.Prelude.{OnErr, OnOk, Result}
+use Rattle.std.specs.declared.alloc.AllocError.{AllocError}
 use Rattle.wf_names.specs.declared.limits.TheConstants.{LANE_LIMIT}
 use Rattle.policy_book.specs.Shapes.{PolicyShape}
 use Rattle.wf_talk.specs.declared.entry.Entry.{Entry}
@@ -92,15 +94,6 @@ pub record HasRoomFor (n : ℕ) (d : DeskShape) : Type 0 where
   pub entries : n ≤ d.spare
   pub cases : n ≤ d.board.cases.spare
 
--- with the jobs of another batch, behind all that were given before
-abbrev pub with_batch : DeskShape → List Job → DeskShape
-with_batch d jobs = record d {
-  earlier = jobs_told d;
-  jobs = jobs;
-  start = length d.entries;
-  losses = replicate LANE_LIMIT no_loss;
-}
-
 -- the first n entries aside, those of a batch answer its first jobs lane by lane, and what is
 -- answered again rests on them
 pub record AnswersPart (entries : List Entry) (n : ℕ) (jobs : List Job) : Type 0 where
@@ -117,6 +110,17 @@ with_batch_from d jobs n = record d {
   start = n;
   losses = replicate LANE_LIMIT no_loss;
 }
+
+-- the jobs of a batch whose entries begin at a place are taken, with room for as many entries and
+-- cases; without memory nothing but the room changes; and there is no less room than before
+pub record HasTakenBatch (before after : DeskShape) (jobs : List Job) (from : ℕ)
+    (result : Result (Unit {0}) AllocError) : Type 0 where
+  pub loaded : OnOk result (after
+      ≡ with_room (with_batch_from before jobs from) after.spare after.board.cases.spare)
+  pub unchanged : OnErr result (after ≡ with_room before after.spare after.board.cases.spare)
+  pub kept : before.spare ≤ after.spare
+  pub room : before.board.cases.spare ≤ after.board.cases.spare
+  pub whole : OnOk result (HasRoomFor (length jobs) after)
 
 -- a desk before its first job, with these entries, the board after them, and room for `spare` more
 abbrev pub desk_with : PolicyShape → ℕ → ℕ → BoardShape → List Entry → ℕ → DeskShape

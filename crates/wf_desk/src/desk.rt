@@ -11,9 +11,9 @@ ghost use Rattle.wf_board.specs.Found.{IsFound};
 ghost use Rattle.wf_board.specs.Verdicts.{Decides, IsDecided, IsPlanFor, IsRight};
 ghost use Rattle.std.specs.Arc.{arc_value};
 ghost use Rattle.wf_board.specs.Histories.{IsLegal, state_after};
-ghost use Rattle.wf_desk.specs.Desks.{AnswersPart, AreOfLanes, HasAdded, HasRoomFor, IsDone};
+ghost use Rattle.wf_desk.specs.Desks.{AnswersPart, AreOfLanes, HasAdded, HasTakenBatch, IsDone};
 ghost use Rattle.wf_desk.specs.Desks.{IsSoundDesk, desk_with, jobs_told, left_of, next_job};
-ghost use Rattle.wf_desk.specs.Desks.{no_loss, with_batch, with_batch_from, with_room};
+ghost use Rattle.wf_desk.specs.Desks.{no_loss};
 ghost use Rattle.wf_desk.specs.Commits.{HasCommitted, HasCommittedChecked, HasServed, HasTakenUp};
 ghost use Rattle.wf_desk.specs.Commits.{IsAgain, IsNext, IsRightFor, IsTask, floor_of, is_change};
 ghost use Rattle.wf_desk.specs.Commits.{is_fresh, is_fresh_or_change, is_last_round, is_lost};
@@ -107,14 +107,8 @@ impl Desk {
         requires some { 0 < lanes }
         requires lanes { lanes ≤ LANE_LIMIT }
         requires rounds { rounds ≤ ROUND_LIMIT }
-        ensures opening { IfOk result (λ d. d.opening ≡ policy) }
-        ensures lanes { IfOk result (λ d. d.lanes ≡ lanes) }
-        ensures rounds { IfOk result (λ d. d.rounds ≡ rounds) }
-        ensures entries { IfOk result (λ d. d.entries ≡ []) }
-        ensures earlier { IfOk result (λ d. d.earlier ≡ []) }
-        ensures jobs { IfOk result (λ d. d.jobs ≡ []) }
-        ensures start { IfOk result (λ d. d.start ≡ 0) }
-        ensures restored { IfOk result (λ d. d.restored ≡ 0) }
+        ensures begins { IfOk result (λ d. d
+            ≡ desk_with policy lanes rounds d.board [] d.spare) }
         ensures state { IfOk result (λ d. state_on d.board ≡ opening_state policy) }
     {
         let opening = Arc::new(alloc, policy)?;
@@ -194,13 +188,7 @@ impl Desk {
         requires few { length jobs.now ≤ BATCH_LINE_LIMIT }
         requires lanes { AreOfLanes self.old.lanes jobs.now }
         requires small { length self.old.entries + length jobs.now < 4294967296 }
-        ensures loaded { OnOk result (self.new
-            ≡ with_room (with_batch self.old jobs.now) self.new.spare self.new.board.cases.spare) }
-        ensures unchanged { OnErr result (self.new
-            ≡ with_room self.old self.new.spare self.new.board.cases.spare) }
-        ensures kept { self.old.spare ≤ self.new.spare }
-        ensures room { self.old.board.cases.spare ≤ self.new.board.cases.spare }
-        ensures whole { OnOk result (HasRoomFor (length jobs.now) self.new) }
+        ensures { HasTakenBatch self.old self.new jobs.now (length self.old.entries) result }
     {
         let start = self.number();
         self.resume_batch(alloc, jobs, start)
@@ -214,14 +202,7 @@ impl Desk {
         requires lanes { AreOfLanes self.old.lanes jobs.now }
         requires small { from + length jobs.now < 4294967296 }
         requires part { AnswersPart self.old.entries from jobs.now }
-        ensures loaded { OnOk result (self.new
-            ≡ with_room (with_batch_from self.old jobs.now from)
-            self.new.spare self.new.board.cases.spare) }
-        ensures unchanged { OnErr result (self.new
-            ≡ with_room self.old self.new.spare self.new.board.cases.spare) }
-        ensures kept { self.old.spare ≤ self.new.spare }
-        ensures room { self.old.board.cases.spare ≤ self.new.board.cases.spare }
-        ensures whole { OnOk result (HasRoomFor (length jobs.now) self.new) }
+        ensures { HasTakenBatch self.old self.new jobs.now from result }
     {
         let _ = alloc;
         self.journal.reserve(jobs.len() as u32)?;

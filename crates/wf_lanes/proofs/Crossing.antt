@@ -4,13 +4,12 @@ use mir.Syntax.{Lifetime, Sym}
 use base.Fml.{Lft}
 use denote.RattleType.{RattleType}
 use denote.Ref.{ShrRef}
-use denote.Struct.Field.{bool-field, row_field, u8-field}
+use denote.Struct.Field.{row_field, u8-field}
 use denote.Struct.Tuple.{TupleAt, type_at}
 use denote.Param.{param}
 use denote.Param.Send.{IsSend, IsSync, param_sync, sendable, shr_send}
 use denote.Param.SendFields.{as_row_send, declared_send}
 use Rattle.std.proofs.Crossing.{crosses}
-use Rattle.std.specs.contracts.alloc.Global as Global
 use Rattle.turn_table.specs.contracts.lane.Lane as Lane
 use Rattle.turn_table.specs.contracts.table.TurnTable as TurnTable
 use Rattle.turn_table.proofs.lane.Lane.TheSendSync.{the_send as lane_send}
@@ -21,23 +20,11 @@ use Rattle.wf_desk.specs.contracts.tabled.Fixed as Fixed
 use Rattle.wf_desk.specs.contracts.tabled.DeskTabled.TheImpl as tabled
 use Rattle.wf_desk.proofs.Crossing.{desk_send}
 
--- a closure with eight captures may, if each of them may
-eight_send : (name : Sym) (A B C D E F G H : RattleType) → IsSend A → IsSend B → IsSend C → IsSend D → IsSend E → IsSend F → IsSend G → IsSend H →
-    IsSend (TupleAt name (A ∷ B ∷ C ∷ D ∷ E ∷ F ∷ G ∷ H ∷ []))
-eight_send name A B C D E F G H a b c d e f g h =
-    declared_send (type_at name (A ∷ B ∷ C ∷ D ∷ E ∷ F ∷ G ∷ H ∷ [])) (
-      as_row_send (row_field A) a,
-      (
-        as_row_send (row_field B) b,
-        (
-          as_row_send (row_field C) c,
-          (
-            as_row_send (row_field D) d,
-            (as_row_send (row_field E) e, (as_row_send (row_field F) f, (as_row_send (row_field G) g, (as_row_send (row_field H) h, tt)))),
-          ),
-        ),
-      ),
-    )
+-- a closure with four captures may, if each of them may
+four_send : (name : Sym) (A B C D : RattleType) → IsSend A → IsSend B → IsSend C → IsSend D → IsSend (TupleAt name (A ∷ B ∷ C ∷ D ∷ []))
+four_send name A B C D a b c d =
+    declared_send (type_at name (A ∷ B ∷ C ∷ D ∷ []))
+    (as_row_send (row_field A) a, (as_row_send (row_field B) b, (as_row_send (row_field C) c, (as_row_send (row_field D) d, tt))))
 
 abbrev pub the_lane : RattleType
 the_lane = Lane.the_row Desk.the_row Fixed.the_row Entry.the_row tabled.ghosts
@@ -51,14 +38,9 @@ desk_lane_send = search (sendable, lane_send, desk_send) depth 20
 desk_table_sync : IsSync the_table
 desk_table_sync = search (sendable, crosses, table_sync, desk_send) depth 20
 
--- what the closure of a lane captures: the runtime, the allocator, the decider, the gate, whether the gate is told, the
--- table, the lane and its number
-pub errand_send : (name : Sym) (R V G : RattleType) (r v g t : Lifetime) (ρ ν γ τ : Lft) → IsSync R → IsSync V → IsSync G →
-    IsSend (TupleAt name (ShrRef r ρ (param 0 R) ∷ Global.the_row ∷ ShrRef v ν (param 1 V) ∷ ShrRef g γ (param 2 G) ∷ bool-field.row ∷ ShrRef t τ
-    the_table ∷ the_lane ∷ u8-field.row ∷ []))
-errand_send name R V G r v g t ρ ν γ τ a b c =
-    eight_send name (ShrRef r ρ (param 0 R)) Global.the_row (ShrRef v ν (param 1 V)) (ShrRef g γ (param 2 G)) bool-field.row (ShrRef t τ the_table) the_lane
-    u8-field.row
-    (shr_send r ρ (param 0 R) (param_sync 0 R a)) (search (sendable, crosses) depth 20) (shr_send v ν (param 1 V) (param_sync 1 V b))
-    (shr_send g γ (param 2 G) (param_sync 2 G c))
-    (search sendable depth 20) (shr_send t τ the_table desk_table_sync) desk_lane_send (search sendable depth 20)
+-- what the closure of a lane captures: what serves it, the table, the lane and its number
+pub errand_send : (name : Sym) (W : RattleType) (w t : Lifetime) (ω τ : Lft) → IsSync W →
+    IsSend (TupleAt name (ShrRef w ω (param 1 W) ∷ ShrRef t τ the_table ∷ the_lane ∷ u8-field.row ∷ []))
+errand_send name W w t ω τ sync =
+    four_send name (ShrRef w ω (param 1 W)) (ShrRef t τ the_table) the_lane u8-field.row (shr_send w ω (param 1 W) (param_sync 1 W sync))
+    (shr_send t τ the_table desk_table_sync) desk_lane_send (search sendable depth 20)

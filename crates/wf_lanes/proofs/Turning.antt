@@ -14,7 +14,6 @@ use Rattle.wf_board.specs.declared.verdict.Verdict.{Verdict}
 use Rattle.wf_board.specs.Boards.{book_on}
 use Rattle.wf_board.specs.Verdicts.{Decides}
 use Rattle.wf_desk.specs.declared.outcome.Outcome.{Outcome}
-use Rattle.wf_desk.specs.declared.outcome.Outcome.TheVariants as outcome
 use Rattle.wf_desk.specs.declared.tabled.Fixed.{Fixed}
 use Rattle.wf_desk.specs.declared.task.Task.{Task}
 use Rattle.wf_desk.specs.Desks.{DeskShape, HasAdded, next_job, served}

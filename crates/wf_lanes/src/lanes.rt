@@ -6,13 +6,12 @@ ghost use Rattle.wf_names.specs.declared.limits.TheConstants.{LANE_LIMIT};
 ghost use Rattle.wf_desk.specs.Desks.{AreOfLanes, IsDone};
 ghost use Rattle.wf_desk.specs.Schedules.{HasGrown};
 ghost use Rattle.wf_desk.specs.Tabled.{fixed_of, tagged_of};
-ghost use Rattle.wf_lanes.specs.Workers.{HasNoJobLeft, HasJoined, HasMadeAll, HasRoom, IsFirst};
+ghost use Rattle.wf_lanes.specs.Workers.{HasJoined, HasMadeAll, HasRoom, IsFirst};
 ghost use Rattle.wf_lanes.specs.Workers.{IsIdle};
 
 use crate::gate::Gate;
-use crate::table_turns::TableTurns;
+use crate::server::{LaneServer, Server};
 use crate::turns::serve_by_turns;
-use crate::worker::work;
 use std::alloc::Global;
 use std::sync::Wait;
 use std::thread::{Threads, join};
@@ -110,12 +109,16 @@ fn serve_on_lanes<R: Threads + Wait + Sync, V: Decider + Sync, G: Gate + Sync>(
         return desk;
     }
     let lanes = desk.lanes();
-    let tells = tells(desk.rounds());
+    let server = LaneServer {
+        rt,
+        alloc,
+        decider,
+        gate,
+        tells: tells(desk.rounds()),
+    };
     match TurnTable::new(alloc, desk, lanes) {
         Ok((table, first)) => {
-            let first = run_lanes(
-                rt, alloc, decider, gate, tells, &busy, &table, first, 0, lanes,
-            );
+            let first = run_lanes(rt, &server, &busy, &table, first, 0, lanes);
             close_whole(table, first)
         }
         Err(Refused { value }) => value,
@@ -180,19 +183,16 @@ fn needs_thread(busy: &Busy, lane: u8) -> bool
 
 // Makes `count` lanes, from the number `next` on, serves them, and joins them into the first lane.
 // A lane with jobs is served on a thread of its own, where a later one has jobs too.
-fn run_lanes<R: Threads + Wait + Sync, V: Decider + Sync, G: Gate + Sync>(
+fn run_lanes<R: Threads + Sync, W: Server + Sync>(
     rt: &R,
-    alloc: Global,
-    decider: &V,
-    gate: &G,
-    tells: bool,
+    server: &W,
     busy: &Busy,
     table: &TurnTable<Desk>,
     first: Lane<Desk>,
     next: u8,
     count: u8,
 ) -> Lane<Desk>
-    requires ready { V.ready decider.now }
+    requires ready { W.ready server.now }
     requires first { IsFirst table.now first }
     requires room { HasRoom first next count }
     requires few { next + count ≤ 8 }
@@ -205,51 +205,27 @@ fn run_lanes<R: Threads + Wait + Sync, V: Decider + Sync, G: Gate + Sync>(
     }
     let lane = make_lane(table, &mut first, next, count);
     if !needs_thread(busy, next) {
-        let lane = serve_lane(rt, alloc, decider, gate, tells, table, lane, next);
-        let mut all = run_lanes(
-            rt,
-            alloc,
-            decider,
-            gate,
-            tells,
-            busy,
-            table,
-            first,
-            next + 1,
-            count - 1,
-        );
+        let lane = server.serve(table, lane, next);
+        let mut all = run_lanes(rt, server, busy, table, first, next + 1, count - 1);
         table.join(&mut all, lane);
         return all;
     }
     let (lane, mut first) = join(
         rt,
         move || -> Lane<Desk>
-            requires ready { V.ready decider.now }
+            requires ready { W.ready server.now }
             requires idle { IsIdle table.now lane next }
             ensures idle { IsIdle table.entry.now result next }
-        { serve_lane(rt, alloc, decider, gate, tells, table, lane, next) },
+        { server.serve(table, lane, next) },
         move || -> Lane<Desk>
-            requires sync { IsSync R.row × (IsSync V.row × IsSync G.row) }
-            requires ready { V.ready decider.now }
+            requires sync { IsSync R.row × IsSync W.row }
+            requires ready { W.ready server.now }
             requires first { IsFirst table.now first }
             requires room { HasRoom first (next + 1) (count - 1) }
             requires few { (0 < count) × (next + count ≤ 8) }
             ensures first { IsFirst table.entry.now result }
             ensures joined { HasJoined first result (next + 1) (count - 1) }
-        {
-            run_lanes(
-                rt,
-                alloc,
-                decider,
-                gate,
-                tells,
-                busy,
-                table,
-                first,
-                next + 1,
-                count - 1,
-            )
-        },
+        { run_lanes(rt, server, busy, table, first, next + 1, count - 1) },
     );
     table.join(&mut first, lane);
     first
@@ -266,44 +242,4 @@ fn make_lane(table: &TurnTable<Desk>, first: &mut Lane<Desk>, next: u8, count: u
     ensures made { first.new ≡ record first.old { made = first.old.made + 1 } }
 {
     table.lane(first)
-}
-
-// Serves the jobs of one lane.
-fn serve_lane<R: Wait, V: Decider, G: Gate>(
-    rt: &R,
-    alloc: Global,
-    decider: &V,
-    gate: &G,
-    tells: bool,
-    table: &TurnTable<Desk>,
-    lane: Lane<Desk>,
-    number: u8,
-) -> Lane<Desk>
-    requires ready { V.ready decider.now }
-    requires idle { IsIdle table.now lane number }
-    ensures idle { IsIdle table.now result number }
-    ensures ended { HasNoJobLeft result number }
-{
-    let mut turns = TableTurns {
-        rt,
-        alloc,
-        decider,
-        near: !gate.watches(),
-        table,
-        lane,
-        number,
-        pending: false,
-    };
-    work(rt, alloc, decider, gate, tells, &mut turns);
-    let TableTurns {
-        rt: _,
-        alloc: _,
-        decider: _,
-        near: _,
-        table: _,
-        lane,
-        number: _,
-        pending: _,
-    } = turns;
-    lane
 }

@@ -5,6 +5,7 @@
 mod gate;
 mod lanes;
 pub mod laws;
+mod server;
 mod table_turns;
 mod turns;
 mod worker;

@@ -1,6 +1,7 @@
 -- The source, the sink and the shelf in memory: what they hold, and what each call does.
 use Rattle.std.specs.Prelude.{◌≡◌, ℕ, ◌+◌, ◌-◌, ◌^◌, min, Bool, ◌&&◌, ◌||◌, ◌==◌, nat_eq, nat_lt}
-use Rattle.std.specs.Prelude.{if◌then◌else◌, List, [], ◌∷◌, length, MatchBool, Result, Ok, Err}
+use Rattle.std.specs.Prelude.{if◌then◌else◌, List, [], ◌∷◌, ◌++◌, length, take, drop, MatchBool}
+use Rattle.std.specs.Prelude.{Result, Ok, Err}
 use Rattle.std.specs.Prelude.{true, false}
 use Rattle.wf_outside.specs.declared.loaded.LoadFault.{LoadFault}
 use Rattle.wf_outside.specs.declared.loaded.LoadFault.TheVariants.{Failed, TooLong, NoMemory}
@@ -35,6 +36,12 @@ pub record MemSourceShape : Type 0 where
   pub left : List ℕ
   pub most : ℕ
   pub counts : CountsShape
+
+-- as many bytes as one call may give went from the front of what is left to that of a buffer
+pub record GivesFront (old new : MemSourceShape) (buf filled : List ℕ) (n : ℕ) : Type 0 where
+  pub count : n ≡ min old.most (min (length buf) (length old.left))
+  pub front : filled ≡ take n old.left ++ drop n buf
+  pub after : new ≡ record old { left = drop n old.left; counts = after_call old.counts }
 
 -- a sink in memory: the bytes that it holds, how many it has room for, and how many one call takes
 -- at most

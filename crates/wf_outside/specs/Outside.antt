@@ -1,7 +1,7 @@
 -- What sources, sinks and shelves tell of their content, what a call moved, and what became of a
 -- count of faults.
 use Rattle.std.specs.Prelude.{◌≡◌, ℕ, ◌+◌, ◌^◌, ◌<◌, ◌≤◌, List, [], ◌++◌, length, take, Option}
-use Rattle.std.specs.Prelude.{None, Some, IfSome, Result, Ok, Err}
+use Rattle.std.specs.Prelude.{None, Some, IfSome, IsErrOf, Result, Ok, Err}
 use Rattle.wf_outside.specs.declared.loaded.LoadFault.{LoadFault}
 use Rattle.wf_outside.specs.declared.loaded.LoadFault.TheVariants.{Failed, TooLong, NoMemory}
 
@@ -15,6 +15,12 @@ StaysUnlessFailed (Ok a) before after = after ≡ before
 StaysUnlessFailed (Err Failed) before after = Unit {0}
 StaysUnlessFailed (Err TooLong) before after = after ≡ before
 StaysUnlessFailed (Err NoMemory) before after = after ≡ before
+
+-- the count of faults does not fall; it rises where the answer is a fault, and else stays
+pub record CountsFailed {A : Type 0} (result : Result A LoadFault) (before after : ℕ) : Type 0 where
+  pub faults : before ≤ after
+  pub rose : IsErrOf result Failed → Rose before after
+  pub stays : StaysUnlessFailed result before after
 
 -- what a shelf tells of a name: the bytes of the file, that there is no such file, or nothing
 pub data Filed : Type 0 where

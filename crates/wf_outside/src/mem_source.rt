@@ -1,6 +1,6 @@
 ghost use Rattle.std.specs.Prelude.{◌≡◌, ◌≤◌, ◌<◌, ◌++◌, ◌↔◌, ℕ, List, length, take, drop, min};
 ghost use Rattle.std.specs.Prelude.{Some, IsTrue, IsErr, IfOk, OnErr};
-ghost use Rattle.wf_outside.specs.Memory.{is_failing, after_call, after_fault};
+ghost use Rattle.wf_outside.specs.Memory.{is_failing, after_call, after_fault, GivesFront};
 ghost use Rattle.wf_outside.specs.Outside.{Rose, HasTaken, IsAtEnd};
 
 use crate::counts::Counts;
@@ -87,15 +87,7 @@ impl Source for MemSource {
         ensures untouched { OnErr result (buf.new ≡ buf.old) }
 
         // Else as many bytes as may come stand at the front of `buf`.
-        ensures count { IfOk result (λ n. n
-            ≡ min self.old.most (min (length buf.old) (length self.old.left))) }
-        ensures front { IfOk result (λ n. buf.new ≡ take n self.old.left ++ drop n buf.old) }
-        ensures after { IfOk result (λ n. self.new
-            ≡ record self.old {
-              left = drop n self.old.left;
-              counts = after_call
-                  self.old.counts;
-            }) }
+        ensures gives { IfOk result (GivesFront self.old self.new buf.old buf.new) }
 
         // The clauses of every source.
         ensures within { IfOk result (λ n. n ≤ length buf.old) }

@@ -1,7 +1,7 @@
 ghost use Rattle.std.specs.Prelude.{◌≡◌, ◌≤◌, ◌<◌, ◌+◌, ◌++◌, ℕ, List, length, take, Option, IfOk};
 ghost use Rattle.std.specs.Prelude.{IfSome, OnOk, OnErr, IsErrOf};
-ghost use Rattle.wf_outside.specs.Outside.{Rose, StaysUnlessFailed, HasTaken, IsAtEnd};
-ghost use Rattle.wf_outside.specs.Outside.{HasTakenCount, HasTakenAtMost, ReadsAll};
+ghost use Rattle.wf_outside.specs.Outside.{Rose, CountsFailed, StaysUnlessFailed, HasTaken};
+ghost use Rattle.wf_outside.specs.Outside.{HasTakenCount, HasTakenAtMost, IsAtEnd, ReadsAll};
 ghost use Rattle.wf_outside.specs.declared.loaded.LoadFault.TheVariants.{Failed as ReadFailed};
 
 use crate::{LoadFault, Loaded};
@@ -114,10 +114,7 @@ pub fn take_all<S: Source>(
     // The same of a source that tells.
     ensures told { IfSome (S.left source.old) (λ content. ReadsAll content limit result) }
 
-    ensures faults { S.faults source.old ≤ S.faults source.new }
-    ensures rose { IsErrOf result LoadFault.Failed
-        → Rose (S.faults source.old) (S.faults source.new) }
-    ensures stays { StaysUnlessFailed result (S.faults source.old) (S.faults source.new) }
+    ensures counts { CountsFailed result (S.faults source.old) (S.faults source.new) }
 {
     let mut bytes = Vec::new(alloc);
     let mut buf = vec![in alloc; 0u8; chunk]?;

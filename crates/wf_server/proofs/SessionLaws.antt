@@ -16,9 +16,10 @@ use Rattle.batch_reader.specs.declared.reader.Paused.TheVariants as paused
 use Rattle.batch_reader.specs.Reader.{BatchReaderShape, Handed, handed_more, HasRead, IsReadUp, ReadsBatch, CountsPause}
 use Rattle.wf_board.specs.States.{opening_state}
 use Rattle.wf_board.specs.Histories.{FillsJobs, IsLegal}
-use Rattle.wf_desk.specs.Desks.{AreOfLanes, DeskShape, jobs_told}
+use Rattle.wf_desk.specs.Desks.{AreOfLanes, DeskShape, desk_with, jobs_told}
 use Rattle.wf_desk.proofs.DocketLaws.{first_of_lanes}
 use Rattle.policy_book.specs.Facts.{IsSoundPolicy}
+use Rattle.policy_book.specs.Shapes.{PolicyShape}
 use Rattle.wf_board.specs.Laws.{HistoriesAreExact, HistoriesKeepCompletable}
 use Rattle.run_record.specs.declared.fault.RunFault.{RunFault}
 use Rattle.run_record.specs.declared.fault.RunFault.TheVariants as fault
@@ -208,12 +209,15 @@ opening_serves streams r d told order jobs none_restored none begun empty = rw n
 })
 
 -- so begins a session at a new desk
-pub session_begins : (streams : Streams) (r : BatchReaderShape) (d : DeskShape) (a : Answered) (lanes room : ℕ) → JobsAreInOrder lanes → d.lanes ≡ lanes →
-    d.jobs ≡ [] → d.entries ≡ [] →
-    d.restored ≡ 0 → jobs_told d ≡ [] → a.batch_ends ≡ [] → r ≡ record { cut = start lanes; pending = []; room = room } →
-    IsServing (start d.lanes) streams streams r d (told_of d a)
-session_begins streams r d a lanes room order same jobs entries restored none_jobs none_ends is =
-    opening_serves streams r d (told_of d a) (subst JobsAreInOrder (sym same) order) jobs restored (rw (entries, none_jobs, none_ends) refl)
+pub session_begins : (streams : Streams) (r : BatchReaderShape) (d : DeskShape) (a : Answered) (p : PolicyShape) (lanes rounds room : ℕ) →
+    JobsAreInOrder lanes → d ≡ desk_with p lanes rounds d.board [] d.spare → a.batch_ends ≡ [] →
+    r ≡ record { cut = start lanes; pending = []; room = room } → IsServing (start d.lanes) streams streams r d (told_of d a)
+session_begins streams r d a p lanes rounds room order new none_ends is =
+    let same : d.lanes ≡ lanes = ap (λ (x : DeskShape). x.lanes) new in
+    let entries : d.entries ≡ [] = ap (λ (x : DeskShape). x.entries) new in
+    let none_jobs : jobs_told d ≡ [] = ap (λ (x : DeskShape). jobs_told x) new in
+    opening_serves streams r d (told_of d a) (subst JobsAreInOrder (sym same) order) (ap (λ (x : DeskShape). x.jobs) new)
+    (ap (λ (x : DeskShape). x.restored) new) (rw (entries, none_jobs, none_ends) refl)
     (ap (λ (x : BatchReaderShape). x.cut) is ∙ ap start (sym same)) (ap (λ (x : BatchReaderShape). x.pending) is)
 
 -- where there was no memory for a session

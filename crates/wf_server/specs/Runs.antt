@@ -54,6 +54,14 @@ abbrev pub takes_up : Option Command → Bool
 takes_up (Some (resume policy requests transcript options)) = true
 takes_up command = false
 
+-- whether a command is about a policy alone, and about no session
+abbrev pub is_of_policy : Command → Bool
+is_of_policy (serve policy options) = false
+is_of_policy (audit policy requests options) = false
+is_of_policy (resume policy requests transcript options) = false
+is_of_policy (trial seed) = false
+is_of_policy command = true
+
 -- how a run may end at its words
 abbrev pub IsWordsEnding : RunFault → Type 0
 IsWordsEnding Usage = Unit {0}

@@ -1,6 +1,6 @@
 //! The top calls: one run of the program over a source, a sink and a shelf, with threads or alone.
 ghost use Rattle.std.specs.Prelude.{◌≡◌, ◌<◌, Bool, map, nat_lt, string_bytes, None, Some, IfErr};
-ghost use Rattle.std.specs.Prelude.{IfOk, false};
+ghost use Rattle.std.specs.Prelude.{IfOk, false, true};
 ghost use Rattle.run_record.specs.Fault.{status_of};
 ghost use Rattle.run_record.specs.Report.{told_by};
 ghost use Rattle.run_record.specs.Run.{run_of, streams_of};
@@ -9,7 +9,7 @@ ghost use Rattle.wf_desk.specs.Desks.{AreOfLanes, IsDone};
 ghost use Rattle.wf_desk.specs.Schedules.{HasGrown};
 ghost use Rattle.command_words.specs.Asked.{asked, CanServe};
 ghost use Rattle.command_words.specs.Words.{command_of, may_repeat, reads_input};
-ghost use Rattle.wf_server.specs.Runs.{Does, HasRun, IsWordsEnding, takes_up};
+ghost use Rattle.wf_server.specs.Runs.{Does, HasRun, IsWordsEnding, is_of_policy, takes_up};
 
 use crate::going_on::run_resume;
 use crate::serve::run_serve;
@@ -160,33 +160,6 @@ fn run_command<F: Shelf, S: Source, K: Sink>(
         → AreAnsweredOnce (told_by result).entries }
 {
     match command {
-        Command::Plan { policy, flow } => {
-            answer_once(alloc, policy, &PlanCommand { flow }, shelf, source, sink)
-        }
-        Command::Show { policy } => {
-            answer_once(alloc, policy, &ShowCommand, shelf, source, sink)
-        }
-        Command::Solve { policy } => {
-            answer_once(alloc, policy, &SolveCommand, shelf, source, sink)
-        }
-        Command::Resilience {
-            policy,
-            flow,
-            absences,
-        } => {
-            let command = ResilienceCommand { flow, absences };
-            answer_once(alloc, policy, &command, shelf, source, sink)
-        }
-        Command::Cnf {
-            policy,
-            flow,
-            model: None,
-        } => run_clauses(alloc, policy, flow, shelf, source, sink),
-        Command::Cnf {
-            policy,
-            flow,
-            model: Some(model),
-        } => run_model(alloc, policy, flow, model, shelf, source, sink),
         Command::Serve { policy, options } => {
             let turns = ByTurns::new(alloc);
             run_serve(alloc, &turns, policy, options, shelf, source, sink)
@@ -221,5 +194,56 @@ fn run_command<F: Shelf, S: Source, K: Sink>(
             run_resume(alloc, &turns, earlier, shelf, source, sink)
         }
         Command::Trial { seed } => run_trial(alloc, &PlainDecider, seed, sink),
+        other => run_once(alloc, other, shelf, source, sink),
+    }
+}
+
+// Runs a command that is about a policy alone, with what may be in the input.
+fn run_once<F: Shelf, S: Source, K: Sink>(
+    alloc: Global,
+    command: Command,
+    shelf: &mut F,
+    source: &mut S,
+    sink: &mut K,
+) -> Report
+    requires { is_of_policy (asked command) ≡ true }
+    ensures status { result.status ≡ status_of result.fault }
+    ensures usage { result.fault ≡ RunFault.Usage → ⊥ }
+    ensures does { (repeats : Bool) → Does repeats (Some (asked command.entry)) (
+        run_of F.file F.faults shelf.old shelf.new
+        (streams_of S.left S.faults K.held K.faults source.old sink.old)
+        (streams_of S.left S.faults K.held K.faults source.new sink.new) result) }
+    ensures untouched { reads_input (Some (asked command.entry)) ≡ false → source.new ≡ source.old }
+    ensures once { AreAnsweredOnce (told_by result).entries }
+{
+    match command {
+        Command::Plan { policy, flow } => {
+            answer_once(alloc, policy, &PlanCommand { flow }, shelf, source, sink)
+        }
+        Command::Show { policy } => {
+            answer_once(alloc, policy, &ShowCommand, shelf, source, sink)
+        }
+        Command::Solve { policy } => {
+            answer_once(alloc, policy, &SolveCommand, shelf, source, sink)
+        }
+        Command::Resilience {
+            policy,
+            flow,
+            absences,
+        } => {
+            let command = ResilienceCommand { flow, absences };
+            answer_once(alloc, policy, &command, shelf, source, sink)
+        }
+        Command::Cnf {
+            policy,
+            flow,
+            model: None,
+        } => run_clauses(alloc, policy, flow, shelf, source, sink),
+        Command::Cnf {
+            policy,
+            flow,
+            model: Some(model),
+        } => run_model(alloc, policy, flow, model, shelf, source, sink),
+        _ => unreachable!(),
     }
 }

@@ -27,8 +27,8 @@ entries-preserved c = (
   left_next (next_relation c.args.users.now.names (table_view c.args.all.now)) names_of c.args.all.now.entries _ (shapes c.entries.relations.items)
       (shapes c.next_relation.new.relations.items)
       c.entries.key-iterator (c.in-Some.key.now, c.in-Some.value.now) c.next.new.self c.in-Some.ensures.steps c.entries.invariant.0
-      (rw (← c.as_str.ensures.value) c.in_default.ensures.read) (rw (← c.as_str.ensures.value) c.in_default.ensures.names),
-  c.in_default.ensures.kept,
+      (rw (← c.as_str.ensures.value) c.in_default.ensures.read) (rw (← c.as_str.ensures.value) c.in_default.ensures.next.names),
+  c.in_default.ensures.next.kept,
 )
 
 pub returns-clause-sound : goal.returns-clause-sound

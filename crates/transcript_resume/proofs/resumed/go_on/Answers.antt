@@ -19,7 +19,7 @@ resume_batch-requires-clause-lanes c =
     let lanes : c.behind.new.self.lanes ≡ c.args.lanes =
     ap (λ (d : DeskShape). d.lanes) c.behind.ensures ∙ ap (λ (d : DeskShape). d.lanes) c.in_ok-desk.ensures in
     subst (λ n. AreOfLanes n c.as_slice.result.now) (sym lanes)
-    (subst (AreOfLanes c.args.lanes) (sym (c.as_slice.ensures ∙ c.in_ok-unserved.ensures.jobs))
+    (subst (AreOfLanes c.args.lanes) (sym (c.as_slice.ensures ∙ c.in_ok-unserved.ensures.stopped.jobs))
     (lanes_between c.args.lanes u.from u.next c.args.batch.jobs c.requires.order.of_lanes))
 
 pub resume_batch-requires-clause-part : goal.resume_batch-requires-clause-part
@@ -33,7 +33,7 @@ resume_batch-requires-clause-part c =
 pub returns-clause-goes_on : goal.returns-clause-goes_on
 returns-clause-goes_on c =
     let u = c.in_ok-unserved.unserved in
-    let known = c.in_ok-unserved.ensures in
+    let known = c.in_ok-unserved.ensures.stopped in
     goes_on_at (session_over c.args.policy c.args.lanes c.args.rounds c.args.batch) c.args.board c.args.journal.entries c.args.journal.spare u.from u.next
     u.earlier u.jobs c.as_slice.result.now c.in_ok-desk.desk c.behind.new.self c.resume_batch.new.self c.resume_batch.new.self.spare
     c.resume_batch.new.self.board.cases.spare c.in_ok-desk.ensures c.behind.ensures c.in_ok-resume_batch.ensures.loaded c.as_slice.ensures known.from

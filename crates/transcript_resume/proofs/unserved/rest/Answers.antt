@@ -1,4 +1,4 @@
-use Rattle.std.proofs.Common.{◌≡◌, length, take, ap, ◌∙◌, arith}
+use Rattle.std.proofs.Common.{◌≡◌, length, take, ap, refl, ◌∙◌, arith}
 use Rattle.transcript_resume.specs.Unserved.{jobs_between}
 use Rattle.transcript_resume.proofs.Rests.{answers_part, bounds_order, bounds_within, short_between}
 use Rattle.transcript_resume.proofs.unserved.rest.Goals as goal
@@ -28,9 +28,16 @@ jobs_between-before-requires-clause-within c =
     let within = bounds_within ends (length jobs) n c.requires.ends c.requires.part.few in
     rw (c.bounds-from.ensures.start, c.as_slice.ensures, c.as_slice-3.ensures, c.len.ensures) (omega (arith, order, within))
 
-pub returns-clause-earlier : goal.returns-clause-earlier
-returns-clause-earlier c =
-    c.from_vec-2.ensures ∙ c.in_ok-earlier.ensures.items ∙ c.jobs_between-before.ensures ∙ ap (take c.bounds-from.result.0) c.as_slice-3.ensures
+pub returns-clause-stopped : goal.returns-clause-stopped
+returns-clause-stopped c =
+    let from = c.bounds-from.result.0 in
+    let next = c.bounds-from.result.1 in
+    record {
+      from = rw (c.bounds-from.ensures.start, c.as_slice.ensures, c.len.ensures) refl;
+      next = rw (c.bounds-from.ensures.end, c.as_slice.ensures, c.len.ensures) refl;
+      jobs = c.from_vec.ensures ∙ c.in_ok-from_slice.ensures.items ∙ c.jobs_between-jobs.ensures ∙ ap (λ js. jobs_between from next js) c.as_slice-2.ensures;
+      earlier = c.from_vec-2.ensures ∙ c.in_ok-earlier.ensures.items ∙ c.jobs_between-before.ensures ∙ ap (take from) c.as_slice-3.ensures;
+    }
 
 pub returns-clause-answers : goal.returns-clause-answers
 returns-clause-answers c =

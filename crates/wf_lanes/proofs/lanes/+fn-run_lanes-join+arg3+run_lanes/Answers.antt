@@ -14,8 +14,8 @@ join-lane-requires-send-A g t c κs within = search (sendable, desk_lane_send) d
 pub returns-then-not-needs_thread-clause-joined : goal.returns-then-not-needs_thread-clause-joined
 returns-then-not-needs_thread-clause-joined g t c =
     let some : 0 < c.args.count = grind (arith, common_steps, c.if-count-eq0.false) in
-    one_joined c.args.table.now c.args.first c.make_lane-lane.new.first c.run_lanes-all.result c.join.new.into c.serve_lane-lane.result c.args.next c.args.count
-    some c.make_lane-lane.ensures.made c.run_lanes-all.ensures.joined c.serve_lane-lane.ensures.idle c.join.ensures.into c.join.ensures.begins.0
+    one_joined c.args.table.now c.args.first c.make_lane-lane.new.first c.run_lanes-all.result c.join.new.into c.serve-lane.result c.args.next c.args.count
+    some c.make_lane-lane.ensures.made c.run_lanes-all.ensures.joined c.serve-lane.ensures.idle c.join.ensures.into c.join.ensures.begins.0
     c.join.ensures.counted c.join.ensures.kept
 
 pub returns-clause-joined : goal.returns-clause-joined

@@ -1,9 +1,10 @@
-use Rattle.std.proofs.Common.{◌≡◌, ℕ, ◌++◌, drop, ap, refl, sym, subst}
+use Rattle.std.proofs.Common.{◌≡◌, ℕ, drop, ap, refl, sym, subst}
 use Rattle.run_record.specs.Report.{told_by}
 use Rattle.run_record.specs.Run.{Streams}
 use Rattle.command_words.specs.Asked.{options_in}
 use Rattle.wf_board.specs.States.{opening_state}
 use Rattle.wf_board.specs.Histories.{AreAnsweredOnce, AreRightful, IsLegal}
+use Rattle.wf_desk.specs.Desks.{DeskShape}
 use Rattle.wf_server.specs.Serving.{setting}
 use Rattle.batch_reader.specs.Reader.{BatchReaderShape}
 use Rattle.line_cutter.specs.Jobs.{start}
@@ -46,14 +47,12 @@ serve_batches-requires-clause-serving g c =
           g.S.Source.faults c.args.source.now;
       write_faults = g.K.Sink.faults c.args.sink.now;
     } in
-    let d = c.in-Ok.desk in
-    let new = c.in-Ok.ensures in (
+    let d = c.in-Ok.desk in (
       start d.lanes,
       (
         streams,
-        session_begins streams c.in-Ok-new.reader d c.new-3.result c.args.options.lanes c.args.room c.jobs_are_in_order.ensures new.lanes new.jobs
-            new.entries new.restored
-            (λ i. new.earlier i ++ new.jobs i) c.new-3.ensures.ends c.in-Ok-new.ensures,
+        session_begins streams c.in-Ok-new.reader d c.new-3.result c.args.policy c.args.options.lanes c.args.options.rounds c.args.room
+            c.jobs_are_in_order.ensures c.in-Ok.ensures.begins c.new-3.ensures.ends c.in-Ok-new.ensures,
       ),
     )
 
@@ -74,15 +73,15 @@ returns-clause-serves g c =
       write_faults = g.K.Sink.faults c.serve_batches.new.sink;
     } in
     let d = c.in-Ok.desk in
-    let new = c.in-Ok.ensures in
+    let new = c.in-Ok.ensures.begins in
     let told = told_by c.serve_batches.result in
     let fault = c.serve_batches.result.fault in
     let set = setting c.args.policy (options_in c.args.options) in
-    let same : setting_of d ≡ set = rw (new.opening, new.lanes, new.rounds, new.restored) refl in
-    let begun = session_begins streams c.in-Ok-new.reader d c.new-3.result c.args.options.lanes c.args.room c.jobs_are_in_order.ensures new.lanes new.jobs
-    new.entries new.restored
-    (λ i. new.earlier i ++ new.jobs i) c.new-3.ensures.ends c.in-Ok-new.ensures in
-    subst (λ (n : ℕ). Serves set (start n) c.args.room streams after told fault) new.lanes
+    let same : setting_of d ≡ set = ap setting_of new in
+    let lanes : d.lanes ≡ c.args.options.lanes = ap (λ (x : DeskShape). x.lanes) new in
+    let begun = session_begins streams c.in-Ok-new.reader d c.new-3.result c.args.policy c.args.options.lanes c.args.options.rounds c.args.room
+    c.jobs_are_in_order.ensures new c.new-3.ensures.ends c.in-Ok-new.ensures in
+    subst (λ (n : ℕ). Serves set (start n) c.args.room streams after told fault) lanes
     (subst (λ (m : ℕ). Serves set (start d.lanes) m streams after told fault) (ap (λ (r : BatchReaderShape). r.room) c.in-Ok-new.ensures)
     (subst (λ (s : Setting). Serves s (start d.lanes) c.in-Ok-new.reader.room streams after told fault) same
     (c.serve_batches.ensures.serves (start d.lanes) streams begun)))
@@ -90,18 +89,18 @@ returns-clause-serves g c =
 pub returns-clause-legal : goal.returns-clause-legal
 returns-clause-legal g c =
     let d = c.in-Ok.desk in
-    let new = c.in-Ok.ensures in
-    let same : setting_of d ≡ setting c.args.policy (options_in c.args.options) = rw (new.opening, new.lanes, new.rounds, new.restored) refl in
+    let same : setting_of d ≡ setting c.args.policy (options_in c.args.options) = ap setting_of c.in-Ok.ensures.begins in
     subst (λ (s : Setting). IsLegal (opening_state s.policy) s.rounds (told_by c.serve_batches.result).entries) same c.serve_batches.ensures.behind.legal
 
 pub returns-clause-wants : goal.returns-clause-wants
 returns-clause-wants g c =
-    subst (λ n. AreRightful (drop n (told_by c.serve_batches.result).entries)) c.in-Ok.ensures.restored c.serve_batches.ensures.behind.wants
+    subst (λ n. AreRightful (drop n (told_by c.serve_batches.result).entries)) (ap (λ (x : DeskShape). x.restored) c.in-Ok.ensures.begins)
+    c.serve_batches.ensures.behind.wants
 
 pub returns-clause-once : goal.returns-clause-once
 returns-clause-once g c serves =
     let d = c.in-Ok.desk in
-    let new = c.in-Ok.ensures in
-    let none : AreAnsweredOnce (drop d.restored d.entries) = subst (λ n. AreAnsweredOnce (drop n d.entries)) (sym new.restored)
-    (subst AreAnsweredOnce (sym new.entries) tt) in
-    subst (λ n. AreAnsweredOnce (drop n (told_by c.serve_batches.result).entries)) new.restored (c.serve_batches.ensures.behind.once serves none)
+    let new = c.in-Ok.ensures.begins in
+    let restored : d.restored ≡ 0 = ap (λ (x : DeskShape). x.restored) new in
+    let none : AreAnsweredOnce (drop d.restored d.entries) = subst (λ (x : DeskShape). AreAnsweredOnce (drop x.restored x.entries)) (sym new) tt in
+    subst (λ n. AreAnsweredOnce (drop n (told_by c.serve_batches.result).entries)) restored (c.serve_batches.ensures.behind.once serves none)

@@ -1,6 +1,7 @@
 use Rattle.std.proofs.Common.{◌≡◌, true, false, sym, subst, ap, ◌∙◌}
 use Rattle.std.specs.Arc.{arc_value}
-use Rattle.wf_board.specs.Admission.{HasAdmitted, HasAdmittedStep}
+use Rattle.wf_board.specs.Admission.{HasAdmitted}
+use Rattle.wf_board.specs.Admit.{HasAdmittedStep}
 use Rattle.wf_board.specs.Boards.{book_of}
 use Rattle.wf_board.specs.Decisions.{decision_of}
 use Rattle.wf_board.specs.Taking.{board_of, keeps_policy}
