@@ -10,8 +10,8 @@ use Rattle.std.proofs.lemmas.List.{get_or-set_same, get_or-set_other}
 use Rattle.std.specs.Ordering.{eq_by_cmp}
 use Rattle.std.proofs.lemmas.Map.Views.{tells_apart}
 use Rattle.basics.proofs.Booleans.{and_both, and_from, differ, eq_is, eq_same, or_cases, or_false, or_left, or_right}
-use Rattle.pair_set.specs.Pairs.{Pairs, pair_cmp}
-use Rattle.pair_set.specs.PairLaws.{pair_cmp_total, pair_cmp-IsAntisymmetric}
+use Rattle.basics.specs.Pairs.{Pairs, pair_cmp}
+use Rattle.basics.specs.PairLaws.{pair_cmp_total, pair_cmp-IsAntisymmetric}
 use Rattle.rbac_state.specs.Rosters.{has_role}
 use Rattle.user_relations.specs.Relations.{RelationKind, RelationShape, change_kind, complement, complement_of, complemented, is_related, kind_holds, kind_of}
 use Rattle.user_relations.specs.Relations.{listed, listed_pairs, pairs_of, with_kind}

@@ -5,7 +5,7 @@ use Rattle.std.specs.FinSet as set
 use Rattle.basics.specs.Reading.{◌>>=◌, check, or_fault}
 use Rattle.wf_names.specs.Table.{place_of}
 use Rattle.wf_names.specs.declared.limits.TheConstants.{USER_LIMIT}
-use Rattle.pair_set.specs.Pairs.{Pairs}
+use Rattle.basics.specs.Pairs.{Pairs}
 use Rattle.rbac_state.specs.Rosters.{RosterShape, has_role}
 use Rattle.user_relations.specs.Relations.{known_names, pairs_of}
 use Rattle.user_relations.specs.Kinds.{relate_fault, unrelate_fault}

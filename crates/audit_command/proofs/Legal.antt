@@ -6,7 +6,7 @@ use Rattle.wf_names.specs.declared.limits.TheConstants.{LANE_LIMIT, TRANSCRIPT_L
 use Rattle.policy_book.specs.Shapes.{PolicyShape}
 use Rattle.wf_talk.specs.declared.entry.Entry.{Entry}
 use Rattle.wf_talk.specs.declared.job.Job.{Job}
-use Rattle.line_cutter.specs.Laws.{AreInOrder}
+use Rattle.line_reader.specs.Laws.{AreInOrder}
 use Rattle.line_reader.specs.Reader.{line_length, lines_of}
 use Rattle.transcript_audit.specs.Auditor.{AuditShape, AreNext, IsNextLine, IsTranscript, audit_of, with_entry}
 use Rattle.transcript_audit.proofs.Exact.{next_pushed}

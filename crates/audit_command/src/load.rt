@@ -1,12 +1,12 @@
 //! Loading the requests.
 ghost use Rattle.std.specs.Prelude.{◌<◌, ◌≤◌, IfErr, IfOk};
 ghost use Rattle.wf_names.specs.declared.limits.TheConstants.{LANE_LIMIT, REQUESTS_FILE_LIMIT};
-ghost use Rattle.line_cutter.specs.Laws.{AreInOrder, AreNamedJobs};
+ghost use Rattle.line_reader.specs.Laws.{AreInOrder, AreNamedJobs};
 ghost use Rattle.run_record.specs.Fault.{fault_in, CountsLoads};
 ghost use Rattle.wf_commands.specs.Load.{EndsTooLong, IsLoadEnding};
 ghost use Rattle.audit_command.specs.Loading.{GivesJobs};
 
-use line_cutter::{Batch, jobs_of};
+use line_reader::{Batch, jobs_of};
 use run_record::RunFault;
 use std::alloc::Global;
 use wf_commands::load_file;

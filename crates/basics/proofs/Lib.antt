@@ -1,2 +1,5 @@
 pub mod Booleans
 pub mod Lists
+pub mod Ascending
+pub mod SetOfList
+pub mod Facts

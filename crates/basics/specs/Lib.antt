@@ -1,3 +1,7 @@
 pub mod Logs
 pub mod Reading
 pub mod Shared
+pub mod Pairs
+pub mod PairLaws
+pub mod Places
+pub mod Tables

@@ -6,10 +6,12 @@
 
 mod list;
 mod log;
+mod pairs;
 mod same;
 mod shared;
 
 pub use list::List;
 pub use log::Log;
+pub use pairs::PairSet;
 pub use same::Same;
 pub use shared::{Copied, Shared};

@@ -7,7 +7,7 @@ use Rattle.policy_book.specs.Shapes.{PolicyShape}
 use Rattle.wf_talk.specs.declared.entry.Entry.{Entry}
 use Rattle.wf_board.specs.States.{State, opening_state}
 use Rattle.wf_board.specs.Histories.{state_after}
-use Rattle.line_cutter.specs.Jobs.{Cut, jobs_of_input}
+use Rattle.line_reader.specs.Jobs.{Cut, jobs_of_input}
 use Rattle.line_reader.specs.Reader.{lines_of}
 use Rattle.transcript_audit.specs.Auditor.{AuditShape, IsTranscriptPart, audit_of}
 use Rattle.run_record.specs.declared.fault.RunFault.{RunFault}

@@ -7,7 +7,7 @@ ghost use Rattle.wf_commands.specs.Load.{IsLoadEnding};
 ghost use Rattle.case_story.specs.Session.{named_by};
 ghost use Rattle.case_story.specs.Sessions.{GivesSession, IsServed, audit_in, cut_in};
 
-use line_cutter::jobs_of;
+use line_reader::jobs_of;
 use policy_book::Policy;
 use run_record::RunFault;
 use std::alloc::{AllocError, Global};

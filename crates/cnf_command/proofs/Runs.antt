@@ -5,7 +5,7 @@ use Rattle.wf_names.specs.declared.limits.TheConstants.{LINE_LIMIT, POLICY_FILE_
 use Rattle.wf_outside.specs.Outside.{Filed, told, missing, untold, HasPart, Rose, with_bytes}
 use Rattle.policy_book.specs.Shapes.{PolicyShape}
 use Rattle.cnf_export.specs.Encoders.{EncoderShape}
-use Rattle.cnf_text.specs.Text.{dimacs_text}
+use Rattle.cnf_export.specs.Text.{dimacs_text}
 use Rattle.run_record.specs.declared.fault.RunFault.{RunFault}
 use Rattle.run_record.specs.declared.fault.RunFault.TheVariants.{Nothing, Write, NoMemory}
 use Rattle.run_record.specs.Fault.{fault_in, CountsLoads, CountsReadsAlone}

@@ -10,10 +10,10 @@ use Rattle.cnf_export.specs.Encodings.{literals, variables_of}
 use Rattle.cnf_export.specs.Encoders.{EncoderShape}
 use Rattle.cnf_export.specs.Models.{AreSound}
 use Rattle.cnf_export.specs.declared.tally.TheConstants.{LITERAL_LIMIT}
-use Rattle.cnf_models.specs.Saying.{has_variable}
-use Rattle.cnf_models.specs.Laws.{SatisfiableIsCompletable}
-use Rattle.cnf_models.specs.Texts.{model_of_text}
-use Rattle.cnf_text.specs.Text.{dimacs_text}
+use Rattle.cnf_export.specs.Saying.{has_variable}
+use Rattle.cnf_export.specs.ModelLaws.{SatisfiableIsCompletable}
+use Rattle.cnf_export.specs.ModelText.{model_of_text}
+use Rattle.cnf_export.specs.Text.{dimacs_text}
 use Rattle.run_record.specs.declared.fault.RunFault.{RunFault}
 use Rattle.run_record.specs.declared.fault.RunFault.TheVariants.{Nothing, Found, Usage, Policy, Read, Write, Load, NoMemory, FileTooLong, LineTooLong}
 use Rattle.run_record.specs.declared.fault.RunFault.TheVariants.{TooManyLines, BadInput, TooLarge}

@@ -10,13 +10,13 @@ use Rattle.policy_book.specs.Plans.{IsCompletable}
 use Rattle.wire_json.specs.Entries.{plan_data}
 use Rattle.cnf_export.specs.Encodings.{clauses_of, literals, variables_of}
 use Rattle.cnf_export.specs.declared.tally.TheConstants.{LITERAL_LIMIT}
-use Rattle.cnf_models.specs.Saying.{has_variable}
-use Rattle.cnf_models.specs.Laws.{IsSatisfiable}
-use Rattle.cnf_models.specs.Readings.{IsReading}
-use Rattle.cnf_models.specs.Texts.{model_of_text}
-use Rattle.cnf_models.specs.declared.reading.Reading.{Reading}
-use Rattle.cnf_models.specs.declared.reading.Reading.TheVariants.{Plan, Clause}
-use Rattle.cnf_text.specs.Text.{dimacs_text}
+use Rattle.cnf_export.specs.Saying.{has_variable}
+use Rattle.cnf_export.specs.ModelLaws.{IsSatisfiable}
+use Rattle.cnf_export.specs.Readings.{IsReading}
+use Rattle.cnf_export.specs.ModelText.{model_of_text}
+use Rattle.cnf_export.specs.declared.reading.Reading.{Reading}
+use Rattle.cnf_export.specs.declared.reading.Reading.TheVariants.{Plan, Clause}
+use Rattle.cnf_export.specs.Text.{dimacs_text}
 use Rattle.run_record.specs.declared.fault.RunFault.{RunFault}
 use Rattle.run_record.specs.declared.fault.RunFault.TheVariants.{Nothing, Found, FileTooLong}
 use Rattle.run_record.specs.declared.fault.RunFault.TheVariants.{LineTooLong, BadInput, TooLarge}

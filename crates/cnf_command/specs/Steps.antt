@@ -7,8 +7,8 @@ use Rattle.policy_book.specs.Policies.{flow_at, problem_of}
 use Rattle.cnf_export.specs.Encodings.{literals, variables_of}
 use Rattle.cnf_export.specs.Encoders.{EncoderShape}
 use Rattle.cnf_export.specs.declared.tally.TheConstants.{LITERAL_LIMIT}
-use Rattle.cnf_models.specs.Texts.{model_of_text}
-use Rattle.cnf_text.specs.Text.{dimacs_text}
+use Rattle.cnf_export.specs.ModelText.{model_of_text}
+use Rattle.cnf_export.specs.Text.{dimacs_text}
 use Rattle.run_record.specs.declared.fault.RunFault.{RunFault}
 use Rattle.run_record.specs.declared.fault.RunFault.TheVariants.{Nothing, Load, Read, NoMemory}
 use Rattle.run_record.specs.declared.fault.RunFault.TheVariants.{LineTooLong, BadInput, TooLarge}

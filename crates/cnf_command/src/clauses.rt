@@ -12,9 +12,8 @@ ghost use Rattle.cnf_command.specs.Model.{WritesClauses};
 ghost use Rattle.cnf_command.specs.Steps.{EncodesAs, EncodesFile};
 
 use crate::encoding::{encode, take_case};
-use cnf_export::Encoder;
-use cnf_models::laws::satisfiable_is_completable;
-use cnf_text::{WriteFault, write_clauses};
+use cnf_export::model_laws::satisfiable_is_completable;
+use cnf_export::{Encoder, WriteFault, write_clauses};
 use policy_book::Policy;
 use run_record::{Report, RunFault, bare_report};
 use std::alloc::Global;

@@ -12,3 +12,8 @@ pub mod Products
 pub mod Filled
 pub mod Sums
 pub mod Said
+mod Written
+pub mod Grids
+pub mod Firsts
+pub mod Splits
+pub mod ModelSteps

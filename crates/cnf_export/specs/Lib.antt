@@ -5,3 +5,9 @@ pub mod Terms
 pub mod Positions
 pub mod Sizes
 pub mod Encoders
+pub mod Text
+pub mod Writing
+pub mod Saying
+pub mod Readings
+pub mod ModelLaws
+pub mod ModelText

@@ -40,7 +40,7 @@ use Rattle.wf_board.specs.Decisions.{cause_aside, cause_full, decision_aside, de
 use Rattle.wf_board.specs.Steps.{state_after_decision, state_after_deed, state_after_step}
 use Rattle.wf_board.proofs.Told.{HoldsOf, IsTold, then_holds, told}
 use Rattle.entry_reader.specs.Named.{HasNames}
-use Rattle.line_cutter.specs.Laws.{AddsNamed, IsNamedEdit}
+use Rattle.line_reader.specs.Laws.{AddsNamed, IsNamedEdit}
 
 -- ---- one more name
 

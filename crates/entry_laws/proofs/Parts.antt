@@ -16,7 +16,7 @@ use Rattle.wf_names.specs.declared.states.Phase.TheVariants.{Live, Done, Withdra
 use Rattle.constraint_forms.specs.declared.rule.Rule.{Rule}
 use Rattle.constraint_forms.specs.Assign.{no_users, planned}
 use Rattle.constraint_forms.specs.Rules.{Relating, is_falsified}
-use Rattle.pair_set.specs.Pairs.{Pairs}
+use Rattle.basics.specs.Pairs.{Pairs}
 use Rattle.policy_book.specs.Shapes.{PolicyShape}
 use Rattle.policy_book.specs.Facts.{IsSoundPolicy}
 use Rattle.policy_book.specs.Policies.{flow_at, problem_of}

@@ -7,7 +7,7 @@ use Rattle.wf_talk.specs.declared.entry.Entry.{Entry}
 use Rattle.wf_talk.specs.Jobs.{IsNamedAsk}
 use Rattle.wf_board.specs.States.{opening_state}
 use Rattle.wf_board.specs.Histories.{AreRightful, IsLegal, state_after}
-use Rattle.line_cutter.specs.Laws.{AddsNamed}
+use Rattle.line_reader.specs.Laws.{AddsNamed}
 use Rattle.entry_reader.specs.Named.{HasNames}
 use Rattle.entry_laws.specs.Laws.{HasFewSteps}
 use Rattle.entry_laws.specs.Transcripts.{texts_of}

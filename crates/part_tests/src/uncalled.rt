@@ -3,7 +3,7 @@
 use crate::fixture::{FLOW, Look, PAY, is_right};
 use admin_edits::{EditFault, apply, edit_cause};
 use basics::Log;
-use cnf_models::{Reading, model_of, plan_of};
+use cnf_export::{Reading, model_of, plan_of};
 use constraint_forms::{Assign, Plan, StepSet};
 use policy_book::Policy;
 use std::alloc::{AllocError, Global};

@@ -1,7 +1,7 @@
 -- What a policy keeps, with what is kept beside.
 use Rattle.std.proofs.Common.{◌≡◌, ℕ, ◌++◌, List, length, take, refl, sym, ap, ◌∙◌}
 use Rattle.std.proofs.Math.Seq.{take-append_seam}
-use Rattle.pair_set.specs.Pairs.{Pairs}
+use Rattle.basics.specs.Pairs.{Pairs}
 use Rattle.wf_names.specs.Table.{Table}
 use Rattle.rbac_state.specs.Rosters.{RosterShape}
 use Rattle.user_relations.specs.Relations.{RelationShape}

@@ -4,8 +4,8 @@ use Rattle.std.proofs.Common.{◌∙◌, arith, length-append}
 use Prim.Native.Nat.{zero, suc}
 use Rattle.std.specs.Prelude.{slice_index_or, slice_set}
 use Rattle.std.specs.FinSet as set
-use Rattle.pair_set.specs.Pairs.{Pairs, AllPairs, pair_cmp}
-use Rattle.pair_set.specs.PairLaws.{pair_cmp_total, pair_cmp-IsAntisymmetric, either_inserted, was_there}
+use Rattle.basics.specs.Pairs.{Pairs, AllPairs, pair_cmp}
+use Rattle.basics.specs.PairLaws.{pair_cmp_total, pair_cmp-IsAntisymmetric, either_inserted, was_there}
 use Rattle.user_relations.specs.Relations.{RelationShape, RelationKind, listed, complement, kind_of, with_kind, change_kind, pairs_of, listed_pairs}
 use Rattle.std.proofs.lemmas.List.{get_or_default, get_or-set_same, get_or-set_other, get_or_append_left, get_or_push}
 use Rattle.std.proofs.Math.ListN.{length-set}

@@ -5,7 +5,7 @@ use Rattle.std.specs.FinSet as set
 use Rattle.wf_names.specs.Table.{place_of}
 use Rattle.rbac_state.specs.Rosters.{RosterShape, has_role}
 use Rattle.user_relations.specs.Relations.{is_related, with_kind, listed}
-use Rattle.pair_set.specs.Pairs.{Pairs}
+use Rattle.basics.specs.Pairs.{Pairs}
 use Rattle.policy_book.specs.Shapes.{PolicyShape, WorkflowShape}
 use Rattle.policy_book.specs.Plans.{Problem}
 

@@ -9,7 +9,7 @@ use Rattle.policy_printer.proofs.Words.{append-nil, Pairs, pair_cmp, IsAscending
 use Rattle.policy_printer.proofs.Words.{pair_data, IsDistinct-from_sorted, AreNames, each, PolicyPart, lt_yes, lt_no}
 use Rattle.std.specs.List.Sorted.{IsStrictlySortedBy}
 use Rattle.std.specs.FinMap.Entries.{below_all, same_entries}
-use Rattle.pair_set.proofs.SetOfList.{len-from_list}
+use Rattle.basics.proofs.SetOfList.{len-from_list}
 use Rattle.policy_reader.specs.Parts.{once, named_pair_in, numbers_in, next_pair}
 use Rattle.policy_printer.proofs.Readings.{list_back, middle, new_middle, number_back}
 use Rattle.policy_printer.proofs.Sets.{itself, by_first, lines}

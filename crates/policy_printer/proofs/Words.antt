@@ -16,7 +16,7 @@ pub use Rattle.std.specs.Ordering.{is_eq, match_ordering, nat_cmp, ordering_then
 pub use Rattle.basics.proofs.Booleans.{and_same, and_swap, and-false, or-false, eq_back, lt_yes, lt_no, eq_above, lt_back, and_both, and_from, le_yes, le_back}
 pub use Rattle.constraint_forms.specs.Assign.{is_member}
 pub use Rattle.constraint_forms.specs.declared.rule.Rule.{Rule}
-pub use Rattle.pair_set.specs.PairLaws.{ascending_none}
+pub use Rattle.basics.specs.PairLaws.{ascending_none}
 pub use Rattle.policy_book.specs.Facts.{IsSoundWorkflow}
 pub use Rattle.policy_book.specs.Policies.{no_workflow, flow_at}
 pub use Rattle.policy_book.specs.Shapes.{PolicyShape, WorkflowShape}

@@ -8,7 +8,7 @@ use Rattle.std.proofs.lemmas.List.{get_or_append_left, get_or_push}
 use Rattle.std.proofs.lemmas.List.Elements.{All-nil}
 use Rattle.wf_names.specs.declared.limits.TheConstants.{FLOW_LIMIT, PAIR_LIMIT, RELATION_LIMIT, ROLE_LIMIT, RULE_LIMIT, STEP_LIMIT, USER_LIMIT}
 use Rattle.wf_names.specs.Names.{is_name}
-use Rattle.pair_set.specs.PairLaws.{all_empty}
+use Rattle.basics.specs.PairLaws.{all_empty}
 use Rattle.toml.specs.Data.{Data, Members, get_member}
 use Rattle.user_relations.specs.Relations.{RelationShape, RelationKind, listed, complement, kind_of}
 use Rattle.workflow_schema.specs.Flows.{FlowShape}

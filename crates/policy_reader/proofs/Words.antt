@@ -9,8 +9,8 @@ pub use Rattle.std.specs.Ordering.{ordering_reverse, eq_by_cmp}
 pub use Rattle.basics.proofs.Booleans.{or_left, or_right, or_false, eq_same, eq_below, not_true}
 pub use Rattle.constraint_forms.specs.Rules.{any_from}
 pub use Rattle.basics.specs.Reading.{◌>>=◌, each, or_fault, Fails}
-pub use Rattle.pair_set.specs.PairLaws.{pair_cmp_total, pair_cmp-IsAntisymmetric, all_insert, contains_inserted, all_empty}
-pub use Rattle.pair_set.specs.Pairs.{Pairs, AllPairs, pair_cmp, IsAscending}
+pub use Rattle.basics.specs.PairLaws.{pair_cmp_total, pair_cmp-IsAntisymmetric, all_insert, contains_inserted, all_empty}
+pub use Rattle.basics.specs.Pairs.{Pairs, AllPairs, pair_cmp, IsAscending}
 pub use Rattle.policy_book.specs.Facts.{IsSoundRule, AreOfUsers, PermitsRolesBelow, AreSoundRules}
 pub use Rattle.policy_book.specs.Policies.{any_below}
 pub use Rattle.policy_reader.specs.Bounds.{AreBelow}

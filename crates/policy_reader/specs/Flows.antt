@@ -5,7 +5,7 @@ use Rattle.std.specs.FinSet as set
 use Rattle.toml.specs.Data.{Data, Members, get_member}
 use Rattle.wf_names.specs.declared.limits.TheConstants.{FLOW_LIMIT}
 use Rattle.policy_reader.specs.Grammars.{Grammar}
-use Rattle.pair_set.specs.Pairs.{Pairs}
+use Rattle.basics.specs.Pairs.{Pairs}
 use Rattle.workflow_schema.specs.Flows.{FlowShape, is_before}
 use Rattle.policy_book.specs.Shapes.{PolicyShape, WorkflowShape}
 use Rattle.basics.specs.Reading.{◌>>=◌, each}

@@ -116,7 +116,7 @@ pub(crate) fn read_user_pairs(
 }
 
 // Puts the next pair of declared users in.
-#[tactic(auto, unfolding(crate::specs::Parts::next_pair, crate::specs::Parts::once), using(pair_set::specs::PairLaws::all_insert))]
+#[tactic(auto, unfolding(crate::specs::Parts::next_pair, crate::specs::Parts::once), using(basics::specs::PairLaws::all_insert))]
 fn next_user_pair(
     users: &NameTable,
     pairs: &mut UserPairs,

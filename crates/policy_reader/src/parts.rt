@@ -13,7 +13,7 @@ ghost use Rattle.basics.specs.Reading.{Gives, each};
 
 use crate::fault::{PolicyKind, PolicyPart, ReadFault, refuse, refuse_text};
 use crate::pairs::{named_pair, twice_pair};
-use pair_set::PairSet;
+use basics::PairSet;
 use std::alloc::Global;
 use toml::Value;
 use toml::value::{Array, Table};
@@ -272,7 +272,7 @@ pub(crate) fn next_name(
 }
 
 /// Puts the next pair of declared names in.
-#[tactic(auto, unfolding(crate::specs::Parts::next_pair, crate::specs::Parts::once), using(pair_set::specs::PairLaws::all_insert))]
+#[tactic(auto, unfolding(crate::specs::Parts::next_pair, crate::specs::Parts::once), using(basics::specs::PairLaws::all_insert))]
 fn next_pair(
     names: &NameTable,
     pairs: &mut PairSet,
@@ -294,7 +294,7 @@ fn next_pair(
 }
 
 /// Reads a set of pairs of declared names.
-#[tactic(auto, using(pair_set::specs::PairLaws::all_empty))]
+#[tactic(auto, using(basics::specs::PairLaws::all_empty))]
 pub(crate) fn read_pairs(
     alloc: Global,
     names: &NameTable,

@@ -24,7 +24,7 @@ use crate::fault::{PolicyKind, PolicyPart, ReadFault, refuse_text};
 use crate::parts::{
     array_of, find, items_at, named_of, next_name, number_of, read_pairs, table_at, twice,
 };
-use pair_set::PairSet;
+use basics::PairSet;
 use std::alloc::{AllocError, Global};
 use toml::Value;
 use toml::value::Table;
@@ -61,7 +61,7 @@ fn all_steps(alloc: Global, items: &[Value], flow: u32) -> Result<NameTable, Rea
 }
 
 /// Reads the pairs of a workflow's order.
-#[tactic(auto, unfolding(crate::specs::Flows::order_pairs, crate::specs::Flows::order_in), using(pair_set::specs::PairLaws::all_empty))]
+#[tactic(auto, unfolding(crate::specs::Flows::order_pairs, crate::specs::Flows::order_in), using(basics::specs::PairLaws::all_empty))]
 pub(crate) fn read_order(
     alloc: Global,
     steps: &NameTable,

@@ -5,7 +5,7 @@ use Rattle.std.specs.FinSet as sets
 use Rattle.std.proofs.lemmas.Bool.{cases_eq, cases_lt, eq-eqb, ne_eqb, eqb-true, lt-ltb}
 use Rattle.std.proofs.lemmas.List.{get_or-replicate, get_or_past, length-replicate}
 use Rattle.std.proofs.lemmas.Nat.Bits.{bit_at-zero}
-use Rattle.pair_set.specs.Tables.{contains_set_of, set_of_none, set_of_insert, set_of_remove}
+use Rattle.basics.specs.Tables.{contains_set_of, set_of_none, set_of_insert, set_of_remove}
 use Rattle.wf_names.specs.declared.limits.TheConstants.{USER_LIMIT, ROLE_LIMIT}
 use Rattle.wf_names.specs.UserSets.{has_user}
 use Rattle.rbac_state.specs.Rows.{row_has, memberships_of, AreWithinLimits}

@@ -2,8 +2,8 @@
 use Rattle.std.proofs.Common.{◌≡◌, ℕ, ◌<◌, ◌≤◌, List, [], length, sym, subst, arith}
 use Rattle.std.specs.Prelude.{Result, Ok, Err, OnOk, OnErr}
 use Rattle.std.specs.FinSet as set
-use Rattle.pair_set.specs.Pairs.{Pairs, AllPairs}
-use Rattle.pair_set.specs.PairLaws.{all_empty, all_insert, all_remove}
+use Rattle.basics.specs.Pairs.{Pairs, AllPairs}
+use Rattle.basics.specs.PairLaws.{all_empty, all_insert, all_remove}
 use Rattle.wf_names.specs.declared.limits.TheConstants.{ROLE_LIMIT}
 use Rattle.rbac_state.specs.declared.RosterFault.{RosterFault}
 use Rattle.rbac_state.specs.Rosters.{RosterShape, IsSoundRoster}

@@ -2,7 +2,7 @@
 use Rattle.std.specs.Prelude.{ℕ, ◌<◌, ◌≤◌, Bool, List, length, refl}
 use Rattle.std.specs.Coded.{Coded, code_by, coded×, coded_list, coded_ℕ}
 use Rattle.std.specs.FinSet as set
-use Rattle.pair_set.specs.Pairs.{Pairs, pairs_code, AllPairs}
+use Rattle.basics.specs.Pairs.{Pairs, pairs_code, AllPairs}
 use Rattle.wf_names.specs.declared.limits.TheConstants.{USER_LIMIT, ROLE_LIMIT}
 
 -- the names of the users and of the roles, by their numbers, and the pairs (user, role) of who has

@@ -4,8 +4,8 @@ use Rattle.std.proofs.Common.{inl, inr}
 use Rattle.std.proofs.lemmas.Bool.{false≢true}
 use Rattle.std.proofs.lemmas.List.Elements.{All-head, All-tail}
 use Rattle.std.specs.FinSet as set
-use Rattle.pair_set.specs.Pairs.{Pairs}
-use Rattle.pair_set.specs.PairLaws.{pair_cmp-IsAntisymmetric}
+use Rattle.basics.specs.Pairs.{Pairs}
+use Rattle.basics.specs.PairLaws.{pair_cmp-IsAntisymmetric}
 use Rattle.basics.proofs.Booleans.{differ, not_true, not_yes, or_cases}
 use Rattle.constraint_forms.specs.Assign.{is_member, planned, no_steps, no_users}
 use Rattle.policy_book.specs.Shapes.{PolicyShape}

@@ -7,8 +7,8 @@ use Rattle.std.specs.Cmp.{unsigned_tied}
 use Rattle.std.specs.Ordering.{nat_cmp, eq_by_cmp, is_eq, ordering_then}
 use Rattle.std.specs.declared.cmp.Ordering.{Ordering}
 use Rattle.std.specs.declared.cmp.Ordering.TheVariants.{Less, Equal, Greater}
-use Rattle.pair_set.specs.Pairs.{Pairs, pair_cmp, AllPairs}
-use Rattle.pair_set.specs.PairLaws.{pair_cmp_total, pair_cmp-IsAntisymmetric}
+use Rattle.basics.specs.Pairs.{Pairs, pair_cmp, AllPairs}
+use Rattle.basics.specs.PairLaws.{pair_cmp_total, pair_cmp-IsAntisymmetric}
 use Rattle.basics.proofs.Booleans.{and_same, lt_yes}
 use Rattle.rbac_state.specs.Rosters.{RosterShape, IsSoundRoster}
 use Rattle.policy_book.specs.Twins.{is_one_of}

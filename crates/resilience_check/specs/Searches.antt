@@ -2,7 +2,7 @@
 use Rattle.std.specs.Prelude.{◌≡◌, ℕ, ◌+◌, true, not, ◌&&◌, ◌==◌, nat_lt, List}
 use Rattle.std.specs.Prelude.{◌∷◌, ◌++◌, length, Option, None, Some, IsTrue}
 use Rattle.std.specs.FinSet as set
-use Rattle.pair_set.specs.Pairs.{Pairs}
+use Rattle.basics.specs.Pairs.{Pairs}
 use Rattle.constraint_forms.specs.Assign.{no_users, no_steps}
 use Rattle.refutation_tree.specs.Views.{shape_of}
 use Rattle.refutation_tree.specs.declared.tree.Tree.{Tree}

@@ -4,15 +4,15 @@ use Rattle.wf_names.specs.declared.limits.TheConstants.{REQUESTS_FILE_LIMIT}
 use Rattle.wf_outside.specs.Outside.{Filed, told, missing, untold}
 use Rattle.policy_book.specs.Shapes.{PolicyShape}
 use Rattle.policy_reader.specs.File.{IsFilePolicy}
-use Rattle.line_cutter.specs.declared.stop.Stop.{Stop}
-use Rattle.line_cutter.specs.declared.whole.CutText.{CutText}
-use Rattle.line_cutter.specs.Jobs.{Cut, jobs_of_input}
+use Rattle.line_reader.specs.declared.stop.Stop.{Stop}
+use Rattle.line_reader.specs.declared.whole.CutText.{CutText}
+use Rattle.line_reader.specs.Jobs.{Cut, jobs_of_input}
 use Rattle.line_reader.specs.Reader.{lines_of}
 use Rattle.run_record.specs.declared.fault.RunFault.{RunFault}
 use Rattle.run_record.specs.declared.fault.RunFault.TheVariants.{Load, LineTooLong}
 use Rattle.run_record.specs.Fault.{refused, how_of, CountsLoads, LoadsSo}
 use Rattle.wf_commands.specs.Load.{GivesBytes, GivesPolicy}
-use Rattle.transcript_resume.specs.Resumed.{first_long, whole_lines}
+use Rattle.resume_command.specs.Resumed.{first_long, whole_lines}
 use Rattle.resume_command.specs.declared.start.TheConstants.{TRANSCRIPT_FILE_LIMIT}
 use Rattle.resume_command.specs.Load.{GivesCut, IsCutOf, FileNames, OverBoth, OverFiled, OverFiles, OverLong, GoesOverPolicy, OverRequests, OverStop}
 use Rattle.resume_command.specs.Load.{GoesOverText}

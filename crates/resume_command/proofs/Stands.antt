@@ -12,12 +12,12 @@ use Rattle.wf_board.specs.Histories.{EachAfter, FillsJobs, RestsFrom, batch_end,
 use Rattle.wf_desk.specs.BatchLaws.{EndAt}
 use Rattle.wf_desk.specs.Desks.{AreOfLanes, DeskShape, jobs_told}
 use Rattle.wf_desk.specs.Parts.{FillsPart}
-use Rattle.line_cutter.specs.Cutter.{ends_after}
-use Rattle.line_cutter.specs.Laws.{LeadTo}
+use Rattle.line_reader.specs.Cutter.{ends_after}
+use Rattle.line_reader.specs.Laws.{LeadTo}
 use Rattle.transcript_audit.proofs.Batches.{first_ends, part_length, start_first as front_start, start_rises}
-use Rattle.transcript_resume.specs.Unserved.{end_at, jobs_between, start_at}
-use Rattle.transcript_resume.specs.Resumed.{GoesOnAt, Session}
-use Rattle.transcript_resume.proofs.Rests.{answers_part, bounds_order, bounds_within, lanes_between}
+use Rattle.resume_command.specs.Unserved.{end_at, jobs_between, start_at}
+use Rattle.resume_command.specs.Resumed.{GoesOnAt, Session}
+use Rattle.resume_command.proofs.Rests.{answers_part, bounds_order, bounds_within, lanes_between}
 use Rattle.resume_command.specs.Begun.{StandsAt, ends_to}
 
 -- ---- how many ends are not behind a place

@@ -3,17 +3,17 @@ use Rattle.std.proofs.Common.{◌≡◌, ℕ, ◌≤◌, true, List, [], None, R
 use Rattle.std.specs.Prelude.{IsErrAnd}
 use Rattle.policy_book.specs.Shapes.{PolicyShape}
 use Rattle.policy_book.specs.Facts.{IsSoundPolicy}
-use Rattle.line_cutter.specs.declared.whole.CutText.{CutText}
-use Rattle.line_cutter.specs.Jobs.{Cut, jobs_of_input, next_input, start_at}
-use Rattle.line_cutter.specs.Laws.{AreInOrder, GoesOn, InputsGoOn}
+use Rattle.line_reader.specs.declared.whole.CutText.{CutText}
+use Rattle.line_reader.specs.Jobs.{Cut, jobs_of_input, next_input, start_at}
+use Rattle.line_reader.specs.Laws.{AreInOrder, GoesOn, InputsGoOn}
 use Rattle.wf_board.specs.Histories.{batch_start}
 use Rattle.wf_desk.specs.Desks.{DeskShape}
-use Rattle.batch_reader.specs.Reader.{BatchReaderShape}
+use Rattle.line_reader.specs.BatchReader.{BatchReaderShape}
 use Rattle.run_record.specs.declared.fault.RunFault.{RunFault}
 use Rattle.run_record.specs.declared.fault.RunFault.TheVariants as run
 use Rattle.transcript_audit.specs.declared.fault.AuditFault.{AuditFault}
 use Rattle.transcript_audit.specs.declared.fault.AuditFault.TheVariants.{At, NoMemory}
-use Rattle.transcript_resume.specs.Resumed.{HasResumed, RefusesBy, Session}
+use Rattle.resume_command.specs.Resumed.{HasResumed, RefusesBy, Session}
 use Rattle.resume_command.specs.declared.start.Beginning.{Beginning}
 use Rattle.resume_command.specs.declared.start.TheConstants.{PIECE}
 use Rattle.resume_command.specs.declared.refusal.Refusal.{Refusal}

@@ -8,13 +8,13 @@ use Rattle.wf_talk.specs.declared.job.Job.{Job}
 use Rattle.wf_board.specs.Histories.{FillsJobs, batch_start}
 use Rattle.wf_desk.specs.BatchLaws.{EndAt}
 use Rattle.wf_desk.specs.Desks.{AreOfLanes, jobs_told}
-use Rattle.line_cutter.specs.Cutter.{ends_after}
-use Rattle.line_cutter.specs.Jobs.{Cut, next_input, start_at}
-use Rattle.line_cutter.specs.Laws.{AreInOrder, GoesOn}
+use Rattle.line_reader.specs.Cutter.{ends_after}
+use Rattle.line_reader.specs.Jobs.{Cut, next_input, start_at}
+use Rattle.line_reader.specs.Laws.{AreInOrder, GoesOn}
 use Rattle.run_record.specs.declared.fault.RunFault.{RunFault}
 use Rattle.run_record.specs.declared.fault.RunFault.TheVariants.{Nothing, NoMemory}
 use Rattle.run_record.specs.Fault.{How, unasked, answered, refused, unread, unwritten, lacking}
-use Rattle.transcript_resume.specs.Resumed.{IsRefused, IsTakenUp, Session}
+use Rattle.resume_command.specs.Resumed.{IsRefused, IsTakenUp, Session}
 use Rattle.resume_command.specs.declared.start.Beginning.{Beginning}
 use Rattle.resume_command.specs.declared.start.TheConstants.{PIECE}
 use Rattle.resume_command.specs.declared.refusal.Refusal.{Refusal}

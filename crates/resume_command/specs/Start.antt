@@ -1,8 +1,8 @@
 -- Inside: the files of a session that is to be taken up.
 use Rattle.std.specs.Prelude.{◌≡◌, ◌≤◌, ℕ, None}
 use Rattle.wf_names.specs.declared.limits.TheConstants.{SESSION_LINE_LIMIT}
-use Rattle.line_cutter.specs.declared.whole.CutText.{CutText}
-use Rattle.line_cutter.specs.Laws.{AreInOrder, AreNamedJobs}
+use Rattle.line_reader.specs.declared.whole.CutText.{CutText}
+use Rattle.line_reader.specs.Laws.{AreInOrder, AreNamedJobs}
 use Rattle.resume_command.specs.declared.start.Earlier.{Earlier}
 use Rattle.resume_command.specs.Load.{FileNames}
 

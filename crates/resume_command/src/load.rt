@@ -2,12 +2,12 @@
 ghost use Rattle.std.specs.Prelude.{◌≡◌, ◌<◌, ◌≤◌, ℕ, List, IfErr, IfOk};
 ghost use Rattle.wf_names.specs.declared.limits.TheConstants.{REQUESTS_FILE_LIMIT};
 ghost use Rattle.wf_names.specs.declared.limits.TheConstants.{SESSION_LINE_LIMIT};
-ghost use Rattle.line_cutter.specs.Laws.{AreInOrder, AreNamedJobs};
+ghost use Rattle.line_reader.specs.Laws.{AreInOrder, AreNamedJobs};
 ghost use Rattle.run_record.specs.Fault.{fault_in, CountsLoads};
 ghost use Rattle.wf_commands.specs.Load.{IsLoadEnding};
 ghost use Rattle.resume_command.specs.Load.{GivesCut};
 
-use line_cutter::{CutText, cut_text};
+use line_reader::{CutText, cut_text};
 use run_record::RunFault;
 use std::alloc::Global;
 use wf_commands::load_file;

@@ -1,22 +1,20 @@
 //! Where a session goes on: its files are loaded, and its transcript is taken up.
 ghost use Rattle.std.specs.Prelude.{◌≡◌, ◌≤◌, ℕ, true, List, IfOk, length, take};
-ghost use Rattle.line_cutter.specs.Jobs.{jobs_of_input};
+ghost use Rattle.line_reader.specs.Jobs.{jobs_of_input};
 ghost use Rattle.run_record.specs.Fault.{how_of, refused, CountsLoads};
-ghost use Rattle.transcript_resume.specs.Sessions.{AreServedWithin};
+ghost use Rattle.resume_command.specs.Sessions.{AreServedWithin};
 ghost use Rattle.resume_command.specs.Start.{AreWhole, names_in};
 ghost use Rattle.resume_command.specs.Load.{IsCutOf, ending_at, OverBoth, OverFiles};
 ghost use Rattle.resume_command.specs.Load.{OverTranscript, OverTranscriptFile};
 ghost use Rattle.resume_command.specs.Begun.{BeginsBy, EndsBeginning, EndsLoaded, StopsBy, ends_to};
 ghost use Rattle.resume_command.specs.Begun.{fault_by, session_of};
 
-use crate::Refusal;
 use crate::load::load_requests;
-use batch_reader::Reader;
-use line_cutter::{Batch, CutText, Stop, inputs_go_on};
+use crate::{Refusal, Resumed, first_long, resume};
+use line_reader::{Batch, BatchReader, CutText, Stop, inputs_go_on};
 use policy_book::Policy;
 use run_record::RunFault;
 use std::alloc::{AllocError, Global};
-use transcript_resume::{Resumed, first_long, resume};
 use wf_board::Decider;
 use wf_commands::{load_file, load_policy};
 use wf_desk::Desk;
@@ -41,7 +39,7 @@ pub struct Beginning {
     /// The ends of these batches.
     pub ends: Ends,
     /// What reads the input, with its lines numbered on behind those of the file.
-    pub reader: Reader,
+    pub reader: BatchReader,
 }
 
 /// An earlier session: its files, and how it was served.
@@ -194,7 +192,7 @@ fn take_up<V: Decider>(
 {
     inputs_go_on(lanes);
     let _ = policy.admin();
-    let reader = Reader::new(alloc, lanes, text.lines, PIECE)?;
+    let reader = BatchReader::new(alloc, lanes, text.lines, PIECE)?;
     let resumed = resume(
         alloc,
         decider,
@@ -208,7 +206,7 @@ fn take_up<V: Decider>(
 }
 
 // The desk of a session that was taken up, with the ends of the batches whose jobs are told.
-fn with_told(alloc: Global, resumed: Resumed, reader: Reader) -> Result<Beginning, AllocError>
+fn with_told(alloc: Global, resumed: Resumed, reader: BatchReader) -> Result<Beginning, AllocError>
     ensures desk { IfOk result (λ b. b.desk ≡ resumed.desk) }
     ensures file_jobs { IfOk result (λ b. b.file.jobs ≡ resumed.batch.jobs) }
     ensures file_ends { IfOk result (λ b. b.file.ends ≡ resumed.batch.ends) }

@@ -6,7 +6,7 @@ ghost use Rattle.wf_desk.specs.Schedules.{AreEventsOf};
 use crate::policies::{PAY, STAFFED};
 use crate::schedules::{ALL, CLAIMS, Kind, S0, S1, Schedule};
 use case_views::PlainDecider;
-use line_cutter::jobs_of;
+use line_reader::jobs_of;
 use std::alloc::{AllocError, Global};
 use std::test::Fail;
 use wf_board::Verdict;

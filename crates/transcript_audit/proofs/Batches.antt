@@ -7,7 +7,7 @@ use Rattle.basics.proofs.Booleans.{bool_cases}
 use Rattle.wf_talk.specs.declared.job.Job.{Job}
 use Rattle.wf_board.specs.Histories.{batch_start, lane_jobs}
 use Rattle.wf_talk.specs.Jobs.{AreOfLanes}
-use Rattle.line_cutter.specs.Laws.{LeadTo}
+use Rattle.line_reader.specs.Laws.{LeadTo}
 use Rattle.wf_desk.specs.BatchLaws.{EndAt}
 use Rattle.wf_desk.proofs.DocketLaws.{first_of_lanes, none_of_lanes}
 use Rattle.transcript_audit.specs.Auditor.{end_at, start_at}

@@ -10,7 +10,7 @@ use Rattle.policy_book.specs.Shapes.{PolicyShape}
 use Rattle.wf_talk.specs.declared.entry.Entry.{Entry}
 use Rattle.wf_talk.specs.declared.job.Job.{Job}
 use Rattle.wf_board.specs.Histories.{batch_start, job_of_entry, lane_jobs}
-use Rattle.line_cutter.specs.Laws.{AreInOrder}
+use Rattle.line_reader.specs.Laws.{AreInOrder}
 use Rattle.wf_desk.specs.Desks.{served_jobs}
 use Rattle.wf_desk.specs.Keeping.{IsLanePlace}
 use Rattle.wf_desk.specs.Docket.{IsNextPlace}

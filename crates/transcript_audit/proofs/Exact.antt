@@ -12,7 +12,7 @@ use Rattle.wf_board.specs.Histories.{state_after}
 use Rattle.wf_board.proofs.HistoryLaws.{after_all, each_later}
 use Rattle.wf_board.specs.States.{State, opening_state}
 use Rattle.wire_json.specs.Replies.{entry_text}
-use Rattle.line_cutter.specs.Laws.{AreInOrder}
+use Rattle.line_reader.specs.Laws.{AreInOrder}
 use Rattle.wf_desk.proofs.DocketLaws.{lane_both, lane_own}
 use Rattle.wf_desk.specs.Parts.{FillsPart, lane_answered, lane_asked}
 use Rattle.entry_laws.specs.Transcripts.{texts_of}

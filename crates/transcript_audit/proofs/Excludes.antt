@@ -15,7 +15,7 @@ use Rattle.wf_board.proofs.Keeping.{histories_stay_sound}
 use Rattle.wf_board.specs.Histories.{IsRightAfter, job_of_entry, lane_jobs, state_after}
 use Rattle.wf_board.proofs.HistoryLaws.{each_more}
 use Rattle.wf_board.specs.States.{State, opening_state}
-use Rattle.line_cutter.specs.Laws.{AddsNamed, AreLinesBelow, AreNamedJobs}
+use Rattle.line_reader.specs.Laws.{AddsNamed, AreLinesBelow, AreNamedJobs}
 use Rattle.wf_desk.specs.Desks.{served_jobs}
 use Rattle.entry_reader.specs.declared.place.Place.{Place}
 use Rattle.entry_reader.specs.Named.{HasNames}

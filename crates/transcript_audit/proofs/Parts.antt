@@ -7,7 +7,7 @@ use Rattle.basics.proofs.Booleans.{bool_cases, eq_back}
 use Rattle.wf_talk.specs.declared.entry.Entry.{Entry}
 use Rattle.wf_talk.specs.declared.job.Job.{Job}
 use Rattle.wf_board.specs.Histories.{BatchRests, EachAfter, RestsFrom, batch_end, batch_jobs, batch_start, job_of_entry, lane_jobs}
-use Rattle.line_cutter.specs.Laws.{LeadTo}
+use Rattle.line_reader.specs.Laws.{LeadTo}
 use Rattle.wf_desk.specs.Desks.{served_jobs}
 use Rattle.wf_desk.specs.Parts.{FillsPart, lane_answered, lane_asked}
 use Rattle.transcript_audit.specs.Auditor.{AuditShape}

@@ -12,7 +12,7 @@ use Rattle.wf_talk.specs.declared.job.Job.{Job}
 use Rattle.wf_board.specs.Histories.{EachAfter, FillsJobs, IsLegal, IsRightAfter, RestsFrom, batch_start, job_of_entry, lane_jobs}
 use Rattle.wf_board.proofs.HistoryLaws.{each_more, rests_more}
 use Rattle.wf_board.specs.States.{opening_state}
-use Rattle.line_cutter.specs.Laws.{AreInOrder}
+use Rattle.line_reader.specs.Laws.{AreInOrder}
 use Rattle.wf_desk.specs.Desks.{DeskShape, IsDone, served, served_jobs}
 use Rattle.wf_desk.specs.Desks as desk
 use Rattle.wf_desk.specs.BatchLaws.{EndAt}

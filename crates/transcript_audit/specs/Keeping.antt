@@ -16,7 +16,7 @@ use Rattle.wf_board.specs.Histories.{lane_jobs}
 use Rattle.wf_board.specs.States.{opening_state}
 use Rattle.wf_desk.specs.Desks.{served_jobs}
 use Rattle.wf_desk.specs.Docket.{IsNextPlace, entry_for}
-use Rattle.line_cutter.specs.Laws.{AreInOrder}
+use Rattle.line_reader.specs.Laws.{AreInOrder}
 use Rattle.entry_reader.specs.declared.place.Place.{Place}
 use Rattle.entry_reader.specs.declared.fault.TextFault.{TextFault}
 use Rattle.entry_reader.specs.declared.fault.TextFault.TheVariants as text

@@ -5,7 +5,7 @@ use Rattle.policy_book.specs.Shapes.{PolicyShape}
 use Rattle.policy_book.specs.Facts.{IsSoundPolicy}
 use Rattle.wf_talk.specs.declared.entry.Entry.{Entry}
 use Rattle.wf_talk.specs.declared.job.Job.{Job}
-use Rattle.line_cutter.specs.Laws.{AreInOrder, AreNamedJobs}
+use Rattle.line_reader.specs.Laws.{AreInOrder, AreNamedJobs}
 use Rattle.entry_reader.specs.Named.{HasNames}
 use Rattle.entry_laws.specs.Laws.{HasFewSteps}
 use Rattle.transcript_audit.specs.declared.fault.AuditKind.{AuditKind}

@@ -2,7 +2,7 @@
 ghost use Rattle.std.specs.Prelude.{◌≡◌, ◌↔◌, ◌≤◌, ◌-◌, true, length, nat_eq, slice_index_or, IfOk};
 ghost use Rattle.std.specs.Prelude.{IfSome, IsErrOf, None, OnOk, Some};
 ghost use Rattle.wf_names.specs.declared.limits.TheConstants.{LANE_LIMIT};
-ghost use Rattle.line_cutter.specs.Laws.{AreInOrder};
+ghost use Rattle.line_reader.specs.Laws.{AreInOrder};
 ghost use Rattle.wf_board.specs.Boards.{state_on};
 ghost use Rattle.wf_board.specs.Histories.{IsLegal};
 ghost use Rattle.wf_board.specs.States.{opening_state};

@@ -2,7 +2,7 @@
 ghost use Rattle.std.specs.Prelude.{◌≡◌, ◌≤◌, nat_eq, true, length, OnOk, Some};
 ghost use Rattle.std.specs.Arc.{arc_value};
 ghost use Rattle.wf_names.specs.declared.limits.TheConstants.{LANE_LIMIT, SESSION_LINE_LIMIT};
-ghost use Rattle.line_cutter.specs.Laws.{AreInOrder};
+ghost use Rattle.line_reader.specs.Laws.{AreInOrder};
 ghost use Rattle.wf_board.specs.Histories.{IsLegal};
 ghost use Rattle.wf_board.specs.States.{opening_state};
 ghost use Rattle.wf_desk.specs.Parts.{FillsPart};

@@ -2,7 +2,7 @@
 ghost use Rattle.std.specs.Prelude.{◌<◌, ◌≤◌, length};
 ghost use Rattle.wf_names.specs.declared.limits.TheConstants.{LANE_LIMIT, STEP_LIMIT};
 ghost use Rattle.policy_book.specs.Policies.{flow_at};
-ghost use Rattle.line_cutter.specs.Laws.{AreInOrder, AreNamedJobs};
+ghost use Rattle.line_reader.specs.Laws.{AreInOrder, AreNamedJobs};
 ghost use Rattle.entry_laws.specs.Laws.{HasFewSteps};
 ghost use Rattle.transcript_audit.specs.Laws.{AreOfSession};
 

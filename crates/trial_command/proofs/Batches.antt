@@ -15,7 +15,7 @@ use Rattle.wf_desk.specs.Desks.{AreOfLanes, DeskShape, IsDone, IsSoundDesk, with
 use Rattle.wf_desk.proofs.DocketLaws.{batch_done}
 use Rattle.wf_desk.proofs.Ends.{end_more}
 use Rattle.wf_lanes.specs.Turns.{AreByTurns, HasServedByTurns}
-use Rattle.trial_maker.specs.TrialLaws.{AreEndsOf}
+use Rattle.trial_command.specs.TrialLaws.{AreEndsOf}
 use Rattle.trial_command.specs.Run.{AreBatchesByTurns, batch_entries}
 use Rattle.trial_command.specs.Serving.{HasServedAll, HasServedBatch}
 

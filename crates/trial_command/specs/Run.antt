@@ -8,8 +8,8 @@ use Rattle.wf_talk.specs.declared.entry.Entry.{Entry}
 use Rattle.wf_board.specs.Histories.{AreAnsweredOnce, AreRightful, FillsJobs, IsLegal, batch_end}
 use Rattle.wf_board.specs.Histories.{batch_start, state_after}
 use Rattle.wf_lanes.specs.Turns.{AreByTurns}
-use Rattle.trial_maker.specs.Policy.{trial_policy}
-use Rattle.trial_maker.specs.Jobs.{trial_ends, trial_jobs}
+use Rattle.trial_command.specs.Policy.{trial_policy}
+use Rattle.trial_command.specs.Jobs.{trial_ends, trial_jobs}
 use Rattle.run_record.specs.declared.fault.RunFault.{RunFault}
 use Rattle.run_record.specs.declared.fault.RunFault.TheVariants.{Nothing, Write, NoMemory}
 use Rattle.run_record.specs.Fault.{CountsWrites}

@@ -7,7 +7,7 @@ use Rattle.wf_board.specs.Histories.{AreAnsweredOnce, FillsJobs}
 use Rattle.wf_desk.specs.BatchLaws.{AnswersBatch, EndAt}
 use Rattle.wf_desk.specs.Desks.{DeskShape, IsDone}
 use Rattle.wf_lanes.specs.Turns.{AreByTurns}
-use Rattle.trial_maker.specs.TrialLaws.{AreEndsOf}
+use Rattle.trial_command.specs.TrialLaws.{AreEndsOf}
 use Rattle.run_record.specs.Report.{Told}
 use Rattle.trial_command.specs.declared.session.Served.{Served}
 use Rattle.trial_command.specs.declared.session.TheConstants.{LANES}

@@ -6,9 +6,9 @@ ghost use Rattle.trial_command.specs.Run.{IsServedTrial};
 ghost use Rattle.trial_command.specs.Serving.{AreForTrial, HasServedAll, HasServedBatch};
 ghost use Rattle.trial_command.specs.Serving.{trial_told};
 
+use crate::laws::trials_come_in_batches;
+use crate::maker::{Trial, make};
 use std::alloc::{AllocError, Global};
-use trial_maker::laws::trials_come_in_batches;
-use trial_maker::{Trial, make};
 use wf_board::Decider;
 use wf_board::laws::{histories_are_exact, histories_keep_completable};
 use wf_desk::Desk;

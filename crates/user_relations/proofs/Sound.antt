@@ -9,8 +9,8 @@ use Rattle.std.proofs.lemmas.Bool.{cases_eq, leb-false}
 use Rattle.std.proofs.lemmas.List.{map-append}
 use Rattle.std.proofs.lemmas.Map.Keys.{IsDistinct-push}
 use Rattle.std.proofs.Math.Seq.{take-append_seam}
-use Rattle.pair_set.specs.Pairs.{Pairs, AllPairs}
-use Rattle.pair_set.specs.PairLaws.{pair_cmp_total, all_insert, all_remove}
+use Rattle.basics.specs.Pairs.{Pairs, AllPairs}
+use Rattle.basics.specs.PairLaws.{pair_cmp_total, all_insert, all_remove}
 use Rattle.wf_names.specs.Table.{place_of}
 use Rattle.wf_names.specs.declared.limits.TheConstants.{USER_LIMIT, RELATION_LIMIT, PAIR_LIMIT}
 use Rattle.user_relations.specs.declared.RelationFault.{RelationFault}

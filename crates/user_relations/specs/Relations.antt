@@ -4,7 +4,7 @@ use Rattle.std.specs.Prelude.{codes, refl, Option, Some, None, is_some, option_m
 use Rattle.std.proofs.Common.{zero, suc, ◌⊎◌, inl, inr}
 use Rattle.std.specs.Coded.{Coded, code_by, coded×, coded⊎, coded_list, coded_ℕ}
 use Rattle.std.specs.FinSet as set
-use Rattle.pair_set.specs.Pairs.{Pairs, pairs_code}
+use Rattle.basics.specs.Pairs.{Pairs, pairs_code}
 use Rattle.wf_names.specs.declared.limits.TheConstants.{RELATION_LIMIT}
 use Rattle.wf_names.specs.Table.{place_of}
 

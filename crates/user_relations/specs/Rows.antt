@@ -4,8 +4,8 @@ use Rattle.std.specs.Prelude.{slice_index_or}
 use Rattle.std.proofs.Common.{◌⊎◌}
 use Rattle.std.specs.FinSet as set
 use Rattle.std.specs.List.{All}
-use Rattle.pair_set.specs.Pairs.{Pairs, IsAscending}
-use Rattle.pair_set.specs.Tables.{set_of, with_row}
+use Rattle.basics.specs.Pairs.{Pairs, IsAscending}
+use Rattle.basics.specs.Tables.{set_of, with_row}
 use Rattle.wf_names.specs.UserSets.{has_user}
 use Rattle.wf_names.specs.declared.limits.TheConstants.{USER_LIMIT}
 use Rattle.user_relations.specs.declared.blocks.Block.{Block}

@@ -4,7 +4,7 @@ ghost use Rattle.std.specs.Prelude.{IfSome, OnOk, OnErr, MatchOption, IsTrue, â—
 ghost use Rattle.std.specs.Prelude.{true, false, slice_get, Some, None, position, nat_eq};
 ghost use Rattle.std.specs.Cmp.Lexicographic.{pointwise};
 ghost use Rattle.std.specs.FinSet as set;
-ghost use Rattle.pair_set.specs.Pairs.{IsAscending};
+ghost use Rattle.basics.specs.Pairs.{IsAscending};
 ghost use Rattle.wf_names.specs.declared.limits.TheConstants.{USER_LIMIT};
 ghost use Rattle.wf_names.specs.Names.{is_name};
 ghost use Rattle.wf_names.specs.Table.{place_of};

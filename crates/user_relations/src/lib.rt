@@ -6,7 +6,7 @@ ghost use Rattle.std.specs.Prelude.{◌≡◌, ◌≢◌, ◌<◌, ◌≤◌, �
 ghost use Rattle.std.specs.Prelude.{is_some, IfOk, IfSome, OnOk, OnErr, MatchOption, IsErrOf, true};
 ghost use Rattle.std.specs.Prelude.{false, ◌==◌, ◌&&◌, not, nat_lt, slice_get, Some};
 ghost use Rattle.std.specs.FinSet as set;
-ghost use Rattle.pair_set.specs.Pairs.{AllPairs, IsAscending};
+ghost use Rattle.basics.specs.Pairs.{AllPairs, IsAscending};
 ghost use Rattle.wf_names.specs.declared.limits.TheConstants.{PAIR_LIMIT, RELATION_LIMIT};
 ghost use Rattle.wf_names.specs.declared.limits.TheConstants.{USER_LIMIT};
 ghost use Rattle.wf_names.specs.Table.{place_of};

@@ -8,8 +8,8 @@ use Rattle.std.specs.Ordering.{eq_by_cmp}
 use Rattle.std.proofs.lemmas.Bool.Decides.{eqb_tells}
 use Rattle.std.proofs.lemmas.Map.Views.{tells_apart}
 use Rattle.basics.proofs.Booleans.{and_from, differ, eq_same, or_left, or_right}
-use Rattle.pair_set.specs.Pairs.{Pairs, pair_cmp}
-use Rattle.pair_set.specs.PairLaws.{pair_cmp_total, pair_cmp-IsAntisymmetric}
+use Rattle.basics.specs.Pairs.{Pairs, pair_cmp}
+use Rattle.basics.specs.PairLaws.{pair_cmp_total, pair_cmp-IsAntisymmetric}
 use Rattle.user_relations.specs.Relations.{RelationKind, RelationShape, change_kind, complement, is_related, kind_holds, kind_of, listed, listed_pairs}
 use Rattle.user_relations.specs.Relations.{pairs_of, with_kind}
 use Rattle.user_relations.specs.Kinds.{put_fault, take_fault}

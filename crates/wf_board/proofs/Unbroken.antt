@@ -19,7 +19,7 @@ use Rattle.policy_book.specs.Policies.{any_below, flow_at, is_authorised, proble
 use Rattle.policy_book.specs.Facts.{IsSoundPolicy}
 use Rattle.policy_book.specs.Plans.{IsValidPlan}
 use Rattle.policy_book.proofs.Counting.{any_below-at}
-use Rattle.pair_set.specs.Pairs.{Pairs}
+use Rattle.basics.specs.Pairs.{Pairs}
 use Rattle.case_record.specs.Cases.{CaseShape, assigned_of, finished_of, state_at}
 use Rattle.case_record.proofs.Laws.{finished_of-at}
 use Rattle.grant_table.specs.declared.rows.Row.{Row}

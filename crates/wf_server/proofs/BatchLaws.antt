@@ -19,7 +19,7 @@ use Rattle.wf_desk.proofs.BatchLaws.{batch_fills}
 use Rattle.wf_desk.proofs.DocketLaws.{batch_done}
 use Rattle.wf_desk.specs.Schedules.{HasGrown}
 use Rattle.wf_desk.proofs.Ends.{end_more}
-use Rattle.line_cutter.specs.Cutter.{ends_after}
+use Rattle.line_reader.specs.Cutter.{ends_after}
 use Rattle.run_record.specs.declared.fault.RunFault.{RunFault}
 use Rattle.run_record.specs.declared.fault.RunFault.TheVariants as fault
 use Rattle.run_record.specs.Report.{Told}

@@ -7,11 +7,11 @@ use Rattle.wf_outside.proofs.OutsideLaws.{nothing_put}
 use Rattle.wf_talk.specs.declared.job.Job.{Job}
 use Rattle.wf_board.specs.Histories.{batch_start}
 use Rattle.wf_desk.specs.Desks.{DeskShape, jobs_told}
-use Rattle.line_cutter.specs.Cutter.{ends_after}
-use Rattle.line_cutter.specs.Laws.{AreInOrder}
+use Rattle.line_reader.specs.Cutter.{ends_after}
+use Rattle.line_reader.specs.Laws.{AreInOrder}
 use Rattle.transcript_audit.proofs.Batches.{ends_within, next_start, end_read, part_length, start_ahead, start_within}
-use Rattle.transcript_resume.specs.Unserved.{jobs_between}
-use Rattle.transcript_resume.proofs.Rests.{lanes_between, near_from}
+use Rattle.resume_command.specs.Unserved.{jobs_between}
+use Rattle.resume_command.proofs.Rests.{lanes_between, near_from}
 use Rattle.resume_command.specs.Begun.{StandsAt}
 use Rattle.resume_command.proofs.Stands.{jobs_here}
 use Rattle.run_record.specs.declared.fault.RunFault.{RunFault}

@@ -6,9 +6,9 @@ use Rattle.policy_book.specs.Shapes.{PolicyShape}
 use Rattle.policy_reader.specs.File.{IsFilePolicy}
 use Rattle.wf_board.specs.States.{opening_state}
 use Rattle.wf_board.specs.Histories.{AreRightful, IsLegal, state_after}
-use Rattle.line_cutter.specs.Jobs.{Cut, end_batch, flush, jobs_from, jobs_of_input, next_input, start}
-use Rattle.line_cutter.specs.Laws.{AreNamedJobs, JobsAreInOrder}
-use Rattle.line_cutter.specs.Naming.{JobsStayNamed}
+use Rattle.line_reader.specs.Jobs.{Cut, end_batch, flush, jobs_from, jobs_of_input, next_input, start}
+use Rattle.line_reader.specs.Laws.{AreNamedJobs, JobsAreInOrder}
+use Rattle.line_reader.specs.Naming.{JobsStayNamed}
 use Rattle.entry_reader.specs.Named.{HasNames}
 use Rattle.entry_laws.specs.Fits.{FitLines, LinesFit}
 use Rattle.entry_laws.specs.Transcripts.{texts_of}

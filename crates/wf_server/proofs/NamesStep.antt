@@ -6,8 +6,8 @@ use Rattle.std.proofs.lemmas.List.{length-append}
 use Rattle.serde_json.specs.Data.{array, number, object, member, no_members, unsigned}
 use Rattle.serde_json.specs.View.{items_of}
 use Rattle.basics.proofs.Booleans.{and_both, or_cases}
-use Rattle.pair_set.specs.Pairs.{AllPairs, Pairs}
-use Rattle.pair_set.specs.PairLaws.{all_insert, all_remove}
+use Rattle.basics.specs.Pairs.{AllPairs, Pairs}
+use Rattle.basics.specs.PairLaws.{all_insert, all_remove}
 use Rattle.refutation_tree.specs.declared.tree.Tree.{Tree}
 use Rattle.refutation_tree.specs.Views.{shape_of}
 use Rattle.policy_book.specs.Shapes.{PolicyShape}

@@ -10,13 +10,13 @@ use Rattle.wf_board.specs.Histories.{AreAnsweredOnce, AreRightful, IsLegal, batc
 use Rattle.wf_board.specs.Laws.{HistoriesAreExact, HistoriesKeepCompletable}
 use Rattle.wf_board.specs.States.{opening_state}
 use Rattle.wf_desk.specs.Desks.{AreOfLanes, DeskShape, jobs_told}
-use Rattle.line_cutter.specs.Cutter.{after_handing}
-use Rattle.line_cutter.specs.Jobs.{Cut, UpToAnEnd, jobs_of_input, last_or, next_input, start_at}
-use Rattle.line_cutter.specs.Laws.{AreInOrder, GoesOn}
-use Rattle.line_cutter.specs.Naming.{JobsStayNamed}
+use Rattle.line_reader.specs.Cutter.{after_handing}
+use Rattle.line_reader.specs.Jobs.{Cut, UpToAnEnd, jobs_of_input, last_or, next_input, start_at}
+use Rattle.line_reader.specs.Laws.{AreInOrder, GoesOn}
+use Rattle.line_reader.specs.Naming.{JobsStayNamed}
 use Rattle.entry_reader.specs.Named.{HasNames}
 use Rattle.entry_laws.specs.Fits.{LinesFit}
-use Rattle.batch_reader.specs.Reader.{BatchReaderShape}
+use Rattle.line_reader.specs.BatchReader.{BatchReaderShape}
 use Rattle.run_record.specs.declared.fault.RunFault.{RunFault}
 use Rattle.run_record.specs.declared.fault.RunFault.TheVariants as fault
 use Rattle.run_record.specs.Fault.{how_of, is_before_input, CountsLoads, CountsReads, CountsWrites}
@@ -24,7 +24,7 @@ use Rattle.run_record.specs.Report.{Told, nothing_told}
 use Rattle.run_record.specs.Run.{Run, IsOrderly, IsUntouched, Streams}
 use Rattle.transcript_audit.specs.declared.fault.AuditKind.{AuditKind}
 use Rattle.audit_command.specs.Finding.{audit_fault_line}
-use Rattle.transcript_resume.specs.Resumed.{IsRefused, Session}
+use Rattle.resume_command.specs.Resumed.{IsRefused, Session}
 use Rattle.resume_command.specs.declared.start.Beginning.{Beginning}
 use Rattle.resume_command.specs.declared.start.TheConstants.{PIECE}
 use Rattle.resume_command.specs.declared.refusal.Refusal.{Refusal}

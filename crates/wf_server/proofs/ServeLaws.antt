@@ -10,7 +10,7 @@ use Rattle.run_record.specs.Fault.{is_before_input, CountsLoads, CountsReads, Co
 use Rattle.run_record.specs.Run.{Run, IsUntouched, OverFile}
 use Rattle.wf_commands.specs.Load.{GivesPolicy, IsLoadEnding, PolicyOf}
 use Rattle.wf_server.specs.declared.serve.TheConstants.{PIECE}
-use Rattle.line_cutter.specs.Jobs.{start}
+use Rattle.line_reader.specs.Jobs.{start}
 use Rattle.wf_server.specs.Sessions.{Served}
 use Rattle.wf_board.specs.States.{opening_state}
 use Rattle.wf_board.specs.Histories.{AreRightful}

@@ -7,13 +7,13 @@ use Rattle.wf_names.specs.declared.limits.TheConstants.{BATCH_LINE_LIMIT}
 use Rattle.wf_outside.specs.Outside.{HasTaken, with_bytes}
 use Rattle.wf_outside.proofs.OutsideLaws.{nothing_taken, nothing_put}
 use Rattle.wf_talk.specs.declared.job.Job.{Job}
-use Rattle.line_cutter.specs.declared.stop.Stop.TheVariants as stop
-use Rattle.line_cutter.specs.Jobs.{Cut, start, jobs_from, last_or}
-use Rattle.line_cutter.specs.Cutter.{after_handing, ends_after}
-use Rattle.line_cutter.specs.Laws.{JobsAreInOrder, LeadTo}
-use Rattle.batch_reader.specs.declared.reader.Paused.{Paused}
-use Rattle.batch_reader.specs.declared.reader.Paused.TheVariants as paused
-use Rattle.batch_reader.specs.Reader.{BatchReaderShape, Handed, handed_more, HasRead, IsReadUp, ReadsBatch, CountsPause}
+use Rattle.line_reader.specs.declared.stop.Stop.TheVariants as stop
+use Rattle.line_reader.specs.Jobs.{Cut, start, jobs_from, last_or}
+use Rattle.line_reader.specs.Cutter.{after_handing, ends_after}
+use Rattle.line_reader.specs.Laws.{JobsAreInOrder, LeadTo}
+use Rattle.line_reader.specs.declared.line_reader.Paused.{Paused}
+use Rattle.line_reader.specs.declared.line_reader.Paused.TheVariants as paused
+use Rattle.line_reader.specs.BatchReader.{BatchReaderShape, Handed, handed_more, HasRead, IsReadUp, ReadsBatch, CountsPause}
 use Rattle.wf_board.specs.States.{opening_state}
 use Rattle.wf_board.specs.Histories.{FillsJobs, IsLegal}
 use Rattle.wf_desk.specs.Desks.{AreOfLanes, DeskShape, desk_with, jobs_told}

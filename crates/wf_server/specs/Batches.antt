@@ -7,13 +7,13 @@ use Rattle.wf_names.specs.declared.limits.TheConstants.{BATCH_LINE_LIMIT, SESSIO
 use Rattle.wf_outside.specs.Outside.{with_bytes}
 use Rattle.wf_talk.specs.declared.entry.Entry.{Entry}
 use Rattle.wf_talk.specs.declared.job.Job.{Job}
-use Rattle.line_cutter.specs.Cutter.{ends_after}
-use Rattle.line_cutter.specs.Jobs.{Cut, jobs_from}
-use Rattle.line_cutter.specs.Laws.{AreInOrder}
-use Rattle.line_cutter.specs.declared.stop.Stop.TheVariants as stop
-use Rattle.batch_reader.specs.declared.reader.Paused.{Paused}
-use Rattle.batch_reader.specs.declared.reader.Paused.TheVariants as paused
-use Rattle.batch_reader.specs.Reader.{BatchReaderShape, HasRead}
+use Rattle.line_reader.specs.Cutter.{ends_after}
+use Rattle.line_reader.specs.Jobs.{Cut, jobs_from}
+use Rattle.line_reader.specs.Laws.{AreInOrder}
+use Rattle.line_reader.specs.declared.stop.Stop.TheVariants as stop
+use Rattle.line_reader.specs.declared.line_reader.Paused.{Paused}
+use Rattle.line_reader.specs.declared.line_reader.Paused.TheVariants as paused
+use Rattle.line_reader.specs.BatchReader.{BatchReaderShape, HasRead}
 use Rattle.wire_json.specs.Replies.{entry_text}
 use Rattle.policy_book.specs.Shapes.{PolicyShape}
 use Rattle.wf_board.specs.Histories.{FillsJobs}

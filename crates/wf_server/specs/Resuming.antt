@@ -7,7 +7,7 @@ use Rattle.wf_board.specs.States.{opening_state}
 use Rattle.wf_board.specs.Histories.{AreAnsweredOnce, AreRightful, state_after}
 use Rattle.entry_laws.specs.Fits.{FitLines}
 use Rattle.entry_laws.specs.Transcripts.{texts_of}
-use Rattle.line_cutter.specs.Jobs.{Cut, next_input}
+use Rattle.line_reader.specs.Jobs.{Cut, next_input}
 use Rattle.run_record.specs.declared.fault.RunFault.{RunFault}
 use Rattle.run_record.specs.declared.fault.RunFault.TheVariants.{Found, Write, NoMemory}
 use Rattle.run_record.specs.Fault.{CountsWrites}
@@ -15,7 +15,7 @@ use Rattle.run_record.specs.Report.{nothing_told}
 use Rattle.run_record.specs.Run.{Run, IsOrderly, IsUntouched}
 use Rattle.transcript_audit.specs.declared.fault.AuditKind.{AuditKind}
 use Rattle.audit_command.specs.Finding.{audit_fault_line}
-use Rattle.transcript_resume.specs.Resumed.{IsRefused, IsTakenUp, Session}
+use Rattle.resume_command.specs.Resumed.{IsRefused, IsTakenUp, Session}
 use Rattle.resume_command.specs.declared.start.TheConstants.{PIECE}
 use Rattle.resume_command.specs.declared.refusal.Refusal.{Refusal}
 use Rattle.resume_command.specs.declared.refusal.Refusal.TheVariants.{Ends, Line}

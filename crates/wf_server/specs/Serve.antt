@@ -1,6 +1,6 @@
 -- Inside: the session of a policy.
 use Rattle.policy_book.specs.Shapes.{PolicyShape}
-use Rattle.line_cutter.specs.Jobs.{start}
+use Rattle.line_reader.specs.Jobs.{start}
 use Rattle.wf_board.specs.States.{opening_state}
 use Rattle.wf_board.specs.Histories.{AreRightful}
 use Rattle.entry_laws.specs.Fits.{FitLines}

@@ -14,5 +14,5 @@ mod writing;
 
 pub use run_record::{InputFault, Report, RunFault};
 pub use runs::{run, run_alone};
-pub use transcript_resume::{Resumed, resume};
+pub use resume_command::{Resumed, resume};
 pub use wf_lanes::{Gate, OpenGate};

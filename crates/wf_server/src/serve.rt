@@ -16,7 +16,7 @@ use crate::way::Way;
 use command_words::Options;
 use entry_laws::lines_fit;
 use entry_reader::know_names;
-use line_cutter::{jobs_are_in_order, jobs_stay_named};
+use line_reader::{jobs_are_in_order, jobs_stay_named};
 use policy_book::Policy;
 use run_record::{Report, RunFault, bare_report};
 use std::alloc::Global;

@@ -3,8 +3,8 @@ ghost use Rattle.std.specs.Prelude.{◌≡◌, ◌<◌, None};
 ghost use Rattle.wf_board.specs.States.{opening_state};
 ghost use Rattle.wf_board.specs.Histories.{AreAnsweredOnce, AreRightful, IsLegal};
 ghost use Rattle.wf_desk.specs.Desks.{IsSoundDesk};
-ghost use Rattle.line_cutter.specs.Jobs.{Cut, start};
-ghost use Rattle.batch_reader.specs.Reader.{CanReadOn, GoesOnReading};
+ghost use Rattle.line_reader.specs.Jobs.{Cut, start};
+ghost use Rattle.line_reader.specs.BatchReader.{CanReadOn, GoesOnReading};
 ghost use Rattle.run_record.specs.Fault.{status_of};
 ghost use Rattle.run_record.specs.Report.{told_by};
 ghost use Rattle.run_record.specs.Run.{Streams, streams_of};
@@ -18,9 +18,8 @@ ghost use Rattle.wf_server.specs.Ways.{ServesOnce, setting_of};
 
 use crate::batch::{Answered, answer_batch};
 use crate::way::Way;
-use batch_reader::{Paused, Reader, Reading};
 use command_words::Options;
-use line_cutter::{Stop, jobs_are_in_order};
+use line_reader::{BatchReader, Paused, Reading, Stop, jobs_are_in_order};
 use policy_book::Policy;
 use run_record::{Report, RunFault, bare_report};
 use std::alloc::Global;
@@ -53,7 +52,7 @@ pub(crate) fn run_session<S: Source, K: Sink, W: Way>(
     let Ok(desk) = Desk::new(alloc, policy, options.lanes, options.rounds) else {
         return bare_report(alloc, RunFault::NoMemory);
     };
-    let Ok(mut reader) = Reader::new(alloc, options.lanes, 0, room) else {
+    let Ok(mut reader) = BatchReader::new(alloc, options.lanes, 0, room) else {
         return bare_report(alloc, RunFault::NoMemory);
     };
     jobs_are_in_order(options.lanes);
@@ -72,7 +71,7 @@ pub(crate) fn run_session<S: Source, K: Sink, W: Way>(
 pub(crate) fn serve_batches<S: Source, K: Sink, W: Way>(
     alloc: Global,
     way: &W,
-    reader: &mut Reader,
+    reader: &mut BatchReader,
     mut desk: Desk,
     mut told: Answered,
     source: &mut S,
@@ -106,7 +105,7 @@ pub(crate) fn serve_batches<S: Source, K: Sink, W: Way>(
 fn serve_batch<S: Source, K: Sink, W: Way>(
     alloc: Global,
     way: &W,
-    reader: &mut Reader,
+    reader: &mut BatchReader,
     desk: Desk,
     told: &mut Answered,
     source: &mut S,

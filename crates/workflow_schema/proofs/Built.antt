@@ -3,7 +3,7 @@ use Rattle.std.proofs.Common.{◌≡◌, ◌≢◌, ℕ, suc, ◌<◌, ◌≤◌
 use Rattle.std.proofs.Common.{arith}
 use Rattle.std.specs.List.{All}
 use Rattle.std.specs.FinSet as set
-use Rattle.pair_set.specs.Pairs.{Pairs, pair_cmp}
+use Rattle.basics.specs.Pairs.{Pairs, pair_cmp}
 use Rattle.wf_names.specs.declared.limits.TheConstants.{ROLE_LIMIT, STEP_LIMIT}
 use Rattle.workflow_schema.specs.Tables.{table_has, leads}
 use Rattle.workflow_schema.specs.Flows.{Precedes, is_before, is_count, IsLeastCycle}

@@ -6,8 +6,8 @@ use Rattle.std.proofs.Math.Bool.{or_assoc}
 use Rattle.std.specs.List.{list_any}
 use Rattle.std.specs.FinSet as set
 use Rattle.std.specs.Ordering.{eq_by_cmp}
-use Rattle.pair_set.specs.Pairs.{Pairs, pair_cmp}
-use Rattle.pair_set.specs.PairLaws.{pair_cmp_total, pair_cmp-IsAntisymmetric}
+use Rattle.basics.specs.Pairs.{Pairs, pair_cmp}
+use Rattle.basics.specs.PairLaws.{pair_cmp_total, pair_cmp-IsAntisymmetric}
 use Rattle.workflow_schema.specs.declared.table.TheConstants.{WORD_BITS}
 use Rattle.workflow_schema.specs.Tables.{is_set, table_has, row_pairs, table_pairs, permitted_by}
 use Rattle.basics.proofs.Booleans.{or-false, and-false, and_swap, eq_same, eq_other, lt_yes, lt_no}

@@ -4,7 +4,7 @@ use Rattle.std.specs.Prelude.{slice_index}
 use Rattle.std.proofs.Common.{zero, suc}
 use Rattle.std.specs.Int.{bit_at}
 use Rattle.std.specs.FinSet as set
-use Rattle.pair_set.specs.Pairs.{Pairs}
+use Rattle.basics.specs.Pairs.{Pairs}
 use Rattle.workflow_schema.specs.declared.table.TheConstants.{WORD_BITS}
 
 -- a word has a bit

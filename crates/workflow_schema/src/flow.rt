@@ -11,7 +11,7 @@ use crate::FlowFault;
 use crate::lists::{order_set, order_table, permit_table};
 use crate::table::{clear_flag, close, first_own_flag, has_flag, set_flag};
 use basics::Shared;
-use pair_set::PairSet;
+use basics::PairSet;
 use std::alloc::{AllocError, Global};
 use std::marker::Model;
 use wf_names::{NameTable, RoleId, STEP_LIMIT, StepId};

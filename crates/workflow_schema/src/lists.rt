@@ -2,13 +2,13 @@
 ghost use Rattle.std.specs.Prelude.{◌≡◌, ℕ, ◌<◌, ◌≤◌, true, false, length, IfOk, MatchOption};
 ghost use Rattle.std.specs.List.{All};
 ghost use Rattle.std.specs.FinSet as set;
-ghost use Rattle.pair_set.specs.Pairs.{pair_cmp};
+ghost use Rattle.basics.specs.Pairs.{pair_cmp};
 ghost use Rattle.wf_names.specs.declared.limits.TheConstants.{ROLE_LIMIT, STEP_LIMIT};
 ghost use Rattle.workflow_schema.specs.Flows.{has_twice};
 ghost use Rattle.workflow_schema.specs.Tables.{table_has};
 
 use crate::table::{has_flag, set_flag};
-use pair_set::PairSet;
+use basics::PairSet;
 use std::alloc::{AllocError, Global};
 use wf_names::{RoleId, STEP_LIMIT, StepId};
 

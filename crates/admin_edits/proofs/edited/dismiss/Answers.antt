@@ -1,7 +1,7 @@
 use Rattle.std.proofs.Common.{◌≡◌, ◌∙◌, false, sym, ap}
 use Rattle.std.specs.FinSet as set
-use Rattle.pair_set.specs.PairLaws.{pair_cmp_total, pair_cmp-IsAntisymmetric, remove_absent}
-use Rattle.pair_set.specs.Pairs.{Pairs}
+use Rattle.basics.specs.PairLaws.{pair_cmp_total, pair_cmp-IsAntisymmetric, remove_absent}
+use Rattle.basics.specs.Pairs.{Pairs}
 use Rattle.rbac_state.specs.Rosters.{RosterShape}
 use Rattle.policy_book.specs.Policies.{with_roster}
 use Rattle.admin_edits.proofs.edited.dismiss.Goals as goal

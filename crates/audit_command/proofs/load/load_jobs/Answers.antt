@@ -1,5 +1,5 @@
 use Rattle.wf_names.specs.declared.limits.TheConstants.{LANE_LIMIT}
-use Rattle.line_cutter.proofs.Order.{order_within}
+use Rattle.line_reader.proofs.Order.{order_within}
 use Rattle.audit_command.proofs.load.load_jobs.Goals as goal
 
 pub returns-clause-order : goal.returns-clause-order

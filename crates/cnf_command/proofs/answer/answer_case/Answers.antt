@@ -1,5 +1,5 @@
 use Rattle.std.proofs.Common.{◌≡◌, ◌∙◌, subst, Ok, Err}
-use Rattle.cnf_models.specs.Texts.{model_of_text}
+use Rattle.cnf_export.specs.ModelText.{model_of_text}
 use Rattle.cnf_command.specs.Answers.{ReadsModel}
 use Rattle.cnf_command.specs.Steps.{GivesModel}
 use Rattle.cnf_command.proofs.Telling.{answers_large, answers_model, answers_word}

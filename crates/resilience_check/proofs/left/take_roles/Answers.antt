@@ -1,6 +1,6 @@
 use Rattle.std.proofs.Common.{◌∙◌, length, ap, sym, subst, arith}
 use Rattle.std.specs.FinSet as set
-use Rattle.pair_set.specs.Pairs.{Pairs}
+use Rattle.basics.specs.Pairs.{Pairs}
 use Rattle.rbac_state.specs.Rosters.{IsSoundRoster, RosterShape}
 use Rattle.policy_book.specs.Shapes.{PolicyShape}
 use Rattle.resilience_check.specs.Searches.{with_members}

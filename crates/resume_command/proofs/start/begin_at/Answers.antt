@@ -1,7 +1,7 @@
 use Rattle.std.proofs.Common.{Result, Err, true, refl, ap, ◌∙◌}
-use Rattle.line_cutter.specs.Jobs.{jobs_of_input}
+use Rattle.line_reader.specs.Jobs.{jobs_of_input}
 use Rattle.line_reader.specs.Reader.{lines_of}
-use Rattle.transcript_resume.specs.Resumed.{first_long, whole_lines}
+use Rattle.resume_command.specs.Resumed.{first_long, whole_lines}
 use Rattle.run_record.specs.declared.fault.RunFault.TheVariants.{LineTooLong}
 use Rattle.resume_command.specs.declared.start.Beginning.{Beginning}
 use Rattle.resume_command.specs.declared.refusal.Refusal.{Refusal}

@@ -1,5 +1,5 @@
 use Rattle.std.proofs.Common.{true}
-use Rattle.line_cutter.specs.Jobs.{jobs_of_input}
+use Rattle.line_reader.specs.Jobs.{jobs_of_input}
 use Rattle.resume_command.specs.declared.start.TheConstants.{TRANSCRIPT_FILE_LIMIT}
 use Rattle.resume_command.specs.Begun.{BeginsBy, StopsBy, session_of}
 use Rattle.resume_command.specs.Load.{OverTranscript}

@@ -4,7 +4,7 @@ use Rattle.run_record.specs.declared.fault.RunFault.{RunFault}
 use Rattle.resume_command.specs.declared.start.Beginning.{Beginning}
 use Rattle.resume_command.specs.declared.refusal.Refusal.{Refusal}
 use Rattle.resume_command.specs.declared.refusal.Refusal.TheVariants.{Ends}
-use Rattle.line_cutter.specs.Jobs.{Cut, jobs_of_input}
+use Rattle.line_reader.specs.Jobs.{Cut, jobs_of_input}
 use Rattle.resume_command.specs.Begun.{BeginsBy, StopsBy, session_of}
 use Rattle.resume_command.specs.Load.{OverTranscriptFile}
 use Rattle.resume_command.proofs.Files.{limit_kept, limit_met, loads_refused, requests_fail, requests_there}

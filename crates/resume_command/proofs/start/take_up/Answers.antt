@@ -1,7 +1,7 @@
 use Rattle.std.proofs.Common.{take, ap, sym, subst, ◌∙◌}
 use Rattle.wf_desk.specs.Desks.{DeskShape}
-use Rattle.transcript_resume.specs.Resumed.{HasResumed, RefusesBy, Session}
-use Rattle.transcript_resume.specs.Sessions.{session_over}
+use Rattle.resume_command.specs.Resumed.{HasResumed, RefusesBy, Session}
+use Rattle.resume_command.specs.Sessions.{session_over}
 use Rattle.resume_command.specs.Begun.{ends_to}
 use Rattle.resume_command.proofs.Taken.{has_begun, lacked, refused_so}
 use Rattle.resume_command.proofs.start.take_up.Goals as goal

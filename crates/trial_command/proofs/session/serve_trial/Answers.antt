@@ -2,7 +2,7 @@ use Rattle.std.proofs.Common.{◌≡◌, drop, rules, sym, subst}
 use Rattle.policy_book.specs.Facts.{IsSoundPolicy}
 use Rattle.wf_board.specs.States.{opening_state}
 use Rattle.wf_board.specs.Histories.{AreRightful, IsLegal}
-use Rattle.trial_maker.specs.Policy.{trial_policy}
+use Rattle.trial_command.specs.Policy.{trial_policy}
 use Rattle.trial_command.proofs.session.serve_trial.Goals as goal
 
 pub returns : goal.returns

@@ -1,7 +1,7 @@
 use Rattle.std.proofs.Common.{arith}
 use Rattle.std.specs.FinSet as set
-use Rattle.pair_set.specs.Pairs.{pair_cmp}
-use Rattle.pair_set.specs.PairLaws.{all_empty}
+use Rattle.basics.specs.Pairs.{pair_cmp}
+use Rattle.basics.specs.PairLaws.{all_empty}
 use Rattle.user_relations.proofs.Relations.add_listed.Goals as goal
 
 pub add_pairs-requires-clause-few : goal.add_pairs-requires-clause-few

@@ -1,7 +1,7 @@
 use Rattle.std.proofs.Common.{◌∙◌, ap, sym}
 use Rattle.std.specs.Prelude.{Option}
 use Rattle.std.specs.FinSet as set
-use Rattle.pair_set.specs.Pairs.{pair_cmp}
+use Rattle.basics.specs.Pairs.{pair_cmp}
 use Rattle.user_relations.specs.Relations.{RelationKind, listed_pairs}
 use Rattle.user_relations.proofs.kinds.is_in_list.Goals as goal
 

@@ -1,4 +1,4 @@
-use Rattle.pair_set.specs.PairLaws.{ascending_none}
+use Rattle.basics.specs.PairLaws.{ascending_none}
 use Rattle.user_relations.proofs.kinds.pairs.Goals as goal
 
 pub returns-in-None-clause-ascending : goal.returns-in-None-clause-ascending

@@ -1,5 +1,5 @@
 use Rattle.std.specs.FinSet as set
-use Rattle.pair_set.specs.Pairs.{Pairs}
+use Rattle.basics.specs.Pairs.{Pairs}
 use Rattle.user_relations.specs.Relations.{RelationKind}
 use Rattle.std.specs.Prelude.{Option}
 use Rattle.user_relations.specs.Kinds.{take_fault}

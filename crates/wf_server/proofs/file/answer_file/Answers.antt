@@ -1,8 +1,8 @@
 use Rattle.std.proofs.Common.{◌≡◌, ◌∙◌, ◌<◌, length, slice_index_or, refl, sym, subst, arith}
 use Rattle.std.proofs.lemmas.Grind.{common_steps}
-use Rattle.line_cutter.specs.Laws.{AreInOrder}
+use Rattle.line_reader.specs.Laws.{AreInOrder}
 use Rattle.wf_desk.specs.Desks.{jobs_told}
-use Rattle.transcript_resume.specs.Unserved.{jobs_between}
+use Rattle.resume_command.specs.Unserved.{jobs_between}
 use Rattle.wf_server.specs.Batches.{told_of, IsBatch}
 use Rattle.wf_server.specs.Files.{IsToldTo}
 use Rattle.wf_server.proofs.FileLaws.{file_batch, file_fails, is_next, told_more}

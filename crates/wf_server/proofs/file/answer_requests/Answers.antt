@@ -1,5 +1,5 @@
 use Rattle.std.proofs.Common.{◌<◌, sym, subst}
-use Rattle.line_cutter.specs.Laws.{AreInOrder}
+use Rattle.line_reader.specs.Laws.{AreInOrder}
 use Rattle.wf_server.proofs.FileLaws.{earlier, first_added, first_fails, first_loaded, told_at}
 use Rattle.wf_server.proofs.ServedOn.{on_then}
 use Rattle.wf_server.proofs.SessionLaws.{lanes_of}

@@ -1,6 +1,6 @@
 use Rattle.std.proofs.Common.{◌<◌, refl, sym, ap, subst}
-use Rattle.batch_reader.specs.Reader.{BatchReaderShape}
-use Rattle.line_cutter.specs.Jobs.{next_input}
+use Rattle.line_reader.specs.BatchReader.{BatchReaderShape}
+use Rattle.line_reader.specs.Jobs.{next_input}
 use Rattle.run_record.specs.Report.{told_by}
 use Rattle.run_record.specs.Run.{Streams}
 use Rattle.resume_command.specs.declared.start.TheConstants.{PIECE}

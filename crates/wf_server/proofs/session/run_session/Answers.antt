@@ -6,8 +6,8 @@ use Rattle.wf_board.specs.States.{opening_state}
 use Rattle.wf_board.specs.Histories.{AreAnsweredOnce, AreRightful, IsLegal}
 use Rattle.wf_desk.specs.Desks.{DeskShape}
 use Rattle.wf_server.specs.Serving.{setting}
-use Rattle.batch_reader.specs.Reader.{BatchReaderShape}
-use Rattle.line_cutter.specs.Jobs.{start}
+use Rattle.line_reader.specs.BatchReader.{BatchReaderShape}
+use Rattle.line_reader.specs.Jobs.{start}
 use Rattle.wf_server.specs.Batches.{Serves}
 use Rattle.wf_server.specs.Sessions.{Setting}
 use Rattle.wf_server.specs.Ways.{setting_of}

@@ -1,6 +1,6 @@
 use Rattle.std.proofs.Common.{◌≡◌}
-use Rattle.line_cutter.specs.Jobs.{Cut}
-use Rattle.batch_reader.specs.Reader.{CanReadOn, left_to_read}
+use Rattle.line_reader.specs.Jobs.{Cut}
+use Rattle.line_reader.specs.BatchReader.{CanReadOn, left_to_read}
 use Rattle.run_record.specs.Run.{Streams}
 use Rattle.wf_server.specs.Batch.{IsServedOn}
 use Rattle.wf_server.specs.Batches.{told_of, IsServing}

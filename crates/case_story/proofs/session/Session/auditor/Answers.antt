@@ -1,5 +1,5 @@
 use Rattle.wf_names.specs.declared.limits.TheConstants.{LANE_LIMIT}
-use Rattle.line_cutter.proofs.Order.{order_within}
+use Rattle.line_reader.proofs.Order.{order_within}
 use Rattle.case_story.proofs.session.Session.auditor.Goals as goal
 
 pub know_session-requires-clause-order : goal.know_session-requires-clause-order

@@ -1,7 +1,7 @@
 use Rattle.std.proofs.Common.{◌∙◌, ◌==◌, ◌&&◌, ◌+◌, ap, sym, subst, length, List, arith, true}
 use Rattle.std.specs.FinSet as set
-use Rattle.pair_set.specs.PairLaws.{pair_cmp_total, pair_cmp-IsAntisymmetric, insert_held}
-use Rattle.pair_set.specs.Tables.{set_of_insert}
+use Rattle.basics.specs.PairLaws.{pair_cmp_total, pair_cmp-IsAntisymmetric, insert_held}
+use Rattle.basics.specs.Tables.{set_of_insert}
 use Rattle.wf_names.specs.declared.limits.TheConstants.{USER_LIMIT}
 use Rattle.user_relations.specs.declared.blocks.Block.{Block}
 use Rattle.user_relations.specs.Rows.{row_bit, written, pairs_in, AreRows}

@@ -1,6 +1,6 @@
 use Rattle.std.proofs.Common.{◌≡◌, length, false, ◌||◌, sym, ap, subst}
 use Rattle.std.specs.FinSet as set
-use Rattle.pair_set.specs.Pairs.{pair_cmp}
+use Rattle.basics.specs.Pairs.{pair_cmp}
 use Rattle.workflow_schema.specs.declared.flow.Frame.{Frame}
 use Rattle.workflow_schema.specs.declared.fault.FlowFault.TheVariants.{Cycle}
 use Rattle.workflow_schema.specs.Flows.{has_twice, IsLeastCycle}

@@ -1,6 +1,6 @@
 use Rattle.std.proofs.Common.{◌∙◌, sym, ap, arith}
-use Rattle.pair_set.specs.Pairs.{Pairs}
-use Rattle.pair_set.specs.PairLaws.{pair_cmp_total, pair_cmp-IsAntisymmetric, remove_absent}
+use Rattle.basics.specs.Pairs.{Pairs}
+use Rattle.basics.specs.PairLaws.{pair_cmp_total, pair_cmp-IsAntisymmetric, remove_absent}
 use Rattle.workflow_schema.specs.Tables.{permitted_by}
 use Rattle.workflow_schema.proofs.Permits.{permitted_by-has, permitted_by-without}
 use Rattle.workflow_schema.proofs.Kept.{keeps_forbidden}

@@ -1,6 +1,6 @@
 use Rattle.std.proofs.Common.{length, not, ◌∙◌, sym, ap, arith}
-use Rattle.pair_set.specs.Pairs.{Pairs}
-use Rattle.pair_set.specs.PairLaws.{pair_cmp_total, pair_cmp-IsAntisymmetric, insert_held}
+use Rattle.basics.specs.Pairs.{Pairs}
+use Rattle.basics.specs.PairLaws.{pair_cmp_total, pair_cmp-IsAntisymmetric, insert_held}
 use Rattle.workflow_schema.specs.Tables.{permitted_by}
 use Rattle.workflow_schema.specs.Flows.{FlowShape}
 use Rattle.basics.proofs.Booleans.{not_false}

@@ -1,6 +1,0 @@
-//! Reading an input batch by batch.
-#![tactic(auto)]
-
-mod reader;
-
-pub use reader::{Paused, Reader, Reading};

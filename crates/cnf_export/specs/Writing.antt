@@ -1,0 +1,17 @@
+-- How far a text is written, and what became of a count of faults.
+use Rattle.std.specs.Prelude.{◌≡◌, ℕ, List, ◌++◌, Option, Result, Ok, Err}
+use Rattle.wf_outside.specs.Outside.{with_bytes}
+use Rattle.cnf_export.specs.declared.writing.WriteFault.{WriteFault}
+use Rattle.cnf_export.specs.declared.writing.WriteFault.TheVariants.{Failed, NoMemory}
+
+-- the count of faults is as it was, unless the answer is a fault
+abbrev pub StaysUnlessUnwritten : {A : Type 0} → Result A WriteFault → ℕ → ℕ → Type 0
+StaysUnlessUnwritten (Ok a) before after = after ≡ before
+StaysUnlessUnwritten (Err Failed) before after = Unit {0}
+StaysUnlessUnwritten (Err NoMemory) before after = after ≡ before
+
+-- inside: all of a text was put but the rest
+pub record HasPut (before after : Option (List ℕ)) (text rest : List ℕ) : Type 0 where
+  pub front : List ℕ
+  pub whole : text ≡ front ++ rest
+  pub held : after ≡ with_bytes before front

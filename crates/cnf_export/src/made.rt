@@ -1,0 +1,32 @@
+//! The model that says a plan.
+ghost use Rattle.std.specs.Prelude.{◌≡◌, ◌<◌, length, IfOk};
+ghost use Rattle.policy_book.specs.Policies.{problem_of};
+ghost use Rattle.cnf_export.specs.Saying.{has_variable, plan_flags};
+ghost use Rattle.cnf_export.specs.Readings.{ReadsBack, SatisfiesWherever};
+
+use crate::Model;
+use crate::saying::{say_rules, say_until, say_users};
+use crate::laws::plans_are_models;
+use policy_book::{Plan, Policy};
+use std::alloc::{AllocError, Global};
+use wf_names::{FlowId, STEP_LIMIT};
+
+/// The model that says a plan of a workflow: wherever the plan is valid, it satisfies all clauses,
+/// and is read back as the plan.
+pub fn model_of(alloc: Global, p: &Policy, f: FlowId, plan: &Plan) -> Result<Model, AllocError>
+    requires { f < length p.now.flows }
+    ensures flags { IfOk result (λ m. m ≡ plan_flags (problem_of p.now f) plan.now) }
+    ensures satisfies { IfOk result
+        (λ m. SatisfiesWherever (problem_of p.now f) plan.now (has_variable m)) }
+    ensures back { IfOk result (λ m. ReadsBack (problem_of p.now f) plan.now (has_variable m)) }
+{
+    plans_are_models();
+    let steps = p.flow(f).steps().len();
+    let users = p.roster().users().len();
+    prove!(steps as usize <= STEP_LIMIT);
+    let mut said = Model::new(alloc);
+    say_users(plan, steps as u8, users, &mut said)?;
+    say_until(plan, steps as u8, users, &mut said)?;
+    say_rules(plan, users, p.rules(f), &mut said)?;
+    Ok(said)
+}

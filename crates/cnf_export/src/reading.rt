@@ -1,0 +1,119 @@
+//! A model read as a plan, or as the first clause that it does not satisfy.
+ghost use Rattle.std.specs.Prelude.{◌≡◌, ◌≤◌, ◌<◌, ◌+◌, ◌*◌, length, map, OnOk, IfOk, IsErrOf};
+ghost use Rattle.policy_book.specs.Policies.{flow_at, problem_of};
+ghost use Rattle.policy_book.specs.Plans.{IsWithin};
+ghost use Rattle.cnf_export.specs.Encodings.{clauses_of, literals, numbers};
+ghost use Rattle.cnf_export.specs.Models.{last_below};
+ghost use Rattle.cnf_export.specs.declared.fault.CnfFault.TheVariants.{TooLarge};
+ghost use Rattle.cnf_export.specs.declared.tally.TheConstants.{LITERAL_LIMIT};
+ghost use Rattle.cnf_export.specs.Saying.{has_variable};
+ghost use Rattle.cnf_export.specs.Readings.{first_false, IsReading};
+
+use crate::seen::{last_seen, satisfied};
+use basics::List;
+use crate::laws::models_are_plans;
+use crate::{CnfFault, Encoder, Literals, Model};
+use constraint_forms::{Assign, StepSet};
+use policy_book::{Plan, Policy};
+use std::alloc::{AllocError, Global};
+use wf_names::{FlowId, STEP_LIMIT, USER_LIMIT, UserId};
+
+/// What a model says.
+#[derive(Clone, Copy, PartialEq, Eq)]
+pub enum Reading {
+    /// A valid plan: the model satisfies all clauses.
+    Plan(Plan),
+    /// The first clause that it does not satisfy, numbered from 0.
+    Clause(u32),
+}
+
+/// What a model says of a case: of a workflow, the steps that are assigned, and those of them that
+/// are finished.
+pub fn plan_of(
+    alloc: Global,
+    p: &Policy,
+    f: FlowId,
+    a: &Assign,
+    done: &StepSet,
+    m: &Model,
+) -> Result<Reading, CnfFault>
+    requires flow { f < length p.now.flows }
+    requires within { IsWithin (problem_of p.now f) a.now }
+    ensures reading { IfOk result
+        (IsReading (problem_of p.now f) a.now done.now (has_variable m.now)) }
+    ensures few { OnOk result (literals
+        (clauses_of (problem_of p.now f) a.now done.now) ≤ LITERAL_LIMIT) }
+    ensures large { IsErrOf result TooLarge
+        → LITERAL_LIMIT < literals (clauses_of (problem_of p.now f) a.now done.now) }
+{
+    models_are_plans();
+    let _ruled = p.rules(f);
+    match first_of_case(alloc, p, f, a, done, m)? {
+        Some(i) => Ok(Reading::Clause(i)),
+        None => Ok(Reading::Plan(plan_said(alloc, p, f, m)?)),
+    }
+}
+
+// The first clause of a case that a model does not satisfy, if there is one.
+fn first_of_case(
+    alloc: Global,
+    p: &Policy,
+    f: FlowId,
+    a: &Assign,
+    done: &StepSet,
+    m: &Model,
+) -> Result<Option<u32>, CnfFault>
+    requires flow { f < length p.now.flows }
+    requires within { IsWithin (problem_of p.now f) a.now }
+    ensures first { IfOk result (λ found. found ≡ first_false 0 (has_variable m.now)
+        (clauses_of (problem_of p.now f) a.now done.now)) }
+    ensures few { OnOk result (literals
+        (clauses_of (problem_of p.now f) a.now done.now) ≤ LITERAL_LIMIT) }
+    ensures large { IsErrOf result TooLarge
+        → LITERAL_LIMIT < literals (clauses_of (problem_of p.now f) a.now done.now) }
+{
+    let mut encoder = Encoder::new(alloc, p, f, a, done)?;
+    let mut one = Literals::new(alloc);
+    let first = first_unsatisfied(&mut encoder, &mut one, m)?;
+    Ok(first)
+}
+
+// The first clause that a model does not satisfy, if there is one.
+fn first_unsatisfied(
+    encoder: &mut Encoder,
+    one: &mut Literals,
+    m: &Model,
+) -> Result<Option<u32>, AllocError>
+    requires { encoder.old.left ≡ encoder.old.all }
+    ensures { IfOk result (λ found. found ≡ first_false 0 (has_variable m.now) encoder.old.all) }
+{
+    let count = encoder.clauses();
+    prove!(count <= u32::MAX);
+    let mut k = 0u32;
+    'clauses: loop {
+        if !encoder.next(one)? {
+            return Ok(None);
+        }
+        if !satisfied(m, one) {
+            return Ok(Some(k));
+        }
+        k += 1;
+    }
+}
+
+// The plan that a model says.
+fn plan_said(alloc: Global, p: &Policy, f: FlowId, m: &Model) -> Result<Plan, AllocError>
+    requires { f < length p.now.flows }
+    ensures { IfOk result (λ plan. plan ≡ map (λ s. last_below (length p.now.roster.users)
+        (λ u. has_variable m.now (s * length p.now.roster.users + u)))
+        (numbers 0 (length (flow_at p.now f).flow.steps))) }
+{
+    let steps = p.flow(f).steps().len();
+    let users = p.roster().users().len();
+    prove!(users <= USER_LIMIT && steps as usize <= STEP_LIMIT);
+    let mut chosen = List::new(alloc);
+    'steps: for s in 0..steps {
+        chosen.push(UserId(last_seen(m, s as usize * users as usize, users)))?;
+    }
+    Ok(Plan::of(chosen.as_slice()))
+}

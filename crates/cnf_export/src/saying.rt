@@ -1,0 +1,173 @@
+//! The flags of a model that says a plan, part by part.
+ghost use Rattle.std.specs.Prelude.{◌≡◌, ◌≤◌, ◌<◌, ◌==◌, ◌+◌, ◌++◌, ℕ, suc, cond, nat_le, nat_lt};
+ghost use Rattle.std.specs.Prelude.{map, OnOk, IfOk};
+ghost use Rattle.wf_names.specs.UserSets.{count_below};
+ghost use Rattle.constraint_forms.specs.Assign.{planned};
+ghost use Rattle.cnf_export.specs.Encodings.{height, numbers};
+ghost use Rattle.cnf_export.specs.Models.{has_some};
+ghost use Rattle.cnf_export.specs.Saying.{count_flags, grid, rule_flags, rules_flags};
+
+use crate::Model;
+use constraint_forms::{Rule, Rules, StepSet};
+use policy_book::Plan;
+use std::alloc::AllocError;
+use wf_names::StepId;
+
+// The user whom a plan gives a step.
+fn user_of(plan: &Plan, s: StepId) -> u16
+    ensures { result ≡ planned plan.now s }
+{
+    if s.0 < plan.len() { plan.at(s).0 } else { 0 }
+}
+
+/// Of each step and user, whether the step has the user.
+pub(crate) fn say_users(
+    plan: &Plan,
+    steps: u8,
+    users: u16,
+    into: &mut Model,
+) -> Result<(), AllocError>
+    ensures { OnOk result (into.new
+        ≡ into.old ++ grid (λ s u. planned plan.now s == u) steps users) }
+{
+    'steps: for s in 0..steps {
+        say_user(user_of(plan, StepId(s)), users, into)?;
+    }
+    Ok(())
+}
+
+fn say_user(v: u16, users: u16, into: &mut Model) -> Result<(), AllocError>
+    ensures { OnOk result (into.new ≡ into.old ++ map (λ u. v == u) (numbers 0 users)) }
+{
+    'users: for u in 0..users {
+        into.push(v == u)?;
+    }
+    Ok(())
+}
+
+/// Of each step and user, whether the step has the user or one before.
+pub(crate) fn say_until(
+    plan: &Plan,
+    steps: u8,
+    users: u16,
+    into: &mut Model,
+) -> Result<(), AllocError>
+    ensures { OnOk result (into.new
+        ≡ into.old ++ grid (λ s u. nat_le (planned plan.now s) u) steps users) }
+{
+    'steps: for s in 0..steps {
+        say_from(user_of(plan, StepId(s)), users, into)?;
+    }
+    Ok(())
+}
+
+fn say_from(v: u16, users: u16, into: &mut Model) -> Result<(), AllocError>
+    ensures { OnOk result (into.new ≡ into.old ++ map (λ u. nat_le v u) (numbers 0 users)) }
+{
+    'users: for u in 0..users {
+        into.push(v <= u)?;
+    }
+    Ok(())
+}
+
+/// What the rules that count are asked.
+pub(crate) fn say_rules(
+    plan: &Plan,
+    users: u16,
+    rules: &Rules,
+    into: &mut Model,
+) -> Result<(), AllocError>
+    ensures { OnOk result (into.new ≡ into.old ++ rules_flags users plan.now rules.now) }
+{
+    'rules: for k in 0..rules.len() {
+        say_rule(plan, users, rules.get(k), into)?;
+    }
+    Ok(())
+}
+
+fn say_rule(plan: &Plan, users: u16, rule: &Rule, into: &mut Model) -> Result<(), AllocError>
+    ensures { OnOk result (into.new ≡ into.old ++ rule_flags users plan.now rule.now) }
+{
+    match *rule {
+        Rule::Pair { .. } => Ok(()),
+        Rule::SomeOf { .. } => Ok(()),
+        Rule::AllOf { .. } => Ok(()),
+        Rule::SomeTo { .. } => Ok(()),
+        Rule::AllTo { .. } => Ok(()),
+        Rule::AtMost { limit, group } => say_count(plan, users, limit as u16 + 1, &group, into),
+        Rule::AtLeast { limit, group } => say_count(plan, users, limit as u16, &group, into),
+    }
+}
+
+fn say_count(
+    plan: &Plan,
+    users: u16,
+    high: u16,
+    group: &StepSet,
+    into: &mut Model,
+) -> Result<(), AllocError>
+    ensures { OnOk result (into.new ≡ into.old ++ count_flags users plan.now high group.now) }
+{
+    say_takers(plan, users, group, into)?;
+    say_counts(plan, users, high, group, into)
+}
+
+fn say_takers(plan: &Plan, users: u16, group: &StepSet, into: &mut Model) -> Result<(), AllocError>
+    ensures { OnOk result (into.new
+        ≡ into.old ++ map (has_some group.now plan.now) (numbers 0 users)) }
+{
+    'users: for u in 0..users {
+        into.push(takes_some(plan, group, u))?;
+    }
+    Ok(())
+}
+
+fn say_counts(
+    plan: &Plan,
+    users: u16,
+    high: u16,
+    group: &StepSet,
+    into: &mut Model,
+) -> Result<(), AllocError>
+    ensures { OnOk result (into.new
+        ≡ into.old ++ grid (λ u j. nat_lt j
+        (count_below (suc u) (has_some group.now plan.now))) users high) }
+{
+    let mut count = 0u16;
+    'users: for u in 0..users {
+        count = count_on(count, takes_some(plan, group, u));
+        say_below(count, high, into)?;
+    }
+    Ok(())
+}
+
+// One more, where there is one.
+fn count_on(count: u16, more: bool) -> u16
+    requires { count < 65535 }
+    ensures { result ≡ count + cond more 1 0 }
+{
+    if more { count + 1 } else { count }
+}
+
+fn say_below(count: u16, high: u16, into: &mut Model) -> Result<(), AllocError>
+    ensures { OnOk result (into.new ≡ into.old ++ map (λ j. nat_lt j count) (numbers 0 high)) }
+{
+    'numbers: for j in 0..high {
+        into.push(j < count)?;
+    }
+    Ok(())
+}
+
+// Whether a user has some step of a group.
+fn takes_some(plan: &Plan, group: &StepSet, u: u16) -> bool
+    ensures { result ≡ has_some group.now plan.now u }
+{
+    let limit = group.limit();
+    'members: for t in 0..limit {
+        let step = StepId(t as u8);
+        if group.has(step) && user_of(plan, step) == u {
+            return true;
+        }
+    }
+    false
+}

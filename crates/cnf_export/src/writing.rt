@@ -1,0 +1,85 @@
+//! Writing the clauses of a case, in pieces.
+ghost use Rattle.std.specs.Prelude.{◌≡◌, [], IsErrOf, OnErr, OnOk};
+ghost use Rattle.wf_outside.specs.Outside.{HasPart, Rose, with_bytes};
+ghost use Rattle.cnf_export.specs.Text.{dimacs_text};
+ghost use Rattle.cnf_export.specs.Writing.{StaysUnlessUnwritten};
+ghost use Rattle.cnf_export.specs.declared.writing.WriteFault.TheVariants.{NoMemory};
+ghost use Rattle.cnf_export.specs.declared.writing.WriteFault.TheVariants.{Failed as NotWritten};
+
+use crate::text::{push_clause, push_header};
+use crate::{Encoder, Literals};
+use std::alloc::{AllocError, Global};
+use wf_outside::{Failed, Sink, put_all, put_and_flush};
+
+/// From how many bytes on the text is put.
+const PIECE: usize = 65_536;
+
+/// Why clauses were not written whole.
+#[derive(Clone, Copy)]
+pub enum WriteFault {
+    /// The sink failed, and its count of faults has risen.
+    Failed,
+    /// There was no memory.
+    NoMemory,
+}
+
+impl From<Failed> for WriteFault {
+    ghost from_gives = { λ _ fault. fault ≡ NotWritten };
+
+    fn from(_: Failed) -> Self {
+        WriteFault::Failed
+    }
+}
+
+impl From<AllocError> for WriteFault {
+    ghost from_gives = { λ _ fault. fault ≡ NoMemory };
+
+    fn from(_: AllocError) -> Self {
+        WriteFault::NoMemory
+    }
+}
+
+/// Writes the text of all clauses, with an encoder that is before the first one, and lets it go. No
+/// more of the text is kept than a piece and the line of one clause, so that after a fault the sink
+/// holds a prefix of it.
+pub fn write_clauses<K: Sink>(
+    alloc: Global,
+    encoder: &mut Encoder,
+    sink: &mut K,
+) -> Result<(), WriteFault>
+    requires { encoder.old.left ≡ encoder.old.all }
+    ensures all { OnOk result (K.held sink.new ≡ with_bytes (K.held sink.old)
+        (dimacs_text encoder.old.variables encoder.old.all)) }
+    ensures part { HasPart (K.held sink.old) (K.held sink.new)
+        (dimacs_text encoder.old.variables encoder.old.all) }
+    ensures flushed { OnOk result (K.is_flushed sink.new) }
+    ensures rose { IsErrOf result NotWritten → Rose (K.faults sink.old) (K.faults sink.new) }
+    ensures stays { StaysUnlessUnwritten result (K.faults sink.old) (K.faults sink.new) }
+{
+    let mut out = Vec::new(alloc);
+    push_header(&mut out, encoder.variables(), encoder.clauses())?;
+    let mut one = Literals::new(alloc);
+    'writing: loop {
+        if !encoder.next(&mut one)? {
+            put_and_flush(sink, &out)?;
+            return Ok(());
+        }
+        push_clause(&mut out, &one)?;
+        if out.len() >= PIECE {
+            put_piece(sink, &mut out)?;
+        }
+    }
+}
+
+// Puts what is kept of the text, and keeps it no longer.
+fn put_piece<K: Sink>(sink: &mut K, out: &mut Vec<u8>) -> Result<(), Failed>
+    ensures all { OnOk result (K.held sink.new ≡ with_bytes (K.held sink.old) out.old.items) }
+    ensures part { HasPart (K.held sink.old) (K.held sink.new) out.old.items }
+    ensures empty { OnOk result (out.new.items ≡ []) }
+    ensures rose { OnErr result (Rose (K.faults sink.old) (K.faults sink.new)) }
+    ensures stays { OnOk result (K.faults sink.new ≡ K.faults sink.old) }
+{
+    put_all(sink, out)?;
+    out.clear();
+    Ok(())
+}

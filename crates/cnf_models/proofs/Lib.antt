@@ -1,4 +1,0 @@
-pub mod Grids
-pub mod Firsts
-pub mod Splits
-pub mod Steps

@@ -1,4 +1,0 @@
-pub mod Saying
-pub mod Readings
-pub mod Laws
-pub mod Texts

@@ -1,8 +1,0 @@
-pub mod CutLaws
-mod WholeLines
-pub mod Adding
-pub mod Order
-mod Named
-mod CutUp
-mod Batches
-mod LineJobs

@@ -1,5 +1,0 @@
-use Rattle.line_cutter.proofs.Named.{jobs_stay_named}
-use Rattle.line_cutter.proofs.laws.jobs_stay_named.Goals as goal
-
-pub returns : goal.returns
-returns c = jobs_stay_named

@@ -1,0 +1,164 @@
+-- The user whom an edit of an input adds has a name of a name's form.
+use Rattle.std.proofs.Common.{refl, subst}
+use Rattle.std.specs.Prelude.{◌≡◌, ℕ, nat_eq, Bool, true, false, List, [], ◌∷◌, ◌++◌, Option, Some, None, is_some, unwrap_or, codes, option_map}
+use Rattle.std.specs.Prelude.{option_and_then, Result, Ok, Err, IsTrue, if◌then◌else◌}
+use Rattle.std.specs.List.{find}
+use Rattle.std.specs.Option.{option_or}
+use Rattle.std.specs.Cmp.Lexicographic.{pointwise}
+use Rattle.serde_json.specs.Data.{Data, Members}
+use Rattle.serde_json.specs.Find.{as_object}
+use Rattle.basics.specs.Reading.{◌>>=◌, or_fault, check, each}
+use Rattle.wf_names.specs.Names.{is_name}
+use Rattle.wf_talk.specs.declared.edit.Edit.{Edit}
+use Rattle.wf_talk.specs.declared.request.Request.{Request}
+use Rattle.wf_talk.specs.declared.request.Request.TheVariants.{Change, WhatIf}
+use Rattle.wf_talk.specs.declared.request.Ask.TheVariants as ask
+use Rattle.wf_talk.specs.declared.request.Bad.{Bad}
+use Rattle.wf_talk.specs.declared.request.Bad.TheVariants.{Syntax, Object, Do, Lane, Key, Extra}
+use Rattle.wire_json.specs.declared.request.Asked.{Asked}
+use Rattle.wire_json.specs.Values.{value_of}
+use Rattle.wire_json.specs.Requests.{Row, Reading, rows, edits, row_of, by, user, the_name, text_at, lane_at, has_form, has_only, request_by, asked_by}
+use Rattle.wire_json.specs.Requests.{change_by, what_if_by, what_if_in, reading_of, request_in, asked, asked_of}
+use Rattle.line_reader.specs.Laws.{AddsNamed, IsNamedEdit}
+
+-- ---- rows
+
+-- each of the keys that are asked for has its form
+abbrev HaveForm : Data → List (List ℕ) → Type 0
+HaveForm d keys = each (λ (_ : Unit {0}) key. check (has_form d key) (Key key)) tt keys ≡ Ok tt
+
+-- what is read of a request adds no user, but one with a name
+abbrev IsPlainRow : Row Request → Type 0
+IsPlainRow r = (d : Data) → AddsNamed (ask.Request (r.is d))
+
+abbrev IsEditRow : Row Edit → Type 0
+IsEditRow r = (d : Data) → HaveForm d (by ∷ r.keys) → IsNamedEdit (r.is d)
+
+abbrev EachRow : {A : Type 0} → (Row A → Type 0) → List (Row A) → Type 0
+EachRow P [] = Unit {0}
+EachRow P (r ∷ rs) = P r × EachRow P rs
+
+find_row : {A : Type 0} (P : Row A → Type 0) (p : Row A → Bool) (rs : List (Row A)) (r : Row A) → EachRow P rs → find p rs ≡ Some r → P r
+find_row P p [] r all e = cc
+find_row {A} P p (x ∷ xs) r all e = at_first (p x) e (λ later. find_row P p xs r all.1 later)
+  where
+    at_first : (b : Bool) → (if b then Some x else find p xs) ≡ Some r → (find p xs ≡ Some r → P r) → P r
+    at_first true found rest = let same : x ≡ r = cc in subst P same all.0
+    at_first false found rest = rest found
+
+form_named : (o : Option (List ℕ)) → is_some (option_and_then (λ (text : List ℕ). if is_name text then Some text else None) o) ≡ true →
+    IsTrue (is_name (unwrap_or (option_and_then (λ (text : List ℕ). if is_name text then Some text else None) o) []))
+form_named None is = cc
+form_named (Some text) is = at_form (is_name text) refl is
+  where
+    at_form : (b : Bool) → is_name text ≡ b → is_some (if b then Some text else None) ≡ true → IsTrue (is_name (unwrap_or (if b then Some text else None) []))
+    at_form true form some = form
+    at_form false form some = cc
+
+first_form : (b : Bool) (key : List ℕ) (next : Result (Unit {0}) Bad) → (check b (Key key) >>= (λ (_ : Unit {0}). next)) ≡ Ok tt → (b ≡ true) × (next ≡ Ok tt)
+first_form true key next is = (refl, is)
+first_form false key next is = cc
+
+user_row : (d : Data) → HaveForm d (by ∷ user ∷ []) → IsTrue (is_name (the_name user d))
+user_row d is = form_named (text_at user d)
+    (first_form (has_form d user) user (Ok tt) (first_form (has_form d by) by (check (has_form d user) (Key user) >>= (λ _. Ok tt)) is).1).0
+
+rows_plain : EachRow IsPlainRow rows
+rows_plain = ((λ d. tt), ((λ d. tt), ((λ d. tt), ((λ d. tt), ((λ d. tt), ((λ d. tt), ((λ d. tt), ((λ d. tt), tt))))))))
+
+edits_named : EachRow IsEditRow edits
+edits_named = (user_row, ((λ d is. tt), ((λ d is. tt), ((λ d is. tt), ((λ d is. tt), ((λ d is. tt), ((λ d is. tt), ((λ d is. tt), ((λ d is. tt), tt)))))))))
+
+-- ---- what is read for a word
+
+abbrev IsAdding : Result Request Bad → Type 0
+IsAdding (Ok request) = AddsNamed (ask.Request request)
+IsAdding (Err b) = Unit {0}
+
+abbrev ReadsAdding : Reading → Type 0
+ReadsAdding read = (d : Data) (ms : Members) → IsAdding (read d ms)
+
+by_adding : (others keys : List (List ℕ)) (is : Data → Request) → ((d : Data) → HaveForm d keys → AddsNamed (ask.Request (is d))) →
+    ReadsAdding (request_by others keys is)
+unfolding request_by
+by_adding others keys is adds d ms = at_keys (each (λ (_ : Unit {0}) key. check (has_form d key) (Key key)) tt keys) (adds d)
+  where
+    at_only : (r : Result (Unit {0}) Bad) → AddsNamed (ask.Request (is d)) → IsAdding (r >>= (λ _. Ok (is d)))
+    at_only (Ok x) h = h
+    at_only (Err b) h = tt
+
+    at_keys : (r : Result (Unit {0}) Bad) → (r ≡ Ok tt → AddsNamed (ask.Request (is d))) →
+        IsAdding (r >>= (λ _. check (has_only (others ++ keys) ms) Extra >>= (λ _. Ok (is d))))
+    at_keys (Ok x) h = at_only (check (has_only (others ++ keys) ms) Extra) (h refl)
+    at_keys (Err b) h = tt
+
+what_if_adding : ReadsAdding what_if_in
+unfolding what_if_in
+what_if_adding d ms = at_row (or_fault (option_and_then (row_of edits) (text_at (codes "edit") d)) (Key (codes "edit")))
+  where
+    at_row : (r : Result (Row Edit) Bad) → IsAdding (r >>= (λ x. what_if_by x d ms))
+    at_row (Ok x) = by_adding (codes "do" ∷ codes "lane" ∷ codes "edit" ∷ []) (by ∷ x.keys) (λ y. WhatIf (the_name by y) (x.is y)) (λ y is. tt) d ms
+    at_row (Err b) = tt
+
+abbrev AllAdding : Option Reading → Type 0
+AllAdding None = Unit {0}
+AllAdding (Some read) = ReadsAdding read
+
+mapped_adding : {A : Type 0} (by_row : Row A → Reading) (found : Option (Row A)) → ((r : Row A) → found ≡ Some r → ReadsAdding (by_row r)) →
+    AllAdding (option_map by_row found)
+mapped_adding by_row None h = tt
+mapped_adding by_row (Some r) h = h r refl
+
+or_else_adding : (first second : Option Reading) → AllAdding first → AllAdding second → AllAdding (option_or first second)
+or_else_adding None second h g = g
+or_else_adding (Some read) second h g = h
+
+if_adding : (b : Bool) (read : Reading) (others : Option Reading) → ReadsAdding read → AllAdding others → AllAdding (if b then Some read else others)
+if_adding true read others h g = h
+if_adding false read others h g = g
+
+word_adding : (word : List ℕ) → AllAdding (reading_of word)
+word_adding word =
+    if_adding (pointwise nat_eq word (codes "what_if")) what_if_in
+    (option_or (option_map asked_by (row_of rows word)) (option_map change_by (row_of edits word))) what_if_adding
+    (or_else_adding (option_map asked_by (row_of rows word)) (option_map change_by (row_of edits word))
+    (mapped_adding asked_by (row_of rows word) (λ r is. by_adding (codes "do" ∷ codes "lane" ∷ []) r.keys r.is
+    (λ d have. find_row IsPlainRow (λ y. pointwise nat_eq word y.word) rows r rows_plain is d)))
+    (mapped_adding change_by (row_of edits word) (λ r is. by_adding (codes "do" ∷ codes "lane" ∷ []) (by ∷ r.keys) (λ d. Change (the_name by d) (r.is d))
+    (λ d have. find_row IsEditRow (λ y. pointwise nat_eq word y.word) edits r edits_named is d have))))
+
+found_adding : (o : Option Reading) (read : Reading) → AllAdding o → or_fault o Do ≡ Ok read → ReadsAdding read
+found_adding None read h e = cc
+found_adding (Some x) read h e = let same : x ≡ read = cc in subst ReadsAdding same h
+
+text_adding : (o : Option (List ℕ)) (read : Reading) → or_fault (option_and_then reading_of o) Do ≡ Ok read → ReadsAdding read
+text_adding None read e = cc
+text_adding (Some word) read e = found_adding (reading_of word) read (word_adding word) e
+
+-- ---- a line
+
+then_adding : {A : Type 0} (r : Result A Bad) (next : A → Result Asked Bad) → ((a : A) → r ≡ Ok a → AddsNamed (asked (next a)).ask) →
+    AddsNamed (asked (r >>= next)).ask
+then_adding (Ok a) next rest = rest a refl
+then_adding (Err b) next rest = tt
+
+abbrev with_lane : ℕ → Result Request Bad → Result Asked Bad
+with_lane lane asks = asks >>= (λ request. Ok (record { lane = lane; ask = ask.Request request }))
+
+lane_adding : (lane : ℕ) (r : Result Request Bad) → IsAdding r → AddsNamed (asked (with_lane lane r)).ask
+lane_adding lane (Ok request) is = is
+lane_adding lane (Err b) is = tt
+
+in_adding : (lanes : ℕ) (d : Data) → AddsNamed (asked (request_in lanes d)).ask
+unfolding request_in
+in_adding lanes d =
+    then_adding (or_fault (as_object d) Object) (λ ms. or_fault (option_and_then reading_of (text_at (codes "do") d)) Do >>=
+    (λ read. or_fault (lane_at lanes d) Lane >>= (λ lane. with_lane lane (read d ms)))) (λ ms is_ms.
+    then_adding (or_fault (option_and_then reading_of (text_at (codes "do") d)) Do)
+    (λ read. or_fault (lane_at lanes d) Lane >>= (λ lane. with_lane lane (read d ms))) (λ read is_read.
+    then_adding (or_fault (lane_at lanes d) Lane) (λ lane. with_lane lane (read d ms)) (λ lane is_lane.
+    lane_adding lane (read d ms) (text_adding (text_at (codes "do") d) read is_read d ms))))
+
+pub line_adding : (lanes : ℕ) (line : List ℕ) → AddsNamed (asked_of lanes line).ask
+unfolding asked_of
+line_adding lanes line = then_adding (or_fault (value_of line) Syntax) (request_in lanes) (λ d is. in_adding lanes d)

@@ -1,3 +1,0 @@
-pub mod Ascending
-pub mod SetOfList
-pub mod Facts

@@ -1,4 +1,0 @@
-pub mod Pairs
-pub mod PairLaws
-pub mod Places
-pub mod Tables

@@ -1,0 +1,137 @@
+//! A session that goes on from a transcript.
+ghost use Rattle.std.specs.Prelude.{◌≡◌, IfErr, IfOk};
+ghost use Rattle.wf_names.specs.declared.limits.TheConstants.{LANE_LIMIT};
+ghost use Rattle.line_reader.specs.Laws.{AreInOrder, AreNamedJobs};
+ghost use Rattle.wf_board.specs.Boards.{state_on};
+ghost use Rattle.wf_board.specs.Histories.{IsLegal, state_after};
+ghost use Rattle.wf_board.specs.States.{opening_state};
+ghost use Rattle.wf_desk.specs.Parts.{FillsPart};
+ghost use Rattle.transcript_audit.specs.declared.fault.AuditFault.TheVariants.{NoMemory};
+ghost use Rattle.resume_command.specs.Resumed.{GoesOnAt, HasResumed, IsTakenUp, RefusesBy};
+ghost use Rattle.resume_command.specs.Sessions.{AreServedWithin, session_over};
+
+use crate::lines::whole_lines;
+use crate::taking::take_lines;
+use crate::unserved::rest;
+use line_reader::Batch;
+use policy_book::Policy;
+use std::alloc::{AllocError, Global};
+use transcript_audit::laws::{faults_exclude, next_is_one, part_is_exact};
+use transcript_audit::{AuditFault, Auditor, know_session};
+use wf_board::{Board, Decider};
+use wf_desk::Desk;
+use wf_talk::Journal;
+
+/// A session that goes on.
+#[derive(Drop)]
+pub struct Resumed {
+    /// The desk behind the entries of the transcript, with the jobs of the batch in which they
+    /// stop, behind those of the batches before it.
+    pub desk: Desk,
+    /// All jobs of the requests, with the ends of their batches.
+    pub batch: Batch,
+    /// How many jobs there are up to the end of the batch in which the entries stop.
+    pub next: u32,
+}
+
+/// Takes up the whole lines of a transcript, where they are those of a legal session over a policy
+/// that answers a part of these jobs. Else there is the first line that is none of such a session,
+/// and what is wrong with it; what follows the last LF is not looked at.
+pub fn resume<V: Decider>(
+    alloc: Global,
+    decider: &V,
+    policy: Policy,
+    batch: Batch,
+    transcript: &[u8],
+    lanes: u8,
+    rounds: u8,
+) -> Result<Resumed, AuditFault>
+    requires ready { V.ready decider.now }
+    requires within { AreServedWithin lanes rounds }
+    requires order { AreInOrder lanes batch.jobs batch.ends }
+    requires named { AreNamedJobs batch.jobs }
+    ensures resumed { IfOk result (λ r. HasResumed (session_over policy lanes rounds batch)
+        transcript.now r.next r.desk) }
+    ensures jobs { IfOk result (λ r. r.batch.jobs ≡ batch.jobs) }
+    ensures ends { IfOk result (λ r. r.batch.ends ≡ batch.ends) }
+    ensures refused { IfErr result (RefusesBy (session_over policy lanes rounds batch)
+        transcript.now) }
+{
+    let Ok(opening) = policy.copy() else {
+        return Err(AuditFault::NoMemory);
+    };
+    let (board, journal, batch) = take_up(
+        alloc, decider, opening, batch, transcript, lanes, rounds,
+    )?;
+    match go_on(alloc, policy, board, journal, batch, lanes, rounds) {
+        Ok(resumed) => Ok(resumed),
+        Err(_) => Err(AuditFault::NoMemory),
+    }
+}
+
+// The board after the entries of a transcript, the entries, and the jobs that came.
+fn take_up<V: Decider>(
+    alloc: Global,
+    decider: &V,
+    policy: Policy,
+    batch: Batch,
+    transcript: &[u8],
+    lanes: u8,
+    rounds: u8,
+) -> Result<(Board, Journal, Batch), AuditFault>
+    requires ready { V.ready decider.now }
+    requires order { AreInOrder LANE_LIMIT batch.jobs batch.ends }
+    requires named { AreNamedJobs batch.jobs }
+    ensures state { IfOk result (λ r. state_on r.0
+        ≡ state_after (opening_state policy) r.1.entries) }
+    ensures taken { IfOk result (λ r. IsTakenUp (session_over policy lanes rounds batch)
+        transcript.now r.1.entries) }
+    ensures jobs { IfOk result (λ r. r.2.jobs ≡ batch.jobs) }
+    ensures ends { IfOk result (λ r. r.2.ends ≡ batch.ends) }
+    ensures refused { IfErr result (RefusesBy (session_over policy lanes rounds batch)
+        transcript.now) }
+{
+    let Batch { jobs, ends } = batch;
+    know_session(&policy, rounds, &jobs, &ends);
+    part_is_exact();
+    faults_exclude();
+    next_is_one();
+    let Ok(mut auditor) = Auditor::new(alloc, policy, jobs, ends, rounds) else {
+        return Err(AuditFault::NoMemory);
+    };
+    take_lines(alloc, decider, &mut auditor, whole_lines(transcript))?;
+    let (board, journal, jobs, ends) = auditor.into_parts();
+    Ok((board, journal, Batch { jobs, ends }))
+}
+
+// The desk behind these entries, with the jobs of the batch in which they stop, behind those of
+// the batches before it.
+fn go_on(
+    alloc: Global,
+    policy: Policy,
+    board: Board,
+    journal: Journal,
+    batch: Batch,
+    lanes: u8,
+    rounds: u8,
+) -> Result<Resumed, AllocError>
+    requires within { AreServedWithin lanes rounds }
+    requires order { AreInOrder lanes batch.jobs batch.ends }
+    requires state { state_on board ≡ state_after (opening_state policy) journal.entries }
+    requires legal { IsLegal (opening_state policy) rounds journal.entries }
+    requires part { FillsPart journal.entries batch.jobs batch.ends }
+    ensures goes_on { IfOk result (λ r. GoesOnAt (session_over policy lanes rounds batch)
+        journal.entries r.next r.desk) }
+    ensures jobs { IfOk result (λ r. r.batch.jobs ≡ batch.jobs) }
+    ensures ends { IfOk result (λ r. r.batch.ends ≡ batch.ends) }
+{
+    let unserved = rest(alloc, &batch, &journal)?;
+    let mut desk = Desk::restore(alloc, policy, board, journal, lanes, rounds)?;
+    desk.behind(unserved.earlier);
+    desk.resume_batch(alloc, unserved.jobs.as_slice(), unserved.from)?;
+    Ok(Resumed {
+        desk,
+        batch,
+        next: unserved.next,
+    })
+}

@@ -1,5 +1,0 @@
-pub mod Rests
-pub mod WholeLines
-pub mod LinesTaken
-pub mod LongLines
-pub mod GoingOn

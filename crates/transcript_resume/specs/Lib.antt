@@ -1,4 +1,0 @@
-pub mod Unserved
-pub mod Resumed
-pub mod Auditing
-pub mod Sessions

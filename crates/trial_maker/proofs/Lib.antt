@@ -1,5 +1,0 @@
-pub mod NameForms
-pub mod Growing
-pub mod Peers
-pub mod FlowFacts
-pub mod Batches

@@ -1,5 +1,0 @@
-use Rattle.trial_maker.proofs.Growing.{ends_step}
-use Rattle.trial_maker.proofs.jobs.batch_ends.Goals as goal
-
-pub batches-preserved : goal.batches-preserved
-batches-preserved c = ends_step _ _ c.args.first c.batches.batch c.in_ok-add-2.ensures.added c.batches.invariant

@@ -1,6 +1,0 @@
-use Rattle.std.proofs.Common.{◌≡◌}
-use Rattle.trial_maker.specs.Jobs.{openings, rounds}
-use Rattle.trial_maker.proofs.jobs.jobs_of.Given as goal
-
-abbrev pub invariant-rounds : goal.invariant-rounds
-invariant-rounds l = l.maker ≡ rounds l.cases l.round (record { state = l.fn.draws; jobs = openings l.cases })
