@@ -2,6 +2,6 @@
 ghost use Rattle.trial_command.specs.TrialLaws.{AreTrials};
 
 /// The jobs of each trial have lines without gaps and four lanes, and come in short batches.
-pub(crate) fn trials_come_in_batches()
+pub fn trials_come_in_batches()
     ensures { AreTrials }
 {}

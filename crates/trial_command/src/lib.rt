@@ -5,7 +5,7 @@
 mod counts;
 mod draws;
 mod jobs;
-mod laws;
+pub mod laws;
 mod maker;
 mod named;
 mod people;
@@ -16,4 +16,5 @@ mod session;
 mod steps;
 mod summary;
 
+pub use maker::{Trial, make};
 pub use run::run_trial;

@@ -12,15 +12,15 @@ use wf_talk::{Ends, Jobs};
 
 /// A policy, the jobs that are asked under it, and the ends of their batches.
 #[derive(Drop)]
-pub(crate) struct Trial {
-    pub(crate) policy: Policy,
-    pub(crate) jobs: Jobs,
-    pub(crate) ends: Ends,
+pub struct Trial {
+    pub policy: Policy,
+    pub jobs: Jobs,
+    pub ends: Ends,
 }
 
 /// The trial of a seed, with `cases` cases.
 #[tactic(auto, using(crate::proofs::Growing::counts), unfolding(crate::specs::Jobs::trial_jobs))]
-pub(crate) fn make(alloc: Global, seed: u64, cases: u16) -> Result<Trial, AllocError>
+pub fn make(alloc: Global, seed: u64, cases: u16) -> Result<Trial, AllocError>
     requires some { 1 ≤ cases }
     requires few { cases ≤ 40 }
     ensures policy { IfOk result (λ t. t.policy ≡ trial_policy seed) }
