@@ -8,7 +8,8 @@ ghost use Rattle.wf_board.specs.States.{opening_state};
 ghost use Rattle.wf_desk.specs.Parts.{FillsPart};
 ghost use Rattle.transcript_audit.specs.declared.fault.AuditFault.TheVariants.{NoMemory};
 ghost use Rattle.resume_command.specs.Resumed.{GoesOnAt, HasResumed, IsTakenUp, RefusesBy};
-ghost use Rattle.resume_command.specs.Sessions.{AreServedWithin, session_over};
+ghost use Rattle.resume_command.specs.Sessions.{AreServedWithin, IsRestored, session_at};
+ghost use Rattle.resume_command.specs.Sessions.{session_over};
 
 use crate::lines::whole_lines;
 use crate::taking::take_lines;
@@ -40,7 +41,7 @@ pub struct Resumed {
 pub fn resume<V: Decider>(
     alloc: Global,
     decider: &V,
-    policy: Policy,
+    policy: &Policy,
     batch: Batch,
     transcript: &[u8],
     lanes: u8,
@@ -50,11 +51,11 @@ pub fn resume<V: Decider>(
     requires within { AreServedWithin lanes rounds }
     requires order { AreInOrder lanes batch.jobs batch.ends }
     requires named { AreNamedJobs batch.jobs }
-    ensures resumed { IfOk result (λ r. HasResumed (session_over policy lanes rounds batch)
+    ensures resumed { IfOk result (λ r. HasResumed (session_over policy.now lanes rounds batch)
         transcript.now r.next r.desk) }
     ensures jobs { IfOk result (λ r. r.batch.jobs ≡ batch.jobs) }
     ensures ends { IfOk result (λ r. r.batch.ends ≡ batch.ends) }
-    ensures refused { IfErr result (RefusesBy (session_over policy lanes rounds batch)
+    ensures refused { IfErr result (RefusesBy (session_over policy.now lanes rounds batch)
         transcript.now) }
 {
     let Ok(opening) = policy.copy() else {
@@ -63,8 +64,8 @@ pub fn resume<V: Decider>(
     let (board, journal, batch) = take_up(
         alloc, decider, opening, batch, transcript, lanes, rounds,
     )?;
-    match go_on(alloc, policy, board, journal, batch, lanes, rounds) {
-        Ok(resumed) => Ok(resumed),
+    match go_on(alloc, policy, board, journal, &batch, lanes, rounds) {
+        Ok((desk, next)) => Ok(Resumed { desk, batch, next }),
         Err(_) => Err(AuditFault::NoMemory),
     }
 }
@@ -105,33 +106,40 @@ fn take_up<V: Decider>(
 }
 
 // The desk behind these entries, with the jobs of the batch in which they stop, behind those of
-// the batches before it.
+// the batches before it, and how many jobs there are up to its end.
 fn go_on(
     alloc: Global,
-    policy: Policy,
+    policy: &Policy,
     board: Board,
     journal: Journal,
-    batch: Batch,
+    batch: &Batch,
     lanes: u8,
     rounds: u8,
-) -> Result<Resumed, AllocError>
+) -> Result<(Desk, u32), AllocError>
     requires within { AreServedWithin lanes rounds }
-    requires order { AreInOrder lanes batch.jobs batch.ends }
-    requires state { state_on board ≡ state_after (opening_state policy) journal.entries }
-    requires legal { IsLegal (opening_state policy) rounds journal.entries }
-    requires part { FillsPart journal.entries batch.jobs batch.ends }
-    ensures goes_on { IfOk result (λ r. GoesOnAt (session_over policy lanes rounds batch)
-        journal.entries r.next r.desk) }
-    ensures jobs { IfOk result (λ r. r.batch.jobs ≡ batch.jobs) }
-    ensures ends { IfOk result (λ r. r.batch.ends ≡ batch.ends) }
+    requires order { AreInOrder lanes batch.now.jobs batch.now.ends }
+    requires state { state_on board ≡ state_after (opening_state policy.now) journal.entries }
+    requires legal { IsLegal (opening_state policy.now) rounds journal.entries }
+    requires part { FillsPart journal.entries batch.now.jobs batch.now.ends }
+    ensures { IfOk result (λ r. GoesOnAt (session_over policy.now lanes rounds batch.now)
+        journal.entries r.1 r.0) }
 {
-    let unserved = rest(alloc, &batch, &journal)?;
-    let mut desk = Desk::restore(alloc, policy, board, journal, lanes, rounds)?;
+    let mut desk = Desk::restore(alloc, policy.copy()?, board, journal, lanes, rounds)?;
+    let next = take_rest(alloc, &mut desk, batch)?;
+    Ok((desk, next))
+}
+
+// Gives a desk at which only entries stand the jobs of the batch in which they stop, behind those
+// of the batches before it. Answers how many jobs there are up to its end.
+fn take_rest(alloc: Global, desk: &mut Desk, batch: &Batch) -> Result<u32, AllocError>
+    requires restored { IsRestored desk.old }
+    requires order { AreInOrder desk.old.lanes batch.now.jobs batch.now.ends }
+    requires part { FillsPart desk.old.entries batch.now.jobs batch.now.ends }
+    ensures { IfOk result (λ next. GoesOnAt (session_at desk.old batch.now) desk.old.entries next
+        desk.new) }
+{
+    let unserved = rest(alloc, batch, desk.journal())?;
     desk.behind(unserved.earlier);
     desk.resume_batch(alloc, unserved.jobs.as_slice(), unserved.from)?;
-    Ok(Resumed {
-        desk,
-        batch,
-        next: unserved.next,
-    })
+    Ok(unserved.next)
 }

@@ -18,7 +18,7 @@ use std::alloc::{AllocError, Global};
 use wf_board::Decider;
 use wf_commands::{load_file, load_policy};
 use wf_desk::Desk;
-use wf_outside::{Loaded, Shelf};
+use wf_outside::Shelf;
 use wf_talk::Ends;
 
 /// Most bytes of a transcript.
@@ -73,21 +73,21 @@ pub fn begin<V: Decider, F: Shelf>(
     ensures loads { CountsLoads (fault_by result) (F.faults shelf.old) (F.faults shelf.new) }
 {
     let policy = load_policy(alloc, shelf, earlier.policy)?;
-    begin_under(alloc, decider, policy, earlier, shelf)
+    begin_under(alloc, decider, &policy, earlier, shelf)
 }
 
 // Loads the requests and the transcript of a session over a policy, and takes it up.
 fn begin_under<V: Decider, F: Shelf>(
     alloc: Global,
     decider: &V,
-    policy: Policy,
+    policy: &Policy,
     earlier: Earlier,
     shelf: &mut F,
 ) -> Result<Beginning, Refusal>
     requires ready { V.ready decider.now }
     requires within { AreServedWithin earlier.lanes earlier.rounds }
     ensures begins { OverBoth earlier.entry.lanes (StopsBy result) (λ cut transcript.
-        BeginsBy (session_of policy earlier.entry.lanes earlier.entry.rounds cut) cut transcript
+        BeginsBy (session_of policy.now earlier.entry.lanes earlier.entry.rounds cut) cut transcript
         result)
         (F.file shelf.old earlier.entry.requests.now)
         (F.file shelf.old earlier.entry.transcript.now) }
@@ -117,7 +117,7 @@ fn ending_at(stop: Stop) -> RunFault
 fn begin_behind<V: Decider, F: Shelf>(
     alloc: Global,
     decider: &V,
-    policy: Policy,
+    policy: &Policy,
     text: CutText,
     earlier: Earlier,
     shelf: &mut F,
@@ -127,7 +127,7 @@ fn begin_behind<V: Decider, F: Shelf>(
     requires whole { AreWhole earlier.lanes text }
     ensures begins { (requests : List ℕ) → IsCutOf requests earlier.entry.lanes text →
         OverTranscriptFile (StopsBy result) (λ transcript. BeginsBy
-        (session_of policy earlier.entry.lanes earlier.entry.rounds
+        (session_of policy.now earlier.entry.lanes earlier.entry.rounds
         (jobs_of_input requests true earlier.entry.lanes))
         (jobs_of_input requests true earlier.entry.lanes) transcript result)
         (F.file shelf.old earlier.entry.transcript.now) }
@@ -140,7 +140,7 @@ fn begin_behind<V: Decider, F: Shelf>(
         decider,
         policy,
         text,
-        file,
+        file.as_bytes(),
         earlier.lanes,
         earlier.rounds,
     )
@@ -150,23 +150,23 @@ fn begin_behind<V: Decider, F: Shelf>(
 fn begin_at<V: Decider>(
     alloc: Global,
     decider: &V,
-    policy: Policy,
+    policy: &Policy,
     text: CutText,
-    transcript: Loaded,
+    transcript: &[u8],
     lanes: u8,
     rounds: u8,
 ) -> Result<Beginning, Refusal>
     requires ready { V.ready decider.now }
     requires within { AreServedWithin lanes rounds }
     requires whole { AreWhole lanes text }
-    requires short { length transcript ≤ TRANSCRIPT_FILE_LIMIT }
+    requires short { length transcript.now ≤ TRANSCRIPT_FILE_LIMIT }
     ensures begins { (requests : List ℕ) → IsCutOf requests lanes text →
         OverTranscript (StopsBy result)
-        (λ transcript. BeginsBy (session_of policy lanes rounds (jobs_of_input requests true lanes))
-        (jobs_of_input requests true lanes) transcript result) transcript }
+        (λ transcript. BeginsBy (session_of policy.now lanes rounds (jobs_of_input requests true lanes))
+        (jobs_of_input requests true lanes) transcript result) transcript.now }
     ensures ending { EndsLoaded (how_of (fault_by result)) }
 {
-    match first_long(transcript.as_bytes()) {
+    match first_long(transcript) {
         Some(line) => Err(Refusal::Ends(RunFault::LineTooLong(line))),
         None => take_up(alloc, decider, policy, text, transcript, lanes, rounds),
     }
@@ -176,9 +176,9 @@ fn begin_at<V: Decider>(
 fn take_up<V: Decider>(
     alloc: Global,
     decider: &V,
-    policy: Policy,
+    policy: &Policy,
     text: CutText,
-    transcript: Loaded,
+    transcript: &[u8],
     lanes: u8,
     rounds: u8,
 ) -> Result<Beginning, Refusal>
@@ -186,8 +186,8 @@ fn take_up<V: Decider>(
     requires within { AreServedWithin lanes rounds }
     requires whole { AreWhole lanes text }
     ensures begins { (requests : List ℕ) → IsCutOf requests lanes text →
-        BeginsBy (session_of policy lanes rounds (jobs_of_input requests true lanes))
-        (jobs_of_input requests true lanes) transcript result }
+        BeginsBy (session_of policy.now lanes rounds (jobs_of_input requests true lanes))
+        (jobs_of_input requests true lanes) transcript.now result }
     ensures ending { EndsLoaded (how_of (fault_by result)) }
 {
     inputs_go_on(lanes);
@@ -198,7 +198,7 @@ fn take_up<V: Decider>(
         decider,
         policy,
         text.batch,
-        transcript.as_bytes(),
+        transcript,
         lanes,
         rounds,
     )?;

@@ -1,7 +1,5 @@
-use Rattle.std.proofs.Common.{Result, Err, true, refl, ap, ◌∙◌}
+use Rattle.std.proofs.Common.{Result, Err, true, refl}
 use Rattle.line_reader.specs.Jobs.{jobs_of_input}
-use Rattle.line_reader.specs.Reader.{lines_of}
-use Rattle.resume_command.specs.Resumed.{first_long, whole_lines}
 use Rattle.run_record.specs.declared.fault.RunFault.TheVariants.{LineTooLong}
 use Rattle.resume_command.specs.declared.start.Beginning.{Beginning}
 use Rattle.resume_command.specs.declared.refusal.Refusal.{Refusal}
@@ -14,14 +12,14 @@ pub returns-in-Some-clause-begins : goal.returns-in-Some-clause-begins
 returns-in-Some-clause-begins g c requests cut =
     let file = jobs_of_input requests true c.args.lanes in
     let result : Result Beginning Refusal = Err (Ends (LineTooLong c.in-Some.line)) in
-    line_long (StopsBy result) (λ xs. BeginsBy (session_of c.args.policy c.args.lanes c.args.rounds file) file xs result) c.args.transcript
+    line_long (StopsBy result) (λ xs. BeginsBy (session_of c.args.policy.now c.args.lanes c.args.rounds file) file xs result) c.args.transcript.now
     c.first_long.result c.in-Some.line
-    (c.first_long.ensures ∙ ap (λ xs. first_long 0 (lines_of (whole_lines xs))) c.as_bytes.ensures) c.in-Some.is refl
+    c.first_long.ensures c.in-Some.is refl
 
 pub returns-in-None-clause-begins : goal.returns-in-None-clause-begins
 returns-in-None-clause-begins g c requests cut =
     let file = jobs_of_input requests true c.args.lanes in
     let result = c.take_up.result in
-    lines_short (StopsBy result) (λ xs. BeginsBy (session_of c.args.policy c.args.lanes c.args.rounds file) file xs result) c.args.transcript
+    lines_short (StopsBy result) (λ xs. BeginsBy (session_of c.args.policy.now c.args.lanes c.args.rounds file) file xs result) c.args.transcript.now
     c.first_long.result
-    (c.first_long.ensures ∙ ap (λ xs. first_long 0 (lines_of (whole_lines xs))) c.as_bytes.ensures) c.in-None.is (c.take_up.ensures.begins requests cut)
+    c.first_long.ensures c.in-None.is (c.take_up.ensures.begins requests cut)

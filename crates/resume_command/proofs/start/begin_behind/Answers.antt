@@ -1,4 +1,4 @@
-use Rattle.std.proofs.Common.{true}
+use Rattle.std.proofs.Common.{true, subst}
 use Rattle.line_reader.specs.Jobs.{jobs_of_input}
 use Rattle.resume_command.specs.declared.start.TheConstants.{TRANSCRIPT_FILE_LIMIT}
 use Rattle.resume_command.specs.Begun.{BeginsBy, StopsBy, session_of}
@@ -17,5 +17,7 @@ returns-clause-begins g c requests cut =
     let file = jobs_of_input requests true c.args.earlier.lanes in
     let result = c.begin_at.result in
     text_there TRANSCRIPT_FILE_LIMIT (StopsBy result)
-    (OverTranscript (StopsBy result) (λ xs. BeginsBy (session_of c.args.policy c.args.earlier.lanes c.args.earlier.rounds file) file xs result))
-    (g.F.Shelf.file c.args.shelf.now c.args.earlier.transcript.now) c.in_ok-file.file c.in_ok-file.ensures.bytes (c.begin_at.ensures.begins requests cut)
+    (OverTranscript (StopsBy result) (λ xs. BeginsBy (session_of c.args.policy.now c.args.earlier.lanes c.args.earlier.rounds file) file xs result))
+    (g.F.Shelf.file c.args.shelf.now c.args.earlier.transcript.now) c.in_ok-file.file c.in_ok-file.ensures.bytes
+    (subst (OverTranscript (StopsBy result) (λ xs. BeginsBy (session_of c.args.policy.now c.args.earlier.lanes c.args.earlier.rounds file) file xs result))
+    c.as_bytes.ensures (c.begin_at.ensures.begins requests cut))

@@ -15,7 +15,7 @@ pub returns-in_err-text-clause-begins : goal.returns-in_err-text-clause-begins
 returns-in_err-text-clause-begins g c =
     let result = c.from_residual.result in
     requests_fail c.args.earlier.lanes (StopsBy result)
-    (λ cut. OverTranscriptFile (StopsBy result) (λ xs. BeginsBy (session_of c.args.policy c.args.earlier.lanes c.args.earlier.rounds cut) cut xs result)
+    (λ cut. OverTranscriptFile (StopsBy result) (λ xs. BeginsBy (session_of c.args.policy.now c.args.earlier.lanes c.args.earlier.rounds cut) cut xs result)
     (g.F.Shelf.file c.args.shelf.now c.args.earlier.transcript.now))
     (g.F.Shelf.file c.args.shelf.now c.args.earlier.requests.now) c.in_err-text.field-0.0 c.in_err-text.ensures.cut
     (stopped c.from_residual.result c.in_err-text.field-0.0 c.from_residual.ensures.1)
@@ -24,7 +24,7 @@ pub returns-in-Some-clause-begins : goal.returns-in-Some-clause-begins
 returns-in-Some-clause-begins g c =
     let result : Result Beginning Refusal = Err (Ends c.ending_at.result) in
     let Goes = λ (cut : Cut). OverTranscriptFile (StopsBy result)
-    (λ xs. BeginsBy (session_of c.args.policy c.args.earlier.lanes c.args.earlier.rounds cut) cut xs result)
+    (λ xs. BeginsBy (session_of c.args.policy.now c.args.earlier.lanes c.args.earlier.rounds cut) cut xs result)
     (g.F.Shelf.file c.args.shelf.now c.args.earlier.transcript.now) in
     requests_there c.args.earlier.lanes (StopsBy result) Goes (g.F.Shelf.file c.args.shelf.now c.args.earlier.requests.now) c.in_ok-text.text
     c.in_ok-text.ensures.cut
@@ -38,7 +38,7 @@ pub returns-in-None-clause-begins : goal.returns-in-None-clause-begins
 returns-in-None-clause-begins g c =
     let result = c.begin_behind.result in
     let over = λ (cut : Cut) (f : Filed). OverTranscriptFile (StopsBy result)
-    (λ xs. BeginsBy (session_of c.args.policy c.args.earlier.lanes c.args.earlier.rounds cut) cut xs result) f in
+    (λ xs. BeginsBy (session_of c.args.policy.now c.args.earlier.lanes c.args.earlier.rounds cut) cut xs result) f in
     let there = g.F.Shelf.file c.args.shelf.now c.args.earlier.transcript.now in
     requests_there c.args.earlier.lanes (StopsBy result) (λ cut. over cut there)
     (g.F.Shelf.file c.args.shelf.now c.args.earlier.requests.now) c.in_ok-text.text c.in_ok-text.ensures.cut
