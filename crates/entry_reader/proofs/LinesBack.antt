@@ -11,14 +11,14 @@ use Rattle.wire_json.specs.Replies.{entry_data, entry_text}
 use Rattle.wire_json.specs.Values.{value_of}
 use Rattle.entry_reader.specs.declared.place.Place.{Place}
 use Rattle.entry_reader.specs.Named.{HasNames}
-use Rattle.entry_reader.specs.Places.{number_below, place_in, place_of_line}
+use Rattle.entry_reader.specs.Places.{number_below, place_read, place_of_line}
 use Rattle.refutation_tree.specs.Tree.{Shape}
 use Rattle.wire_json.specs.Trees.{tree_data}
 use Rattle.entry_reader.proofs.TreesBack.{tree_is, tree_back}
 use Rattle.entry_reader.specs.Within.{IsTree}
 use Rattle.entry_reader.specs.Lines.{concerned, IsEntry, IsLineOf, entry_at, HasReply, HasNoReply}
 use Rattle.entry_reader.specs.Values.{at_key, tree_in}
-use Rattle.entry_reader.specs.Told.{reply_in, entry_in, entry_of_line}
+use Rattle.entry_reader.specs.Told.{reply_read, entry_read, entry_of_line}
 use Rattle.entry_reader.proofs.Readings.{and_then_some, map_some, none_some, some_same}
 use Rattle.entry_reader.proofs.ReadBack.{line_back, shallow}
 use Rattle.entry_reader.proofs.PlainReplies.{Fits, plain_entry}
@@ -30,14 +30,14 @@ fits p flows e h = record { place = h.place; lane = h.lane; line = h.line; reply
 
 -- ---- from the entry to what is read
 
-place_back : (p : PolicyShape) (flows : ℕ → Option ℕ) (e : Entry) → IsEntry p flows e → place_in
+place_back : (p : PolicyShape) (flows : ℕ → Option ℕ) (e : Entry) → IsEntry p flows e → place_read
     (entry_data p e) ≡ Some (record { at = e.at; lane = e.lane; line = e.line })
 place_back p flows e h = rw (lt-ltb e.at (2 ^ 32) h.place, lt-ltb e.lane (2 ^ 8) h.lane, lt-ltb e.line (2 ^ 32) h.line) refl
 
-entry_back : (p : PolicyShape) (flows : ℕ → Option ℕ) (e : Entry) → HasNames p → IsEntry p flows e → entry_in p flows e.ask (entry_data p e) ≡ Some e
-unfolding entry_in
+entry_back : (p : PolicyShape) (flows : ℕ → Option ℕ) (e : Entry) → HasNames p → IsEntry p flows e → entry_read p flows e.ask (entry_data p e) ≡ Some e
+unfolding entry_read
 entry_back p flows e k h =
-    let told = at_key (reply_in p flows (concerned p flows e.ask)) (codes "reply") (entry_data p e) in
+    let told = at_key (reply_read p flows (concerned p flows e.ask)) (codes "reply") (entry_data p e) in
     ap (option_and_then (λ place. option_map (entry_at place e.ask) told)) (place_back p flows e h)
     ∙ ap (option_map (entry_at (record { at = e.at; lane = e.lane; line = e.line }) e.ask)) (reply_back p flows (concerned p flows e.ask) e.reply k h.reply)
 
@@ -50,13 +50,13 @@ value_back p flows text e k h =
 pub line_placed : (p : PolicyShape) (flows : ℕ → Option ℕ) (text : List ℕ) (e : Entry) → HasNames p → IsLineOf p flows text e →
     place_of_line text ≡ Some (record { at = e.at; lane = e.lane; line = e.line })
 unfolding place_of_line
-line_placed p flows text e k h = ap (option_and_then place_in) (value_back p flows text e k h) ∙ place_back p flows e h.entry
+line_placed p flows text e k h = ap (option_and_then place_read) (value_back p flows text e k h) ∙ place_back p flows e h.entry
 
 line_told : (p : PolicyShape) (flows : ℕ → Option ℕ) (text : List ℕ) (e : Entry) → HasNames p → IsLineOf p flows text e →
     entry_of_line p flows e.ask text ≡ Some e
 unfolding entry_of_line
 line_told p flows text e k h =
-    ap (option_and_then (entry_in p flows e.ask)) (value_back p flows text e k h) ∙ entry_back p flows e k h.entry
+    ap (option_and_then (entry_read p flows e.ask)) (value_back p flows text e k h) ∙ entry_back p flows e k h.entry
 
 told_for : (p : PolicyShape) (flows : ℕ → Option ℕ) (a : Ask) (text : List ℕ) (e : Entry) → HasNames p → e.ask ≡ a → IsLineOf p flows text e →
     entry_of_line p flows a text ≡ Some e
@@ -70,18 +70,18 @@ pub record IsTold (p : PolicyShape) (flows : ℕ → Option ℕ) (a : Ask) (text
   pub place : Place
   pub reply : Reply
   pub read : value_of text ≡ Some value
-  pub placed : place_in value ≡ Some place
-  pub replied : at_key (reply_in p flows (concerned p flows a)) (codes "reply") value ≡ Some reply
+  pub placed : place_read value ≡ Some place
+  pub replied : at_key (reply_read p flows (concerned p flows a)) (codes "reply") value ≡ Some reply
   pub entry : entry_at place a reply ≡ e
 
 told_parts : (p : PolicyShape) (flows : ℕ → Option ℕ) (a : Ask) (text : List ℕ) (e : Entry) → entry_of_line p flows a text ≡ Some e → IsTold p flows a text e
-unfolding entry_of_line entry_in
+unfolding entry_of_line entry_read
 told_parts p flows a text e h =
     let r = and_then_some (value_of text) (λ d. option_and_then
-    (λ place. option_map (entry_at place a) (at_key (reply_in p flows (concerned p flows a)) (codes "reply") d)) (place_in d)) e h in
-    let q = and_then_some (place_in r.found)
-    (λ place. option_map (entry_at place a) (at_key (reply_in p flows (concerned p flows a)) (codes "reply") r.found)) e r.then_ in
-    let m = map_some (at_key (reply_in p flows (concerned p flows a)) (codes "reply") r.found) (entry_at q.found a) e q.then_ in
+    (λ place. option_map (entry_at place a) (at_key (reply_read p flows (concerned p flows a)) (codes "reply") d)) (place_read d)) e h in
+    let q = and_then_some (place_read r.found)
+    (λ place. option_map (entry_at place a) (at_key (reply_read p flows (concerned p flows a)) (codes "reply") r.found)) e r.then_ in
+    let m = map_some (at_key (reply_read p flows (concerned p flows a)) (codes "reply") r.found) (entry_at q.found a) e q.then_ in
     record { value = r.found; place = q.found; reply = m.found; read = r.there; placed = q.there; replied = m.there; entry = m.same }
 
 -- the numbers of a place fit
@@ -90,7 +90,7 @@ pub record PlaceFits (place : Place) : Type 0 where
   pub lane : place.lane < 2 ^ 8
   pub line : place.line < 2 ^ 32
 
-place_fits : (d : Data) (place : Place) → place_in d ≡ Some place → PlaceFits place
+place_fits : (d : Data) (place : Place) → place_read d ≡ Some place → PlaceFits place
 place_fits d place e =
     let r = and_then_some (number_below (2 ^ 32) (codes "at") d) (λ n. option_and_then (λ l. option_map (λ m. record { at = n; lane = l; line = m })
     (number_below (2 ^ 32) (codes "line") d)) (number_below (2 ^ 8) (codes "lane") d)) place e in
@@ -105,7 +105,7 @@ place_fits d place e =
 
 place_named : (p : PolicyShape) (flows : ℕ → Option ℕ) (a : Ask) (text : List ℕ) (e : Entry) → (t : IsTold p flows a text e) → place_of_line text ≡ Some t.place
 unfolding place_of_line
-place_named p flows a text e t = ap (option_and_then place_in) t.read ∙ t.placed
+place_named p flows a text e t = ap (option_and_then place_read) t.read ∙ t.placed
 
 told_line : (p : PolicyShape) (flows : ℕ → Option ℕ) (a : Ask) (text : List ℕ) (e : Entry) → HasNames p → (t : IsTold p flows a text e) →
     entry_text p (entry_at t.place a t.reply) ≡ text
@@ -113,7 +113,7 @@ told_line : (p : PolicyShape) (flows : ℕ → Option ℕ) (a : Ask) (text : Lis
 unfolding entry_text
 told_line p flows a text e k t same =
     let at_place = place_fits t.value t.place t.placed in
-    let found = and_then_some (get (codes "reply") t.value) (reply_in p flows (concerned p flows a)) t.reply t.replied in
+    let found = and_then_some (get (codes "reply") t.value) (reply_read p flows (concerned p flows a)) t.reply t.replied in
     let here : Fits p flows (entry_at t.place a t.reply) = record {
       place = at_place.first;
       lane = at_place.lane;
@@ -154,7 +154,7 @@ pub line_place : (p : PolicyShape) (flows : ℕ → Option ℕ) (a : Ask) (text 
     IsLineOf p flows text (entry_at place a r) → place_of_line text ≡ Some place
 unfolding place_of_line
 line_place p flows a text place r k h =
-    ap (option_and_then place_in) (value_back p flows text (entry_at place a r) k h) ∙ place_back p flows (entry_at place a r) h.entry
+    ap (option_and_then place_read) (value_back p flows text (entry_at place a r) k h) ∙ place_back p flows (entry_at place a r) h.entry
 
 pub line_reply : (p : PolicyShape) (flows : ℕ → Option ℕ) (a : Ask) (text : List ℕ) (place : Place) (r : Reply) → HasNames p →
     IsLineOf p flows text (entry_at place a r) → HasReply p flows a text r

@@ -10,7 +10,7 @@ use Rattle.wf_names.specs.Table.{place_of}
 use Rattle.wf_names.proofs.NameForms.{name_utf8}
 use Rattle.wire_json.specs.Entries.{named}
 use Rattle.wf_names.specs.Table.{AreNames}
-use Rattle.entry_reader.specs.Values.{name_in, numbered}
+use Rattle.entry_reader.specs.Values.{name_read, numbered}
 use Rattle.entry_reader.proofs.Readings.{and_then_some, none_some, some_same}
 
 -- the name with a number of a table
@@ -35,7 +35,7 @@ if_name : (b : Bool) (s text : List ℕ) → is_name s ≡ b → (if b then Some
 if_name true s text h e = let same = some_same s text e in record { is = ap string same; form = ap is_name (sym same) ∙ h }
 if_name false s text h e = absurd (none_some text e)
 
-pub name_text : (d : Data) (text : List ℕ) → name_in d ≡ Some text → IsNameText d text
+pub name_text : (d : Data) (text : List ℕ) → name_read d ≡ Some text → IsNameText d text
 name_text null text e = absurd (none_some text e)
 name_text (boolean b) text e = absurd (none_some text e)
 name_text (number n) text e = absurd (none_some text e)
@@ -50,7 +50,7 @@ pub record IsNumbered (names : List (List ℕ)) (d : Data) (n : ℕ) : Type 0 wh
 
 pub numbered_is : (names : List (List ℕ)) (d : Data) (n : ℕ) → numbered names d ≡ Some n → IsNumbered names d n
 numbered_is names d n e =
-    let r = and_then_some (name_in d) (place_of names) n e in
+    let r = and_then_some (name_read d) (place_of names) n e in
     let at_place = position-Some (pointwise nat_eq r.found) names n [] r.then_ in
     let same : r.found ≡ slice_index_or names n [] = (bytes_decides r.found (slice_index_or names n [])).0 at_place.1 in
     record { within = at_place.0; written = ap string (sym same) ∙ sym (name_text d r.found r.there).is }

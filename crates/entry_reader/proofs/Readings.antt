@@ -2,7 +2,7 @@
 use Rattle.std.proofs.Common.{◌≡◌, List, [], ◌∷◌, ◌++◌, refl, sym, ap, ◌∙◌, append_assoc, append-nil}
 use Rattle.std.specs.Prelude.{Option, Some, None, option_map, option_and_then}
 use Rattle.serde_json.specs.Data.{Data, Items, item}
-use Rattle.entry_reader.specs.Values.{each_in}
+use Rattle.entry_reader.specs.Values.{each_read}
 
 -- ---- options
 
@@ -39,13 +39,13 @@ more_mapped xs x (Some ys) = ap Some (sym (append_assoc xs (x ∷ []) ys))
 more_mapped xs x None = refl
 
 pub each_more : {X : Type 0} (read : Data → Option X) (whole : Option (List X)) (xs : List X) (x : X) (d : Data) (ds : Items)
-    → whole ≡ option_map (λ ys. xs ++ ys) (each_in read (item d ds)) → read d ≡ Some x → whole ≡ option_map (λ ys. (xs ++ x ∷ []) ++ ys) (each_in read ds)
+    → whole ≡ option_map (λ ys. xs ++ ys) (each_read read (item d ds)) → read d ≡ Some x → whole ≡ option_map (λ ys. (xs ++ x ∷ []) ++ ys) (each_read read ds)
 each_more read whole xs x d ds e there =
-    e ∙ ap (λ o. option_map (λ ys. xs ++ ys) (option_and_then (λ y. option_map (λ ys. y ∷ ys) (each_in read ds)) o)) there ∙ more_mapped xs x (each_in read ds)
+    e ∙ ap (λ o. option_map (λ ys. xs ++ ys) (option_and_then (λ y. option_map (λ ys. y ∷ ys) (each_read read ds)) o)) there ∙ more_mapped xs x (each_read read ds)
 
 pub each_none : {X : Type 0} (read : Data → Option X) (whole : Option (List X)) (xs : List X) (d : Data) (ds : Items)
-    → whole ≡ option_map (λ ys. xs ++ ys) (each_in read (item d ds)) → read d ≡ None → whole ≡ None
-each_none read whole xs d ds e there = e ∙ ap (λ o. option_map (λ ys. xs ++ ys) (option_and_then (λ y. option_map (λ ys. y ∷ ys) (each_in read ds)) o)) there
+    → whole ≡ option_map (λ ys. xs ++ ys) (each_read read (item d ds)) → read d ≡ None → whole ≡ None
+each_none read whole xs d ds e there = e ∙ ap (λ o. option_map (λ ys. xs ++ ys) (option_and_then (λ y. option_map (λ ys. y ∷ ys) (each_read read ds)) o)) there
 
 pub each_end : {X : Type 0} (whole : Option (List X)) (xs : List X) → whole ≡ option_map (λ ys. xs ++ ys) (Some []) → whole ≡ Some xs
 each_end whole xs e = e ∙ ap Some (append-nil xs)

@@ -30,59 +30,59 @@ use Rattle.wire_json.specs.Replies.{missing_data, strands_data, denial_data, fac
 use Rattle.wf_names.specs.Table.{AreNames}
 use Rattle.entry_reader.specs.Named.{HasNames}
 use Rattle.entry_reader.specs.Within.{IsPlan, IsTree, IsState, IsFace, IsBad, IsCase, IsConcerned, IsDenial, IsWorkItem, IsReply}
-use Rattle.entry_reader.specs.Values.{each_in, few, few_in, numbered, user_in, user_state, seen_in, state_in, tree_in}
-use Rattle.entry_reader.specs.Told.{tree_from, flow_within, tree_by, step_by, strands_in, missing_in, denial_in, states_in, phase_in, flow_in, face_in}
-use Rattle.entry_reader.specs.Told.{number_of_case, item_in, bad_in, reply_in}
+use Rattle.entry_reader.specs.Values.{each_read, few, few_read, numbered, user_read, user_state, seen_read, state_read, tree_in}
+use Rattle.entry_reader.specs.Told.{tree_from, flow_within, tree_by, step_by, strands_read, missing_read, denial_read, states_read, phase_read, flow_read, face_read}
+use Rattle.entry_reader.specs.Told.{number_of_case, item_read, bad_read, reply_read}
 use Rattle.entry_reader.proofs.NamesBack.{numbered_named}
 use Rattle.entry_reader.proofs.PlainReplies.{all_first, all_more}
 use Rattle.entry_reader.proofs.TreesBack.{below_back, user_back, step_back, tree_back}
 
 -- ---- lists
 
-names_back : (names : List (List ℕ)) (ns : List ℕ) → AreNames names → All (λ n. n < length names) ns → each_in
+names_back : (names : List (List ℕ)) (ns : List ℕ) → AreNames names → All (λ n. n < length names) ns → each_read
     (numbered names) (items_of (map (named names) ns)) ≡ Some ns
 names_back names [] k h = refl
 names_back names (n ∷ ns) k h =
-    ap (option_and_then (λ x. option_map (λ xs. x ∷ xs) (each_in (numbered names) (items_of (map (named names) ns)))))
+    ap (option_and_then (λ x. option_map (λ xs. x ∷ xs) (each_read (numbered names) (items_of (map (named names) ns)))))
     (numbered_named names n k (all_first (λ m. m < length names) n ns h))
     ∙ ap (option_map (λ xs. n ∷ xs)) (names_back names ns k (all_more (λ m. m < length names) n ns h))
 
 few_back : {X : Type 0} (xs : List X) → length xs ≤ STEP_LIMIT → few xs ≡ Some xs
 few_back xs h = rw (le-leb (length xs) STEP_LIMIT h) refl
 
-plan_back : (p : PolicyShape) (plan : List ℕ) → HasNames p → IsPlan p plan → few_in (user_in p) (plan_data p.roster.users plan) ≡ Some plan
+plan_back : (p : PolicyShape) (plan : List ℕ) → HasNames p → IsPlan p plan → few_read (user_read p) (plan_data p.roster.users plan) ≡ Some plan
 plan_back p plan k h = ap (option_and_then few) (names_back p.roster.users plan k.users h.1) ∙ few_back plan h.0
 
 -- ---- states
 
-state_back : (p : PolicyShape) (s : StepState) → HasNames p → IsState p s → state_in p (state_data p s) ≡ Some s
+state_back : (p : PolicyShape) (s : StepState) → HasNames p → IsState p s → state_read p (state_data p s) ≡ Some s
 state_back p Free k h = refl
 state_back p (Held u) k h = ap (option_and_then (user_state (codes "held"))) (user_back p u k h)
 state_back p (Finished u) k h = ap (option_and_then (user_state (codes "finished"))) (user_back p u k h)
 
-seen_back : (p : PolicyShape) (s : StepState) → HasNames p → IsState p s → seen_in p (seen_data p s) ≡ Some s
+seen_back : (p : PolicyShape) (s : StepState) → HasNames p → IsState p s → seen_read p (seen_data p s) ≡ Some s
 seen_back p Free k h = refl
 seen_back p (Held u) k h = ap (option_and_then (user_state (codes "held"))) (user_back p u k h)
 seen_back p (Finished u) k h = ap (option_and_then (user_state (codes "finished"))) (user_back p u k h)
 
-states_back : (p : PolicyShape) (states : List StepState) → HasNames p → All (IsState p) states → each_in
-    (seen_in p) (items_of (map (seen_data p) states)) ≡ Some states
+states_back : (p : PolicyShape) (states : List StepState) → HasNames p → All (IsState p) states → each_read
+    (seen_read p) (items_of (map (seen_data p) states)) ≡ Some states
 states_back p [] k h = refl
 states_back p (s ∷ states) k h =
-    ap (option_and_then (λ x. option_map (λ xs. x ∷ xs) (each_in (seen_in p) (items_of (map (seen_data p) states)))))
+    ap (option_and_then (λ x. option_map (λ xs. x ∷ xs) (each_read (seen_read p) (items_of (map (seen_data p) states)))))
     (seen_back p s k (all_first (IsState p) s states h))
     ∙ ap (option_map (λ xs. s ∷ xs)) (states_back p states k (all_more (IsState p) s states h))
 
-phase_back : (p : PolicyShape) (face : Face) (phase : Phase) → face.phase ≡ phase → phase_in (face_data p face) ≡ Some phase
+phase_back : (p : PolicyShape) (face : Face) (phase : Phase) → face.phase ≡ phase → phase_read (face_data p face) ≡ Some phase
 phase_back p face Live e = rw e refl
 phase_back p face Done e = rw e refl
 phase_back p face Withdrawn e = rw e refl
 
-face_back : (p : PolicyShape) (face : Face) → HasNames p → IsFace p face → face_in p (face_data p face) ≡ Some face
+face_back : (p : PolicyShape) (face : Face) → HasNames p → IsFace p face → face_read p (face_data p face) ≡ Some face
 face_back p face k h =
-    let flow : flow_in p (face_data p face) ≡ Some face.flow = numbered_named p.flow_names face.flow k.flow_names h.0 in
-    let phase : phase_in (face_data p face) ≡ Some face.phase = phase_back p face face.phase refl in
-    let states : states_in p (face_data p face) ≡ Some face.states = ap (option_and_then few) (states_back p face.states k h.2) ∙ few_back face.states h.1 in
+    let flow : flow_read p (face_data p face) ≡ Some face.flow = numbered_named p.flow_names face.flow k.flow_names h.0 in
+    let phase : phase_read (face_data p face) ≡ Some face.phase = phase_back p face face.phase refl in
+    let states : states_read p (face_data p face) ≡ Some face.states = ap (option_and_then few) (states_back p face.states k h.2) ∙ few_back face.states h.1 in
     rw (flow, phase, states) refl
 
 -- ---- denials
@@ -112,20 +112,20 @@ case_back c h = lt-ltb c 65536 (omega (arith, h))
 
 strands_back : (p : PolicyShape) (flows : ℕ → Option ℕ) (c f : ℕ) (t : Tree) → HasNames p → c ≤ CASE_NUMBER_LIMIT → IsConcerned p (flows c) f →
     IsTree p f (shape_of t)
-    → strands_in p flows (strands_data c (tree_data p f (shape_of t))) ≡ Some (denial.Strands c f t)
+    → strands_read p flows (strands_data c (tree_data p f (shape_of t))) ≡ Some (denial.Strands c f t)
 strands_back p flows c f t k few_cases concerns h =
     rw (case_back c few_cases) (ap (option_map (λ x. denial.Strands c x.0 x.1)) (tree_by_back p (flows c) f t k concerns h))
 
-missing_back : (what : Missing) → missing_in (missing_data what) ≡ Some what
+missing_back : (what : Missing) → missing_read (missing_data what) ≡ Some what
 missing_back missing.Flow = refl
 missing_back missing.Step = refl
 missing_back missing.Relation = refl
 missing_back missing.User = refl
 missing_back missing.Role = refl
 
-denial_back : (p : PolicyShape) (flows : ℕ → Option ℕ) (f : Option ℕ) (d : Denial) → HasNames p → IsDenial p flows f d → denial_in
+denial_back : (p : PolicyShape) (flows : ℕ → Option ℕ) (f : Option ℕ) (d : Denial) → HasNames p → IsDenial p flows f d → denial_read
     p flows f (denial_data p d) ≡ Some d
-unfolding denial_in
+unfolding denial_read
 denial_back p flows f denial.NoFlow k h = refl
 denial_back p flows f denial.Retired k h = refl
 denial_back p flows f denial.Full k h = refl
@@ -150,31 +150,31 @@ denial_back p flows f (denial.Strands c g t) k h = strands_back p flows c g t k 
 
 -- ---- lists of views
 
-item_back : (p : PolicyShape) (flows : ℕ → Option ℕ) (i : WorkItem) → HasNames p → IsWorkItem p flows i → item_in p flows (work_data p i) ≡ Some i
+item_back : (p : PolicyShape) (flows : ℕ → Option ℕ) (i : WorkItem) → HasNames p → IsWorkItem p flows i → item_read p flows (work_data p i) ≡ Some i
 item_back p flows i k h =
     rw (case_back i.case h.0) (ap (option_map (λ s. record { case = i.case; flow = s.0; step = s.1 })) (step_by_back p (flows i.case) i.flow i.step k h.1 h.2))
 
 items_back : (p : PolicyShape) (flows : ℕ → Option ℕ) (items : List WorkItem) → HasNames p → All (IsWorkItem p flows) items
-    → each_in (item_in p flows) (items_of (map (work_data p) items)) ≡ Some items
+    → each_read (item_read p flows) (items_of (map (work_data p) items)) ≡ Some items
 items_back p flows [] k h = refl
 items_back p flows (i ∷ items) k h =
-    ap (option_and_then (λ x. option_map (λ xs. x ∷ xs) (each_in (item_in p flows) (items_of (map (work_data p) items)))))
+    ap (option_and_then (λ x. option_map (λ xs. x ∷ xs) (each_read (item_read p flows) (items_of (map (work_data p) items)))))
     (item_back p flows i k (all_first (IsWorkItem p flows) i items h))
     ∙ ap (option_map (λ xs. i ∷ xs)) (items_back p flows items k (all_more (IsWorkItem p flows) i items h))
 
 number_back : (c : ℕ) → c ≤ CASE_NUMBER_LIMIT → number_of_case (number (unsigned c)) ≡ Some c
 number_back c h = rw (case_back c h) refl
 
-cases_back : (cases : List ℕ) → All IsCase cases → each_in number_of_case (items_of (map (λ c. number (unsigned c)) cases)) ≡ Some cases
+cases_back : (cases : List ℕ) → All IsCase cases → each_read number_of_case (items_of (map (λ c. number (unsigned c)) cases)) ≡ Some cases
 cases_back [] h = refl
 cases_back (c ∷ cases) h =
-    ap (option_and_then (λ x. option_map (λ xs. x ∷ xs) (each_in number_of_case (items_of (map (λ n. number (unsigned n)) cases)))))
+    ap (option_and_then (λ x. option_map (λ xs. x ∷ xs) (each_read number_of_case (items_of (map (λ n. number (unsigned n)) cases)))))
     (number_back c (all_first IsCase c cases h))
     ∙ ap (option_map (λ xs. c ∷ xs)) (cases_back cases (all_more IsCase c cases h))
 
 -- ---- replies
 
-bad_back : (b : Bad) → IsBad b → bad_in (bad_data b) ≡ Some b
+bad_back : (b : Bad) → IsBad b → bad_read (bad_data b) ≡ Some b
 bad_back bad.Syntax h = refl
 bad_back bad.Object h = refl
 bad_back bad.Do h = refl
@@ -182,9 +182,9 @@ bad_back bad.Lane h = refl
 bad_back (bad.Key key) h = rw h refl
 bad_back bad.Extra h = refl
 
-pub reply_back : (p : PolicyShape) (flows : ℕ → Option ℕ) (f : Option ℕ) (r : Reply) → HasNames p → IsReply p flows f r → reply_in
+pub reply_back : (p : PolicyShape) (flows : ℕ → Option ℕ) (f : Option ℕ) (r : Reply) → HasNames p → IsReply p flows f r → reply_read
     p flows f (reply_data p r) ≡ Some r
-unfolding reply_in
+unfolding reply_read
 reply_back p flows f (reply.Granted plan) k h = ap (option_map reply.Granted) (plan_back p plan k h)
 reply_back p flows f (reply.Finished done) k h = refl
 reply_back p flows f reply.Returned k h = refl

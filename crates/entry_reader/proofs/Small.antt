@@ -8,7 +8,7 @@ use Rattle.serde_json.specs.Data.{no_items, item, depth, items_depth}
 use Rattle.serde_json.specs.Find.{as_str}
 use Rattle.serde_json.specs.View.{view, items_view, members_view}
 use Rattle.policy_book.specs.Shapes.{PolicyShape}
-use Rattle.entry_reader.specs.Values.{are_node_keys, lone, node_at, pair_at, free_state, user_state, user_in, seen_at}
+use Rattle.entry_reader.specs.Values.{are_node_keys, lone, node_at, pair_at, free_state, user_state, user_read, seen_at}
 use Rattle.entry_reader.proofs.Readings.{some_same, none_some}
 
 pub lone_none : (es : List (String Global × Value)) → (length es ≡ 1 → ⊥) → lone (members_view es) ≡ None
@@ -64,10 +64,10 @@ seen_free p (x ∷ []) a h i = ap (λ v. option_and_then free_state (as_str (vie
 seen_free p (x ∷ y ∷ vs) a h i = absurd (omega (arith, h))
 
 pub seen_user : (p : PolicyShape) (vs : List Value) (a b : Value) → length vs ≡ 2 → a ≡ get_or vs 0 a → b ≡ get_or vs 1 b
-    → seen_at p (items_view vs) ≡ option_and_then (λ w. option_and_then (user_state w) (user_in p (view b))) (as_str (view a))
+    → seen_at p (items_view vs) ≡ option_and_then (λ w. option_and_then (user_state w) (user_read p (view b))) (as_str (view a))
 seen_user p [] a b h i j = absurd (omega (arith, h))
 seen_user p (x ∷ []) a b h i j = absurd (omega (arith, h))
-seen_user p (x ∷ y ∷ []) a b h i j = ap₂ (λ u v. option_and_then (λ w. option_and_then (user_state w) (user_in p (view v))) (as_str (view u))) (sym i) (sym j)
+seen_user p (x ∷ y ∷ []) a b h i j = ap₂ (λ u v. option_and_then (λ w. option_and_then (user_state w) (user_read p (view v))) (as_str (view u))) (sym i) (sym j)
 seen_user p (x ∷ y ∷ z ∷ vs) a b h i j = absurd (omega (arith, h))
 
 -- ---- items one after the other

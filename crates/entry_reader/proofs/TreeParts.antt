@@ -7,11 +7,11 @@ use Rattle.refutation_tree.specs.Views.{branch_onto}
 use Rattle.refutation_tree.specs.declared.tree.Branch.{Branch}
 use Rattle.refutation_tree.proofs.ShapeLaws.{kid_onto-joined, joined-assoc, joined-none}
 use Rattle.policy_book.specs.Shapes.{PolicyShape}
-use Rattle.entry_reader.specs.Values.{are_node_keys, tree_in, kids_in, kid_in, with_kid, node_parts, node_in, lone_leaf, pair_parts, user_in, twin_in}
+use Rattle.entry_reader.specs.Values.{are_node_keys, tree_in, kids_in, kid_in, with_kid, node_parts, node_read, lone_leaf, pair_parts, user_read, twin_read}
 
 -- a tree of a node's parts, or a leaf
 abbrev pub of_parts : PolicyShape → ℕ → Data → Option (Data × Data) → Option Shape
-of_parts p f d (Some n) = node_in p f n.0 n.1
+of_parts p f d (Some n) = node_read p f n.0 n.1
 of_parts p f d None = lone_leaf p f d
 
 two_members : (p : PolicyShape) (f : ℕ) (k l : List ℕ) (d e : Data) (b : Bool) → are_node_keys k l ≡ b
@@ -31,7 +31,7 @@ tree_by_parts p f (object (member k d no_members)) = refl
 tree_by_parts p f (object (member k d (member l e no_members))) = two_members p f k l d e (are_node_keys k l) refl
 tree_by_parts p f (object (member k d (member l e (member m g ms)))) = refl
 
-pub tree_of_node : (p : PolicyShape) (f : ℕ) (d s u : Data) → Some (s, u) ≡ node_parts d → tree_in p f d ≡ node_in p f s u
+pub tree_of_node : (p : PolicyShape) (f : ℕ) (d s u : Data) → Some (s, u) ≡ node_parts d → tree_in p f d ≡ node_read p f s u
 tree_of_node p f d s u e = tree_by_parts p f d ∙ ap (of_parts p f d) (sym e)
 
 pub tree_of_leaf : (p : PolicyShape) (f : ℕ) (d : Data) → None ≡ node_parts d → tree_in p f d ≡ lone_leaf p f d
@@ -39,7 +39,7 @@ tree_of_leaf p f d e = tree_by_parts p f d ∙ ap (of_parts p f d) (sym e)
 
 -- a branch of its parts
 abbrev pub kid_of_parts : PolicyShape → ℕ → Option Kids → Option (Data × Data) → Option Kids
-kid_of_parts p f rest (Some b) = option_and_then (λ u. with_kid u (twin_in p b.1) (tree_in p f b.1) rest) (user_in p b.0)
+kid_of_parts p f rest (Some b) = option_and_then (λ u. with_kid u (twin_read p b.1) (tree_in p f b.1) rest) (user_read p b.0)
 kid_of_parts p f rest None = None
 
 pub kid_by_parts : (p : PolicyShape) (f : ℕ) (d : Data) (rest : Option Kids) → kid_in p f d rest ≡ kid_of_parts p f rest (pair_parts d)
@@ -53,25 +53,25 @@ kid_by_parts p f (array (item d (item e no_items))) rest = refl
 kid_by_parts p f (array (item d (item e (item g ds)))) rest = refl
 kid_by_parts p f (object ms) rest = refl
 
-pub branch_twin : (p : PolicyShape) (f : ℕ) (d s x : Data) (u v : ℕ) (rest : Option Kids) → Some (s, x) ≡ pair_parts d → Some u ≡ user_in p s →
-    Some v ≡ twin_in p x
+pub branch_twin : (p : PolicyShape) (f : ℕ) (d s x : Data) (u v : ℕ) (rest : Option Kids) → Some (s, x) ≡ pair_parts d → Some u ≡ user_read p s →
+    Some v ≡ twin_read p x
     → kid_in p f d rest ≡ option_map (twin_kid u v) rest
 branch_twin p f d s x u v rest e user twin =
-    kid_by_parts p f d rest ∙ ap (kid_of_parts p f rest) (sym e) ∙ ap (option_and_then (λ n. with_kid n (twin_in p x) (tree_in p f x) rest)) (sym user)
+    kid_by_parts p f d rest ∙ ap (kid_of_parts p f rest) (sym e) ∙ ap (option_and_then (λ n. with_kid n (twin_read p x) (tree_in p f x) rest)) (sym user)
     ∙ ap (λ o. with_kid u o (tree_in p f x) rest) (sym twin)
 
-pub branch_tree : (p : PolicyShape) (f : ℕ) (d s x : Data) (u : ℕ) (t : Shape) (rest : Option Kids) → Some (s, x) ≡ pair_parts d → Some u ≡ user_in p s →
-    None ≡ twin_in p x → tree_in p f x ≡ Some t
+pub branch_tree : (p : PolicyShape) (f : ℕ) (d s x : Data) (u : ℕ) (t : Shape) (rest : Option Kids) → Some (s, x) ≡ pair_parts d → Some u ≡ user_read p s →
+    None ≡ twin_read p x → tree_in p f x ≡ Some t
     → kid_in p f d rest ≡ option_map (tree_kid u t) rest
 branch_tree p f d s x u t rest e user twin tree =
-    kid_by_parts p f d rest ∙ ap (kid_of_parts p f rest) (sym e) ∙ ap (option_and_then (λ n. with_kid n (twin_in p x) (tree_in p f x) rest)) (sym user)
+    kid_by_parts p f d rest ∙ ap (kid_of_parts p f rest) (sym e) ∙ ap (option_and_then (λ n. with_kid n (twin_read p x) (tree_in p f x) rest)) (sym user)
     ∙ ap (λ o. with_kid u o (tree_in p f x) rest) (sym twin) ∙ ap (λ o. with_kid u None o rest) tree
 
-pub branch_bad : (p : PolicyShape) (f : ℕ) (d s x : Data) (u : ℕ) (rest : Option Kids) → Some (s, x) ≡ pair_parts d → Some u ≡ user_in p s → None ≡ twin_in
+pub branch_bad : (p : PolicyShape) (f : ℕ) (d s x : Data) (u : ℕ) (rest : Option Kids) → Some (s, x) ≡ pair_parts d → Some u ≡ user_read p s → None ≡ twin_read
     p x → tree_in p f x ≡ None
     → kid_in p f d rest ≡ None
 branch_bad p f d s x u rest e user twin tree =
-    kid_by_parts p f d rest ∙ ap (kid_of_parts p f rest) (sym e) ∙ ap (option_and_then (λ n. with_kid n (twin_in p x) (tree_in p f x) rest)) (sym user)
+    kid_by_parts p f d rest ∙ ap (kid_of_parts p f rest) (sym e) ∙ ap (option_and_then (λ n. with_kid n (twin_read p x) (tree_in p f x) rest)) (sym user)
     ∙ ap (λ o. with_kid u o (tree_in p f x) rest) (sym twin) ∙ ap (λ o. with_kid u None o rest) tree
 
 -- ---- branches one after the other

@@ -13,7 +13,7 @@ use Rattle.wire_json.specs.Entries.{single, user_data, step_data}
 use Rattle.wire_json.specs.Trees.{tree_data, branches_data}
 use Rattle.entry_reader.specs.Named.{HasNames}
 use Rattle.entry_reader.specs.Within.{IsUser, IsStepOf, IsTree, AreKids}
-use Rattle.entry_reader.specs.Values.{below, user_in, step_in, twin_in, with_kid, are_node_keys, tree_in, tree_at, kids_of, kids_in, kid_in, kid_at}
+use Rattle.entry_reader.specs.Values.{below, user_read, step_read, twin_read, with_kid, are_node_keys, tree_in, tree_at, kids_of, kids_in, kid_in, kid_at}
 use Rattle.entry_reader.proofs.Readings.{and_then_some, map_some, none_some, some_same}
 use Rattle.entry_reader.proofs.NamesBack.{numbered_named, IsNumbered, numbered_is}
 
@@ -22,13 +22,13 @@ use Rattle.entry_reader.proofs.NamesBack.{numbered_named, IsNumbered, numbered_i
 pub below_back : (bound n : ℕ) → n < bound → below bound (number (unsigned n)) ≡ Some n
 below_back bound n h = rw (lt-ltb n bound h) refl
 
-pub user_back : (p : PolicyShape) (u : ℕ) → HasNames p → IsUser p u → user_in p (user_data p u) ≡ Some u
+pub user_back : (p : PolicyShape) (u : ℕ) → HasNames p → IsUser p u → user_read p (user_data p u) ≡ Some u
 user_back p u k h = numbered_named p.roster.users u k.users h
 
-pub step_back : (p : PolicyShape) (f s : ℕ) → HasNames p → IsStepOf p f s → step_in p f (step_data p f s) ≡ Some s
+pub step_back : (p : PolicyShape) (f s : ℕ) → HasNames p → IsStepOf p f s → step_read p f (step_data p f s) ≡ Some s
 step_back p f s k h = numbered_named (flow_at p f).flow.steps s (k.steps f) h
 
-no_twin : (p : PolicyShape) (f : ℕ) (t : Shape) → twin_in p (tree_data p f t) ≡ None
+no_twin : (p : PolicyShape) (f : ℕ) (t : Shape) → twin_read p (tree_data p f t) ≡ None
 no_twin p f (holder s) = refl
 no_twin p f (rule k) = refl
 no_twin p f (node s kids) = refl
@@ -46,14 +46,14 @@ mutual
   kids_back p f (tree_kid u t kids) k h =
       let rest = kids_in p f (items_of (branches_data p f kids)) in
       let d = tree_data p f t in
-      ap (option_and_then (λ n. with_kid n (twin_in p d) (tree_in p f d) rest)) (user_back p u k h.0)
+      ap (option_and_then (λ n. with_kid n (twin_read p d) (tree_in p f d) rest)) (user_back p u k h.0)
       ∙ ap (λ o. with_kid u o (tree_in p f d) rest) (no_twin p f t)
       ∙ ap (λ o. with_kid u None o rest) (tree_back p f t k h.1)
       ∙ ap (option_map (tree_kid u t)) (kids_back p f kids k h.2)
   kids_back p f (twin_kid u v kids) k h =
       let rest = kids_in p f (items_of (branches_data p f kids)) in
       let d = single (codes "twin") (user_data p v) in
-      ap (option_and_then (λ n. with_kid n (twin_in p d) (tree_in p f d) rest)) (user_back p u k h.0)
+      ap (option_and_then (λ n. with_kid n (twin_read p d) (tree_in p f d) rest)) (user_back p u k h.0)
       ∙ ap (λ o. with_kid u o (tree_in p f d) rest) (user_back p v k h.1)
       ∙ ap (option_map (twin_kid u v)) (kids_back p f kids k h.2)
 
@@ -87,9 +87,9 @@ key_is : (k w : List ℕ) → pointwise nat_eq k w ≡ true → k ≡ w
 key_is k w h = (bytes_decides k w).0 h
 
 holder_leaf : (p : PolicyShape) (f : ℕ) (k : List ℕ) (d : Data) (t : Shape) → pointwise nat_eq k (codes "holder") ≡ true →
-    option_map holder (step_in p f d) ≡ Some t → IsTreeOf p f (object (member k d no_members)) t
+    option_map holder (step_read p f d) ≡ Some t → IsTreeOf p f (object (member k d no_members)) t
 holder_leaf p f k d t key e =
-    let r = map_some (step_in p f d) holder t e in
+    let r = map_some (step_read p f d) holder t e in
     let s = numbered_is (flow_at p f).flow.steps d r.found r.there in
     record {
       tree = subst (λ (x : Shape). IsTree p f x) r.same s.within;
@@ -112,7 +112,7 @@ rule_or_none p f k d t true h e = rule_leaf p f k d t h e
 rule_or_none p f k d t false h e = absurd (none_some t e)
 
 leaf_is : (p : PolicyShape) (f : ℕ) (k : List ℕ) (d : Data) (t : Shape) (b : Bool) → pointwise nat_eq k (codes "holder") ≡ b
-    → (if b then option_map holder (step_in p f d) else if pointwise nat_eq k (codes "rule") then option_map rule (below 256 d) else None) ≡ Some t
+    → (if b then option_map holder (step_read p f d) else if pointwise nat_eq k (codes "rule") then option_map rule (below 256 d) else None) ≡ Some t
     → IsTreeOf p f (object (member k d no_members)) t
 leaf_is p f k d t true h e = holder_leaf p f k d t h e
 leaf_is p f k d t false h e = rule_or_none p f k d t (pointwise nat_eq k (codes "rule")) refl e
@@ -127,10 +127,10 @@ pub record AreKidsIn (p : PolicyShape) (f : ℕ) (ds : Items) (kids : Kids) : Ty
 
 node_of : (p : PolicyShape) (f : ℕ) (k l : List ℕ) (d e : Data) (t : Shape) (b : Bool) → are_node_keys k l ≡ b →
     ((kids : Kids) → kids_of p f e ≡ Some kids → AreKidsOf p f e kids)
-    → (if b then option_and_then (λ s. option_map (node s) (kids_of p f e)) (step_in p f d) else None) ≡ Some t →
+    → (if b then option_and_then (λ s. option_map (node s) (kids_of p f e)) (step_read p f d) else None) ≡ Some t →
     IsTreeOf p f (object (member k d (member l e no_members))) t
 node_of p f k l d e t true h kids_are g =
-    let r = and_then_some (step_in p f d) (λ s. option_map (node s) (kids_of p f e)) t g in
+    let r = and_then_some (step_read p f d) (λ s. option_map (node s) (kids_of p f e)) t g in
     let s = numbered_is (flow_at p f).flow.steps d r.found r.there in
     let q = map_some (kids_of p f e) (node r.found) t r.then_ in
     let kids = kids_are q.found q.there in
@@ -145,14 +145,14 @@ node_of p f k l d e t true h kids_are g =
 node_of p f k l d e t false h kids_are g = absurd (none_some t g)
 
 -- a branch with its twin, or with its tree
-twin_key : (p : PolicyShape) (k : List ℕ) (d : Data) (v : ℕ) (b : Bool) → pointwise nat_eq k (codes "twin") ≡ b → (if b then user_in p d else None) ≡ Some v
+twin_key : (p : PolicyShape) (k : List ℕ) (d : Data) (v : ℕ) (b : Bool) → pointwise nat_eq k (codes "twin") ≡ b → (if b then user_read p d else None) ≡ Some v
     → IsUser p v × (single (codes "twin") (user_data p v) ≡ object (member k d no_members))
 twin_key p k d v true h e =
     let u = numbered_is p.roster.users d v e in
     (u.within, ap₂ (λ w x. object (member w x no_members)) (sym (key_is k (codes "twin") h)) u.written)
 twin_key p k d v false h e = absurd (none_some v e)
 
-twin_is : (p : PolicyShape) (x : Data) (v : ℕ) → twin_in p x ≡ Some v → IsUser p v × (single (codes "twin") (user_data p v) ≡ x)
+twin_is : (p : PolicyShape) (x : Data) (v : ℕ) → twin_read p x ≡ Some v → IsUser p v × (single (codes "twin") (user_data p v) ≡ x)
 twin_is p null v e = absurd (none_some v e)
 twin_is p (boolean b) v e = absurd (none_some v e)
 twin_is p (number n) v e = absurd (none_some v e)
@@ -162,7 +162,7 @@ twin_is p (object no_members) v e = absurd (none_some v e)
 twin_is p (object (member k d no_members)) v e = twin_key p k d v (pointwise nat_eq k (codes "twin")) refl e
 twin_is p (object (member k d (member l g ms))) v e = absurd (none_some v e)
 
-kid_is : (p : PolicyShape) (f u : ℕ) (d x : Data) (ds : Items) (o : Option ℕ) (kids : Kids) → twin_in p x ≡ o → IsNumbered p.roster.users d u
+kid_is : (p : PolicyShape) (f u : ℕ) (d x : Data) (ds : Items) (o : Option ℕ) (kids : Kids) → twin_read p x ≡ o → IsNumbered p.roster.users d u
     → ((t : Shape) → tree_in p f x ≡ Some t → IsTreeOf p f x t) → ((k : Kids) → kids_in p f ds ≡ Some k → AreKidsIn p f ds k)
     → with_kid u o (tree_in p f x) (kids_in p f ds) ≡ Some kids → AreKidsIn p f (item (array (item d (item x no_items))) ds) kids
 kid_is p f u d x ds (Some v) kids twin user tree rest e =
@@ -228,6 +228,6 @@ mutual
   kid_at_is p f no_items ds kids rest e = absurd (none_some kids e)
   kid_at_is p f (item d no_items) ds kids rest e = absurd (none_some kids e)
   kid_at_is p f (item d (item x no_items)) ds kids rest e =
-      let r = and_then_some (user_in p d) (λ u. with_kid u (twin_in p x) (tree_in p f x) (kids_in p f ds)) kids e in
-      kid_is p f r.found d x ds (twin_in p x) kids refl (numbered_is p.roster.users d r.found r.there) (tree_is p f x) rest r.then_
+      let r = and_then_some (user_read p d) (λ u. with_kid u (twin_read p x) (tree_in p f x) (kids_in p f ds)) kids e in
+      kid_is p f r.found d x ds (twin_read p x) kids refl (numbered_is p.roster.users d r.found r.there) (tree_is p f x) rest r.then_
   kid_at_is p f (item d (item x (item g xs))) ds kids rest e = absurd (none_some kids e)

@@ -12,8 +12,8 @@ number_below bound key d =
     option_and_then (λ n. if nat_lt n bound then Some n else None) (number_at key d)
 
 -- the numbers at the keys at, lane and line, where all three are there and fit
-abbrev pub place_in : Data → Option Place
-place_in d =
+abbrev pub place_read : Data → Option Place
+place_read d =
     option_and_then (λ number.
     option_and_then (λ lane.
     option_map (λ line. record { at = number; lane = lane; line = line })
@@ -23,4 +23,4 @@ place_in d =
 
 -- the place that a line names: it is a JSON object with these numbers
 unfoldable pub place_of_line : List ℕ → Option Place
-place_of_line text = option_and_then place_in (value_of text)
+place_of_line text = option_and_then place_read (value_of text)

@@ -28,11 +28,11 @@ use Rattle.entry_reader.specs.declared.kind.ReplyKind.{ReplyKind}
 use Rattle.entry_reader.specs.declared.kind.ReplyKind.TheVariants as told
 use Rattle.entry_reader.specs.declared.kind.DenialKind.{DenialKind}
 use Rattle.entry_reader.specs.declared.kind.DenialKind.TheVariants as why
-use Rattle.entry_reader.specs.Places.{number_below, place_in}
+use Rattle.entry_reader.specs.Places.{number_below, place_read}
 use Rattle.entry_reader.specs.Lines.{concerned, entry_at}
-use Rattle.entry_reader.specs.Values.{row_of, or_else, only, at_key, below, name_in, numbered}
-use Rattle.entry_reader.specs.Values.{user_in, step_in, each_in, few_in, pair_parts, tree_in}
-use Rattle.entry_reader.specs.Values.{state_in, seen_in}
+use Rattle.entry_reader.specs.Values.{row_of, or_else, only, at_key, below, name_read, numbered}
+use Rattle.entry_reader.specs.Values.{user_read, step_read, each_read, few_read, pair_parts, tree_in}
+use Rattle.entry_reader.specs.Values.{state_read, seen_read}
 
 -- ---- words
 
@@ -128,33 +128,33 @@ tree_by p f d =
     option_and_then (λ n. option_map (λ t. (n, tree_from t)) (tree_in p n d)) (flow_within p f)
 
 abbrev pub step_by : PolicyShape → Option ℕ → Data → Option (ℕ × ℕ)
-step_by p f d = option_and_then (λ n. option_map (λ s. (n, s)) (step_in p n d)) (flow_within p f)
+step_by p f d = option_and_then (λ n. option_map (λ s. (n, s)) (step_read p n d)) (flow_within p f)
 
-abbrev pub case_in : Data → Option ℕ
-case_in d = number_below (CASE_NUMBER_LIMIT + 1) (codes "case") d
+abbrev pub case_read : Data → Option ℕ
+case_read d = number_below (CASE_NUMBER_LIMIT + 1) (codes "case") d
 
 -- a case with the tree over its workflow
-abbrev pub strands_in : PolicyShape → (ℕ → Option ℕ) → Data → Option Denial
-strands_in p flows d =
+abbrev pub strands_read : PolicyShape → (ℕ → Option ℕ) → Data → Option Denial
+strands_read p flows d =
     option_and_then (λ c. option_and_then (λ x. option_map (λ t. denial.Strands c t.0 t.1)
-    (tree_by p (flows c) x)) (get (codes "tree") d)) (case_in d)
+    (tree_by p (flows c) x)) (get (codes "tree") d)) (case_read d)
 
-abbrev pub missing_in : Data → Option Missing
-missing_in d = option_and_then (row_of missing_words) (as_str d)
+abbrev pub missing_read : Data → Option Missing
+missing_read d = option_and_then (row_of missing_words) (as_str d)
 
-abbrev pub roles_in : PolicyShape → Data → Option (List ℕ)
-roles_in p d = option_and_then (each_in (numbered p.roster.roles)) (as_array d)
+abbrev pub roles_read : PolicyShape → Data → Option (List ℕ)
+roles_read p d = option_and_then (each_read (numbered p.roster.roles)) (as_array d)
 
 -- a denial by its kind, where reading it takes no memory
 abbrev pub short_denial : PolicyShape → Option ℕ → DenialKind → Data → Option Denial
 short_denial p f why.Unsatisfiable d = None
-short_denial p f why.Taken d = option_map denial.Taken (user_in p d)
+short_denial p f why.Taken d = option_map denial.Taken (user_read p d)
 short_denial p f why.Order d = option_map (λ s. denial.Order s.0 s.1) (step_by p f d)
 short_denial p f why.Role d = None
 short_denial p f why.Rule d = option_map denial.Rule (below 256 d)
 short_denial p f why.Stranded d = None
-short_denial p f why.NotHeld d = option_map denial.NotHeld (state_in p d)
-short_denial p f why.Unknown d = option_map denial.Unknown (missing_in d)
+short_denial p f why.NotHeld d = option_map denial.NotHeld (state_read p d)
+short_denial p f why.Unknown d = option_map denial.Unknown (missing_read d)
 short_denial p f why.Strands d = None
 
 -- a denial by its kind
@@ -163,52 +163,52 @@ denial_by p flows f why.Unsatisfiable d =
     option_map (λ t. denial.Unsatisfiable t.0 t.1) (tree_by p f d)
 denial_by p flows f why.Taken d = short_denial p f why.Taken d
 denial_by p flows f why.Order d = short_denial p f why.Order d
-denial_by p flows f why.Role d = option_map denial.Role (roles_in p d)
+denial_by p flows f why.Role d = option_map denial.Role (roles_read p d)
 denial_by p flows f why.Rule d = short_denial p f why.Rule d
 denial_by p flows f why.Stranded d = option_map (λ t. denial.Stranded t.0 t.1) (tree_by p f d)
 denial_by p flows f why.NotHeld d = short_denial p f why.NotHeld d
 denial_by p flows f why.Unknown d = short_denial p f why.Unknown d
-denial_by p flows f why.Strands d = strands_in p flows d
+denial_by p flows f why.Strands d = strands_read p flows d
 
-unfoldable pub denial_in : PolicyShape → (ℕ → Option ℕ) → Option ℕ → Data → Option Denial
-denial_in p flows f d =
+unfoldable pub denial_read : PolicyShape → (ℕ → Option ℕ) → Option ℕ → Data → Option Denial
+denial_read p flows f d =
     or_else (option_and_then (row_of denial_words) (as_str d))
     (option_and_then (λ m. option_and_then (λ kind. denial_by p flows f kind m.1)
     (row_of denial_kinds m.0)) (only d))
 
 -- ---- replies
 
-abbrev pub plan_in : PolicyShape → Data → Option (List ℕ)
-plan_in p d = at_key (few_in (user_in p)) (codes "plan") d
+abbrev pub plan_read : PolicyShape → Data → Option (List ℕ)
+plan_read p d = at_key (few_read (user_read p)) (codes "plan") d
 
-abbrev pub opened_in : PolicyShape → Data → Option Reply
-opened_in p d = option_and_then (λ c. option_map (reply.Opened c) (plan_in p d)) (case_in d)
+abbrev pub opened_read : PolicyShape → Data → Option Reply
+opened_read p d = option_and_then (λ c. option_map (reply.Opened c) (plan_read p d)) (case_read d)
 
-abbrev pub states_in : PolicyShape → Data → Option (List StepState)
-states_in p d = at_key (few_in (seen_in p)) (codes "steps") d
+abbrev pub states_read : PolicyShape → Data → Option (List StepState)
+states_read p d = at_key (few_read (seen_read p)) (codes "steps") d
 
-abbrev pub phase_in : Data → Option Phase
-phase_in d = at_key (λ x. option_and_then (row_of phases) (as_str x)) (codes "phase") d
+abbrev pub phase_read : Data → Option Phase
+phase_read d = at_key (λ x. option_and_then (row_of phases) (as_str x)) (codes "phase") d
 
-abbrev pub flow_in : PolicyShape → Data → Option ℕ
-flow_in p d = at_key (numbered p.flow_names) (codes "flow") d
+abbrev pub flow_read : PolicyShape → Data → Option ℕ
+flow_read p d = at_key (numbered p.flow_names) (codes "flow") d
 
-abbrev pub face_in : PolicyShape → Data → Option Face
-face_in p d =
+abbrev pub face_read : PolicyShape → Data → Option Face
+face_read p d =
     option_and_then (λ f.
     option_and_then (λ phase.
     option_map (λ states. record { flow = f; phase = phase; states = states })
-    (states_in p d))
-    (phase_in d))
-    (flow_in p d)
+    (states_read p d))
+    (phase_read d))
+    (flow_read p d)
 
 -- the number of a case
 abbrev pub number_of_case : Data → Option ℕ
 number_of_case d = below (CASE_NUMBER_LIMIT + 1) d
 
 -- the number of a case, and a step of its workflow
-abbrev pub item_in : PolicyShape → (ℕ → Option ℕ) → Data → Option WorkItem
-item_in p flows d =
+abbrev pub item_read : PolicyShape → (ℕ → Option ℕ) → Data → Option WorkItem
+item_read p flows d =
     option_and_then (λ m.
     option_and_then (λ c.
     option_map (λ s. record { case = c; flow = s.0; step = s.1 })
@@ -216,55 +216,55 @@ item_in p flows d =
     (number_of_case m.0))
     (pair_parts d)
 
-abbrev pub work_in : PolicyShape → (ℕ → Option ℕ) → Data → Option (List WorkItem)
-work_in p flows d = option_and_then (each_in (item_in p flows)) (as_array d)
+abbrev pub work_read : PolicyShape → (ℕ → Option ℕ) → Data → Option (List WorkItem)
+work_read p flows d = option_and_then (each_read (item_read p flows)) (as_array d)
 
-abbrev pub cases_in : Data → Option (List ℕ)
-cases_in d = option_and_then (each_in number_of_case) (as_array d)
+abbrev pub cases_read : Data → Option (List ℕ)
+cases_read d = option_and_then (each_read number_of_case) (as_array d)
 
-abbrev pub again_in : Data → Option Reply
-again_in d =
+abbrev pub again_read : Data → Option Reply
+again_read d =
     option_and_then (λ number. option_map (λ rounds. reply.Again rounds number)
     (number_below 256 (codes "rounds") d))
     (number_below (2 ^ 32) (codes "at") d)
 
-abbrev pub key_in : Data → Option (List ℕ)
-key_in d = at_key name_in (codes "key") d
+abbrev pub key_read : Data → Option (List ℕ)
+key_read d = at_key name_read (codes "key") d
 
-abbrev pub bad_in : Data → Option Bad
-bad_in d = or_else (option_and_then (row_of bad_words) (as_str d)) (option_map bad.Key (key_in d))
+abbrev pub bad_read : Data → Option Bad
+bad_read d = or_else (option_and_then (row_of bad_words) (as_str d)) (option_map bad.Key (key_read d))
 
-abbrev pub done_in : Data → Option Bool
-done_in d = at_key as_bool (codes "done") d
+abbrev pub done_read : Data → Option Bool
+done_read d = at_key as_bool (codes "done") d
 
 -- a reply by its kind, where reading it takes no memory
 abbrev pub short_reply : ReplyKind → Data → Option Reply
 short_reply told.Granted d = None
-short_reply told.Finished d = option_map reply.Finished (done_in d)
+short_reply told.Finished d = option_map reply.Finished (done_read d)
 short_reply told.Opened d = None
 short_reply told.Edited d = option_map reply.Edited (number_below (2 ^ 32) (codes "number") d)
 short_reply told.Shown d = None
 short_reply told.Work d = None
 short_reply told.WhatIf d = None
 short_reply told.Denied d = None
-short_reply told.Again d = again_in d
-short_reply told.Bad d = option_map reply.Bad (bad_in d)
+short_reply told.Again d = again_read d
+short_reply told.Bad d = option_map reply.Bad (bad_read d)
 
 -- a reply by its kind
 abbrev pub reply_by : PolicyShape → (ℕ → Option ℕ) → Option ℕ → ReplyKind → Data → Option Reply
-reply_by p flows f told.Granted d = option_map reply.Granted (plan_in p d)
+reply_by p flows f told.Granted d = option_map reply.Granted (plan_read p d)
 reply_by p flows f told.Finished d = short_reply told.Finished d
-reply_by p flows f told.Opened d = opened_in p d
+reply_by p flows f told.Opened d = opened_read p d
 reply_by p flows f told.Edited d = short_reply told.Edited d
-reply_by p flows f told.Shown d = option_map reply.Shown (face_in p d)
-reply_by p flows f told.Work d = option_map reply.Work (work_in p flows d)
-reply_by p flows f told.WhatIf d = option_map reply.WhatIf (cases_in d)
-reply_by p flows f told.Denied d = option_map reply.Denied (denial_in p flows f d)
+reply_by p flows f told.Shown d = option_map reply.Shown (face_read p d)
+reply_by p flows f told.Work d = option_map reply.Work (work_read p flows d)
+reply_by p flows f told.WhatIf d = option_map reply.WhatIf (cases_read d)
+reply_by p flows f told.Denied d = option_map reply.Denied (denial_read p flows f d)
 reply_by p flows f told.Again d = short_reply told.Again d
 reply_by p flows f told.Bad d = short_reply told.Bad d
 
-unfoldable pub reply_in : PolicyShape → (ℕ → Option ℕ) → Option ℕ → Data → Option Reply
-reply_in p flows f d =
+unfoldable pub reply_read : PolicyShape → (ℕ → Option ℕ) → Option ℕ → Data → Option Reply
+reply_read p flows f d =
     or_else (option_and_then (row_of reply_words) (as_str d))
     (option_and_then (λ m. option_and_then (λ kind. reply_by p flows f kind m.1)
     (row_of reply_kinds m.0)) (only d))
@@ -272,10 +272,10 @@ reply_in p flows f d =
 -- ---- entries
 
 -- the entry for an ask that a value tells
-unfoldable pub entry_in : PolicyShape → (ℕ → Option ℕ) → Ask → Data → Option Entry
-entry_in p flows a d =
+unfoldable pub entry_read : PolicyShape → (ℕ → Option ℕ) → Ask → Data → Option Entry
+entry_read p flows a d =
     option_and_then (λ place. option_map (entry_at place a)
-    (at_key (reply_in p flows (concerned p flows a)) (codes "reply") d)) (place_in d)
+    (at_key (reply_read p flows (concerned p flows a)) (codes "reply") d)) (place_read d)
 
 unfoldable pub entry_of_line : PolicyShape → (ℕ → Option ℕ) → Ask → List ℕ → Option Entry
-entry_of_line p flows a text = option_and_then (entry_in p flows a) (value_of text)
+entry_of_line p flows a text = option_and_then (entry_read p flows a) (value_of text)

@@ -46,46 +46,46 @@ below bound d = option_and_then (λ n. if nat_lt n bound then Some n else None)
     (option_and_then as_u64 (as_number d))
 
 -- a text of a name's form
-abbrev pub name_in : Data → Option (List ℕ)
-name_in d = option_and_then (λ text. if is_name text then Some text else None) (as_str d)
+abbrev pub name_read : Data → Option (List ℕ)
+name_read d = option_and_then (λ text. if is_name text then Some text else None) (as_str d)
 
 -- the number of a name in a table
 abbrev pub numbered : List (List ℕ) → Data → Option ℕ
-numbered names d = option_and_then (place_of names) (name_in d)
+numbered names d = option_and_then (place_of names) (name_read d)
 
-abbrev pub user_in : PolicyShape → Data → Option ℕ
-user_in p d = numbered p.roster.users d
+abbrev pub user_read : PolicyShape → Data → Option ℕ
+user_read p d = numbered p.roster.users d
 
-abbrev pub step_in : PolicyShape → ℕ → Data → Option ℕ
-step_in p f d = numbered (flow_at p f).flow.steps d
+abbrev pub step_read : PolicyShape → ℕ → Data → Option ℕ
+step_read p f d = numbered (flow_at p f).flow.steps d
 
 -- each item, in order
-abbrev pub each_in : {X : Type 0} → (Data → Option X) → Items → Option (List X)
-each_in read no_items = Some []
-each_in read (item d ds) =
-    option_and_then (λ x. option_map (λ xs. x ∷ xs) (each_in read ds)) (read d)
+abbrev pub each_read : {X : Type 0} → (Data → Option X) → Items → Option (List X)
+each_read read no_items = Some []
+each_read read (item d ds) =
+    option_and_then (λ x. option_map (λ xs. x ∷ xs) (each_read read ds)) (read d)
 
 -- the items of an array, at most as many as a workflow may have steps
 abbrev pub few : {X : Type 0} → List X → Option (List X)
 few xs = if nat_le (length xs) STEP_LIMIT then Some xs else None
 
-abbrev pub few_in : {X : Type 0} → (Data → Option X) → Data → Option (List X)
-few_in read d = option_and_then few (option_and_then (each_in read) (as_array d))
+abbrev pub few_read : {X : Type 0} → (Data → Option X) → Data → Option (List X)
+few_read read d = option_and_then few (option_and_then (each_read read) (as_array d))
 
 -- ---- trees
 
 -- a leaf: the key of its object, and the value there
-abbrev pub leaf_in : PolicyShape → ℕ → List ℕ → Data → Option Shape
-leaf_in p f key d =
-    if pointwise nat_eq key (codes "holder") then option_map holder (step_in p f d) else
+abbrev pub leaf_read : PolicyShape → ℕ → List ℕ → Data → Option Shape
+leaf_read p f key d =
+    if pointwise nat_eq key (codes "holder") then option_map holder (step_read p f d) else
     if pointwise nat_eq key (codes "rule") then option_map rule (below 256 d) else None
 
 -- the user of a leaf that names a twin
 abbrev pub twin_at : PolicyShape → List ℕ × Data → Option ℕ
-twin_at p m = if pointwise nat_eq m.0 (codes "twin") then user_in p m.1 else None
+twin_at p m = if pointwise nat_eq m.0 (codes "twin") then user_read p m.1 else None
 
-abbrev pub twin_in : PolicyShape → Data → Option ℕ
-twin_in p d = option_and_then (twin_at p) (only d)
+abbrev pub twin_read : PolicyShape → Data → Option ℕ
+twin_read p d = option_and_then (twin_at p) (only d)
 
 -- a user's branch before others: with its tree, where it names no twin
 abbrev pub with_kid : ℕ → Option ℕ → Option Shape → Option Kids → Option Kids
@@ -107,10 +107,10 @@ abbrev mutual
 
   pub tree_at : PolicyShape → ℕ → Members → Option Shape
   tree_at p f no_members = None
-  tree_at p f (member k d no_members) = leaf_in p f k d
+  tree_at p f (member k d no_members) = leaf_read p f k d
   tree_at p f (member k d (member l e no_members)) =
       if are_node_keys k l then option_and_then (λ s. option_map (node s) (kids_of p f e))
-      (step_in p f d) else None
+      (step_read p f d) else None
   tree_at p f (member k d (member l e (member m g ms))) = None
 
   pub kids_of : PolicyShape → ℕ → Data → Option Kids
@@ -137,7 +137,7 @@ abbrev mutual
   kid_at p f no_items kids = None
   kid_at p f (item d no_items) kids = None
   kid_at p f (item d (item e no_items)) kids =
-      option_and_then (λ u. with_kid u (twin_in p e) (tree_in p f e) kids) (user_in p d)
+      option_and_then (λ u. with_kid u (twin_read p e) (tree_in p f e) kids) (user_read p d)
   kid_at p f (item d (item e (item g ds))) kids = None
 
 -- the same in steps: the parts of a node, an object with one leaf, a node of its parts, and the
@@ -152,11 +152,11 @@ abbrev pub node_parts : Data → Option (Data × Data)
 node_parts d = option_and_then node_at (as_object d)
 
 abbrev pub lone_leaf : PolicyShape → ℕ → Data → Option Shape
-lone_leaf p f d = option_and_then (λ m. leaf_in p f m.0 m.1) (only d)
+lone_leaf p f d = option_and_then (λ m. leaf_read p f m.0 m.1) (only d)
 
-abbrev pub node_in : PolicyShape → ℕ → Data → Data → Option Shape
-node_in p f step users =
-    option_and_then (λ s. option_map (node s) (kids_of p f users)) (step_in p f step)
+abbrev pub node_read : PolicyShape → ℕ → Data → Data → Option Shape
+node_read p f step users =
+    option_and_then (λ s. option_map (node s) (kids_of p f users)) (step_read p f step)
 
 -- the two items of an array
 abbrev pub pair_at : Items → Option (Data × Data)
@@ -179,18 +179,18 @@ user_state w u =
     if pointwise nat_eq w (codes "finished") then Some (Finished u) else None
 
 -- where a step stands
-abbrev pub state_in : PolicyShape → Data → Option StepState
-state_in p d =
+abbrev pub state_read : PolicyShape → Data → Option StepState
+state_read p d =
     or_else (option_and_then free_state (as_str d))
-    (option_and_then (λ m. option_and_then (user_state m.0) (user_in p m.1)) (only d))
+    (option_and_then (λ m. option_and_then (user_state m.0) (user_read p m.1)) (only d))
 
 -- where a step stands, as a view shows it
 abbrev pub seen_at : PolicyShape → Items → Option StepState
 seen_at p no_items = None
 seen_at p (item d no_items) = option_and_then free_state (as_str d)
 seen_at p (item d (item e no_items)) =
-    option_and_then (λ w. option_and_then (user_state w) (user_in p e)) (as_str d)
+    option_and_then (λ w. option_and_then (user_state w) (user_read p e)) (as_str d)
 seen_at p (item d (item e (item g ds))) = None
 
-abbrev pub seen_in : PolicyShape → Data → Option StepState
-seen_in p d = option_and_then (seen_at p) (as_array d)
+abbrev pub seen_read : PolicyShape → Data → Option StepState
+seen_read p d = option_and_then (seen_at p) (as_array d)

@@ -20,7 +20,7 @@ use wf_names::{FlowId, StepId};
 use wf_talk::{Denial, FlowOf, Missing};
 
 /// The denial that a value is, where this workflow is concerned.
-#[tactic(auto, unfolding(crate::specs::Told::denial_in))]
+#[tactic(auto, unfolding(crate::specs::Told::denial_read))]
 pub(crate) fn denial_of<F: FlowOf>(
     alloc: Global,
     p: &Policy,

@@ -84,7 +84,7 @@ fn items_of(value: &Value) -> Result<&[Value], TextFault>
 #[tactic(auto, using(crate::proofs::Uses::each_item))]
 fn users_of(alloc: Global, p: &Policy, items: &[Value]) -> Result<List<UserId>, TextFault>
     ensures { Reads (λ users. users) result
-        (read.each_in (read.user_in p.now) (items_view items.now)) }
+        (read.each_read (read.user_read p.now) (items_view items.now)) }
 {
     let mut users = List::new(alloc);
     'items: for item in items {
@@ -99,7 +99,7 @@ fn users_of(alloc: Global, p: &Policy, items: &[Value]) -> Result<List<UserId>, 
 #[tactic(auto, using(crate::proofs::Uses::each_item))]
 fn each_state(alloc: Global, p: &Policy, items: &[Value]) -> Result<List<StepState>, TextFault>
     ensures { Reads (λ states. states) result
-        (read.each_in (read.seen_in p.now) (items_view items.now)) }
+        (read.each_read (read.seen_read p.now) (items_view items.now)) }
 {
     let mut states = List::new(alloc);
     'items: for item in items {
@@ -114,7 +114,7 @@ fn each_state(alloc: Global, p: &Policy, items: &[Value]) -> Result<List<StepSta
 #[tactic(auto, using(crate::proofs::Uses::each_item))]
 fn each_role(alloc: Global, p: &Policy, items: &[Value]) -> Result<RoleList, TextFault>
     ensures { Reads (λ roles. roles) result
-        (read.each_in (read.numbered p.now.roster.roles) (items_view items.now)) }
+        (read.each_read (read.numbered p.now.roster.roles) (items_view items.now)) }
 {
     let mut roles = List::new(alloc);
     'items: for item in items {
@@ -134,7 +134,7 @@ fn each_item<F: FlowOf>(
     items: &[Value],
 ) -> Result<WorkList, TextFault>
     ensures { Reads (λ work. work) result
-        (read.each_in (told.item_in p.now (F.FlowOf.flows cases.now)) (items_view items.now)) }
+        (read.each_read (told.item_in p.now (F.FlowOf.flows cases.now)) (items_view items.now)) }
 {
     let mut work = List::new(alloc);
     'items: for item in items {
@@ -159,7 +159,7 @@ fn item_of<F: FlowOf>(p: &Policy, cases: &F, value: &Value) -> Option<WorkItem>
 #[tactic(auto, using(crate::proofs::Uses::each_item))]
 fn each_case(alloc: Global, items: &[Value]) -> Result<CaseList, TextFault>
     ensures { Reads (λ cases. cases) result
-        (read.each_in told.number_of_case (items_view items.now)) }
+        (read.each_read told.number_of_case (items_view items.now)) }
 {
     let mut cases: List<CaseId> = List::new(alloc);
     'items: for item in items {

@@ -76,7 +76,7 @@ pub(crate) fn rule_of(value: &Value) -> Option<u8>
 
 /// The name that a value is.
 pub(crate) fn name_of(value: &Value) -> Option<Name>
-    ensures { result ≡ read.name_in (view value.now) }
+    ensures { result ≡ read.name_read (view value.now) }
 {
     Name::read(value.as_str()?)
 }
@@ -91,7 +91,7 @@ pub(crate) fn numbered(names: &NameTable, value: &Value) -> Option<u16>
 
 /// The user whose name a value is.
 pub(crate) fn user_of(p: &Policy, value: &Value) -> Option<UserId>
-    ensures { result ≡ read.user_in p.now (view value.now) }
+    ensures { result ≡ read.user_read p.now (view value.now) }
 {
     match numbered(p.roster().users(), value) {
         Some(u) => Some(UserId(u)),
@@ -101,7 +101,7 @@ pub(crate) fn user_of(p: &Policy, value: &Value) -> Option<UserId>
 
 /// The step of a workflow whose name a value is.
 pub(crate) fn step_of(p: &Policy, f: FlowId, value: &Value) -> Option<StepId>
-    ensures { result ≡ read.step_in p.now f (view value.now) }
+    ensures { result ≡ read.step_read p.now f (view value.now) }
 {
     if f.0 as u16 >= p.flows().len() {
         return None;
@@ -114,7 +114,7 @@ pub(crate) fn step_of(p: &Policy, f: FlowId, value: &Value) -> Option<StepId>
 
 /// Where a step stands.
 pub(crate) fn state_of(p: &Policy, value: &Value) -> Option<StepState>
-    ensures { result ≡ read.state_in p.now (view value.now) }
+    ensures { result ≡ read.state_read p.now (view value.now) }
 {
     if let Some(state) = value.as_str().and_then(free_state) {
         return Some(state);
@@ -126,7 +126,7 @@ pub(crate) fn state_of(p: &Policy, value: &Value) -> Option<StepState>
 /// Where a step stands, as a view shows it.
 #[tactic(auto, using(crate::proofs::Uses::seen_states))]
 pub(crate) fn seen_of(p: &Policy, value: &Value) -> Option<StepState>
-    ensures { result ≡ read.seen_in p.now (view value.now) }
+    ensures { result ≡ read.seen_read p.now (view value.now) }
 {
     let items = value.as_array()?;
     match items.len() {

@@ -2,7 +2,7 @@
 ghost use Rattle.std.specs.Prelude.{◌≡◌, IfOk, IsErrOf, None, Some};
 ghost use Rattle.serde_json.specs.View.{view};
 ghost use Rattle.entry_reader.specs.declared.fault.TextFault.TheVariants.{NotText};
-ghost use Rattle.entry_reader.specs.Places.{place_in, place_of_line};
+ghost use Rattle.entry_reader.specs.Places.{place_read, place_of_line};
 
 use crate::TextFault;
 use crate::parts::number_below;
@@ -36,7 +36,7 @@ pub fn read_place(alloc: Global, text: &[u8]) -> Result<Place, TextFault>
 
 /// The place that a value names.
 pub(crate) fn place_in(value: &Value) -> Option<Place>
-    ensures { result ≡ place_in (view value.now) }
+    ensures { result ≡ place_read (view value.now) }
 {
     let at = number_below(value, "at", 1 << 32)?;
     let lane = number_below(value, "lane", 1 << 8)?;

@@ -81,7 +81,7 @@ fn entry_of_line<F: FlowOf>(
     }
 }
 
-#[tactic(auto, unfolding(crate::specs::Told::entry_in))]
+#[tactic(auto, unfolding(crate::specs::Told::entry_read))]
 fn entry_in<F: FlowOf>(
     alloc: Global,
     p: &Policy,
@@ -129,7 +129,7 @@ pub(crate) fn flow_asked<F: FlowOf>(p: &Policy, cases: &F, ask: &Ask) -> Option<
 }
 
 // The reply that a value is.
-#[tactic(auto, unfolding(crate::specs::Told::reply_in))]
+#[tactic(auto, unfolding(crate::specs::Told::reply_read))]
 fn reply_of<F: FlowOf>(
     alloc: Global,
     p: &Policy,

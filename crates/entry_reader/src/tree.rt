@@ -55,7 +55,7 @@ fn read_node(
     step: &Value,
     users: &Value,
 ) -> Result<Tree, TextFault>
-    ensures { Reads shape_of result (read.node_in p.now f (view step.now) (view users.now)) }
+    ensures { Reads shape_of result (read.node_read p.now f (view step.now) (view users.now)) }
 {
     let Some(step) = step_of(p, f, step) else {
         return Err(TextFault::NotText);
@@ -158,7 +158,7 @@ fn leaf_of(p: &Policy, f: FlowId, value: &Value) -> Option<Tree>
 
 // The user of a leaf that names a twin.
 fn twin_of(p: &Policy, value: &Value) -> Option<UserId>
-    ensures { result ≡ read.twin_in p.now (view value.now) }
+    ensures { result ≡ read.twin_read p.now (view value.now) }
 {
     let (key, user) = only(value)?;
     if key == "twin" {
