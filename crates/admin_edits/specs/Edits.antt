@@ -137,13 +137,13 @@ fault_as Full = fault.Full
 fault_as LastAdmin = fault.LastAdmin
 
 -- the fault, if there is one
-abbrev pub fault_of : Result Amendment EditCause → Option EditFault
-fault_of (Ok a) = None
-fault_of (Err cause) = Some (fault_as cause)
+abbrev pub fault_if_any : Result Amendment EditCause → Option EditFault
+fault_if_any (Ok a) = None
+fault_if_any (Err cause) = Some (fault_as cause)
 
 -- the first fault of an edit, if it has one
 abbrev pub edit_cause : PolicyShape → List ℕ → Edit → Option EditFault
-edit_cause p by e = fault_of (amendment_of p by e)
+edit_cause p by e = fault_if_any (amendment_of p by e)
 
 -- the memberships without those of a user in the first n roles
 abbrev pub without_roles : ℕ → ℕ → Pairs → Pairs

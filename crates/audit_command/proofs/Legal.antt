@@ -7,13 +7,13 @@ use Rattle.policy_book.specs.Shapes.{PolicyShape}
 use Rattle.wf_talk.specs.declared.entry.Entry.{Entry}
 use Rattle.wf_talk.specs.declared.job.Job.{Job}
 use Rattle.line_reader.specs.Laws.{AreInOrder}
-use Rattle.line_reader.specs.Reader.{line_length, lines_of}
+use Rattle.line_reader.specs.Reader.{AreShort, line_length, lines_of}
 use Rattle.transcript_audit.specs.Auditor.{AuditShape, AreNext, IsNextLine, IsTranscript, audit_of, with_entry}
 use Rattle.transcript_audit.proofs.Exact.{next_pushed}
 use Rattle.transcript_audit.specs.Laws.{AreOfSession, AuditIsExact, FaultsExclude, NextIsOne}
 use Rattle.audit_command.specs.declared.finding.Finding.{Finding}
 use Rattle.audit_command.specs.declared.finding.Finding.TheVariants.{Legal, Fault, TooLong}
-use Rattle.audit_command.specs.Finding.{AreShort, EndsAs, AuditsLine, IsAudited, StopsAtLine}
+use Rattle.audit_command.specs.Finding.{EndsAs, AuditsLine, IsAudited, StopsAtLine}
 use Rattle.audit_command.specs.Laws.{LegalIsExact}
 
 pub next_of : (a : AuditShape) (lines : List (List ℕ)) → IsAudited a lines Legal → (es : List Entry) ×

@@ -6,7 +6,7 @@ use Rattle.wf_names.specs.declared.limits.TheConstants.{POLICY_FILE_LIMIT, REQUE
 use Rattle.wf_outside.specs.Outside.{Filed, told, missing, untold}
 use Rattle.policy_book.specs.Shapes.{PolicyShape}
 use Rattle.line_reader.specs.declared.whole.Batch.{Batch}
-use Rattle.line_reader.specs.Reader.{lines_of}
+use Rattle.line_reader.specs.Reader.{AreShort, lines_of}
 use Rattle.transcript_audit.specs.Auditor.{AuditShape, IsTranscript, audit_of}
 use Rattle.transcript_audit.specs.Laws.{AreOfSession}
 use Rattle.run_record.specs.declared.fault.RunFault.{RunFault}
@@ -18,7 +18,7 @@ use Rattle.wf_commands.proofs.Loading.{answers_file}
 use Rattle.audit_command.specs.declared.finding.Finding.{Finding}
 use Rattle.audit_command.specs.declared.finding.Finding.TheVariants.{Legal}
 use Rattle.audit_command.proofs.Legal.{legal_input}
-use Rattle.audit_command.specs.Finding.{AreShort, HasFound, ending_of, finding_text}
+use Rattle.audit_command.specs.Finding.{HasFound, ending_of, finding_text}
 use Rattle.audit_command.specs.Laws.{LegalIsExact}
 use Rattle.audit_command.specs.Loading.{GivesJobs, JobsOf}
 use Rattle.audit_command.specs.Running.{AuditOf, AuditsFile, AuditsPolicy, AuditsRequests, EndsWithout, Input, audit_for}

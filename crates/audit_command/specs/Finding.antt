@@ -34,11 +34,6 @@ StopsAtLine a line (TooLong n) = (n ≡ length a.entries) × (TRANSCRIPT_LINE_LI
 abbrev pub AuditsLine : AuditShape → List ℕ → Entry → Type 0
 AuditsLine a line e = (line_length line ≤ TRANSCRIPT_LINE_LIMIT) × IsNextLine a line e
 
--- no line is too long
-abbrev pub AreShort : List (List ℕ) → Type 0
-AreShort [] = Unit {0}
-AreShort (line ∷ lines) = (line_length line ≤ TRANSCRIPT_LINE_LIMIT) × AreShort lines
-
 -- what is found in some lines
 abbrev pub IsAudited : AuditShape → List (List ℕ) → Finding → Type 0
 IsAudited a [] f = EndsAs a f

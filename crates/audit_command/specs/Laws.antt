@@ -5,9 +5,10 @@ use Rattle.wf_talk.specs.declared.entry.Entry.{Entry}
 use Rattle.wf_talk.specs.declared.job.Job.{Job}
 use Rattle.transcript_audit.specs.Auditor.{AreNext, IsTranscript, audit_of}
 use Rattle.transcript_audit.specs.Laws.{AreOfSession}
+use Rattle.line_reader.specs.Reader.{AreShort}
 use Rattle.audit_command.specs.declared.finding.Finding.{Finding}
 use Rattle.audit_command.specs.declared.finding.Finding.TheVariants.{Legal}
-use Rattle.audit_command.specs.Finding.{AreShort, IsAudited}
+use Rattle.audit_command.specs.Finding.{IsAudited}
 
 -- lines are found legal exactly where they are the texts of entries that come next, one for each
 -- job

@@ -12,10 +12,10 @@ use Rattle.run_record.specs.declared.fault.RunFault.TheVariants.{Policy, Load, F
 use Rattle.run_record.specs.Run.{Run, IsOrderly}
 use Rattle.wf_commands.specs.Once.{AnswersOnce, Refuses}
 use Rattle.wf_commands.specs.Load.{IsLoadEnding}
-use Rattle.line_reader.specs.Reader.{lines_of}
+use Rattle.line_reader.specs.Reader.{AreShort, lines_of}
 use Rattle.audit_command.specs.declared.finding.Finding.{Finding}
 use Rattle.audit_command.specs.declared.finding.Finding.TheVariants.{Legal}
-use Rattle.audit_command.specs.Finding.{AreShort, HasFound, ending_of, finding_text}
+use Rattle.audit_command.specs.Finding.{HasFound, ending_of, finding_text}
 
 -- what is told of the requests file, and how the session was served
 pub record AuditOf : Type 0 where

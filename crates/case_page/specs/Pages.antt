@@ -10,5 +10,5 @@ is_of p None = false
 is_of p (Some c) = nat_lt c.flow (length p.flows)
 
 -- there is a case with this number, of a workflow of the policy
-abbrev pub is_told : PolicyShape → CasesShape → ℕ → Bool
-is_told p cases n = is_of p (case_at cases n)
+abbrev pub has_page : PolicyShape → CasesShape → ℕ → Bool
+has_page p cases n = is_of p (case_at cases n)

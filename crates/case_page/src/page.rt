@@ -1,6 +1,6 @@
 //! The page of a case, taken together entry by entry.
 ghost use Rattle.std.specs.Prelude.{◌≡◌, ◌<◌, length, is_some, true, IfOk};
-ghost use Rattle.case_page.specs.Pages.{is_told};
+ghost use Rattle.case_page.specs.Pages.{has_page};
 
 use crate::head::{END, FRONT, HISTORY, STYLE};
 use crate::html::{Html, Part};
@@ -87,7 +87,7 @@ impl Page {
         cases: &Cases,
         verdict: &str,
     ) -> Result<Option<String>, AllocError>
-        ensures { IfOk result (λ page. is_some page ≡ is_told p.now cases.now self.now) }
+        ensures { IfOk result (λ page. is_some page ≡ has_page p.now cases.now self.now) }
     {
         let Some(case) = cases.case(self.case) else {
             return Ok(None);

@@ -5,7 +5,7 @@ use Rattle.std.proofs.lemmas.Grind.{common_steps}
 use Rattle.std.proofs.lemmas.List.{append-nil, append_assoc, drop_all, drop-drop, length-append}
 use Rattle.wf_names.specs.declared.limits.TheConstants.{TRANSCRIPT_LINE_LIMIT}
 use Rattle.wf_talk.specs.declared.entry.Entry.{Entry}
-use Rattle.line_reader.specs.Reader.{behind_line, first_line, line_length, lines_of}
+use Rattle.line_reader.specs.Reader.{AreShort, behind_line, first_line, line_length, lines_of}
 use Rattle.line_reader.proofs.FirstLines.{line_alone, lines_first}
 use Rattle.transcript_audit.specs.declared.fault.AuditKind.{AuditKind}
 use Rattle.transcript_audit.specs.Auditor.{AuditShape, AreNext, HasFault, IsNextLine, with_entry}
@@ -15,7 +15,7 @@ use Rattle.transcript_audit.proofs.Exact.{next_pushed}
 use Rattle.case_story.specs.declared.place.Place.{Place}
 use Rattle.case_story.specs.declared.verdict.Verdict.{Verdict}
 use Rattle.case_story.specs.declared.verdict.Verdict.TheVariants.{Legal, Fault, TooLong}
-use Rattle.case_story.specs.Verdicts.{AreShort, EndsWith, IsVerdict, right_lines}
+use Rattle.case_story.specs.Verdicts.{EndsWith, IsVerdict, right_lines}
 use Rattle.case_story.specs.Followed.{EndsAt, HasFollowed, StopsAudit, HasTakenLines, FollowsTo, StopsTo}
 
 -- before the first line

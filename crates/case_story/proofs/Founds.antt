@@ -4,7 +4,7 @@ use Rattle.std.proofs.lemmas.List.{append-nil, append_assoc}
 use Rattle.wf_talk.specs.declared.entry.Entry.{Entry}
 use Rattle.wf_board.specs.Histories.{state_after}
 use Rattle.wf_board.specs.States.{opening_state}
-use Rattle.line_reader.specs.Reader.{lines_of}
+use Rattle.line_reader.specs.Reader.{AreShort, lines_of}
 use Rattle.wf_names.specs.declared.limits.TheConstants.{TRANSCRIPT_LINE_LIMIT}
 use Rattle.line_reader.specs.Reader.{line_length}
 use Rattle.transcript_audit.specs.Auditor.{AuditShape, AreNext, IsNextLine, IsTranscript, state_now, with_entry}
@@ -16,7 +16,7 @@ use Rattle.case_story.specs.declared.verdict.Verdict.{Verdict}
 use Rattle.case_story.specs.declared.verdict.Verdict.TheVariants.{Legal, Fault, TooLong}
 use Rattle.case_story.specs.Followed.{HasFollowed, StopsAudit, StopsTo}
 use Rattle.case_story.specs.Sessions.{AreFirst, audit_in, cut_in, state_of}
-use Rattle.case_story.specs.Verdicts.{AreShort, EndsWith, IsVerdict, is_wrong}
+use Rattle.case_story.specs.Verdicts.{EndsWith, IsVerdict, is_wrong}
 use Rattle.case_story.specs.Printed.{Finds}
 use Rattle.case_story.proofs.Following.{begins}
 

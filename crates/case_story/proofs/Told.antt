@@ -18,7 +18,7 @@ use Rattle.run_record.specs.declared.fault.RunFault.{RunFault}
 use Rattle.run_record.specs.declared.fault.InputFault.TheVariants as input
 use Rattle.wf_commands.specs.declared.answer.Answer.{Answer}
 use Rattle.wf_commands.specs.Answer.{ending_with, AnswersAs}
-use Rattle.case_story.specs.Printed.{Finds, TellsBy, TellsEntry, TellsLog, TellsPage, WritesPolicy, first_line, has_retired}
+use Rattle.case_story.specs.Printed.{Finds, TellsBy, TellsEntry, TellsLog, TellsPage, WritesPolicy, verdict_line, has_retired}
 use Rattle.case_story.specs.Printed.{retired_lines}
 use Rattle.case_story.proofs.Answering.{answers_wider}
 use Rattle.case_story.specs.Writing.{PrintsAfter}
@@ -83,7 +83,7 @@ reached s a b c text place after most v is same at number steps rest all within 
 
 -- an answer that tells a fault, and one that tells what is there
 pub wrong_told : (mark end body : List ℕ) (n : ℕ) (kind : AuditKind) (there : Bool) (answer : Answer) → answer.found ≡ true →
-    answer.text.items ≡ first_line mark (Fault n kind) end ++ body
+    answer.text.items ≡ verdict_line mark (Fault n kind) end ++ body
     → TellsBy mark (Fault n kind) end there (ending_with answer.found) answer.text.items
 wrong_told mark end body n kind there answer found text = (ap ending_with found, (body, text))
 

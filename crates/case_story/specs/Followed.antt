@@ -1,13 +1,13 @@
 -- Inside: how the lines of a transcript are followed.
 use Rattle.std.specs.Prelude.{◌≡◌, ℕ, ◌<◌, ◌≤◌, List, ◌++◌, length, drop, Option, None, Some}
 use Rattle.wf_talk.specs.declared.entry.Entry.{Entry}
-use Rattle.line_reader.specs.Reader.{lines_of}
+use Rattle.line_reader.specs.Reader.{AreShort, lines_of}
 use Rattle.transcript_audit.specs.Auditor.{AuditShape, AreNext}
 use Rattle.transcript_audit.specs.declared.fault.AuditKind.TheVariants.{Missing}
 use Rattle.case_story.specs.declared.place.Place.{Place}
 use Rattle.case_story.specs.declared.verdict.Verdict.{Verdict}
 use Rattle.case_story.specs.declared.verdict.Verdict.TheVariants.{Legal, Fault, TooLong}
-use Rattle.case_story.specs.Verdicts.{AreShort, IsVerdict, right_lines}
+use Rattle.case_story.specs.Verdicts.{IsVerdict, right_lines}
 
 -- an audit that began so has taken the entries of these lines
 pub record HasTakenLines (first a : AuditShape) (lines : List (List ℕ)) : Type 0 where

@@ -21,12 +21,12 @@ use Rattle.case_story.specs.Sessions.{AreFirst, audit_in, state_of}
 use Rattle.case_story.specs.Verdicts.{EndsInVerdict, is_wrong, right_lines, verdict_words}
 
 -- the first line: what the audit finds, behind a mark and before an end
-abbrev pub first_line : List ℕ → Verdict → List ℕ → List ℕ
-first_line mark v end = mark ++ verdict_words v ++ end
+abbrev pub verdict_line : List ℕ → Verdict → List ℕ → List ℕ
+verdict_line mark v end = mark ++ verdict_words v ++ end
 
 -- a text begins with this line
 abbrev pub BeginsWith : List ℕ → Verdict → List ℕ → List ℕ → Type 0
-BeginsWith mark v end text = (rest : List ℕ) × (text ≡ first_line mark v end ++ rest)
+BeginsWith mark v end text = (rest : List ℕ) × (text ≡ verdict_line mark v end ++ rest)
 
 -- what is told by a verdict: where the transcript is legal the run ends well, if what is asked for
 -- is there, and is refused else; where a line is wrong, that is found; one that is too long ends
@@ -89,17 +89,17 @@ pub record WritesNow (n : ℕ) (s : Session) (v : Verdict) (fault : RunFault) (t
   pub document : List ℕ
   pub written : WritesPolicy (state_of s entries).book.policy document
   pub parts : let p = (state_of s entries).book.policy in
-      text ≡ first_line (codes "# ") v (codes "\n") ++ retired_lines p (length p.flows) ++ document
+      text ≡ verdict_line (codes "# ") v (codes "\n") ++ retired_lines p (length p.flows) ++ document
   pub ending : fault ≡ ending_with (is_wrong v || has_retired (state_of s entries).book.policy)
 
 -- whether the policy is asked for after an entry that is right, or after all that are
-abbrev pub is_among : Option ℕ → ℕ → Bool
-is_among None n = true
-is_among (Some at) n = nat_lt at n
+abbrev pub is_asked_after : Option ℕ → ℕ → Bool
+is_asked_after None n = true
+is_asked_after (Some at) n = nat_lt at n
 
 abbrev pub is_told : Option ℕ → Verdict → Bool
-is_told at (Legal n) = is_among at n
-is_told at (Fault n kind) = is_among at n
+is_told at (Legal n) = is_asked_after at n
+is_told at (Fault n kind) = is_asked_after at n
 is_told at (TooLong n) = false
 
 -- after how many entries

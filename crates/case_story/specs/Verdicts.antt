@@ -3,7 +3,7 @@ use Rattle.std.specs.Prelude.{◌≡◌, ◌↔◌, ◌<◌, ◌≤◌, ◌==◌
 use Rattle.std.specs.Prelude.{false, List, [], ◌∷◌, ◌++◌, length, codes, decimal}
 use Rattle.wf_names.specs.declared.limits.TheConstants.{TRANSCRIPT_LINE_LIMIT}
 use Rattle.wf_talk.specs.declared.entry.Entry.{Entry}
-use Rattle.line_reader.specs.Reader.{line_length}
+use Rattle.line_reader.specs.Reader.{AreShort, line_length}
 use Rattle.transcript_audit.specs.declared.fault.AuditKind.{AuditKind}
 use Rattle.transcript_audit.specs.declared.fault.AuditKind.TheVariants.{Text, At, Job as WrongJob}
 use Rattle.transcript_audit.specs.declared.fault.AuditKind.TheVariants.{Reply, Missing}
@@ -21,11 +21,6 @@ abbrev pub is_wrong : Verdict → Bool
 is_wrong (Legal n) = false
 is_wrong (Fault n kind) = true
 is_wrong (TooLong n) = true
-
--- no line is too long
-abbrev pub AreShort : List (List ℕ) → Type 0
-AreShort [] = Unit {0}
-AreShort (line ∷ lines) = (line_length line ≤ TRANSCRIPT_LINE_LIMIT) × AreShort lines
 
 -- behind some entries the lines that are left end the audit so: none is left and each job has its
 -- entry; the first of them has a fault, or none is left and an entry is missing; or the first of

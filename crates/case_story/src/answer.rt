@@ -2,7 +2,7 @@
 ghost use Rattle.std.specs.Prelude.{◌≡◌, ◌++◌, IfOk, string_bytes, IfErr};
 ghost use Rattle.wf_commands.specs.Answer.{AnswersAs, IsAnswerEnding};
 ghost use Rattle.case_story.specs.Verdicts.{is_wrong};
-ghost use Rattle.case_story.specs.Printed.{TellsBy, first_line};
+ghost use Rattle.case_story.specs.Printed.{TellsBy, verdict_line};
 
 use crate::lines::first_len;
 use crate::place::Place;
@@ -55,7 +55,7 @@ pub(crate) fn answered(
 ) -> Result<Answer, AllocError>
     ensures found { IfOk result (λ a. a.found ≡ is_wrong verdict) }
     ensures text { IfOk result (λ a.
-        a.text.items ≡ first_line mark.now verdict end.now ++ body.now) }
+        a.text.items ≡ verdict_line mark.now verdict end.now ++ body.now) }
 {
     let words = verdict.words(alloc)?;
     let mut text = String::from_str(alloc, mark)?;

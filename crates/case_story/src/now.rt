@@ -5,7 +5,7 @@ ghost use Rattle.wf_commands.specs.Answer.{AnswersAs, IsAnswerEnding};
 ghost use Rattle.case_story.specs.Sessions.{IsServed};
 ghost use Rattle.case_story.specs.Writing.{PrintsAfter};
 ghost use Rattle.case_story.specs.Verdicts.{is_wrong, right_lines};
-ghost use Rattle.case_story.specs.Printed.{Finds, TellsNow, first_line, is_among, is_told};
+ghost use Rattle.case_story.specs.Printed.{Finds, TellsNow, verdict_line, is_asked_after, is_told};
 
 use crate::answer::{answered, tell_by};
 use crate::follow::{Quiet, follow_rest, follow_to};
@@ -63,7 +63,7 @@ fn is_told(at: Option<u32>, verdict: Verdict) -> bool
 }
 
 fn is_among(at: Option<u32>, n: u32) -> bool
-    ensures { result ≡ is_among at n }
+    ensures { result ≡ is_asked_after at n }
 {
     match at {
         Some(at) => at < n,
@@ -114,7 +114,7 @@ fn write_now(alloc: Global, after: &After) -> Result<Answer, AllocError>
     ensures found { IfOk result (λ a. a.found
         ≡ (is_wrong after.now.verdict || after.now.printed.is_less)) }
     ensures text { IfOk result (λ a. a.text.items
-        ≡ first_line (codes "# ") after.now.verdict (codes "\n")
+        ≡ verdict_line (codes "# ") after.now.verdict (codes "\n")
         ++ string_bytes after.now.printed.remarks ++ string_bytes after.now.printed.document) }
 {
     let mut body = String::from_str(alloc, after.printed.remarks.as_str())?;

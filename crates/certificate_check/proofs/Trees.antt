@@ -15,7 +15,7 @@ use Rattle.refutation_tree.proofs.ShapeLaws.{kids_of_items-drop, kids_from-items
 use Rattle.policy_book.specs.Plans.{Problem, IsWithin}
 use Rattle.policy_book.specs.Twins.{are_twins, is_one_of}
 use Rattle.policy_book.specs.Refuting.{refutes, all_refute, have_users, authorised_users, passing, mentions, any_mentions, is_unassigned}
-use Rattle.certificate_check.specs.Walks.{AreUsersBelow, begins_with, tree_users, user_onto}
+use Rattle.certificate_check.specs.Walks.{AreUsersBelow, begins_with, tree_users, kid_user_onto}
 use Rattle.basics.proofs.Booleans.{and_both, or_cases, or_right}
 use Rattle.certificate_check.proofs.Assigned.{given, either}
 use Rattle.policy_book.proofs.Passing.{passing_at}
@@ -44,16 +44,16 @@ and_all true d = refl
 and_all false d = refl
 
 onto_refutes : (p : Problem) (a : List (Option ℕ)) (done : List Bool) (s : ℕ) (earlier : List ℕ) (kid : Kid) (u : ℕ) (rest : Kids) → all_refute p a done s
-    earlier (kid_onto kid u rest) ≡ (all_refute p a done s earlier (kid_onto kid u no_kids) && all_refute p a done s (user_onto kid u earlier) rest)
+    earlier (kid_onto kid u rest) ≡ (all_refute p a done s earlier (kid_onto kid u no_kids) && all_refute p a done s (kid_user_onto kid u earlier) rest)
 onto_refutes p a done s earlier (Tree_kid t) u rest = and_all (refutes p (slice_set a s (Some u)) done (shape_of t)) (all_refute p a done s (u ∷ earlier) rest)
 onto_refutes p a done s earlier (Twin v) u rest = and_all (is_one_of earlier v && are_twins p a u v) (all_refute p a done s earlier rest)
 
-tree_users-push : (users : List ℕ) (bs : List Branch) (b : Branch) → tree_users users (bs ++ b ∷ []) ≡ user_onto b.kid b.user (tree_users users bs)
+tree_users-push : (users : List ℕ) (bs : List Branch) (b : Branch) → tree_users users (bs ++ b ∷ []) ≡ kid_user_onto b.kid b.user (tree_users users bs)
 tree_users-push users [] b = refl
-tree_users-push users (x ∷ bs) b = tree_users-push (user_onto x.kid x.user users) bs b
+tree_users-push users (x ∷ bs) b = tree_users-push (kid_user_onto x.kid x.user users) bs b
 
 pub tree_users-more : (bs : List Branch) (i : ℕ) (b : Branch) → i < length bs → b ≡ get_or bs i b →
-    tree_users [] (take (i + 1) bs) ≡ user_onto b.kid b.user (tree_users [] (take i bs))
+    tree_users [] (take (i + 1) bs) ≡ kid_user_onto b.kid b.user (tree_users [] (take i bs))
 tree_users-more bs i b below is =
     ap (tree_users []) (take_more bs i b below ∙ ap (λ x. take i bs ++ x ∷ []) (sym is)) ∙ tree_users-push [] (take i bs) b
 
@@ -70,27 +70,27 @@ refutes_at p a done s bs i b below is =
 
 -- ---- users with trees
 
-onto_one : (kid : Kid) (u : ℕ) (users : List ℕ) (x : ℕ) → is_one_of (user_onto kid u users) x ≡ (is_one_of (user_onto kid u []) x || is_one_of users x)
+onto_one : (kid : Kid) (u : ℕ) (users : List ℕ) (x : ℕ) → is_one_of (kid_user_onto kid u users) x ≡ (is_one_of (kid_user_onto kid u []) x || is_one_of users x)
 onto_one (Tree_kid t) u users x = or_none (u == x) (is_one_of users x)
 onto_one (Twin v) u users x = refl
 
 -- one more branch: it is the user's and has a tree, or one before it
 pub one_of_more : (bs : List Branch) (i : ℕ) (b : Branch) (x : ℕ) → i < length bs → b ≡ get_or bs i b →
-    is_one_of (tree_users [] (take (i + 1) bs)) x ≡ (is_one_of (user_onto b.kid b.user []) x || is_one_of (tree_users [] (take i bs)) x)
+    is_one_of (tree_users [] (take (i + 1) bs)) x ≡ (is_one_of (kid_user_onto b.kid b.user []) x || is_one_of (tree_users [] (take i bs)) x)
 one_of_more bs i b x below is = ap (λ users. is_one_of users x) (tree_users-more bs i b below is) ∙ onto_one b.kid b.user (tree_users [] (take i bs)) x
 
-onto_keeps : (kid : Kid) (u : ℕ) (users : List ℕ) (x : ℕ) → is_one_of users x ≡ true → is_one_of (user_onto kid u users) x ≡ true
-onto_keeps kid u users x h = onto_one kid u users x ∙ or_right (is_one_of (user_onto kid u []) x) (is_one_of users x) h
+onto_keeps : (kid : Kid) (u : ℕ) (users : List ℕ) (x : ℕ) → is_one_of users x ≡ true → is_one_of (kid_user_onto kid u users) x ≡ true
+onto_keeps kid u users x h = onto_one kid u users x ∙ or_right (is_one_of (kid_user_onto kid u []) x) (is_one_of users x) h
 
 tree_users-keep : (bs : List Branch) (users : List ℕ) (x : ℕ) → is_one_of users x ≡ true → is_one_of (tree_users users bs) x ≡ true
 tree_users-keep [] users x h = h
-tree_users-keep (b ∷ bs) users x h = tree_users-keep bs (user_onto b.kid b.user users) x (onto_keeps b.kid b.user users x h)
+tree_users-keep (b ∷ bs) users x h = tree_users-keep bs (kid_user_onto b.kid b.user users) x (onto_keeps b.kid b.user users x h)
 
 tree_users-take : (n : ℕ) (bs : List Branch) (users : List ℕ) (x : ℕ) → is_one_of (tree_users users (take n bs)) x ≡ true →
     is_one_of (tree_users users bs) x ≡ true
 tree_users-take zero bs users x h = tree_users-keep bs users x h
 tree_users-take (suc n) [] users x h = h
-tree_users-take (suc n) (b ∷ bs) users x h = tree_users-take n bs (user_onto b.kid b.user users) x h
+tree_users-take (suc n) (b ∷ bs) users x h = tree_users-take n bs (kid_user_onto b.kid b.user users) x h
 
 -- a user among the first branches with trees is among all
 pub one_of_all : (n : ℕ) (bs : List Branch) (x : ℕ) → is_one_of (tree_users [] (take n bs)) x ≡ true → is_one_of (tree_users [] bs) x ≡ true
@@ -106,10 +106,10 @@ tree_users-below : (n : ℕ) (bs : List Branch) (users : List ℕ) (x : ℕ) →
 tree_users-below n [] users x known before h = before h
 tree_users-below n (b ∷ bs) users x known before h =
     let parts = onto_below n b.kid b.user (kids_of_items bs) known in
-    tree_users-below n bs (user_onto b.kid b.user users) x parts.1
-    (λ e. onto_known b.kid parts.0 (or_cases (is_one_of (user_onto b.kid b.user []) x) (is_one_of users x) (sym (onto_one b.kid b.user users x) ∙ e))) h
+    tree_users-below n bs (kid_user_onto b.kid b.user users) x parts.1
+    (λ e. onto_known b.kid parts.0 (or_cases (is_one_of (kid_user_onto b.kid b.user []) x) (is_one_of users x) (sym (onto_one b.kid b.user users x) ∙ e))) h
   where
-    onto_known : (kid : Kid) → b.user < n → (is_one_of (user_onto kid b.user []) x ≡ true) ⊎ (is_one_of users x ≡ true) → x < n
+    onto_known : (kid : Kid) → b.user < n → (is_one_of (kid_user_onto kid b.user []) x ≡ true) ⊎ (is_one_of users x ≡ true) → x < n
     onto_known kid known (inr old) = before old
     onto_known (Tree_kid t) known (inl own) =
         subst (λ y. y < n) (either (or_cases (b.user == x) false own) (λ e. eqb-true b.user x e) (λ e. absurd (false≢true e))) known

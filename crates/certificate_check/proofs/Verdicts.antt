@@ -9,7 +9,7 @@ use Rattle.constraint_forms.specs.declared.rule.Rule.{Rule}
 use Rattle.constraint_forms.specs.Assign.{user_at, planned, is_member}
 use Rattle.constraint_forms.specs.Rules.{is_satisfied}
 use Rattle.policy_book.specs.Plans.{Problem, IsValidPlan, IsWithin}
-use Rattle.certificate_check.specs.Plan.{first_failing, is_kept, may_perform, is_obeyed, or_else, plan_verdict}
+use Rattle.certificate_check.specs.Plan.{first_failing, is_kept, may_perform, is_obeyed, fault_else, plan_verdict}
 use Rattle.certificate_check.specs.declared.plan.PlanFault.TheVariants.{Moved, Role, Rule as Rule_fault}
 use Rattle.certificate_check.proofs.Assigned.{same_some, none_not_some}
 
@@ -32,13 +32,13 @@ none_fails test k (suc n) pass =
     ap (λ b. if b then first_failing test (k + 1) n else Some k) (pass k (omega arith) (omega arith))
     ∙ none_fails test (k + 1) n (λ x low high. pass x (omega (arith, low)) (omega (arith, high)))
 
-ok_parts : (x y z : Option ℕ) → IsOk (or_else x Moved (or_else y Role (or_else z Rule_fault (Ok tt)))) → (x ≡ None) × (y ≡ None) × (z ≡ None)
+ok_parts : (x y z : Option ℕ) → IsOk (fault_else x Moved (fault_else y Role (fault_else z Rule_fault (Ok tt)))) → (x ≡ None) × (y ≡ None) × (z ≡ None)
 ok_parts None None None ok = (refl, refl, refl)
 ok_parts None None (Some k) ok = absurd (false≢true ok)
 ok_parts None (Some s) z ok = absurd (false≢true ok)
 ok_parts (Some s) y z ok = absurd (false≢true ok)
 
-ok_whole : (x y z : Option ℕ) → x ≡ None → y ≡ None → z ≡ None → IsOk (or_else x Moved (or_else y Role (or_else z Rule_fault (Ok tt))))
+ok_whole : (x y z : Option ℕ) → x ≡ None → y ≡ None → z ≡ None → IsOk (fault_else x Moved (fault_else y Role (fault_else z Rule_fault (Ok tt))))
 ok_whole None None None e f g = refl
 ok_whole None None (Some k) e f g = none_not_some k (sym g)
 ok_whole None (Some s) z e f g = none_not_some s (sym f)

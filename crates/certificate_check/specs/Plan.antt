@@ -35,18 +35,18 @@ keeps_rule p plan step (Some rule) =
     not (names rule step) || is_satisfied p.related rule (planned plan)
 
 -- the fault with a number, or else what comes next
-abbrev pub or_else : Option ℕ → (ℕ → PlanFault) → Result (Unit {0}) PlanFault →
+abbrev pub fault_else : Option ℕ → (ℕ → PlanFault) → Result (Unit {0}) PlanFault →
     Result (Unit {0}) PlanFault
-or_else None fault next = next
-or_else (Some n) fault next = Err (fault n)
+fault_else None fault next = next
+fault_else (Some n) fault next = Err (fault n)
 
 -- the first fault of a plan: an assigned step that has another user, then a step whose user is
 -- not authorised, then a rule that is not satisfied, each time the least
 abbrev pub plan_verdict : Problem → List (Option ℕ) → List Bool → List ℕ →
     Result (Unit {0}) PlanFault
 plan_verdict p assigned finished plan =
-    or_else (first_failing (λ s. is_kept (user_at assigned s) (planned plan s)) 0 p.steps) Moved
-    (or_else (first_failing (may_perform p finished plan) 0 p.steps) Role
-    (or_else (first_failing (λ k. is_obeyed p plan (slice_get p.rules k)) 0 (length p.rules))
+    fault_else (first_failing (λ s. is_kept (user_at assigned s) (planned plan s)) 0 p.steps) Moved
+    (fault_else (first_failing (may_perform p finished plan) 0 p.steps) Role
+    (fault_else (first_failing (λ k. is_obeyed p plan (slice_get p.rules k)) 0 (length p.rules))
     Rule_fault
     (Ok tt)))

@@ -12,14 +12,14 @@ begins_with u (tree_kid v t kids) = u == v
 begins_with u (twin_kid v w kids) = u == v
 
 -- a user whose branch has a tree, before other users
-abbrev pub user_onto : Kid → ℕ → List ℕ → List ℕ
-user_onto (Tree_kid t) u users = u ∷ users
-user_onto (Twin v) u users = users
+abbrev pub kid_user_onto : Kid → ℕ → List ℕ → List ℕ
+kid_user_onto (Tree_kid t) u users = u ∷ users
+kid_user_onto (Twin v) u users = users
 
 -- the users of the branches that have trees, the last one first, before other users
 abbrev pub tree_users : List ℕ → List Branch → List ℕ
 tree_users users [] = users
-tree_users users (b ∷ bs) = tree_users (user_onto b.kid b.user users) bs
+tree_users users (b ∷ bs) = tree_users (kid_user_onto b.kid b.user users) bs
 
 -- each branch is of a user below n
 abbrev pub AreUsersBelow : ℕ → Kids → Type 0

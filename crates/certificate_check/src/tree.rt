@@ -6,7 +6,7 @@ ghost use Rattle.refutation_tree.specs.Tree.{no_kids, Kids};
 ghost use Rattle.refutation_tree.specs.Views.{branch_onto, kids_of_items, shape_of};
 ghost use Rattle.policy_book.specs.Plans.{IsWithin};
 ghost use Rattle.policy_book.specs.Policies.{problem_of};
-ghost use Rattle.certificate_check.specs.Walks.{AreUsersBelow, begins_with, tree_users, user_onto};
+ghost use Rattle.certificate_check.specs.Walks.{AreUsersBelow, begins_with, tree_users, kid_user_onto};
 ghost use Rattle.policy_book.specs.Twins.{are_twins, is_one_of};
 ghost use Rattle.policy_book.specs.Refuting.{all_refute, any_mentions, authorised_users};
 ghost use Rattle.policy_book.specs.Refuting.{have_users, is_broken, is_unassigned, is_misheld};
@@ -127,7 +127,7 @@ fn has_tree(branches: &[Branch], u: UserId) -> bool
 }
 
 fn is_tree_of(branch: &Branch, u: UserId) -> bool
-    ensures { result ≡ is_one_of (user_onto branch.now.kid branch.now.user []) u }
+    ensures { result ≡ is_one_of (kid_user_onto branch.now.kid branch.now.user []) u }
 {
     match &branch.kid {
         Kid::Tree(_) => branch.user == u,

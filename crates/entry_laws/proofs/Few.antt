@@ -23,7 +23,7 @@ use Rattle.admin_edits.specs.Edits.{amended}
 use Rattle.admin_edits.proofs.Keeping.{always}
 use Rattle.wf_board.specs.declared.deed.Deed.{Deed}
 use Rattle.wf_board.specs.declared.deed.Deed.TheVariants as deed
-use Rattle.wf_board.specs.States.{Book, Numbered, State, is_full, open_cases, open_count, with_case_changed}
+use Rattle.wf_board.specs.States.{Book, Numbered, State, is_full, open_cases, count_open, with_case_changed}
 use Rattle.wf_board.specs.Decisions.{cause_full, decision_aside, decision_of}
 use Rattle.wf_board.specs.Steps.{Answers, IsReplyTo, IsStep, state_after_decision, state_after_deed, state_after_step}
 use Rattle.wf_board.specs.Views.{AreStranded, AreThose, IsWorkOf, item_of, steps_from, steps_of}
@@ -82,8 +82,8 @@ HasPlace b given = Unit {0}
 
 place_left : (b : Book) → is_full b ≡ false → length (open_cases b.cases) < OPEN_CASE_LIMIT
 place_left b free =
-    let few = (or_false (nat_le OPEN_CASE_LIMIT (open_count b.cases)) (nat_le CASE_LIMIT b.ever) free).0 in
-    let same : length (open_cases b.cases) ≡ open_count b.cases = length-filter (λ (e : Numbered). is_open e.case) b.cases in
+    let few = (or_false (nat_le OPEN_CASE_LIMIT (count_open b.cases)) (nat_le CASE_LIMIT b.ever) free).0 in
+    let same : length (open_cases b.cases) ≡ count_open b.cases = length-filter (λ (e : Numbered). is_open e.case) b.cases in
     grind arith
 
 place_of : (b : Book) (given : Deed) → cause_full b given ≡ None → HasPlace b given

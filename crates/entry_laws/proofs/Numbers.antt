@@ -13,7 +13,7 @@ use Rattle.wf_talk.specs.declared.reply.Denial.{Denial}
 use Rattle.wf_talk.specs.declared.reply.Denial.TheVariants as denial
 use Rattle.wf_board.specs.declared.deed.Deed.{Deed}
 use Rattle.wf_board.specs.declared.deed.Deed.TheVariants as deed
-use Rattle.wf_board.specs.States.{Book, Numbered, State, numbered_case, is_full, open_cases, open_count}
+use Rattle.wf_board.specs.States.{Book, Numbered, State, numbered_case, is_full, open_cases, count_open}
 use Rattle.wf_board.specs.Decisions.{cause_full, decision_aside, decision_of}
 use Rattle.wf_board.specs.Steps.{state_after_decision, state_after_deed, state_after_step}
 use Rattle.wf_board.specs.Kept.{AreNumberedFrom}
@@ -36,7 +36,7 @@ HasRoom b given = Unit {0}
 
 room_left : (b : Book) → is_full b ≡ false → b.ever < CASE_LIMIT
 room_left b free =
-    let few = (or_false (nat_le OPEN_CASE_LIMIT (open_count b.cases)) (nat_le CASE_LIMIT b.ever) free).1 in
+    let few = (or_false (nat_le OPEN_CASE_LIMIT (count_open b.cases)) (nat_le CASE_LIMIT b.ever) free).1 in
     grind arith
 
 room_of : (b : Book) (given : Deed) → cause_full b given ≡ None → HasRoom b given

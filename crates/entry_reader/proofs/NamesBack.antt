@@ -10,7 +10,7 @@ use Rattle.wf_names.specs.Table.{place_of}
 use Rattle.wf_names.proofs.NameForms.{name_utf8}
 use Rattle.wire_json.specs.Entries.{named}
 use Rattle.wf_names.specs.Table.{AreNames}
-use Rattle.entry_reader.specs.Values.{name_read, numbered}
+use Rattle.entry_reader.specs.Values.{name_read, number_read}
 use Rattle.entry_reader.proofs.Readings.{and_then_some, none_some, some_same}
 
 -- the name with a number of a table
@@ -23,7 +23,7 @@ form_of names n k h = k.form n (slice_index_or names n []) (there names n h)
 pub named_utf8 : (names : List (List ℕ)) (n : ℕ) → AreNames names → n < length names → IsUtf8 (slice_index_or names n [])
 named_utf8 names n k h = name_utf8 (slice_index_or names n []) (form_of names n k h)
 
-pub numbered_named : (names : List (List ℕ)) (n : ℕ) → AreNames names → n < length names → numbered names (named names n) ≡ Some n
+pub numbered_named : (names : List (List ℕ)) (n : ℕ) → AreNames names → n < length names → number_read names (named names n) ≡ Some n
 numbered_named names n k h = rw (form_of names n k h) (k.alone n (slice_index_or names n []) (there names n h))
 
 -- what is read as a name is a text of a name's form
@@ -48,7 +48,7 @@ pub record IsNumbered (names : List (List ℕ)) (d : Data) (n : ℕ) : Type 0 wh
   pub within : n < length names
   pub written : named names n ≡ d
 
-pub numbered_is : (names : List (List ℕ)) (d : Data) (n : ℕ) → numbered names d ≡ Some n → IsNumbered names d n
+pub numbered_is : (names : List (List ℕ)) (d : Data) (n : ℕ) → number_read names d ≡ Some n → IsNumbered names d n
 numbered_is names d n e =
     let r = and_then_some (name_read d) (place_of names) n e in
     let at_place = position-Some (pointwise nat_eq r.found) names n [] r.then_ in

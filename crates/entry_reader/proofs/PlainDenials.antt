@@ -12,7 +12,7 @@ use Rattle.wf_talk.specs.declared.reply.Denial.{Denial}
 use Rattle.wf_talk.specs.declared.reply.Denial.TheVariants as denial
 use Rattle.policy_book.specs.Shapes.{PolicyShape}
 use Rattle.entry_reader.specs.Within.{IsUser, IsStepOf, IsRule, IsCase, IsConcerned, IsState}
-use Rattle.entry_reader.specs.Values.{row_of}
+use Rattle.entry_reader.specs.Values.{row_read}
 use Rattle.entry_reader.specs.Told.{denial_words}
 use Rattle.entry_reader.specs.Plain.{IsLow, IsPlainDenial}
 use Rattle.entry_reader.proofs.RepliesWithin.{row_holds}
@@ -59,7 +59,7 @@ word : Unit {0} × (0 ≤ 120)
 word = (tt, omega arith)
 
 -- a word alone
-pub word_denial : (p : PolicyShape) (flows : ℕ → Option ℕ) (o : Option ℕ) (w : List ℕ) (d : Denial) → row_of denial_words w ≡ Some d → IsPlainDenial p flows o d
+pub word_denial : (p : PolicyShape) (flows : ℕ → Option ℕ) (o : Option ℕ) (w : List ℕ) (d : Denial) → row_read denial_words w ≡ Some d → IsPlainDenial p flows o d
 word_denial p flows o w d e =
     row_holds (IsPlainDenial p flows o) denial_words w d
     (word, (word, (word, (word, (word, (word, (word, (word, (word, (word, (word, (word, tt)))))))))))) e

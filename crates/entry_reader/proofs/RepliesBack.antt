@@ -30,7 +30,7 @@ use Rattle.wire_json.specs.Replies.{missing_data, strands_data, denial_data, fac
 use Rattle.wf_names.specs.Table.{AreNames}
 use Rattle.entry_reader.specs.Named.{HasNames}
 use Rattle.entry_reader.specs.Within.{IsPlan, IsTree, IsState, IsFace, IsBad, IsCase, IsConcerned, IsDenial, IsWorkItem, IsReply}
-use Rattle.entry_reader.specs.Values.{each_read, few, few_read, numbered, user_read, user_state, seen_read, state_read, tree_in}
+use Rattle.entry_reader.specs.Values.{each_read, few, few_read, number_read, user_read, user_state, seen_read, state_read, tree_in}
 use Rattle.entry_reader.specs.Told.{tree_from, flow_within, tree_by, step_by, strands_read, missing_read, denial_read, states_read, phase_read, flow_read, face_read}
 use Rattle.entry_reader.specs.Told.{number_of_case, item_read, bad_read, reply_read}
 use Rattle.entry_reader.proofs.NamesBack.{numbered_named}
@@ -40,10 +40,10 @@ use Rattle.entry_reader.proofs.TreesBack.{below_back, user_back, step_back, tree
 -- ---- lists
 
 names_back : (names : List (List ℕ)) (ns : List ℕ) → AreNames names → All (λ n. n < length names) ns → each_read
-    (numbered names) (items_of (map (named names) ns)) ≡ Some ns
+    (number_read names) (items_of (map (named names) ns)) ≡ Some ns
 names_back names [] k h = refl
 names_back names (n ∷ ns) k h =
-    ap (option_and_then (λ x. option_map (λ xs. x ∷ xs) (each_read (numbered names) (items_of (map (named names) ns)))))
+    ap (option_and_then (λ x. option_map (λ xs. x ∷ xs) (each_read (number_read names) (items_of (map (named names) ns)))))
     (numbered_named names n k (all_first (λ m. m < length names) n ns h))
     ∙ ap (option_map (λ xs. n ∷ xs)) (names_back names ns k (all_more (λ m. m < length names) n ns h))
 
@@ -104,7 +104,7 @@ tree_by_back p o f t k c h =
 step_by_back : (p : PolicyShape) (o : Option ℕ) (f s : ℕ) → HasNames p → IsConcerned p o f → s < length (flow_at p f).flow.steps →
     step_by p o (step_data p f s) ≡ Some (f, s)
 step_by_back p o f s k c h =
-    ap (option_and_then (λ n. option_map (λ x. (n, x)) (numbered (flow_at p n).flow.steps (step_data p f s)))) (flow_back p o f c)
+    ap (option_and_then (λ n. option_map (λ x. (n, x)) (number_read (flow_at p n).flow.steps (step_data p f s)))) (flow_back p o f c)
     ∙ ap (option_map (λ x. (f, x))) (step_back p f s k h)
 
 case_back : (c : ℕ) → c ≤ 65535 → nat_lt c 65536 ≡ true

@@ -28,7 +28,7 @@ use Rattle.entry_reader.specs.declared.kind.DenialKind.{DenialKind}
 use Rattle.entry_reader.specs.declared.kind.DenialKind.TheVariants as why
 use Rattle.entry_reader.specs.Places.{number_below}
 use Rattle.entry_reader.specs.Within.{IsUser, IsRole, IsPlan, IsTree, IsState, IsFace, IsBad, IsCase, IsConcerned, IsDenial, IsWorkItem, IsReply}
-use Rattle.entry_reader.specs.Values.{row_of, or_else, only, below, name_read, numbered, each_read, few, few_read, pair_parts, user_read, step_read, free_state}
+use Rattle.entry_reader.specs.Values.{row_read, or_next, only_member, below, name_read, number_read, each_read, few, few_read, pair_parts, user_read, step_read, free_state}
 use Rattle.entry_reader.specs.Values.{user_state, state_read, seen_at, seen_read, tree_in}
 use Rattle.entry_reader.specs.Told.{denial_words, denial_kinds, reply_words, reply_kinds, bad_words, tree_from, flow_within, tree_by, step_by, case_read}
 use Rattle.entry_reader.specs.Told.{strands_read, missing_read, roles_read, denial_by, denial_read, plan_read, opened_read, states_read, phase_read, flow_read, face_read}
@@ -39,7 +39,7 @@ use Rattle.entry_reader.proofs.TreesBack.{below_is, tree_is}
 
 -- ---- choices and rows
 
-either_read : {X : Type 0} (a b : Option X) (x : X) → or_else a b ≡ Some x → (a ≡ Some x) ⊎ (b ≡ Some x)
+either_read : {X : Type 0} (a b : Option X) (x : X) → or_next a b ≡ Some x → (a ≡ Some x) ⊎ (b ≡ Some x)
 either_read (Some y) b x e = inl e
 either_read None b x e = inr e
 
@@ -53,7 +53,7 @@ row_here : {X : Type 0} (P : X → Type 0) (r : List ℕ × X) (rest : Option (L
 row_here P r rest true x here later e = subst P (some_same r.1 x e) here
 row_here P r rest false x here later e = later e
 
-pub row_holds : {X : Type 0} (P : X → Type 0) (rows : List (List ℕ × X)) (w : List ℕ) (x : X) → AllRows P rows → row_of rows w ≡ Some x → P x
+pub row_holds : {X : Type 0} (P : X → Type 0) (rows : List (List ℕ × X)) (w : List ℕ) (x : X) → AllRows P rows → row_read rows w ≡ Some x → P x
 row_holds P [] w x all e = absurd (none_some x e)
 row_holds P (r ∷ rows) w x all e = row_here P r (find (λ q. pointwise nat_eq w q.0) rows) (pointwise nat_eq w r.0) x all.0 (row_holds P rows w x all.1) e
 
@@ -141,7 +141,7 @@ user_state_within p w d s e =
 state_within : (p : PolicyShape) (d : Data) (s : StepState) → state_read p d ≡ Some s → IsState p s
 state_within p d s e = elim (either_read (option_and_then free_state (as_str d)) _ s e) [
   | inl h ↦ let r = and_then_some (as_str d) free_state s h in free_within p r.found s r.then_
-  | inr h ↦ let r = and_then_some (only d) (λ m. option_and_then (user_state m.0) (user_read p m.1)) s h in user_state_within p r.found.0 r.found.1 s r.then_
+  | inr h ↦ let r = and_then_some (only_member d) (λ m. option_and_then (user_state m.0) (user_read p m.1)) s h in user_state_within p r.found.0 r.found.1 s r.then_
 ]
 
 seen_at_within : (p : PolicyShape) (ds : Items) (s : StepState) → seen_at p ds ≡ Some s → IsState p s
@@ -161,7 +161,7 @@ face_within p d face e =
     let q = and_then_some (phase_read d) (λ phase. option_map (λ states. record { flow = r.found; phase = phase; states = states }) (states_read p d)) face
     r.then_ in
     let m = map_some (states_read p d) (λ states. record { flow = r.found; phase = q.found; states = states }) face q.then_ in
-    let flow = and_then_some (get (codes "flow") d) (numbered p.flow_names) r.found r.there in
+    let flow = and_then_some (get (codes "flow") d) (number_read p.flow_names) r.found r.there in
     let states = and_then_some (get (codes "steps") d) (few_read (seen_read p)) m.found m.there in
     let h = few_hold (IsState p) (seen_read p) states.found m.found (seen_within p) states.then_ in
     subst (IsFace p) m.same ((numbered_is p.flow_names flow.found r.found flow.then_).within, h.short, h.all)
@@ -215,8 +215,8 @@ strands_within p flows o d x e =
 
 roles_within : (p : PolicyShape) (d : Data) (roles : List ℕ) → roles_read p d ≡ Some roles → All (IsRole p) roles
 roles_within p d roles e =
-    let r = and_then_some (as_array d) (each_read (numbered p.roster.roles)) roles e in
-    each_holds (IsRole p) (numbered p.roster.roles) r.found roles (λ x n h. (numbered_is p.roster.roles x n h).within) r.then_
+    let r = and_then_some (as_array d) (each_read (number_read p.roster.roles)) roles e in
+    each_holds (IsRole p) (number_read p.roster.roles) r.found roles (λ x n h. (numbered_is p.roster.roles x n h).within) r.then_
 
 denial_by_within : (p : PolicyShape) (flows : ℕ → Option ℕ) (o : Option ℕ) (kind : DenialKind) (d : Data) (x : Denial) →
     denial_by p flows o kind d ≡ Some x → IsDenial p flows o x
@@ -239,13 +239,13 @@ denial_by_within p flows o why.Strands d x e = strands_within p flows o d x e
 
 denial_within : (p : PolicyShape) (flows : ℕ → Option ℕ) (o : Option ℕ) (d : Data) (x : Denial) → denial_read p flows o d ≡ Some x → IsDenial p flows o x
 unfolding denial_read
-denial_within p flows o d x e = elim (either_read (option_and_then (row_of denial_words) (as_str d)) _ x e) [
+denial_within p flows o d x e = elim (either_read (option_and_then (row_read denial_words) (as_str d)) _ x e) [
   | inl h ↦
-      let r = and_then_some (as_str d) (row_of denial_words) x h in
+      let r = and_then_some (as_str d) (row_read denial_words) x h in
       row_holds (IsDenial p flows o) denial_words r.found x (tt, (tt, (tt, (tt, (tt, (tt, (tt, (tt, (tt, (tt, (tt, (tt, tt)))))))))))) r.then_
   | inr h ↦
-      let r = and_then_some (only d) (λ m. option_and_then (λ kind. denial_by p flows o kind m.1) (row_of denial_kinds m.0)) x h in
-      let q = and_then_some (row_of denial_kinds r.found.0) (λ kind. denial_by p flows o kind r.found.1) x r.then_ in
+      let r = and_then_some (only_member d) (λ m. option_and_then (λ kind. denial_by p flows o kind m.1) (row_read denial_kinds m.0)) x h in
+      let q = and_then_some (row_read denial_kinds r.found.0) (λ kind. denial_by p flows o kind r.found.1) x r.then_ in
       denial_by_within p flows o q.found r.found.1 x q.then_
 ]
 
@@ -277,8 +277,8 @@ cases_within d cases e =
 -- ---- replies
 
 bad_within : (d : Data) (b : Bad) → bad_read d ≡ Some b → IsBad b
-bad_within d b e = elim (either_read (option_and_then (row_of bad_words) (as_str d)) _ b e) [
-  | inl h ↦ let r = and_then_some (as_str d) (row_of bad_words) b h in row_holds IsBad bad_words r.found b (tt, (tt, (tt, (tt, (tt, tt))))) r.then_
+bad_within d b e = elim (either_read (option_and_then (row_read bad_words) (as_str d)) _ b e) [
+  | inl h ↦ let r = and_then_some (as_str d) (row_read bad_words) b h in row_holds IsBad bad_words r.found b (tt, (tt, (tt, (tt, (tt, tt))))) r.then_
   | inr h ↦
       let r = map_some (key_read d) bad.Key b h in
       let q = and_then_some (get (codes "key") d) name_read r.found r.there in
@@ -319,10 +319,10 @@ reply_by_within p flows o told.Bad d x e = let r = map_some (bad_read d) reply.B
 
 pub reply_within : (p : PolicyShape) (flows : ℕ → Option ℕ) (o : Option ℕ) (d : Data) (x : Reply) → reply_read p flows o d ≡ Some x → IsReply p flows o x
 unfolding reply_read
-reply_within p flows o d x e = elim (either_read (option_and_then (row_of reply_words) (as_str d)) _ x e) [
-  | inl h ↦ let r = and_then_some (as_str d) (row_of reply_words) x h in row_holds (IsReply p flows o) reply_words r.found x (tt, (tt, (tt, (tt, tt)))) r.then_
+reply_within p flows o d x e = elim (either_read (option_and_then (row_read reply_words) (as_str d)) _ x e) [
+  | inl h ↦ let r = and_then_some (as_str d) (row_read reply_words) x h in row_holds (IsReply p flows o) reply_words r.found x (tt, (tt, (tt, (tt, tt)))) r.then_
   | inr h ↦
-      let r = and_then_some (only d) (λ m. option_and_then (λ kind. reply_by p flows o kind m.1) (row_of reply_kinds m.0)) x h in
-      let q = and_then_some (row_of reply_kinds r.found.0) (λ kind. reply_by p flows o kind r.found.1) x r.then_ in
+      let r = and_then_some (only_member d) (λ m. option_and_then (λ kind. reply_by p flows o kind m.1) (row_read reply_kinds m.0)) x h in
+      let q = and_then_some (row_read reply_kinds r.found.0) (λ kind. reply_by p flows o kind r.found.1) x r.then_ in
       reply_by_within p flows o q.found r.found.1 x q.then_
 ]

@@ -30,7 +30,7 @@ use Rattle.entry_reader.specs.declared.kind.DenialKind.{DenialKind}
 use Rattle.entry_reader.specs.declared.kind.DenialKind.TheVariants as why
 use Rattle.entry_reader.specs.Places.{number_below, place_read}
 use Rattle.entry_reader.specs.Lines.{concerned, entry_at}
-use Rattle.entry_reader.specs.Values.{row_of, or_else, only, at_key, below, name_read, numbered}
+use Rattle.entry_reader.specs.Values.{row_read, or_next, only_member, at_key, below, name_read, number_read}
 use Rattle.entry_reader.specs.Values.{user_read, step_read, each_read, few_read, pair_parts, tree_in}
 use Rattle.entry_reader.specs.Values.{state_read, seen_read}
 
@@ -140,10 +140,10 @@ strands_read p flows d =
     (tree_by p (flows c) x)) (get (codes "tree") d)) (case_read d)
 
 abbrev pub missing_read : Data → Option Missing
-missing_read d = option_and_then (row_of missing_words) (as_str d)
+missing_read d = option_and_then (row_read missing_words) (as_str d)
 
 abbrev pub roles_read : PolicyShape → Data → Option (List ℕ)
-roles_read p d = option_and_then (each_read (numbered p.roster.roles)) (as_array d)
+roles_read p d = option_and_then (each_read (number_read p.roster.roles)) (as_array d)
 
 -- a denial by its kind, where reading it takes no memory
 abbrev pub short_denial : PolicyShape → Option ℕ → DenialKind → Data → Option Denial
@@ -172,9 +172,9 @@ denial_by p flows f why.Strands d = strands_read p flows d
 
 unfoldable pub denial_read : PolicyShape → (ℕ → Option ℕ) → Option ℕ → Data → Option Denial
 denial_read p flows f d =
-    or_else (option_and_then (row_of denial_words) (as_str d))
+    or_next (option_and_then (row_read denial_words) (as_str d))
     (option_and_then (λ m. option_and_then (λ kind. denial_by p flows f kind m.1)
-    (row_of denial_kinds m.0)) (only d))
+    (row_read denial_kinds m.0)) (only_member d))
 
 -- ---- replies
 
@@ -188,10 +188,10 @@ abbrev pub states_read : PolicyShape → Data → Option (List StepState)
 states_read p d = at_key (few_read (seen_read p)) (codes "steps") d
 
 abbrev pub phase_read : Data → Option Phase
-phase_read d = at_key (λ x. option_and_then (row_of phases) (as_str x)) (codes "phase") d
+phase_read d = at_key (λ x. option_and_then (row_read phases) (as_str x)) (codes "phase") d
 
 abbrev pub flow_read : PolicyShape → Data → Option ℕ
-flow_read p d = at_key (numbered p.flow_names) (codes "flow") d
+flow_read p d = at_key (number_read p.flow_names) (codes "flow") d
 
 abbrev pub face_read : PolicyShape → Data → Option Face
 face_read p d =
@@ -232,7 +232,7 @@ abbrev pub key_read : Data → Option (List ℕ)
 key_read d = at_key name_read (codes "key") d
 
 abbrev pub bad_read : Data → Option Bad
-bad_read d = or_else (option_and_then (row_of bad_words) (as_str d)) (option_map bad.Key (key_read d))
+bad_read d = or_next (option_and_then (row_read bad_words) (as_str d)) (option_map bad.Key (key_read d))
 
 abbrev pub done_read : Data → Option Bool
 done_read d = at_key as_bool (codes "done") d
@@ -265,9 +265,9 @@ reply_by p flows f told.Bad d = short_reply told.Bad d
 
 unfoldable pub reply_read : PolicyShape → (ℕ → Option ℕ) → Option ℕ → Data → Option Reply
 reply_read p flows f d =
-    or_else (option_and_then (row_of reply_words) (as_str d))
+    or_next (option_and_then (row_read reply_words) (as_str d))
     (option_and_then (λ m. option_and_then (λ kind. reply_by p flows f kind m.1)
-    (row_of reply_kinds m.0)) (only d))
+    (row_read reply_kinds m.0)) (only_member d))
 
 -- ---- entries
 

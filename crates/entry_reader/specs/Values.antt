@@ -19,13 +19,13 @@ use Rattle.policy_book.specs.Policies.{flow_at}
 -- ---- parts of values
 
 -- what stands behind the first row with a word
-abbrev pub row_of : {X : Type 0} → List (List ℕ × X) → List ℕ → Option X
-row_of rows w = option_map (λ r. r.1) (find (λ r. pointwise nat_eq w r.0) rows)
+abbrev pub row_read : {X : Type 0} → List (List ℕ × X) → List ℕ → Option X
+row_read rows w = option_map (λ r. r.1) (find (λ r. pointwise nat_eq w r.0) rows)
 
 -- the first of two readings, or else the second
-abbrev pub or_else : {X : Type 0} → Option X → Option X → Option X
-or_else (Some x) other = Some x
-or_else None other = other
+abbrev pub or_next : {X : Type 0} → Option X → Option X → Option X
+or_next (Some x) other = Some x
+or_next None other = other
 
 -- the key and the value of an object with one member
 abbrev pub lone : Members → Option (List ℕ × Data)
@@ -33,8 +33,8 @@ lone no_members = None
 lone (member k d no_members) = Some (k, d)
 lone (member k d (member l e ms)) = None
 
-abbrev pub only : Data → Option (List ℕ × Data)
-only d = option_and_then lone (as_object d)
+abbrev pub only_member : Data → Option (List ℕ × Data)
+only_member d = option_and_then lone (as_object d)
 
 -- what stands at a key
 abbrev pub at_key : {X : Type 0} → (Data → Option X) → List ℕ → Data → Option X
@@ -50,14 +50,14 @@ abbrev pub name_read : Data → Option (List ℕ)
 name_read d = option_and_then (λ text. if is_name text then Some text else None) (as_str d)
 
 -- the number of a name in a table
-abbrev pub numbered : List (List ℕ) → Data → Option ℕ
-numbered names d = option_and_then (place_of names) (name_read d)
+abbrev pub number_read : List (List ℕ) → Data → Option ℕ
+number_read names d = option_and_then (place_of names) (name_read d)
 
 abbrev pub user_read : PolicyShape → Data → Option ℕ
-user_read p d = numbered p.roster.users d
+user_read p d = number_read p.roster.users d
 
 abbrev pub step_read : PolicyShape → ℕ → Data → Option ℕ
-step_read p f d = numbered (flow_at p f).flow.steps d
+step_read p f d = number_read (flow_at p f).flow.steps d
 
 -- each item, in order
 abbrev pub each_read : {X : Type 0} → (Data → Option X) → Items → Option (List X)
@@ -85,7 +85,7 @@ abbrev pub twin_at : PolicyShape → List ℕ × Data → Option ℕ
 twin_at p m = if pointwise nat_eq m.0 (codes "twin") then user_read p m.1 else None
 
 abbrev pub twin_read : PolicyShape → Data → Option ℕ
-twin_read p d = option_and_then (twin_at p) (only d)
+twin_read p d = option_and_then (twin_at p) (only_member d)
 
 -- a user's branch before others: with its tree, where it names no twin
 abbrev pub with_kid : ℕ → Option ℕ → Option Shape → Option Kids → Option Kids
@@ -152,7 +152,7 @@ abbrev pub node_parts : Data → Option (Data × Data)
 node_parts d = option_and_then node_at (as_object d)
 
 abbrev pub lone_leaf : PolicyShape → ℕ → Data → Option Shape
-lone_leaf p f d = option_and_then (λ m. leaf_read p f m.0 m.1) (only d)
+lone_leaf p f d = option_and_then (λ m. leaf_read p f m.0 m.1) (only_member d)
 
 abbrev pub node_read : PolicyShape → ℕ → Data → Data → Option Shape
 node_read p f step users =
@@ -181,8 +181,8 @@ user_state w u =
 -- where a step stands
 abbrev pub state_read : PolicyShape → Data → Option StepState
 state_read p d =
-    or_else (option_and_then free_state (as_str d))
-    (option_and_then (λ m. option_and_then (user_state m.0) (user_read p m.1)) (only d))
+    or_next (option_and_then free_state (as_str d))
+    (option_and_then (λ m. option_and_then (user_state m.0) (user_read p m.1)) (only_member d))
 
 -- where a step stands, as a view shows it
 abbrev pub seen_at : PolicyShape → Items → Option StepState

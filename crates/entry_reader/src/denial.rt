@@ -45,7 +45,7 @@ pub(crate) fn denial_of<F: FlowOf>(
 
 // The denial that is a word alone.
 fn word_denial(value: &Value) -> Option<Denial>
-    ensures { result ≡ option_and_then (read.row_of told.denial_words) (as_str (view value.now)) }
+    ensures { result ≡ option_and_then (read.row_read told.denial_words) (as_str (view value.now)) }
 {
     denial_word(value.as_str()?)
 }

@@ -1,6 +1,6 @@
 //! The words of replies, and what each stands for.
 ghost use Rattle.std.specs.Prelude.{◌≡◌};
-ghost use Rattle.entry_reader.specs.Values.{row_of};
+ghost use Rattle.entry_reader.specs.Values.{row_read};
 ghost use Rattle.entry_reader.specs.Told as told;
 
 use wf_names::Phase;
@@ -24,7 +24,7 @@ pub(crate) enum ReplyKind {
 impl ReplyKind {
     /// The kind that a key tells.
     pub(crate) fn read(key: &str) -> Option<ReplyKind>
-        ensures { result ≡ row_of told.reply_kinds key.now }
+        ensures { result ≡ row_read told.reply_kinds key.now }
     {
         match key {
             "granted" => Some(ReplyKind::Granted),
@@ -59,7 +59,7 @@ pub(crate) enum DenialKind {
 impl DenialKind {
     /// The kind that a key tells.
     pub(crate) fn read(key: &str) -> Option<DenialKind>
-        ensures { result ≡ row_of told.denial_kinds key.now }
+        ensures { result ≡ row_read told.denial_kinds key.now }
     {
         match key {
             "unsatisfiable" => Some(DenialKind::Unsatisfiable),
@@ -78,7 +78,7 @@ impl DenialKind {
 
 /// The reply that is a word alone.
 pub(crate) fn reply_word(word: &str) -> Option<Reply>
-    ensures { result ≡ row_of told.reply_words word.now }
+    ensures { result ≡ row_read told.reply_words word.now }
 {
     match word {
         "returned" => Some(Reply::Returned),
@@ -91,7 +91,7 @@ pub(crate) fn reply_word(word: &str) -> Option<Reply>
 
 /// The denial that is a word alone.
 pub(crate) fn denial_word(word: &str) -> Option<Denial>
-    ensures { result ≡ row_of told.denial_words word.now }
+    ensures { result ≡ row_read told.denial_words word.now }
 {
     match word {
         "no_flow" => Some(Denial::NoFlow),
@@ -112,7 +112,7 @@ pub(crate) fn denial_word(word: &str) -> Option<Denial>
 
 /// Why a line is no request, where it is a word alone.
 pub(crate) fn bad_word(word: &str) -> Option<Bad>
-    ensures { result ≡ row_of told.bad_words word.now }
+    ensures { result ≡ row_read told.bad_words word.now }
 {
     match word {
         "syntax" => Some(Bad::Syntax),
@@ -126,7 +126,7 @@ pub(crate) fn bad_word(word: &str) -> Option<Bad>
 
 /// Of which kind nothing has a name.
 pub(crate) fn missing_word(word: &str) -> Option<Missing>
-    ensures { result ≡ row_of told.missing_words word.now }
+    ensures { result ≡ row_read told.missing_words word.now }
 {
     match word {
         "flow" => Some(Missing::Flow),
@@ -140,7 +140,7 @@ pub(crate) fn missing_word(word: &str) -> Option<Missing>
 
 /// Where a case stands.
 pub(crate) fn phase_word(word: &str) -> Option<Phase>
-    ensures { result ≡ row_of told.phases word.now }
+    ensures { result ≡ row_read told.phases word.now }
 {
     match word {
         "open" => Some(Phase::Live),

@@ -114,7 +114,7 @@ fn each_state(alloc: Global, p: &Policy, items: &[Value]) -> Result<List<StepSta
 #[tactic(auto, using(crate::proofs::Uses::each_item))]
 fn each_role(alloc: Global, p: &Policy, items: &[Value]) -> Result<RoleList, TextFault>
     ensures { Reads (λ roles. roles) result
-        (read.each_read (read.numbered p.now.roster.roles) (items_view items.now)) }
+        (read.each_read (read.number_read p.now.roster.roles) (items_view items.now)) }
 {
     let mut roles = List::new(alloc);
     'items: for item in items {

@@ -11,7 +11,7 @@ use wf_names::{CASE_NUMBER_LIMIT, CaseId, FlowId, Name, NameTable, StepId, StepS
 
 /// The key and the value of an object with one member.
 pub(crate) fn only(value: &Value) -> Option<(&str, &Value)>
-    ensures { option_map (λ m. (m.0.now, view m.1.now)) result ≡ read.only (view value.now) }
+    ensures { option_map (λ m. (m.0.now, view m.1.now)) result ≡ read.only_member (view value.now) }
 {
     let members = value.as_object()?;
     if members.len() != 1 {
@@ -83,7 +83,7 @@ pub(crate) fn name_of(value: &Value) -> Option<Name>
 
 /// The number of the name that a value is.
 pub(crate) fn numbered(names: &NameTable, value: &Value) -> Option<u16>
-    ensures place { result ≡ read.numbered names.now.names (view value.now) }
+    ensures place { result ≡ read.number_read names.now.names (view value.now) }
     ensures within { IfSome result (λ n. n < length names.now.names) }
 {
     names.find(&name_of(value)?)

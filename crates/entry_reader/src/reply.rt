@@ -154,7 +154,7 @@ fn reply_of<F: FlowOf>(
 
 // The reply that is a word alone.
 fn word_reply(value: &Value) -> Option<Reply>
-    ensures { result ≡ option_and_then (read.row_of told.reply_words) (as_str (view value.now)) }
+    ensures { result ≡ option_and_then (read.row_read told.reply_words) (as_str (view value.now)) }
 {
     reply_word(value.as_str()?)
 }
@@ -276,7 +276,7 @@ fn bad_of(value: &Value) -> Option<Bad>
 }
 
 fn word_bad(value: &Value) -> Option<Bad>
-    ensures { result ≡ option_and_then (read.row_of told.bad_words) (as_str (view value.now)) }
+    ensures { result ≡ option_and_then (read.row_read told.bad_words) (as_str (view value.now)) }
 {
     bad_word(value.as_str()?)
 }

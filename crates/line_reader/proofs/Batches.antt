@@ -6,7 +6,7 @@ use Rattle.std.proofs.lemmas.List.{length-append, length-drop, take_all, take-ap
 use Rattle.wf_names.specs.declared.limits.TheConstants.{LINE_LIMIT, SESSION_LINE_LIMIT, BATCH_LINE_LIMIT}
 use Rattle.wf_talk.specs.declared.job.Job.{Job}
 use Rattle.line_reader.proofs.CutLaws.{if_both}
-use Rattle.line_reader.specs.Jobs.{Cut, start_at, without_cr, job_of, end_batch, end_full_batch, next_line, with_job, end_line, step, cut_all, flush}
+use Rattle.line_reader.specs.Jobs.{Cut, start_from, without_cr, job_of, end_batch, end_full_batch, next_line, with_job, end_line, step, cut_all, flush}
 use Rattle.line_reader.specs.Lines.{AreBatches, FollowOn, LeadUpTo}
 
 -- ---- lines that follow one another
@@ -161,7 +161,7 @@ pub runs_all : (c : Cut) (bytes : List ℕ) → HasRuns c → HasRuns (cut_all c
 runs_all c [] h = h
 runs_all c (b ∷ bs) h = runs_all (step c b) bs (runs_step c b h)
 
-pub runs_start : (lanes first : ℕ) → HasRuns (start_at lanes first)
+pub runs_start : (lanes first : ℕ) → HasRuns (start_from lanes first)
 runs_start lanes first = record {
   all = record { begins = omega arith; ends = refl; batches = tt; follows = (0, tt) };
   run = tt;

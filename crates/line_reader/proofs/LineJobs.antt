@@ -9,7 +9,7 @@ use Rattle.line_reader.specs.Reader.{has_end, line_length, lines_of}
 use Rattle.line_reader.proofs.FirstLines.{goes_on, lines_first, open_line}
 use Rattle.line_reader.specs.declared.stop.Stop.{Stop}
 use Rattle.line_reader.specs.declared.stop.Stop.TheVariants.{LineTooLong, TooManyLines}
-use Rattle.line_reader.specs.Jobs.{Cut, start_at, without_cr, end_batch, end_full_batch, end_line, step, cut_all, flush, jobs_from}
+use Rattle.line_reader.specs.Jobs.{Cut, start_from, without_cr, end_batch, end_full_batch, end_line, step, cut_all, flush, jobs_from}
 use Rattle.line_reader.proofs.CutLaws.{stopped}
 use Rattle.line_reader.proofs.Batches.{HasRuns, batches_are, runs_all, runs_start}
 use Rattle.line_reader.specs.Lines.{AreJobsOfLines, AreWithin, IsWithinLimits, JobsAreOfLines, MeetsLimit, StopsAt, job_at, jobs_of_lines, text_of}
@@ -88,7 +88,7 @@ record HasCut (lanes first : ℕ) (front : List ℕ) (c : Cut) : Type 0 where
   pub within : 0 < length c.line → c.number < SESSION_LINE_LIMIT
   pub jobs : (e : Bool) → c.jobs ≡ jobs_of_lines lanes e first lines
 
-has_start : (lanes first : ℕ) → first ≤ SESSION_LINE_LIMIT → HasCut lanes first [] (start_at lanes first)
+has_start : (lanes first : ℕ) → first ≤ SESSION_LINE_LIMIT → HasCut lanes first [] (start_from lanes first)
 has_start lanes first few = record {
   lines = [];
   cut = λ more. refl;
@@ -373,5 +373,5 @@ finished lanes first bytes ended c r runs = record {
 pub jobs_are_of_lines : (lanes first : ℕ) → first ≤ SESSION_LINE_LIMIT → JobsAreOfLines lanes first
 unfolding jobs_from
 jobs_are_of_lines lanes first few bytes ended =
-    finished lanes first bytes ended (cut_all (start_at lanes first) bytes) (run lanes first [] (start_at lanes first) bytes (has_start lanes first few))
-    (runs_all (start_at lanes first) bytes (runs_start lanes first))
+    finished lanes first bytes ended (cut_all (start_from lanes first) bytes) (run lanes first [] (start_from lanes first) bytes (has_start lanes first few))
+    (runs_all (start_from lanes first) bytes (runs_start lanes first))

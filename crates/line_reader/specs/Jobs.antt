@@ -21,8 +21,8 @@ pub record Cut : Type 0 where
   pub stop : Option Stop
 
 -- before the first byte, where lines are counted from a number on
-abbrev pub start_at : ℕ → ℕ → Cut
-start_at lanes number = record {
+abbrev pub start_from : ℕ → ℕ → Cut
+start_from lanes number = record {
   lanes = lanes;
   line = [];
   number = number;
@@ -35,7 +35,7 @@ start_at lanes number = record {
 
 -- and where nothing was read before
 abbrev pub start : ℕ → Cut
-start lanes = start_at lanes 0
+start lanes = start_from lanes 0
 
 -- a line without one CR at its end
 unfoldable pub without_cr : List ℕ → List ℕ

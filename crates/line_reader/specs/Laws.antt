@@ -10,7 +10,7 @@ use Rattle.wf_talk.specs.declared.request.Ask.{Ask}
 use Rattle.wf_talk.specs.declared.request.Ask.TheVariants as ask
 use Rattle.wf_talk.specs.declared.job.Job.{Job}
 use Rattle.wf_talk.specs.Jobs.{AreOfLanes, IsNamedAsk}
-use Rattle.line_reader.specs.Jobs.{Cut, jobs_from, jobs_of_input, last_or, next_input, start_at}
+use Rattle.line_reader.specs.Jobs.{Cut, jobs_from, jobs_of_input, last_or, next_input, start_from}
 use Rattle.line_reader.specs.Cutter.{after_handing}
 
 -- the lines of the jobs ascend strictly, from this number on
@@ -48,7 +48,7 @@ JobsAreInOrder lanes =
 -- from there, where all jobs are handed over; they reach to the last end of a batch; and whatever
 -- is read, all jobs are in order
 pub record GoesOn (lanes : ℕ) (c : Cut) : Type 0 where
-  pub begins : after_handing c.jobs c.ends (start_at lanes (next_input c).number) ≡ next_input c
+  pub begins : after_handing c.jobs c.ends (start_from lanes (next_input c).number) ≡ next_input c
   pub closed : last_or 0 c.ends ≡ length c.jobs
   pub order : (bytes : List ℕ) (ended : Bool) →
       AreInOrder lanes (jobs_from (next_input c) bytes ended).jobs

@@ -6,7 +6,7 @@ use Rattle.wf_talk.specs.declared.job.Job.{Job}
 use Rattle.line_reader.specs.Reader.{lines_of, has_end, line_length}
 use Rattle.line_reader.specs.declared.stop.Stop.{Stop}
 use Rattle.line_reader.specs.declared.stop.Stop.TheVariants.{LineTooLong, TooManyLines}
-use Rattle.line_reader.specs.Jobs.{Cut, without_cr, job_of, start_at, jobs_from}
+use Rattle.line_reader.specs.Jobs.{Cut, without_cr, job_of, start_from, jobs_from}
 
 -- ---- limits
 
@@ -85,4 +85,4 @@ pub record AreJobsOfLines (lanes first : ℕ) (bytes : List ℕ) (ended : Bool) 
 abbrev pub JobsAreOfLines : ℕ → ℕ → Type 0
 JobsAreOfLines lanes first =
     (bytes : List ℕ) (ended : Bool) →
-    AreJobsOfLines lanes first bytes ended (jobs_from (start_at lanes first) bytes ended)
+    AreJobsOfLines lanes first bytes ended (jobs_from (start_from lanes first) bytes ended)

@@ -2,6 +2,7 @@
 -- handed over.
 use Rattle.std.specs.Prelude.{◌≡◌, ℕ, suc, ◌+◌, ◌==◌, ◌<◌, ◌≤◌, Bool, true, false, List, [], ◌∷◌}
 use Rattle.std.specs.Prelude.{◌++◌, length, Option, if◌then◌else◌}
+use Rattle.wf_names.specs.declared.limits.TheConstants.{TRANSCRIPT_LINE_LIMIT}
 use Rattle.wf_outside.specs.Outside.{Rose, HasTaken, IsAtEnd}
 use Rattle.line_reader.specs.declared.read.Read.{Read}
 use Rattle.line_reader.specs.declared.read.Read.TheVariants.{Line, End, Failed, TooLong, NoMemory}
@@ -36,6 +37,11 @@ before_lines b (line ∷ lines) = (b ∷ line) ∷ lines
 abbrev pub lines_of : List ℕ → List (List ℕ)
 lines_of [] = []
 lines_of (b ∷ bs) = if b == 10 then (b ∷ []) ∷ lines_of bs else before_lines b (lines_of bs)
+
+-- no line is longer than one of a transcript may be
+abbrev pub AreShort : List (List ℕ) → Type 0
+AreShort [] = Unit {0}
+AreShort (line ∷ lines) = (line_length line ≤ TRANSCRIPT_LINE_LIMIT) × AreShort lines
 
 -- a reader: the last line that it read, or the front of the next one where it has not been handed
 -- over; the bytes that were taken behind it; how many bytes a line may have without its LF, and how

@@ -2,7 +2,7 @@
 ghost use Rattle.std.specs.Prelude.{◌≡◌, ◌≢◌, ◌≤◌, ◌<◌, ℕ, List, [], length, Option, None, Some};
 ghost use Rattle.std.specs.Prelude.{true, false, IfOk, OnOk, OnErr};
 ghost use Rattle.wf_names.specs.declared.limits.TheConstants.{SESSION_LINE_LIMIT};
-ghost use Rattle.line_reader.specs.Jobs.{start_at};
+ghost use Rattle.line_reader.specs.Jobs.{start_from};
 ghost use Rattle.line_reader.specs.Cutter.{CutsOn};
 ghost use Rattle.line_reader.specs.BatchReader.{BatchReaderShape, Handed, handed_more, HasRead};
 ghost use Rattle.line_reader.specs.BatchReader.{IsReadUp, ReadsBatch, CanReadOn, CountsPause};
@@ -71,7 +71,7 @@ impl BatchReader {
         requires room { 0 < room }
         requires number { number ≤ SESSION_LINE_LIMIT }
         ensures { IfOk result (λ r. r
-            ≡ record { cut = start_at lanes number; pending = []; room = room }) }
+            ≡ record { cut = start_from lanes number; pending = []; room = room }) }
     {
         Ok(BatchReader {
             alloc,

@@ -58,7 +58,7 @@ impl Cutter {
     /// A cutter before the first byte, which counts lines from a number on.
     pub fn new(alloc: Global, lanes: u8, number: u32) -> Cutter
         requires { number ≤ SESSION_LINE_LIMIT }
-        ensures start { result ≡ jobs.start_at lanes number }
+        ensures start { result ≡ jobs.start_from lanes number }
         ensures sound { IsSound result }
     {
         Cutter {

@@ -21,8 +21,8 @@ steps_below (suc n) test =
     if test n then slice_set (steps_below n test) n true else steps_below n test
 
 -- the steps for which a user is authorised
-abbrev pub duties_of : Problem → ℕ → List Bool
-duties_of p u = steps_below p.steps (λ s. p.authorised s u)
+abbrev pub authorised_steps : Problem → ℕ → List Bool
+authorised_steps p u = steps_below p.steps (λ s. p.authorised s u)
 
 -- inside: what is kept of one workflow: a row of users for each step, and for how many users the
 -- sets of their steps are kept beside

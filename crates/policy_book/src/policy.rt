@@ -15,7 +15,7 @@ ghost use Rattle.policy_book.specs.Plans.{IsWellFormed};
 ghost use Rattle.policy_book.specs.Refuting.{is_unassigned};
 ghost use Rattle.policy_book.specs.Candidates.{is_candidate};
 ghost use Rattle.constraint_forms.specs.Assign.{is_member};
-ghost use Rattle.policy_book.specs.Duties.{AreDuties, duties_of};
+ghost use Rattle.policy_book.specs.Duties.{AreDuties, authorised_steps};
 ghost use Rattle.policy_book.specs.Facts.{AreOfUsers, AreSoundRules, IsSoundPolicy};
 ghost use Rattle.policy_book.specs.Facts.{PermitsRolesBelow};
 
@@ -171,7 +171,7 @@ impl Policy {
     pub fn duties(&self, f: FlowId, u: UserId) -> StepSet
         requires flow { f < length self.now.flows }
         requires user { u < length self.now.roster.users }
-        ensures steps { result ≡ duties_of (problem_of self.now f) u }
+        ensures steps { result ≡ authorised_steps (problem_of self.now f) u }
         ensures each { (s : ℕ) → s < length (flow_at self.now f).flow.steps
             → is_member result s ≡ is_authorised self.now f s u }
     {

@@ -8,7 +8,7 @@ use Rattle.policy_printer.proofs.Words.{IsNamedWorkflow, least_none, Format}
 use Rattle.policy_reader.specs.Grammars.{today}
 use Rattle.policy_reader.specs.Parts.{value_at, array_in, table_in, table_at, count_in, entries_at, name_in, no_others, known_key}
 use Rattle.policy_reader.specs.Rules.{rules_of}
-use Rattle.policy_reader.specs.Flows.{order_in, order_pairs, cycle_at, no_cycle, ordered_in, flow_in, ruled_in, workflow_in, next_flow, flows_of}
+use Rattle.policy_reader.specs.Flows.{order_in, order_pairs, cycle_at, no_cycle, ordered_in, flow_in, ruled_in, workflow_in, next_flow, flows_in}
 use Rattle.policy_printer.specs.Documents.{workflow_members}
 use Rattle.policy_printer.proofs.RostersAgain.{steps_back}
 use Rattle.policy_printer.proofs.Rows.{pairs_back}
@@ -100,8 +100,8 @@ module _ (decided : OrderIsDecided) (p : PolicyShape) (named : AreNames p.roster
   -- the workflows are read from what they are written as
   pub flows_back : (again : Members) → Ascend p.flow_names → 0 < length p.flow_names → length p.flows ≤ FLOW_LIMIT →
       get_member (codes "flows") again ≡ Some (flows_data p)
-      → flows_of today format (record p { flow_names = []; flows = [] }) again ≡ Ok p
-  unfolding flows_of entries_at table_at count_in value_at table_in
+      → flows_in today format (record p { flow_names = []; flows = [] }) again ≡ Ok p
+  unfolding flows_in entries_at table_at count_in value_at table_in
   flows_back again ascend some few there =
       let n = length p.flows in
       let tabled = tabled_in_order (flow_entry p) p.flow_names n ascend (λ f. refl) (omega (arith, count)) in

@@ -20,7 +20,7 @@ pub use Rattle.basics.specs.PairLaws.{ascending_none}
 pub use Rattle.policy_book.specs.Facts.{IsSoundWorkflow}
 pub use Rattle.policy_book.specs.Policies.{no_workflow, flow_at}
 pub use Rattle.policy_book.specs.Shapes.{PolicyShape, WorkflowShape}
-pub use Rattle.policy_printer.specs.Documents.{name_at, names_data, users_data, relations_data, flows_data, chosen, with_member, table_below, row, rows}
+pub use Rattle.policy_printer.specs.Documents.{name_at, names_array, users_data, relations_data, flows_data, chosen, with_member, table_below, row, rows}
 pub use Rattle.policy_printer.specs.Documents.{pair_data, pairs_data, relation_entry, user_entry, names_where, rule_data, flow_entry, permit_entry}
 pub use Rattle.policy_printer.specs.Documents.{permits_data, rules_data, document_of}
 pub use Rattle.policy_printer.specs.Named.{IsNamedPolicy, HasFlags, HaveFlags, IsNamedWorkflow}
@@ -28,7 +28,7 @@ pub use Rattle.policy_reader.proofs.Fresh.{none_cons, among}
 pub use Rattle.policy_reader.proofs.Orders.{least_none, all_below}
 pub use Rattle.policy_reader.specs.Formats.{file_keys, format_number}
 pub use Rattle.policy_printer.specs.Documents.{form_of, needs_second, written_format}
-pub use Rattle.policy_reader.specs.Forms.{has_form}
+pub use Rattle.policy_reader.specs.Forms.{knows_form}
 pub use Rattle.policy_reader.specs.declared.format.Format.{Format}
 pub use Rattle.policy_reader.specs.Relations.{is_built_in}
 pub use Rattle.policy_reader.specs.declared.fault.PolicyPart.{PolicyPart}

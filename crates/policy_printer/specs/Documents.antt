@@ -55,8 +55,8 @@ names_where names test =
     array (items_of (map (λ n. string (name_at names n)) (chosen (length names) test)))
 
 -- an array of names
-abbrev pub names_data : List (List ℕ) → Data
-names_data names = array (items_of (map string names))
+abbrev pub names_array : List (List ℕ) → Data
+names_array names = array (items_of (map string names))
 
 -- an array of two names
 abbrev pub pair_data : List (List ℕ) → ℕ × ℕ → Data
@@ -183,7 +183,7 @@ workflow_members roles relations w = table_of (
     (codes "order", pairs_data w.flow.steps w.flow.order)
     ∷ (codes "permit", permits_data roles w.flow)
     ∷ (codes "rules", rules_data relations w.flow.steps w.rules)
-    ∷ (codes "steps", names_data w.flow.steps)
+    ∷ (codes "steps", names_array w.flow.steps)
     ∷ [])
 
 abbrev pub flow_entry : PolicyShape → ℕ → List ℕ × Data
@@ -200,6 +200,6 @@ document_of p = table_of (
     ∷ (codes "flows", flows_data p)
     ∷ (codes "format", integer (pos (format_number (written_format p))))
     ∷ (codes "relations", relations_data p.roster.users p.relations)
-    ∷ (codes "roles", names_data p.roster.roles)
+    ∷ (codes "roles", names_array p.roster.roles)
     ∷ (codes "users", users_data p.roster)
     ∷ [])

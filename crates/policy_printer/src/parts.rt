@@ -85,7 +85,7 @@ pub(crate) fn put_names(
     names: &NameTable,
 ) -> Result<(), AllocError>
     ensures put { OnOk result (table_view table.new
-        ≡ spec.with_member key.now (spec.names_data names.now.names) (table_view table.old)) }
+        ≡ spec.with_member key.now (spec.names_array names.now.names) (table_view table.old)) }
     ensures named { AreNames names.now.names }
 {
     let value = names_value(alloc, names)?;
@@ -121,7 +121,7 @@ pub(crate) fn push(values: &mut Vec<Value>, value: Value) -> Result<(), AllocErr
 /// An array of all names of a table.
 #[tactic(auto, using(crate::proofs::Writing::names_more))]
 fn names_value(alloc: Global, names: &NameTable) -> Result<Value, AllocError>
-    ensures value { IfOk result (λ v. view v ≡ spec.names_data names.now.names) }
+    ensures value { IfOk result (λ v. view v ≡ spec.names_array names.now.names) }
     ensures named { AreNames names.now.names }
 {
     let mut values = Vec::new(alloc);

@@ -17,7 +17,7 @@ use Rattle.policy_reader.specs.Grammars.{earlier, first_with, today}
 use Rattle.policy_reader.specs.Parts.{at_least_one, at_most, array_at, count_in, entries, entries_at, items, items_at, name_in, no_others, number_in, table_at}
 use Rattle.policy_reader.specs.Parts.{table_in, value_at}
 use Rattle.policy_reader.specs.Rosters.{roles_of, roster_of}
-use Rattle.policy_reader.specs.Flows.{flow_in, flows_of, next_flow, ruled_in, steps_of, workflow_in}
+use Rattle.policy_reader.specs.Flows.{flow_in, flows_in, next_flow, ruled_in, steps_in, workflow_in}
 use Rattle.policy_reader.specs.Files.{admin_of, document_in, format_of, policy_by, policy_in, rest_of, staff_of, start_named, start_of, start_over, start_with}
 use Rattle.policy_reader.specs.Laws.{OldFormatReadsAlike}
 
@@ -102,15 +102,15 @@ start_grows file =
     (λ staff. start_over staff.1 staff.0 file) (staff_grows roles name file)
     (λ staff. same (start_over staff.1 staff.0 file))))
 
-steps_grow : (f : ℕ) (ms : Members) → Grows (steps_of earlier f ms) (steps_of today f ms)
-unfolding steps_of
+steps_grow : (f : ℕ) (ms : Members) → Grows (steps_in earlier f ms) (steps_in today f ms)
+unfolding steps_in
 steps_grow f ms =
     and_then (items_at Flows f earlier.steps (codes "steps") ms) (items_at Flows f today.steps (codes "steps") ms) _ _
     (items_grow Flows f earlier.steps today.steps (codes "steps") ms (omega arith)) (λ steps. same _)
 
 flow_grows : (f : ℕ) (roles : List (List ℕ)) (ms : Members) → Grows (flow_in earlier f roles ms) (flow_in today f roles ms)
 unfolding flow_in
-flow_grows f roles ms = and_then (steps_of earlier f ms) (steps_of today f ms) _ _ (steps_grow f ms) (λ steps. same _)
+flow_grows f roles ms = and_then (steps_in earlier f ms) (steps_in today f ms) _ _ (steps_grow f ms) (λ steps. same _)
 
 workflow_grows : (format : Format) (p : PolicyShape) (ms : Members) → Grows (workflow_in earlier format p ms) (workflow_in today format p ms)
 unfolding workflow_in
@@ -129,8 +129,8 @@ next_grows format p entry =
     (λ _. and_then (table_in Flows f entry.1) (table_in Flows f entry.1) _ _ (same (table_in Flows f entry.1))
     (λ ms. and_then (workflow_in earlier format p ms) (workflow_in today format p ms) _ _ (workflow_grows format p ms) (λ w. same _)))
 
-flows_grow : (format : Format) (p : PolicyShape) (file : Members) → Grows (flows_of earlier format p file) (flows_of today format p file)
-unfolding flows_of
+flows_grow : (format : Format) (p : PolicyShape) (file : Members) → Grows (flows_in earlier format p file) (flows_in today format p file)
+unfolding flows_in
 flows_grow format p file =
     and_then (entries_at Flows 0 FLOW_LIMIT (codes "flows") file) (entries_at Flows 0 FLOW_LIMIT (codes "flows") file) _ _
     (same (entries_at Flows 0 FLOW_LIMIT (codes "flows") file))
@@ -138,7 +138,7 @@ flows_grow format p file =
 
 rest_grows : (format : Format) (p : PolicyShape) (file : Members) → Grows (rest_of earlier format p file) (rest_of today format p file)
 unfolding rest_of
-rest_grows format p file = and_then (flows_of earlier format p file) (flows_of today format p file) _ _ (flows_grow format p file) (λ policy. same _)
+rest_grows format p file = and_then (flows_in earlier format p file) (flows_in today format p file) _ _ (flows_grow format p file) (λ policy. same _)
 
 policy_grows : (file : Members) → Grows (policy_in earlier file) (policy_in today file)
 unfolding policy_in

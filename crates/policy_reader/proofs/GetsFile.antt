@@ -19,7 +19,7 @@ use Rattle.policy_reader.specs.Laws.{PolicyOfFileIsSound}
 use Rattle.policy_reader.specs.Parts.{array_in, entries, entries_at, items, items_at, name_in, named_in, no_others, number_in, once, said}
 use Rattle.policy_reader.specs.Relations.{relations_of}
 use Rattle.policy_reader.specs.Rosters.{next_held, next_role, next_user, roles_of, roster_of, some_user_has}
-use Rattle.policy_reader.specs.Flows.{flows_of}
+use Rattle.policy_reader.specs.Flows.{flows_in}
 use Rattle.policy_reader.specs.Files.{admin_of, document_in, format_of, policy_by, policy_in, related_over, rest_of, staff_of, start_named, start_of}
 use Rattle.policy_reader.specs.Files.{start_over, start_with}
 use Rattle.policy_reader.proofs.Gets.{AreFew, Gets, after, and_so, each_gets, few_entries, few_items, formed, got, next_few, numbered, push_form}
@@ -127,7 +127,7 @@ start_read file =
 rest_read : (format : Format) (p : PolicyShape) (file : Members) → IsStart p → Gets (λ q. IsReadPolicy q 0) (rest_of today format p file)
 unfolding rest_of
 rest_read format p file h =
-    and_so (λ q. IsReadPolicy q 0) (λ q. IsReadPolicy q 0) (flows_of today format p file) _ (flows_read format p file h)
+    and_so (λ q. IsReadPolicy q 0) (λ q. IsReadPolicy q 0) (flows_in today format p file) _ (flows_read format p file h)
     (λ q k. after (λ out. IsReadPolicy out 0) (no_others File 0 (file_keys format) file) (λ _. Ok q) (λ _. k))
 
 document_read : (file : Members) → Gets (λ q. IsReadPolicy q 0) (policy_in today file)

@@ -28,8 +28,8 @@ use Rattle.policy_reader.specs.Parts.{once, said, table_at, table_in, text_in}
 use Rattle.policy_reader.specs.Relations.{complement_in, entry_of, first_declared, free_name_in, has_one, is_built_in, kind_at, kind_in, listed_in, names_of}
 use Rattle.policy_reader.specs.Relations.{next_relation, relations_in, relations_of}
 use Rattle.policy_reader.specs.Rules.{rules_of}
-use Rattle.policy_reader.specs.Flows.{flow_in, flows_of, next_flow, next_permit, next_permitted, no_cycle, order_pairs, ordered_in, permits_of, ruled_in}
-use Rattle.policy_reader.specs.Flows.{steps_of, workflow_in}
+use Rattle.policy_reader.specs.Flows.{flow_in, flows_in, next_flow, next_permit, next_permitted, no_cycle, order_pairs, ordered_in, permits_of, ruled_in}
+use Rattle.policy_reader.specs.Flows.{steps_in, workflow_in}
 use Rattle.policy_reader.proofs.Gets.{AreFew, Gets, after, and_so, each_gets, few_entries, few_items, formed, named_number, next_below, next_few, push_form}
 use Rattle.policy_reader.proofs.Gets.{weaker}
 use Rattle.policy_reader.proofs.GetsRules.{rules_sound}
@@ -152,8 +152,8 @@ related users rs h rho pairs e = h.kinds rho (listed pairs) e
 
 -- ---- the steps of a workflow, and to which roles they are permitted
 
-steps_read : (f : ℕ) (ms : Members) → Gets (λ steps. AreFew STEP_LIMIT steps 0) (steps_of today f ms)
-unfolding steps_of
+steps_read : (f : ℕ) (ms : Members) → Gets (λ steps. AreFew STEP_LIMIT steps 0) (steps_in today f ms)
+unfolding steps_in
 steps_read f ms =
     and_so (λ steps. length (items steps) ≤ STEP_LIMIT) (λ steps. AreFew STEP_LIMIT steps 0) (items_at Flows f STEP_LIMIT (codes "steps") ms) _
     (few_items Flows f STEP_LIMIT (codes "steps") ms)
@@ -213,7 +213,7 @@ record IsReadSteps (roles : ℕ) (flow : FlowShape) : Type 0 where
 flow_read : (f : ℕ) (roles : List (List ℕ)) (ms : Members) → Gets (IsReadSteps (length roles)) (flow_in today f roles ms)
 unfolding flow_in
 flow_read f roles ms =
-    and_so (λ steps. AreFew STEP_LIMIT steps 0) (IsReadSteps (length roles)) (steps_of today f ms) _ (steps_read f ms)
+    and_so (λ steps. AreFew STEP_LIMIT steps 0) (IsReadSteps (length roles)) (steps_in today f ms) _ (steps_read f ms)
     (λ steps h. and_so (IsPermitting (length roles) steps) (IsReadSteps (length roles)) (ordered_in f steps ms) (λ flow. permits_of f roles flow ms)
     (ordered_read f (length roles) steps ms)
     (λ flow k. weaker (IsPermitting (length roles) steps) (IsReadSteps (length roles)) (permits_of f roles flow ms) (permits_read f roles steps flow ms k)
@@ -295,8 +295,8 @@ policy_more format p entry left h =
     (λ w new. flow_more p entry.0 w left h here new)))
 
 pub flows_read : (format : Format) (p : PolicyShape) (file : Members) → ((left : ℕ) → left ≤ FLOW_LIMIT → IsReadPolicy p left)
-    → Gets (λ q. IsReadPolicy q 0) (flows_of today format p file)
-unfolding flows_of
+    → Gets (λ q. IsReadPolicy q 0) (flows_in today format p file)
+unfolding flows_in
 flows_read format p file h =
     and_so (λ flows. length (entries flows) ≤ FLOW_LIMIT) (λ q. IsReadPolicy q 0) (entries_at Flows 0 FLOW_LIMIT (codes "flows") file) _
     (few_entries Flows 0 FLOW_LIMIT (codes "flows") file)

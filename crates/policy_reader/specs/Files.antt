@@ -16,7 +16,7 @@ use Rattle.policy_reader.specs.Grammars.{Grammar, today}
 use Rattle.policy_reader.specs.Parts.{value_at, text_name_in, number_in, no_others}
 use Rattle.policy_reader.specs.Rosters.{roles_of, roster_of, some_user_has}
 use Rattle.policy_reader.specs.Relations.{relations_of}
-use Rattle.policy_reader.specs.Flows.{flows_of}
+use Rattle.policy_reader.specs.Flows.{flows_in}
 
 -- the TOML document that a text is
 abbrev pub document_in_text : List ℕ → Reading Members
@@ -80,7 +80,7 @@ start_of g file = do
 -- the workflows, and no other key than those of the format
 unfoldable pub rest_of : Grammar → Format → PolicyShape → Members → Reading PolicyShape
 rest_of g format start file = do
-  policy ← flows_of g format start file
+  policy ← flows_in g format start file
   _ ← no_others File 0 (file_keys format) file
   Ok policy
 

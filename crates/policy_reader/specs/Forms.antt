@@ -39,9 +39,9 @@ is_first_form AtMost = false
 is_first_form AtLeast = false
 
 -- a format has a form
-abbrev pub has_form : Format → Form → Bool
-has_form First form = is_first_form form
-has_form Second form = true
+abbrev pub knows_form : Format → Form → Bool
+knows_form First form = is_first_form form
+knows_form Second form = true
 
 -- the form with a word, in whatever format
 abbrev pub any_form_of_word : List ℕ → Option Form
@@ -58,7 +58,7 @@ any_form_of_word text =
 -- a form where a format has it
 abbrev pub form_within : Format → Option Form → Option Form
 form_within format None = None
-form_within format (Some form) = if has_form format form then Some form else None
+form_within format (Some form) = if knows_form format form then Some form else None
 
 -- the form of a format with a word
 abbrev pub form_of_word : Format → List ℕ → Option Form

@@ -32,13 +32,13 @@ both_texts (string a) (string b) = Some (a, b)
 both_texts _ _ = None
 
 -- the two texts of two items
-abbrev pub texts_of : Items → Option (List ℕ × List ℕ)
-texts_of (item a (item b no_items)) = both_texts a b
-texts_of _ = None
+abbrev pub texts_in : Items → Option (List ℕ × List ℕ)
+texts_in (item a (item b no_items)) = both_texts a b
+texts_in _ = None
 
 -- the two texts of an array of two texts
 abbrev pub two_texts : Data → Option (List ℕ × List ℕ)
-two_texts d = option_and_then texts_of (as_array d)
+two_texts d = option_and_then texts_in (as_array d)
 
 -- what a value says, and what the first of two texts says
 abbrev pub said : Data → List ℕ
@@ -49,8 +49,8 @@ abbrev pub first_said : Data → List ℕ
 first_said d = unwrap_or (option_map (λ texts. texts.0) (two_texts d)) []
 
 -- a text is one of `texts`
-abbrev pub is_among : List (List ℕ) → List ℕ → Bool
-is_among texts text = list_any (pointwise nat_eq text) texts
+abbrev pub is_one_of : List (List ℕ) → List ℕ → Bool
+is_one_of texts text = list_any (pointwise nat_eq text) texts
 
 module _ (table : PolicyPart) (index : ℕ) where
   -- the value at a key that has to be there
@@ -155,7 +155,7 @@ module _ (table : PolicyPart) (index : ℕ) where
   -- a key that is one of these
   unfoldable pub known_key : List (List ℕ) → Unit {0} → List ℕ × Data → Reading (Unit {0})
   known_key keys _ entry =
-      check (is_among keys entry.0) (fault_about kind.Extra table index entry.0)
+      check (is_one_of keys entry.0) (fault_about kind.Extra table index entry.0)
 
   -- no other keys than these; the least one is at fault
   unfoldable pub no_others : List (List ℕ) → Members → Reading (Unit {0})

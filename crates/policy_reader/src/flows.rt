@@ -193,7 +193,7 @@ fn all_flows(
 }
 
 /// Reads the workflows into a policy that has none.
-#[tactic(auto, unfolding(crate::specs::Flows::flows_of))]
+#[tactic(auto, unfolding(crate::specs::Flows::flows_in))]
 pub(crate) fn read_flows(
     alloc: Global,
     format: Format,
@@ -202,7 +202,7 @@ pub(crate) fn read_flows(
 ) -> Result<(), ReadFault>
     requires bare { IsBare policy.old }
     ensures read { Gives fault_of (λ _. policy.new) result
-        (spec.flows_of today format policy.old (table_view file.now)) }
+        (spec.flows_in today format policy.old (table_view file.now)) }
     ensures printable { OnOk result (IsPrintable policy.new) }
 {
     match entries_at(FLOW_LIMIT as usize, file, "flows", PolicyPart::Flows, 0) {

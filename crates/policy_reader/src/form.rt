@@ -67,7 +67,7 @@ impl Form {
 
     // Whether a format has the form.
     fn is_in(&self, format: Format) -> bool
-        ensures { result ≡ spec.has_form format self.now }
+        ensures { result ≡ spec.knows_form format self.now }
     {
         match format {
             Format::First => self.is_first(),

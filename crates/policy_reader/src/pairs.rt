@@ -29,7 +29,7 @@ fn two_texts(value: &Value) -> Option<(&str, &str)>
 
 #[tactic(auto, using(crate::proofs::Counts::texts_of_two, crate::proofs::Counts::texts_of_others))]
 fn texts_of(items: &[Value]) -> Option<(&str, &str)>
-    ensures { option_map (λ p. (p.0.now, p.1.now)) result ≡ parts.texts_of (items_view items.now) }
+    ensures { option_map (λ p. (p.0.now, p.1.now)) result ≡ parts.texts_in (items_view items.now) }
 {
     if items.len() != 2 {
         return None;

@@ -3,7 +3,7 @@ ghost use Rattle.std.specs.Prelude.{◌≡◌, ℕ, ◌<◌, false, IsTrue};
 ghost use Rattle.std.specs.FinSet as set;
 ghost use Rattle.wf_names.specs.declared.limits.TheConstants.{ROLE_LIMIT, USER_LIMIT};
 ghost use Rattle.wf_names.specs.UserSets.{has_user};
-ghost use Rattle.rbac_state.specs.Rows.{row_has};
+ghost use Rattle.rbac_state.specs.Rows.{role_row_has};
 
 use basics::Copied;
 use std::alloc::AllocError;
@@ -92,7 +92,7 @@ impl Copied for Members {
 
 // Rows without users.
 fn no_rows() -> [UserSet; ROLE_LIMIT as usize]
-    ensures { (u r : ℕ) → row_has result u r ≡ false }
+    ensures { (u r : ℕ) → role_row_has result u r ≡ false }
 {
     [UserSet::empty(); ROLE_LIMIT as usize]
 }

@@ -4,7 +4,7 @@ use Rattle.std.specs.Prelude.{IsErrAnd}
 use Rattle.policy_book.specs.Shapes.{PolicyShape}
 use Rattle.policy_book.specs.Facts.{IsSoundPolicy}
 use Rattle.line_reader.specs.declared.whole.CutText.{CutText}
-use Rattle.line_reader.specs.Jobs.{Cut, jobs_of_input, next_input, start_at}
+use Rattle.line_reader.specs.Jobs.{Cut, jobs_of_input, next_input, start_from}
 use Rattle.line_reader.specs.Laws.{AreInOrder, GoesOn, InputsGoOn}
 use Rattle.wf_board.specs.Histories.{batch_start}
 use Rattle.wf_desk.specs.Desks.{DeskShape}
@@ -34,7 +34,7 @@ pub record IsMadeOf (s : Session) (next : ℕ) (r : BatchReaderShape) (b : Begin
 begun_at : (s : Session) (cut : Cut) (transcript : List ℕ) (next : ℕ) (r : BatchReaderShape) (b : Beginning) → IsSoundPolicy s.policy →
     AreInOrder s.lanes s.jobs s.batch_ends
     → s.jobs ≡ cut.jobs → s.batch_ends ≡ cut.ends → GoesOn s.lanes cut → HasResumed s transcript next b.desk → IsMadeOf s next r b
-    → r ≡ record { cut = start_at s.lanes (next_input cut).number; pending = []; room = PIECE } → HasBegun s cut transcript b
+    → r ≡ record { cut = start_from s.lanes (next_input cut).number; pending = []; room = PIECE } → HasBegun s cut transcript b
 begun_at s cut transcript next r b sound order jobs ends goes resumed made reads =
     let lead = order.ends in
     let part = resumed.taken.part in
@@ -70,14 +70,14 @@ pub has_begun : (p : PolicyShape) (lanes rounds : ℕ) (requests transcript : Li
     → AreInOrder lanes text.batch.jobs text.batch.ends → InputsGoOn lanes → IsCutOf requests lanes text → text.stop ≡ None
     → HasResumed (record { policy = p; lanes = lanes; rounds = rounds; jobs = text.batch.jobs; batch_ends = text.batch.ends }) transcript next b.desk
     → IsMadeOf (record { policy = p; lanes = lanes; rounds = rounds; jobs = text.batch.jobs; batch_ends = text.batch.ends }) next r b
-    → r ≡ record { cut = start_at lanes text.lines; pending = []; room = PIECE }
+    → r ≡ record { cut = start_from lanes text.lines; pending = []; room = PIECE }
     → HasBegun (session_of p lanes rounds (jobs_of_input requests true lanes)) (jobs_of_input requests true lanes) transcript b
 has_begun p lanes rounds requests transcript text next r b sound order law is going resumed made reads =
     let cut = jobs_of_input requests true lanes in
     let s : Session = record { policy = p; lanes = lanes; rounds = rounds; jobs = text.batch.jobs; batch_ends = text.batch.ends } in
     let same : s ≡ session_of p lanes rounds cut = rw (is.jobs, is.ends) refl in
-    let at : r ≡ record { cut = start_at lanes (next_input cut).number; pending = []; room = PIECE } =
-    reads ∙ ap (λ n. record { cut = start_at lanes n; pending = []; room = PIECE }) is.behind in
+    let at : r ≡ record { cut = start_from lanes (next_input cut).number; pending = []; room = PIECE } =
+    reads ∙ ap (λ n. record { cut = start_from lanes n; pending = []; room = PIECE }) is.behind in
     subst (λ x. HasBegun x cut transcript b) same
     (begun_at s cut transcript next r b sound order is.jobs is.ends (law requests (sym is.stop ∙ going)) resumed made at)
 

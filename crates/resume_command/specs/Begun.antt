@@ -9,7 +9,7 @@ use Rattle.wf_board.specs.Histories.{FillsJobs, batch_start}
 use Rattle.wf_desk.specs.BatchLaws.{EndAt}
 use Rattle.wf_desk.specs.Desks.{AreOfLanes, jobs_told}
 use Rattle.line_reader.specs.Cutter.{ends_after}
-use Rattle.line_reader.specs.Jobs.{Cut, next_input, start_at}
+use Rattle.line_reader.specs.Jobs.{Cut, next_input, start_from}
 use Rattle.line_reader.specs.Laws.{AreInOrder, GoesOn}
 use Rattle.run_record.specs.declared.fault.RunFault.{RunFault}
 use Rattle.run_record.specs.declared.fault.RunFault.TheVariants.{Nothing, NoMemory}
@@ -63,7 +63,7 @@ pub record HasBegun (s : Session) (cut : Cut) (transcript : List ℕ) (b : Begin
   pub first_ends : b.ends ≡ take b.count s.batch_ends
   pub goes_on : GoesOn s.lanes cut
   pub reader : b.reader ≡ record {
-    cut = start_at s.lanes (next_input cut).number;
+    cut = start_from s.lanes (next_input cut).number;
     pending =
         [];
     room = PIECE;

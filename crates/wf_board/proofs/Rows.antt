@@ -130,7 +130,7 @@ counted [] so_far = refl
 counted (r ∷ rs) so_far = counted rs (so_far + cond (is_open r.case) 1 0)
 
 -- and as many open ones
-pub open_numbered : (rows : List Row) → States.open_count (map numbered rows) ≡ Tables.open_count rows
+pub open_numbered : (rows : List Row) → States.count_open (map numbered rows) ≡ Tables.open_count rows
 open_numbered rows = counted rows 0
 
 -- a changed row is a changed case

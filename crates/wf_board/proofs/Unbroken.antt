@@ -34,7 +34,7 @@ use Rattle.admin_edits.specs.Hurting.{is_number, is_over}
 use Rattle.admin_edits.proofs.Keeping.{changes_keep_names}
 use Rattle.admin_edits.proofs.Unhurt.{flow_there, more_below, not_taken, others_keep, problem_with, related_other, satisfied_same, stays}
 use Rattle.admin_edits.proofs.Unhurt.{unhurt_plans_stay_valid}
-use Rattle.wf_board.specs.Breaking.{breaks, breaks_rule, gives, is_barred, is_broken, loses_step, HasPlanFor, NamesStep}
+use Rattle.wf_board.specs.Breaking.{breaks, breaks_rule, gives, is_barred, is_broken_over, loses_step, HasPlanFor, NamesStep}
 use Rattle.wf_board.specs.Edition.{IsPlanOf}
 use Rattle.wf_board.specs.Found.{IsAllowed}
 use Rattle.wf_board.specs.Kept.{ArePlanned, EachRow, IsOfPolicy, IsPlanned}
@@ -124,9 +124,9 @@ rules_unbroken p rho kind c plan none valid =
     let rules = (flow_at p c.flow).rules in
     stays (problem_of p c.flow) (problem_of q c.flow) (assigned_of c) (finished_of c) plan refl (omega arith) refl (λ s h open_ is. is)
     (λ k rule is obeyed.
-    let here : is_broken p.relations q rho plan (Some rule) ≡ false =
-    ap (is_broken p.relations q rho plan) (sym is)
-    ∙ none_below (length rules) (λ n. is_broken p.relations q rho plan (slice_get rules n)) none k (slice_get_within rules k rule is) in
+    let here : is_broken_over p.relations q rho plan (Some rule) ≡ false =
+    ap (is_broken_over p.relations q rho plan) (sym is)
+    ∙ none_below (length rules) (λ n. is_broken_over p.relations q rho plan (slice_get rules n)) none k (slice_get_within rules k rule is) in
     elim (bool_cases (is_over p.relations rho rule)) [
       | inl over ↦ satisfied_there q rule plan (second_fails (is_over p.relations rho rule) _ here over)
       | inr apart ↦ satisfied_over p rho kind rule plan apart ∙ obeyed

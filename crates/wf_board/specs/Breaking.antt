@@ -38,16 +38,16 @@ abbrev pub gives : List ℕ → ℕ → Bool
 gives plan u = any_below (length plan) (λ s. planned plan s == u)
 
 -- there is a rule, it reads a relation or its complement, and a plan does not satisfy it
-abbrev pub is_broken : List RelationShape → PolicyShape → ℕ → List ℕ → Option Rule → Bool
-is_broken relations q rho plan None = false
-is_broken relations q rho plan (Some rule) =
+abbrev pub is_broken_over : List RelationShape → PolicyShape → ℕ → List ℕ → Option Rule → Bool
+is_broken_over relations q rho plan None = false
+is_broken_over relations q rho plan (Some rule) =
     is_over relations rho rule && not (is_satisfied (is_related q.relations) rule (planned plan))
 
 -- some rule of a workflow is such a rule
 abbrev pub breaks_rule : List RelationShape → PolicyShape → ℕ → ℕ → List ℕ → Bool
 breaks_rule relations q rho f plan =
     any_below (length (flow_at q f).rules)
-    (λ k. is_broken relations q rho plan (slice_get (flow_at q f).rules k))
+    (λ k. is_broken_over relations q rho plan (slice_get (flow_at q f).rules k))
 
 -- a change, after which the policy is q, makes a valid plan of a case invalid; pairs of users
 -- matter to no plan that does not give steps to both

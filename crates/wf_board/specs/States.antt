@@ -56,9 +56,9 @@ abbrev pub open_cases : List Numbered → List Numbered
 open_cases cases = filter (λ e. is_open e.case) cases
 
 -- how many cases are open
-abbrev pub open_count : List Numbered → ℕ
-open_count cases = count_by (λ e. is_open e.case) cases
+abbrev pub count_open : List Numbered → ℕ
+count_open cases = count_by (λ e. is_open e.case) cases
 
 -- no more cases can be opened
 abbrev pub is_full : Book → Bool
-is_full b = nat_le OPEN_CASE_LIMIT (open_count b.cases) || nat_le CASE_LIMIT b.ever
+is_full b = nat_le OPEN_CASE_LIMIT (count_open b.cases) || nat_le CASE_LIMIT b.ever

@@ -5,7 +5,7 @@ ghost use Rattle.constraint_forms.specs.Assign.{planned};
 ghost use Rattle.policy_book.specs.Policies.{flow_at, is_authorised};
 ghost use Rattle.case_record.specs.Cases.{state_at};
 ghost use Rattle.admin_edits.specs.Edits.{amended};
-ghost use Rattle.wf_board.specs.Breaking.{breaks, breaks_rule, gives, is_barred, is_broken};
+ghost use Rattle.wf_board.specs.Breaking.{breaks, breaks_rule, gives, is_barred, is_broken_over};
 ghost use Rattle.wf_board.specs.Breaking.{loses_step, HasPlanFor, NamesStep};
 ghost use Rattle.wf_board.specs.Edition.{IsPlanOf};
 ghost use Rattle.wf_board.specs.Found.{IsAllowed};
@@ -131,7 +131,7 @@ fn is_broken(
     k: usize,
 ) -> bool
     requires { HasPlanFor after.now f plan.now }
-    ensures { result ≡ is_broken relations.now after.now rho plan.now
+    ensures { result ≡ is_broken_over relations.now after.now rho plan.now
         (slice_get (flow_at after.now f).rules k) }
 {
     match after.rules(f).as_slice().get(k) {

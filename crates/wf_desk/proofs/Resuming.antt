@@ -10,7 +10,7 @@ use Rattle.wf_talk.specs.declared.entry.Entry.{Entry}
 use Rattle.wf_talk.specs.declared.job.Job.{Job}
 use Rattle.wf_board.specs.Histories.{job_of_entry, lane_jobs}
 use Rattle.wf_desk.specs.Desks.{AreOfLanes}
-use Rattle.wf_desk.specs.Docket.{AnswersFirst, IsNextPlace, IsPlaceBehind, answered_of}
+use Rattle.wf_desk.specs.Docket.{AnswersFirst, IsNextPlace, IsPlaceBehind, jobs_answered}
 use Rattle.wf_desk.proofs.DocketLaws.{lane_both, lane_own, next_there, none_of_lanes, served_other, served_own}
 use Rattle.wf_desk.proofs.DeskLaws.{differs}
 
@@ -75,18 +75,18 @@ split_at entries i e within is =
 
 -- the entry at a place answers its lane's job that comes next behind those before it
 job_is : (jobs : List Job) (entries : List Entry) (i : ℕ) (e : Entry) → AnswersFirst jobs entries → i < length entries → e ≡ get_or entries i e →
-    slice_get (lane_jobs e.lane jobs) (length (answered_of (take i entries) e.lane)) ≡ Some (job_of_entry e)
+    slice_get (lane_jobs e.lane jobs) (length (jobs_answered (take i entries) e.lane)) ≡ Some (job_of_entry e)
 job_is jobs entries i e first within is =
     let lane = e.lane in
-    let front = answered_of (take i entries) lane in
+    let front = jobs_answered (take i entries) lane in
     let job = job_of_entry e in
     let rest = lane_jobs lane (map job_of_entry (drop (i + 1) entries)) in
-    let whole : answered_of entries lane ≡ front ++ job ∷ rest =
+    let whole : jobs_answered entries lane ≡ front ++ job ∷ rest =
     ap (λ es. lane_jobs lane (map job_of_entry es)) (split_at entries i e within is)
     ∙ ap (lane_jobs lane) (map-append job_of_entry (take i entries) (e ∷ drop (i + 1) entries))
     ∙ lane_both lane (map job_of_entry (take i entries)) (job ∷ map job_of_entry (drop (i + 1) entries))
     ∙ ap (λ js. front ++ js) (lane_both lane (job ∷ []) (map job_of_entry (drop (i + 1) entries)) ∙ ap (λ js. js ++ rest) (lane_own lane job refl)) in
-    get_of_first (lane_jobs lane jobs) (length (answered_of entries lane)) (length front) job
+    get_of_first (lane_jobs lane jobs) (length (jobs_answered entries lane)) (length front) job
     (ap (λ js. slice_get js (length front)) (sym (first lane) ∙ whole) ∙ get_behind front rest job)
 
 -- so its lane is known
@@ -98,7 +98,7 @@ lane_known jobs entries i e of_lanes first within is = elim (bool_cases (nat_lt 
   | inr past ↦
       let none = none_of_lanes LANE_LIMIT e.lane jobs of_lanes (grind (arith, common_steps)) in
       let job = job_is jobs entries i e first within is in
-      absurd (let no : None ≡ Some (job_of_entry e) = sym (ap (λ js. slice_get js (length (answered_of (take i entries) e.lane))) none) ∙ job in cc)
+      absurd (let no : None ≡ Some (job_of_entry e) = sym (ap (λ js. slice_get js (length (jobs_answered (take i entries) e.lane))) none) ∙ job in cc)
 ]
 
 -- and its job stands at its lane's place
@@ -106,7 +106,7 @@ pub job_stands : (jobs : List Job) (entries : List Entry) (i : ℕ) (e : Entry) 
     e ≡ get_or entries i e →
     IsPlaceBehind jobs (take i entries) e.lane place → slice_get jobs place ≡ Some (job_of_entry e)
 job_stands jobs entries i e place first within is behind =
-    sym (next_there jobs (answered_of (take i entries) e.lane) e.lane place behind.before behind.here) ∙ job_is jobs entries i e first within is
+    sym (next_there jobs (jobs_answered (take i entries) e.lane) e.lane place behind.before behind.here) ∙ job_is jobs entries i e first within is
 
 -- what is known of the places behind the first n entries
 abbrev pub ArePlacesBehind : List Job → List Entry → List ℕ → Type 0

@@ -17,16 +17,16 @@ abbrev pub entry_for : Job → ℕ → Reply → Entry
 entry_for j at given = record { at = at; lane = j.lane; line = j.line; ask = j.ask; reply = given }
 
 -- the jobs of a lane that entries answer
-abbrev pub answered_of : List Entry → ℕ → List Job
-answered_of entries lane = lane_jobs lane (map job_of_entry entries)
+abbrev pub jobs_answered : List Entry → ℕ → List Job
+jobs_answered entries lane = lane_jobs lane (map job_of_entry entries)
 
 -- entries answer the first jobs of each lane, in order
 abbrev pub AnswersFirst : List Job → List Entry → Type 0
 AnswersFirst jobs entries = (lane : ℕ) →
-    answered_of entries lane ≡ take (length (answered_of entries lane)) (lane_jobs lane jobs)
+    jobs_answered entries lane ≡ take (length (jobs_answered entries lane)) (lane_jobs lane jobs)
 
 -- a lane goes on at a place among jobs of which these entries answer its first ones
 pub record IsPlaceBehind (jobs : List Job) (entries : List Entry) (lane place : ℕ) : Type 0 where
   pub within : place ≤ length jobs
-  pub before : answered_of entries lane ≡ lane_jobs lane (take place jobs)
+  pub before : jobs_answered entries lane ≡ lane_jobs lane (take place jobs)
   pub here : IfSome (slice_get jobs place) (λ j. j.lane ≡ lane)

@@ -11,7 +11,7 @@ use Rattle.wf_board.specs.Laws.{HistoriesAreExact, HistoriesKeepCompletable}
 use Rattle.wf_board.specs.States.{opening_state}
 use Rattle.wf_desk.specs.Desks.{AreOfLanes, DeskShape, jobs_told}
 use Rattle.line_reader.specs.Cutter.{after_handing}
-use Rattle.line_reader.specs.Jobs.{Cut, UpToAnEnd, jobs_of_input, last_or, next_input, start_at}
+use Rattle.line_reader.specs.Jobs.{Cut, UpToAnEnd, jobs_of_input, last_or, next_input, start_from}
 use Rattle.line_reader.specs.Laws.{AreInOrder, GoesOn}
 use Rattle.line_reader.specs.Naming.{JobsStayNamed}
 use Rattle.entry_reader.specs.Named.{HasNames}
@@ -103,7 +103,7 @@ whole_told s told order is = (
 pub serving_on : (s : Session) (cut : Cut) (before after : Streams) (r : BatchReaderShape) (d : DeskShape) (told : Told) →
     AreInOrder s.lanes s.jobs s.batch_ends → GoesOn s.lanes cut
     → s.jobs ≡ cut.jobs → s.batch_ends ≡ cut.ends → d.lanes ≡ s.lanes →
-    r ≡ record { cut = start_at s.lanes (next_input cut).number; pending = []; room = PIECE }
+    r ≡ record { cut = start_from s.lanes (next_input cut).number; pending = []; room = PIECE }
     → after.input ≡ before.input → after.read_faults ≡ before.read_faults → after.write_faults ≡ before.write_faults
     → IsToldTo s.jobs s.batch_ends (length s.batch_ends) told → HasAnsweredAll before.output after.output d told →
     IsServing (next_input cut) before after r d told

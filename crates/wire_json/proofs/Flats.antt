@@ -19,7 +19,7 @@ use Rattle.serde_json.proofs.Views.{get_member-put, get_member-put_other}
 use Rattle.wire_json.specs.declared.flat.Part.{Part}
 use Rattle.wire_json.specs.Requests.{has_only}
 use Rattle.wire_json.specs.Objects.{worth_data, put_part, members_of}
-use Rattle.wire_json.specs.Flats.{whole, rest_of}
+use Rattle.wire_json.specs.Flats.{whole, members_behind}
 
 -- ---- what is read, as data
 
@@ -101,17 +101,17 @@ whole_refused None e = refl
 whole_refused (Some (j, [])) e = refused [] (of_json j) e
 whole_refused (Some (j, t ∷ r)) e = refl
 
-begun : (after : List Token) → converted of_json (value 127 (Token.begin_object ∷ after)) ≡ parse_map object (rest_of after)
+begun : (after : List Token) → converted of_json (value 127 (Token.begin_object ∷ after)) ≡ parse_map object (members_behind after)
 begun after = ap (converted of_json) (value-begin_object 127 after (omega arith)) ∙ converted-object (members (value 126) (length after) after)
 
 -- the value of a text is the object that its parts make
-pub object_read : (after : List Token) (ms : Members) → rest_of after ≡ Some (ms, []) → whole (value 127 (Token.begin_object ∷ after)) ≡ Some (object ms)
+pub object_read : (after : List Token) (ms : Members) → members_behind after ≡ Some (ms, []) → whole (value 127 (Token.begin_object ∷ after)) ≡ Some (object ms)
 object_read after ms e = whole_read (value 127 (Token.begin_object ∷ after)) (object ms) (begun after ∙ ap (parse_map object) e)
 
-pub object_refused : (after : List Token) → rest_of after ≡ None → whole (value 127 (Token.begin_object ∷ after)) ≡ None
+pub object_refused : (after : List Token) → members_behind after ≡ None → whole (value 127 (Token.begin_object ∷ after)) ≡ None
 object_refused after e = whole_refused (value 127 (Token.begin_object ∷ after)) (begun after ∙ ap (parse_map object) e)
 
-pub object_and_more : (after r : List Token) (ms : Members) → rest_of after ≡ Some (ms, r) → r ≢ [] →
+pub object_and_more : (after r : List Token) (ms : Members) → members_behind after ≡ Some (ms, r) → r ≢ [] →
     whole (value 127 (Token.begin_object ∷ after)) ≡ None
 object_and_more after r ms e some =
     more_follows (value 127 (Token.begin_object ∷ after)) (object ms) r (begun after ∙ ap (parse_map object) e) some

@@ -9,7 +9,7 @@ use Rattle.wf_talk.specs.declared.edit.Edit.{Edit}
 use Rattle.wf_talk.specs.declared.request.Request.{Request}
 use Rattle.wf_talk.specs.declared.request.Bad.{Bad}
 use Rattle.wf_talk.specs.declared.request.Bad.TheVariants.{Key, Extra}
-use Rattle.wire_json.specs.Requests.{Row, by, name_at, has_form, has_only, request_by}
+use Rattle.wire_json.specs.Requests.{Row, by, name_at_key, has_form, has_only, request_by}
 use Rattle.wire_json.specs.Words.{edit_by}
 
 pub any_of_both : (p : List ℕ → Bool) (xs ys : List (List ℕ)) → list_any p (xs ++ ys) ≡ (list_any p xs || list_any p ys)
@@ -39,18 +39,18 @@ named_by d (Some x) name h = refl
 named_by d None name h = cc
 
 pub edit_refused : (others : List (List ℕ)) (r : Row Edit) (is : Data → Request) (d : Data) (ms : Members) (name : List ℕ) (b : Bad)
-    → or_fault (name_at by d) (Key by) ≡ Ok name → edit_by r d ≡ Err b → request_by others (by ∷ r.keys) is d ms ≡ Err b
+    → or_fault (name_at_key by d) (Key by) ≡ Ok name → edit_by r d ≡ Err b → request_by others (by ∷ r.keys) is d ms ≡ Err b
 unfolding request_by
-edit_refused others r is d ms name b h e = rw (named_by d (name_at by d) name h, no_edit r d b e) refl
+edit_refused others r is d ms name b h e = rw (named_by d (name_at_key by d) name h, no_edit r d b e) refl
 
 pub key_refused : (others : List (List ℕ)) (r : Row Edit) (is : Data → Request) (d : Data) (ms : Members) (known : List (List ℕ)) (name : List ℕ) (x : Edit)
     (b : Bad)
-    → known ≡ r.keys → or_fault (name_at by d) (Key by) ≡ Ok name → edit_by r d ≡ Ok x → check (has_only (others ++ by ∷ known) ms) Extra ≡ Err b
+    → known ≡ r.keys → or_fault (name_at_key by d) (Key by) ≡ Ok name → edit_by r d ≡ Ok x → check (has_only (others ++ by ∷ known) ms) Extra ≡ Err b
     → request_by others (by ∷ r.keys) is d ms ≡ Err b
 unfolding request_by
 key_refused others r is d ms known name x b same h e k =
     let last : check (has_only (others ++ by ∷ r.keys) ms) Extra ≡ Err b = ap (λ keys. check (has_only (others ++ by ∷ keys) ms) Extra) (sym same) ∙ k in
-    rw (named_by d (name_at by d) name h, an_edit r d x e, last) refl
+    rw (named_by d (name_at_key by d) name h, an_edit r d x e, last) refl
 
 -- code that handed on a fault
 pub handed_on : (result reading : Result Request Bad) (b : Bad) → IsErrAnd result (λ e. e ≡ b) → reading ≡ Err b → Gives Some (λ r. r) result reading

@@ -33,7 +33,7 @@ use Rattle.wire_json.specs.Requests.{request_in, request_by, asked, asked_of, ca
 use Rattle.wire_json.specs.declared.request.Asked.{Asked}
 use Rattle.wire_json.specs.Values.{value_of}
 use Rattle.wire_json.specs.Flats.{whole}
-use Rattle.wire_json.specs.Plain.{word, request_of, lane_known, member_if, at_keys, number_data, known_members, Spaced, bare, IsRest, joint, ReadsValue}
+use Rattle.wire_json.specs.Plain.{word, request_of, lane_known, member_if, at_keys, number_data, known_members, Spaced, unspaced, IsRest, joint, ReadsValue}
 use Rattle.wire_json.proofs.Values.{value_of_utf8}
 use Rattle.wire_json.proofs.Texts.{name_stays}
 use Rattle.wire_json.proofs.Flats.{member_read, members_over, object_read}
@@ -106,7 +106,7 @@ line_read line rest all is r =
     let utf8 : IsUtf8 line = subst IsUtf8 (sym is) (IsUtf8-append (123 ∷ []) rest (IsUtf8-are_ascii _ refl) r.utf8) in
     value_of_utf8 line line (object all) refl utf8
     (ap (λ x. whole (value 127 (tokens x))) printed ∙ ap (λ ts. whole (value 127 ts)) (tokens-print_spaced ps (tt, r.gaps) (tt, r.printable))
-    ∙ object_read (bare r.tokens) all (r.reading (length (bare r.tokens)) (omega arith)))
+    ∙ object_read (unspaced r.tokens) all (r.reading (length (unspaced r.tokens)) (omega arith)))
 
 closed : (s rest : List ℕ) → escape s ≡ s → (escape s ++ 34 ∷ []) ++ rest ≡ s ++ 34 ∷ rest
 closed s rest e = ap (λ x. (x ++ 34 ∷ []) ++ rest) e ∙ append_assoc s (34 ∷ []) rest
@@ -148,8 +148,8 @@ module _ (k : List ℕ) (t : Token) (d : Data) (vt : List ℕ) (named : IsTrue (
     gaps = (g, (h, r.gaps));
     printable = (tt, (printed, r.printable));
     utf8 = subst (λ x. IsUtf8 (joint b gap ++ 34 ∷ (k ++ 34 ∷ 58 ∷ (between ++ x)))) (sym is) (part_utf8 b gap between rest g h r.utf8);
-    reading = λ n enough. member_read (value 126) (known_members old) n k _ (t ∷ bare r.tokens) (bare r.tokens) d (omega arith) refl (read (bare r.tokens))
-        ∙ ap (λ ms. converted (λ js. of_members js ms) (members (value 126) (n - 1) (bare r.tokens))) (sym more) ∙ r.reading (n - 1) (omega arith);
+    reading = λ n enough. member_read (value 126) (known_members old) n k _ (t ∷ unspaced r.tokens) (unspaced r.tokens) d (omega arith) refl (read (unspaced r.tokens))
+        ∙ ap (λ ms. converted (λ js. of_members js ms) (members (value 126) (n - 1) (unspaced r.tokens))) (sym more) ∙ r.reading (n - 1) (omega arith);
   }
 
 name_read : (k s : List ℕ) (old new : Known) (text rest : List ℕ) → IsTrue (is_name k) → IsTrue (is_name s) → text ≡ 34 ∷ (s ++ 34 ∷ rest)

@@ -15,8 +15,8 @@ abbrev pub whole : Option (Json × List Token) → Option Data
 whole o = option_and_then of_json (option_and_then (λ p. if_last p.0 p.1) o)
 
 -- the members up to the end of an object that has begun, and what follows it
-abbrev pub rest_of : List Token → Option (Members × List Token)
-rest_of ts = converted (λ ms. of_members ms no_members) (members (value 126) (length ts) ts)
+abbrev pub members_behind : List Token → Option (Members × List Token)
+members_behind ts = converted (λ ms. of_members ms no_members) (members (value 126) (length ts) ts)
 
 -- what was found, and the parts of an object, are what a text reads as
 abbrev pub IsFlat : Flat → List Part → Option Data → Type 0

@@ -56,8 +56,8 @@ known_members k =
 abbrev pub Spaced : Type 0
 Spaced = List (List ℕ × Token)
 
-abbrev pub bare : Spaced → List Token
-bare ps = map (λ p. p.1) ps
+abbrev pub unspaced : Spaced → List Token
+unspaced ps = map (λ p. p.1) ps
 
 -- a text is the rest of an object's: behind some members, which are known, or at the start of its
 -- members, where none is; with those of the rest the object has all members that are named last
@@ -65,10 +65,10 @@ pub record IsRest (behind : Bool) (known : Members) (text : List ℕ) (all : Mem
   pub tokens : Spaced
   pub is : text ≡ print_spaced behind tokens
   pub gaps : AreGaps tokens
-  pub printable : ArePrintable (bare tokens)
+  pub printable : ArePrintable (unspaced tokens)
   pub utf8 : IsUtf8 text
-  pub reading : (n : ℕ) → length (bare tokens) ≤ n →
-      converted (λ ms. of_members ms known) (members (value 126) n (bare tokens)) ≡ Some (all, [])
+  pub reading : (n : ℕ) → length (unspaced tokens) ≤ n →
+      converted (λ ms. of_members ms known) (members (value 126) n (unspaced tokens)) ≡ Some (all, [])
 
 -- what stands before a key
 abbrev pub joint : Bool → List ℕ → List ℕ

@@ -31,8 +31,8 @@ abbrev pub text_at : List ℕ → Data → Option (List ℕ)
 text_at key d = option_and_then as_str (get key d)
 
 -- the name at a key: a text of a name's form
-abbrev pub name_at : List ℕ → Data → Option (List ℕ)
-name_at key d = option_and_then (λ text. if is_name text then Some text else None) (text_at key d)
+abbrev pub name_at_key : List ℕ → Data → Option (List ℕ)
+name_at_key key d = option_and_then (λ text. if is_name text then Some text else None) (text_at key d)
 
 -- the number of a case, at the key case
 abbrev pub read_case : Data → Option ℕ
@@ -42,7 +42,7 @@ read_case d = option_and_then (λ n. if nat_le n CASE_NUMBER_LIMIT then Some n e
 -- what a request needs at a key is there: the number of a case, or a name at any other key
 abbrev pub has_form : Data → List ℕ → Bool
 has_form d key = if pointwise nat_eq key (codes "case") then is_some (read_case d) else is_some
-    (name_at key d)
+    (name_at_key key d)
 
 -- a request or an edit: its word, its further keys in the order in which they are checked, and what
 -- it is where each of them has its form
@@ -58,7 +58,7 @@ abbrev pub the_case : Data → ℕ
 the_case d = unwrap_or (read_case d) 0
 
 abbrev pub the_name : List ℕ → Data → List ℕ
-the_name key d = unwrap_or (name_at key d) []
+the_name key d = unwrap_or (name_at_key key d) []
 
 abbrev pub case : List ℕ
 case = codes "case"

@@ -17,8 +17,8 @@ use Rattle.wire_json.specs.Plain.{request_of}
 use Rattle.wire_json.specs.Requests.{Row, Reading, rows, edits, row, has_form, the_case, the_name}
 use Rattle.wire_json.specs.Requests.{case, step, user, request_by, asked_by, change_by, what_if_in}
 
-abbrev row_at : ℕ → Row Request
-row_at n = slice_index_or rows n (row [] [] (λ d. Show 0))
+abbrev request_row : ℕ → Row Request
+request_row n = slice_index_or rows n (row [] [] (λ d. Show 0))
 
 abbrev edit_at : ℕ → Row Edit
 edit_at n = slice_index_or edits n (row [] [] (λ d. Retire []))
@@ -36,14 +36,14 @@ row_of_edit edit.Retire = edit_at 8
 
 -- what is read for a word
 abbrev pub reading_of_word : Word → Reading
-reading_of_word word.Open = asked_by (row_at 0)
-reading_of_word word.Claim = asked_by (row_at 1)
-reading_of_word word.Finish = asked_by (row_at 2)
-reading_of_word word.GiveBack = asked_by (row_at 3)
-reading_of_word word.Release = asked_by (row_at 4)
-reading_of_word word.Withdraw = asked_by (row_at 5)
-reading_of_word word.View = asked_by (row_at 6)
-reading_of_word word.Worklist = asked_by (row_at 7)
+reading_of_word word.Open = asked_by (request_row 0)
+reading_of_word word.Claim = asked_by (request_row 1)
+reading_of_word word.Finish = asked_by (request_row 2)
+reading_of_word word.GiveBack = asked_by (request_row 3)
+reading_of_word word.Release = asked_by (request_row 4)
+reading_of_word word.Withdraw = asked_by (request_row 5)
+reading_of_word word.View = asked_by (request_row 6)
+reading_of_word word.Worklist = asked_by (request_row 7)
 reading_of_word (word.Change e) = change_by (row_of_edit e)
 reading_of_word word.WhatIf = what_if_in
 

@@ -10,7 +10,7 @@ ghost use Rattle.serde_json.specs.Read.{read, of_json, converted, max_depth};
 ghost use Rattle.serde_json.specs.Find.{get_member, as_object};
 ghost use Rattle.wire_json.specs.declared.flat.Part.{Part as SpecPart};
 ghost use Rattle.wire_json.specs.Objects.{worth_data, members_of};
-ghost use Rattle.wire_json.specs.Flats.{whole, rest_of, IsFlat};
+ghost use Rattle.wire_json.specs.Flats.{whole, members_behind, IsFlat};
 
 use crate::object::is_same;
 use crate::plain::guess_number;
@@ -149,9 +149,9 @@ fn is_over(reader: &mut Reader<'_>) -> bool
 
 // The parts up to the end of an object that has begun.
 fn read_parts<'t>(reader: &mut Reader<'t>, parts: &mut Parts<'t>) -> Result<(), Unread>
-    ensures parts { OnOk result (rest_of reader.old
+    ensures parts { OnOk result (members_behind reader.old
         ≡ Some (members_of parts.new.items, reader.new)) }
-    ensures no_json { result ≡ Err Unread.NoJson → rest_of reader.old ≡ None }
+    ensures no_json { result ≡ Err Unread.NoJson → members_behind reader.old ≡ None }
 {
     parts.clear();
     'parts: while let Some(key) = next_key(reader)? {

@@ -273,7 +273,7 @@ fn read_case(object: &Object<'_>) -> Result<CaseId, Bad>
 /// The name at a key.
 pub(crate) fn name_at(object: &Object<'_>, key: &str) -> Result<Name, Bad>
     requires { IsTrue (is_name key.now) }
-    ensures { Gives Some (λ n. n) result (or_fault (read.name_at key.now (data_of object.now))
+    ensures { Gives Some (λ n. n) result (or_fault (read.name_at_key key.now (data_of object.now))
         (bad.Key key.now)) }
 {
     let Some(text) = object.text_at(key) else {

@@ -16,7 +16,7 @@ use Rattle.policy_book.specs.Plans.{Problem}
 use Rattle.policy_book.specs.Twins.{are_twins, has_twin, is_one_of}
 use Rattle.policy_book.specs.Refuting.{refutes, all_refute, authorised_users, have_users, is_unassigned, mentions}
 use Rattle.policy_book.specs.Lean.{is_lean, are_lean}
-use Rattle.certificate_check.specs.Walks.{AreUsersBelow, tree_users, user_onto}
+use Rattle.certificate_check.specs.Walks.{AreUsersBelow, tree_users, kid_user_onto}
 use Rattle.certificate_check.proofs.Trees.{one_of_all, one_of_more, passing_below, refutes_at, tree_user_below}
 use Rattle.wsp_solver.specs.Searches.{AreMentioned, AreMentionedIn}
 use Rattle.wsp_solver.specs.Lean.{kid_users}
@@ -115,7 +115,7 @@ front_twin p a done s bs i b kept steps v below is known among twins front = rec
   lean = lean_push_twin p a s b.user v kept [] front.lean;
   known = below_push_twin p.users b.user v kept known front.known;
   covered = λ w h. subst (λ users. IsCovered p a users w) (sym same)
-      (cover w (or_cases (is_one_of (user_onto b.kid b.user []) w) (is_one_of (tree_users [] (take i bs)) w) (sym (one_of_more bs i b w below is) ∙ h)));
+      (cover w (or_cases (is_one_of (kid_user_onto b.kid b.user []) w) (is_one_of (tree_users [] (take i bs)) w) (sym (one_of_more bs i b w below is) ∙ h)));
   left = (next_left p a done s bs i b below is front.left).1;
   few = omega (arith, front.few, nodes_push_twin b.user v kept, nodes-drop bs i b below is, some_nodes b.kid b.user);
   said = mentioned_push_twin p.rules kept b.user v steps front.said;
@@ -127,7 +127,7 @@ front_twin p a done s bs i b kept steps v below is known among twins front = rec
     same : kid_users [] (joined kept (twin_kid b.user v no_kids)) ≡ kid_users [] kept
     same = tree_users_push_twin b.user v kept []
 
-    cover : (w : ℕ) → (is_one_of (user_onto b.kid b.user []) w ≡ true) ⊎ (is_one_of (tree_users [] (take i bs)) w ≡ true) → IsCovered p a (kid_users [] kept) w
+    cover : (w : ℕ) → (is_one_of (kid_user_onto b.kid b.user []) w ≡ true) ⊎ (is_one_of (tree_users [] (take i bs)) w ≡ true) → IsCovered p a (kid_users [] kept) w
     cover w (inl here) = inr (subst (λ x. has_twin p a x (kid_users [] kept) ≡ true) (user_here b.kid b.user w here)
         (has_twin_from p a b.user v (kid_users [] kept) among twins))
     cover w (inr before) = front.covered w before
@@ -150,7 +150,7 @@ front_tree p a done s bs i b kept before here after old t below is known kid ref
       (and_from (mentions p.rules s t) (not (has_twin p a b.user (kid_users [] kept))) named (ap not alone)));
   known = below_push p.users b.user t kept known front.known;
   covered = λ w h. subst (λ users. IsCovered p a users w) (sym same)
-      (cover w (or_cases (is_one_of (user_onto b.kid b.user []) w) (is_one_of (tree_users [] (take i bs)) w) (sym (one_of_more bs i b w below is) ∙ h)));
+      (cover w (or_cases (is_one_of (kid_user_onto b.kid b.user []) w) (is_one_of (tree_users [] (take i bs)) w) (sym (one_of_more bs i b w below is) ∙ h)));
   left = (next_left p a done s bs i b below is front.left).1;
   few = omega (arith, front.few, few, nodes_push b.user t kept, nodes-drop bs i b below is, ap (λ k. nodes_of_kids (kid_onto k b.user no_kids)) kid);
   said = mentioned_push p.rules kept b.user t before here after front.said said both;
@@ -168,7 +168,7 @@ front_tree p a done s bs i b kept before here after old t below is known kid ref
         eq_same : (m n : ℕ) → m ≡ n → (m == n) ≡ true
         eq_same m n e = grind arith
 
-    cover : (w : ℕ) → (is_one_of (user_onto b.kid b.user []) w ≡ true) ⊎ (is_one_of (tree_users [] (take i bs)) w ≡ true) →
+    cover : (w : ℕ) → (is_one_of (kid_user_onto b.kid b.user []) w ≡ true) ⊎ (is_one_of (tree_users [] (take i bs)) w ≡ true) →
         IsCovered p a (b.user ∷ kid_users [] kept) w
     cover w (inl first) = inl (own b.user w (kid_users [] kept) (user_here b.kid b.user w first))
     cover w (inr earlier) = more_covered p a b.user w (kid_users [] kept) (front.covered w earlier)

@@ -11,7 +11,7 @@ use Rattle.refutation_tree.specs.declared.tree.Kid.TheVariants.{Tree as Tree_kid
 use Rattle.policy_book.specs.Plans.{Problem}
 use Rattle.policy_book.specs.Refuting.{have_users, passing}
 use Rattle.policy_book.specs.Twins.{are_related_alike, are_twins, has_no_step, has_twin, is_one_of, may_do_the_same}
-use Rattle.certificate_check.specs.Walks.{AreUsersBelow, tree_users, user_onto}
+use Rattle.certificate_check.specs.Walks.{AreUsersBelow, tree_users, kid_user_onto}
 use Rattle.certificate_check.proofs.Assigned.{either}
 use Rattle.certificate_check.proofs.TwinLaws.{twins_chain}
 use Rattle.wsp_solver.specs.Crews.{IsFirstTwin}
@@ -21,27 +21,27 @@ use Rattle.wsp_solver.specs.Lean.{kid_users}
 -- branches as they are kept, and as pure data
 pub kid_users-items : (bs : List Branch) (users : List ℕ) → kid_users users (kids_of_items bs) ≡ tree_users users bs
 kid_users-items [] users = refl
-kid_users-items (b ∷ bs) users = onto b.kid b.user (kids_of_items bs) users ∙ kid_users-items bs (user_onto b.kid b.user users)
+kid_users-items (b ∷ bs) users = onto b.kid b.user (kids_of_items bs) users ∙ kid_users-items bs (kid_user_onto b.kid b.user users)
   where
-    onto : (kid : Kid) (u : ℕ) (rest : Kids) (users : List ℕ) → kid_users users (kid_onto kid u rest) ≡ kid_users (user_onto kid u users) rest
+    onto : (kid : Kid) (u : ℕ) (rest : Kids) (users : List ℕ) → kid_users users (kid_onto kid u rest) ≡ kid_users (kid_user_onto kid u users) rest
     onto (Tree_kid t) u rest users = refl
     onto (Twin v) u rest users = refl
 
 pub twin_onto : (p : Problem) (a : List (Option ℕ)) (u : ℕ) (kid : Kid) (w : ℕ) (users : List ℕ) → has_twin
-    p a u (user_onto kid w users) ≡ (has_twin p a u (user_onto kid w []) || has_twin p a u users)
+    p a u (kid_user_onto kid w users) ≡ (has_twin p a u (kid_user_onto kid w []) || has_twin p a u users)
 twin_onto p a u (Tree_kid t) w users = ap (λ b. b || has_twin p a u users) (sym (or-false (are_twins p a u w)))
 twin_onto p a u (Twin v) w users = refl
 
 -- a branch with a tree, whose user is a twin
-pub twin_here : (p : Problem) (a : List (Option ℕ)) (u : ℕ) (kid : Kid) (w : ℕ) → has_twin p a u (user_onto kid w []) ≡ true →
-    (is_one_of (user_onto kid w []) w ≡ true) × (are_twins p a u w ≡ true)
+pub twin_here : (p : Problem) (a : List (Option ℕ)) (u : ℕ) (kid : Kid) (w : ℕ) → has_twin p a u (kid_user_onto kid w []) ≡ true →
+    (is_one_of (kid_user_onto kid w []) w ≡ true) × (are_twins p a u w ≡ true)
 twin_here p a u (Tree_kid t) w h = (or_left (w == w) false (eq_here w), either (or_cases (are_twins p a u w) false h) (λ e. e) (λ e. absurd (false≢true e)))
   where
     eq_here : (n : ℕ) → (n == n) ≡ true
     eq_here n = grind arith
 twin_here p a u (Twin v) w h = absurd (false≢true h)
 
-pub user_here : (kid : Kid) (u x : ℕ) → is_one_of (user_onto kid u []) x ≡ true → u ≡ x
+pub user_here : (kid : Kid) (u x : ℕ) → is_one_of (kid_user_onto kid u []) x ≡ true → u ≡ x
 user_here (Tree_kid t) u x h = either (or_cases (u == x) false h) (λ e. eq_back u x e) (λ e. absurd (false≢true e))
 user_here (Twin v) u x h = absurd (false≢true h)
 

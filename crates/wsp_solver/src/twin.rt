@@ -4,7 +4,7 @@ ghost use Rattle.wf_names.specs.declared.limits.TheConstants.{STEP_LIMIT};
 ghost use Rattle.constraint_forms.specs.Assign.{user_at};
 ghost use Rattle.policy_book.specs.Policies.{problem_of};
 ghost use Rattle.policy_book.specs.Twins.{are_twins, has_no_step, has_twin, is_given_to, is_one_of};
-ghost use Rattle.certificate_check.specs.Walks.{AreUsersBelow, user_onto};
+ghost use Rattle.certificate_check.specs.Walks.{AreUsersBelow, kid_user_onto};
 ghost use Rattle.refutation_tree.specs.Views.{kids_of_items};
 ghost use Rattle.wsp_solver.specs.Crews.{IsCrewOf};
 ghost use Rattle.wsp_solver.specs.Lean.{kid_users};
@@ -65,7 +65,7 @@ fn is_twin_branch(
     requires user { u < (problem_of p.now f).users }
     requires idle { IsTrue (has_no_step a.now u) }
     ensures { result ≡ has_twin (problem_of p.now f) a.now u
-        (user_onto branch.now.kid branch.now.user []) }
+        (kid_user_onto branch.now.kid branch.now.user []) }
 {
     match &branch.kid {
         Kid::Tree(_) => are_twins(p, f, a, crew, finder, branch.user, u),

@@ -2,8 +2,9 @@ use Rattle.std.proofs.Common.{◌≡◌, ℕ, ◌+◌, List, [], ◌∷◌, leng
 use Rattle.std.proofs.lemmas.List.{length-append}
 use Rattle.wf_talk.specs.declared.entry.Entry.{Entry}
 use Rattle.transcript_audit.specs.Auditor.{AuditShape, AreNext, audit_of, with_entry}
+use Rattle.line_reader.specs.Reader.{AreShort}
 use Rattle.audit_command.specs.declared.finding.Finding.TheVariants.{Legal}
-use Rattle.audit_command.specs.Finding.{AreShort, IsAudited}
+use Rattle.audit_command.specs.Finding.{IsAudited}
 use Rattle.audit_command.proofs.Legal.{next_of}
 use Rattle.audit_command.proofs.laws.legal_is_next.Goals as goal
 

@@ -1,7 +1,7 @@
 use Rattle.std.proofs.Common.{◌+◌, ◌||◌, [], take, sym, ap, ◌∙◌}
 use Rattle.basics.proofs.Booleans.{or_left}
 use Rattle.policy_book.specs.Twins.{is_one_of}
-use Rattle.certificate_check.specs.Walks.{tree_users, user_onto}
+use Rattle.certificate_check.specs.Walks.{tree_users, kid_user_onto}
 use Rattle.certificate_check.proofs.Trees.{one_of_all, one_of_more}
 use Rattle.certificate_check.proofs.tree.has_tree.Goals as goal
 
@@ -11,7 +11,7 @@ returns-then-is_tree_of c =
     let bs = c.args.branches.now in
     let i = c.branches.branch-index in
     sym (one_of_all (i + 1) bs c.args.u (one_of_more bs i b c.args.u c.branches-test.true c.branch-item.is ∙
-    or_left (is_one_of (user_onto b.kid b.user []) c.args.u) (is_one_of (tree_users [] (take i bs)) c.args.u) (sym c.if-is_tree_of.ensures)))
+    or_left (is_one_of (kid_user_onto b.kid b.user []) c.args.u) (is_one_of (tree_users [] (take i bs)) c.args.u) (sym c.if-is_tree_of.ensures)))
 
 pub branches-preserved : goal.branches-preserved
 branches-preserved c =

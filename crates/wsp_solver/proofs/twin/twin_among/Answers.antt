@@ -4,7 +4,7 @@ use Rattle.refutation_tree.specs.Tree.{Kids}
 use Rattle.policy_book.specs.Policies.{problem_of}
 use Rattle.policy_book.specs.Twins.{has_twin, is_one_of}
 use Rattle.basics.proofs.Booleans.{eq_back, or_left}
-use Rattle.certificate_check.specs.Walks.{AreUsersBelow, tree_users, user_onto}
+use Rattle.certificate_check.specs.Walks.{AreUsersBelow, tree_users, kid_user_onto}
 use Rattle.certificate_check.proofs.Trees.{one_of_all, one_of_more, tree_users-more, user_below}
 use Rattle.wsp_solver.specs.Crews.{IsFirstTwin}
 use Rattle.wsp_solver.specs.Lean.{kid_users}
@@ -27,7 +27,7 @@ returns-then-is_twin_branch c =
     let b = c.branch-item.result in
     let here = twin_here p c.args.a.now c.args.u b.kid b.user (sym c.if-is_twin_branch.ensures) in
     let among = one_of_all (i + 1) bs b.user (one_of_more bs i b b.user c.branches-test.true c.branch-item.is ∙
-    or_left (is_one_of (user_onto b.kid b.user []) b.user) (is_one_of (tree_users [] (take i bs)) b.user) here.0) in
+    or_left (is_one_of (kid_user_onto b.kid b.user []) b.user) (is_one_of (tree_users [] (take i bs)) b.user) here.0) in
     (ap (λ users. is_one_of users b.user) (ap (kid_users []) c.as_slice-items.ensures ∙ kid_users-items bs []) ∙ among, here.1)
 
 pub branches-preserved : goal.branches-preserved
