@@ -11,8 +11,8 @@ use Rattle.line_reader.specs.declared.stop.Stop.{Stop}
 use Rattle.line_reader.specs.Jobs.{Cut, cut_all, flush, end_batch, jobs_from, UpToAnEnd}
 use Rattle.line_reader.specs.Cutter.{Cuts, IsEnded, after_handing, ends_after, emptied}
 use Rattle.line_reader.proofs.CutLaws.{cut_all-append, handed_all, handed_finish, handed_over, closed_after, up_to_end, stopped, finished_stop}
-use Rattle.line_reader.specs.declared.line_reader.Paused.{Paused}
-use Rattle.line_reader.specs.declared.line_reader.Paused.TheVariants.{Batch, End, Failed, Stopped, NoMemory}
+use Rattle.line_reader.specs.declared.batch_reader.Paused.{Paused}
+use Rattle.line_reader.specs.declared.batch_reader.Paused.TheVariants.{Batch, End, Failed, Stopped, NoMemory}
 use Rattle.line_reader.specs.BatchReader.{BatchReaderShape, Handed, handed_more, HasRead, HasPaused, HasReadAll, StopsCutting, IsReadUp, ReadsBatch, CountsPause}
 use Rattle.line_reader.specs.Pausing.{HasCut, PausesBy, PausesAs, ClosesAs, FinishesAs}
 

@@ -7,9 +7,9 @@ use Rattle.wf_talk.specs.declared.job.Job.{Job}
 use Rattle.line_reader.specs.declared.stop.Stop.{Stop}
 use Rattle.line_reader.specs.Jobs.{Cut, cut_all, jobs_from, last_or, UpToAnEnd}
 use Rattle.line_reader.specs.Cutter.{after_handing, ends_after, place, last_place}
-use Rattle.line_reader.specs.declared.line_reader.Paused.{Paused}
-use Rattle.line_reader.specs.declared.line_reader.Paused.TheVariants.{Batch, End, Failed, Stopped}
-use Rattle.line_reader.specs.declared.line_reader.Paused.TheVariants.{NoMemory}
+use Rattle.line_reader.specs.declared.batch_reader.Paused.{Paused}
+use Rattle.line_reader.specs.declared.batch_reader.Paused.TheVariants.{Batch, End, Failed, Stopped}
+use Rattle.line_reader.specs.declared.batch_reader.Paused.TheVariants.{NoMemory}
 
 -- a reader: the cutting, the bytes that were taken and are not cut yet, and how many are taken at
 -- once at most

@@ -6,9 +6,9 @@ use Rattle.wf_outside.specs.Outside.{HasTaken, IsAtEnd}
 use Rattle.line_reader.specs.Pieces.{steps_left}
 use Rattle.line_reader.specs.Jobs.{Cut, cut_all, flush, end_batch, last_or}
 use Rattle.line_reader.specs.Cutter.{after_handing, IsEnded}
-use Rattle.line_reader.specs.declared.line_reader.Paused.{Paused}
-use Rattle.line_reader.specs.declared.line_reader.Paused.TheVariants.{Batch, End, Failed, Stopped}
-use Rattle.line_reader.specs.declared.line_reader.Paused.TheVariants.{NoMemory}
+use Rattle.line_reader.specs.declared.batch_reader.Paused.{Paused}
+use Rattle.line_reader.specs.declared.batch_reader.Paused.TheVariants.{Batch, End, Failed, Stopped}
+use Rattle.line_reader.specs.declared.batch_reader.Paused.TheVariants.{NoMemory}
 use Rattle.line_reader.specs.BatchReader.{BatchReaderShape, Handed, HasRead, CanReadOn, CountsPause}
 use Rattle.line_reader.specs.BatchReader.{left_to_read}
 

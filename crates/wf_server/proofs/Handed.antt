@@ -11,8 +11,8 @@ use Rattle.wf_talk.specs.Jobs.{AreOfLanes, IsNamedAsk}
 use Rattle.line_reader.specs.Jobs.{Cut, UpToAnEnd, cut_all, end_batch, end_full_batch, end_line, flush, jobs_from, last_or, next_input, step}
 use Rattle.line_reader.specs.Laws.{AddsNamed, AreLinesBelow, AreNamedJobs, GoesOn, LeadTo}
 use Rattle.line_reader.proofs.CutLaws.{cut_all-append}
-use Rattle.line_reader.specs.declared.line_reader.Paused.{Paused}
-use Rattle.line_reader.specs.declared.line_reader.Paused.TheVariants as paused
+use Rattle.line_reader.specs.declared.batch_reader.Paused.{Paused}
+use Rattle.line_reader.specs.declared.batch_reader.Paused.TheVariants as paused
 use Rattle.line_reader.specs.BatchReader.{ReadsBatch}
 use Rattle.wf_board.specs.Histories.{FillsJobs, batch_end, batch_jobs, batch_start, job_of_entry, lane_jobs}
 use Rattle.wf_desk.specs.BatchLaws.{EndAt}

@@ -4,8 +4,8 @@ use Rattle.std.proofs.lemmas.List.{drop_all, take_all}
 use Rattle.wf_talk.specs.declared.entry.Entry.{Entry}
 use Rattle.wf_talk.specs.declared.job.Job.{Job}
 use Rattle.line_reader.specs.declared.stop.Stop.TheVariants as stop
-use Rattle.line_reader.specs.declared.line_reader.Paused.{Paused}
-use Rattle.line_reader.specs.declared.line_reader.Paused.TheVariants as paused
+use Rattle.line_reader.specs.declared.batch_reader.Paused.{Paused}
+use Rattle.line_reader.specs.declared.batch_reader.Paused.TheVariants as paused
 use Rattle.line_reader.specs.BatchReader.{BatchReaderShape, GoesOnReading}
 use Rattle.wf_board.specs.States.{opening_state}
 use Rattle.wf_board.specs.Histories.{AreAnsweredOnce, AreRightful, IsLegal}

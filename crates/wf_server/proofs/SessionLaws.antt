@@ -11,8 +11,8 @@ use Rattle.line_reader.specs.declared.stop.Stop.TheVariants as stop
 use Rattle.line_reader.specs.Jobs.{Cut, start, jobs_from, last_or}
 use Rattle.line_reader.specs.Cutter.{after_handing, ends_after}
 use Rattle.line_reader.specs.Laws.{JobsAreInOrder, LeadTo}
-use Rattle.line_reader.specs.declared.line_reader.Paused.{Paused}
-use Rattle.line_reader.specs.declared.line_reader.Paused.TheVariants as paused
+use Rattle.line_reader.specs.declared.batch_reader.Paused.{Paused}
+use Rattle.line_reader.specs.declared.batch_reader.Paused.TheVariants as paused
 use Rattle.line_reader.specs.BatchReader.{BatchReaderShape, Handed, handed_more, HasRead, IsReadUp, ReadsBatch, CountsPause}
 use Rattle.wf_board.specs.States.{opening_state}
 use Rattle.wf_board.specs.Histories.{FillsJobs, IsLegal}

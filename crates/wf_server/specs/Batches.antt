@@ -11,8 +11,8 @@ use Rattle.line_reader.specs.Cutter.{ends_after}
 use Rattle.line_reader.specs.Jobs.{Cut, jobs_from}
 use Rattle.line_reader.specs.Laws.{AreInOrder}
 use Rattle.line_reader.specs.declared.stop.Stop.TheVariants as stop
-use Rattle.line_reader.specs.declared.line_reader.Paused.{Paused}
-use Rattle.line_reader.specs.declared.line_reader.Paused.TheVariants as paused
+use Rattle.line_reader.specs.declared.batch_reader.Paused.{Paused}
+use Rattle.line_reader.specs.declared.batch_reader.Paused.TheVariants as paused
 use Rattle.line_reader.specs.BatchReader.{BatchReaderShape, HasRead}
 use Rattle.wire_json.specs.Replies.{entry_text}
 use Rattle.policy_book.specs.Shapes.{PolicyShape}

@@ -6,8 +6,8 @@ use Rattle.wf_outside.specs.Outside.{HasPart, with_bytes}
 use Rattle.wf_talk.specs.declared.entry.Entry.{Entry}
 use Rattle.line_reader.specs.declared.stop.Stop.TheVariants as stop
 use Rattle.line_reader.specs.Jobs.{Cut, UpToAnEnd}
-use Rattle.line_reader.specs.declared.line_reader.Paused.{Paused}
-use Rattle.line_reader.specs.declared.line_reader.Paused.TheVariants as paused
+use Rattle.line_reader.specs.declared.batch_reader.Paused.{Paused}
+use Rattle.line_reader.specs.declared.batch_reader.Paused.TheVariants as paused
 use Rattle.line_reader.specs.BatchReader.{Handed, HasReadAll, StopsCutting, IsReadUp, ReadsBatch}
 use Rattle.policy_book.specs.Shapes.{PolicyShape}
 use Rattle.wf_board.specs.States.{opening_state}
