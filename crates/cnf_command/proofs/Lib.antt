@@ -3,3 +3,4 @@ pub mod CaseLaws
 pub mod Telling
 pub mod Runs
 pub mod Plain
+mod Uses

@@ -63,7 +63,7 @@ fn first_case() -> Case
 }
 
 // The case that an array is for a workflow with `steps` steps.
-#[tactic(auto, using(wf_commands::proofs::Values::length_listed), unfolding(crate::specs::Cases::case_of_array))]
+#[tactic(auto, using(crate::proofs::Uses::listed), unfolding(crate::specs::Cases::case_of_array))]
 fn read_array(alloc: Global, p: &Policy, steps: u8, input: &[u8]) -> Result<Case, InputError>
     requires { steps ≤ STEP_LIMIT }
     ensures case { Gives input_fault (λ c. c) result (case_of_array p.now steps input.now) }

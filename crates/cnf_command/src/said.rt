@@ -12,7 +12,7 @@ use wf_names::StepState;
 
 /// What an item says of a step, as a view shows it: where it stands, unless its user is not known;
 /// nothing where it is of no such form.
-#[tactic(auto, using(crate::proofs::ItemsSaid::said_none, crate::proofs::ItemsSaid::said_one, crate::proofs::ItemsSaid::said_two))]
+#[tactic(auto, using(crate::proofs::Uses::said))]
 pub(crate) fn said_in(p: &Policy, item: &Value) -> Option<Option<StepState>>
     ensures said { result ≡ said_in p.now (view item.now) }
     ensures known { IfSome result (λ said. IfSome said (IsOfUsers (length p.now.roster.users))) }

@@ -13,7 +13,8 @@ use Rattle.line_reader.specs.Cutter.{Cuts, IsEnded, after_handing, ends_after, e
 use Rattle.line_reader.proofs.CutLaws.{cut_all-append, handed_all, handed_finish, handed_over, closed_after, up_to_end, stopped, finished_stop}
 use Rattle.line_reader.specs.declared.batch_reader.Paused.{Paused}
 use Rattle.line_reader.specs.declared.batch_reader.Paused.TheVariants.{Batch, End, Failed, Stopped, NoMemory}
-use Rattle.line_reader.specs.BatchReader.{BatchReaderShape, Handed, handed_more, HasRead, HasPaused, HasReadAll, StopsCutting, IsReadUp, ReadsBatch, CountsPause}
+use Rattle.line_reader.specs.BatchReader.{BatchReaderShape, Handed, handed_more, HasRead, HasPaused, HasReadAll}
+use Rattle.line_reader.specs.BatchReader.{StopsCutting, IsReadUp, ReadsBatch, CountsPause}
 use Rattle.line_reader.specs.Pausing.{HasCut, PausesBy, PausesAs, ClosesAs, FinishesAs}
 
 -- what was cut was read

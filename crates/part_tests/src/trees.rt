@@ -32,7 +32,8 @@ const TREE: &str = r#"{"step":"b","users":[
 // All three are twins for the first step. Once kim has it, lee and max are twins still.
 const LEAN: &str = concat!(
     r#"{"step":"a","users":["#,
-    r#"["kim",{"step":"c","users":[["kim",{"rule":1}],["lee",{"rule":0}],["max",{"twin":"lee"}]]}],"#,
+    r#"["kim",{"step":"c","users":["#,
+    r#"["kim",{"rule":1}],["lee",{"rule":0}],["max",{"twin":"lee"}]]}],"#,
     r#"["lee",{"twin":"kim"}],["max",{"twin":"kim"}]]}"#
 );
 

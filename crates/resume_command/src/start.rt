@@ -162,7 +162,8 @@ fn begin_at<V: Decider>(
     requires short { length transcript.now ≤ TRANSCRIPT_FILE_LIMIT }
     ensures begins { (requests : List ℕ) → IsCutOf requests lanes text →
         OverTranscript (StopsBy result)
-        (λ transcript. BeginsBy (session_of policy.now lanes rounds (jobs_of_input requests true lanes))
+        (λ transcript. BeginsBy
+        (session_of policy.now lanes rounds (jobs_of_input requests true lanes))
         (jobs_of_input requests true lanes) transcript result) transcript.now }
     ensures ending { EndsLoaded (how_of (fault_by result)) }
 {

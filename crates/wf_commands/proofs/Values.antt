@@ -6,6 +6,6 @@ use Rattle.serde_json.specs.View.{items_view}
 use Rattle.wf_commands.specs.Input.{listed_items}
 
 -- an array has as many items as it has values
-pub length_listed : (vs : List Value) → length (listed_items (items_view vs)) ≡ length vs
-length_listed [] = refl
-length_listed (v ∷ vs) = ap suc (length_listed vs)
+pub counted : (vs : List Value) → length (listed_items (items_view vs)) ≡ length vs
+counted [] = refl
+counted (v ∷ vs) = ap suc (counted vs)
