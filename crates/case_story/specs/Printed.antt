@@ -89,7 +89,8 @@ pub record WritesNow (n : ℕ) (s : Session) (v : Verdict) (fault : RunFault) (t
   pub document : List ℕ
   pub written : WritesPolicy (state_of s entries).book.policy document
   pub parts : let p = (state_of s entries).book.policy in
-      text ≡ verdict_line (codes "# ") v (codes "\n") ++ retired_lines p (length p.flows) ++ document
+      text ≡ verdict_line (codes "# ") v (codes "\n")
+      ++ retired_lines p (length p.flows) ++ document
   pub ending : fault ≡ ending_with (is_wrong v || has_retired (state_of s entries).book.policy)
 
 -- whether the policy is asked for after an entry that is right, or after all that are

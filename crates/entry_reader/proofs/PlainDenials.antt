@@ -59,7 +59,8 @@ word : Unit {0} × (0 ≤ 120)
 word = (tt, omega arith)
 
 -- a word alone
-pub word_denial : (p : PolicyShape) (flows : ℕ → Option ℕ) (o : Option ℕ) (w : List ℕ) (d : Denial) → row_read denial_words w ≡ Some d → IsPlainDenial p flows o d
+pub word_denial : (p : PolicyShape) (flows : ℕ → Option ℕ) (o : Option ℕ) (w : List ℕ) (d : Denial) → row_read denial_words w ≡ Some d →
+    IsPlainDenial p flows o d
 word_denial p flows o w d e =
     row_holds (IsPlainDenial p flows o) denial_words w d
     (word, (word, (word, (word, (word, (word, (word, (word, (word, (word, (word, (word, tt)))))))))))) e

@@ -41,7 +41,8 @@ more_mapped xs x None = refl
 pub each_more : {X : Type 0} (read : Data → Option X) (whole : Option (List X)) (xs : List X) (x : X) (d : Data) (ds : Items)
     → whole ≡ option_map (λ ys. xs ++ ys) (each_read read (item d ds)) → read d ≡ Some x → whole ≡ option_map (λ ys. (xs ++ x ∷ []) ++ ys) (each_read read ds)
 each_more read whole xs x d ds e there =
-    e ∙ ap (λ o. option_map (λ ys. xs ++ ys) (option_and_then (λ y. option_map (λ ys. y ∷ ys) (each_read read ds)) o)) there ∙ more_mapped xs x (each_read read ds)
+    e ∙ ap (λ o. option_map (λ ys. xs ++ ys) (option_and_then (λ y. option_map (λ ys. y ∷ ys) (each_read read ds)) o)) there ∙
+    more_mapped xs x (each_read read ds)
 
 pub each_none : {X : Type 0} (read : Data → Option X) (whole : Option (List X)) (xs : List X) (d : Data) (ds : Items)
     → whole ≡ option_map (λ ys. xs ++ ys) (each_read read (item d ds)) → read d ≡ None → whole ≡ None

@@ -31,7 +31,8 @@ use Rattle.wf_names.specs.Table.{AreNames}
 use Rattle.entry_reader.specs.Named.{HasNames}
 use Rattle.entry_reader.specs.Within.{IsPlan, IsTree, IsState, IsFace, IsBad, IsCase, IsConcerned, IsDenial, IsWorkItem, IsReply}
 use Rattle.entry_reader.specs.Values.{each_read, few, few_read, number_read, user_read, user_state, seen_read, state_read, tree_in}
-use Rattle.entry_reader.specs.Told.{tree_from, flow_within, tree_by, step_by, strands_read, missing_read, denial_read, states_read, phase_read, flow_read, face_read}
+use Rattle.entry_reader.specs.Told.{tree_from, flow_within, tree_by, step_by, strands_read, missing_read, denial_read, states_read, phase_read, flow_read}
+use Rattle.entry_reader.specs.Told.{face_read}
 use Rattle.entry_reader.specs.Told.{number_of_case, item_read, bad_read, reply_read}
 use Rattle.entry_reader.proofs.NamesBack.{numbered_named}
 use Rattle.entry_reader.proofs.PlainReplies.{all_first, all_more}

@@ -28,10 +28,12 @@ use Rattle.entry_reader.specs.declared.kind.DenialKind.{DenialKind}
 use Rattle.entry_reader.specs.declared.kind.DenialKind.TheVariants as why
 use Rattle.entry_reader.specs.Places.{number_below}
 use Rattle.entry_reader.specs.Within.{IsUser, IsRole, IsPlan, IsTree, IsState, IsFace, IsBad, IsCase, IsConcerned, IsDenial, IsWorkItem, IsReply}
-use Rattle.entry_reader.specs.Values.{row_read, or_next, only_member, below, name_read, number_read, each_read, few, few_read, pair_parts, user_read, step_read, free_state}
+use Rattle.entry_reader.specs.Values.{row_read, or_next, only_member, below, name_read, number_read, each_read, few, few_read, pair_parts, user_read, step_read}
+use Rattle.entry_reader.specs.Values.{free_state}
 use Rattle.entry_reader.specs.Values.{user_state, state_read, seen_at, seen_read, tree_in}
 use Rattle.entry_reader.specs.Told.{denial_words, denial_kinds, reply_words, reply_kinds, bad_words, tree_from, flow_within, tree_by, step_by, case_read}
-use Rattle.entry_reader.specs.Told.{strands_read, missing_read, roles_read, denial_by, denial_read, plan_read, opened_read, states_read, phase_read, flow_read, face_read}
+use Rattle.entry_reader.specs.Told.{strands_read, missing_read, roles_read, denial_by, denial_read, plan_read, opened_read, states_read, phase_read, flow_read}
+use Rattle.entry_reader.specs.Told.{face_read}
 use Rattle.entry_reader.specs.Told.{number_of_case, item_read, work_read, cases_read, again_read, key_read, bad_read, done_read, reply_by, reply_read}
 use Rattle.entry_reader.proofs.Readings.{and_then_some, map_some, none_some, some_same}
 use Rattle.entry_reader.proofs.NamesBack.{numbered_is, name_text}
@@ -141,7 +143,8 @@ user_state_within p w d s e =
 state_within : (p : PolicyShape) (d : Data) (s : StepState) → state_read p d ≡ Some s → IsState p s
 state_within p d s e = elim (either_read (option_and_then free_state (as_str d)) _ s e) [
   | inl h ↦ let r = and_then_some (as_str d) free_state s h in free_within p r.found s r.then_
-  | inr h ↦ let r = and_then_some (only_member d) (λ m. option_and_then (user_state m.0) (user_read p m.1)) s h in user_state_within p r.found.0 r.found.1 s r.then_
+  | inr h ↦ let r = and_then_some (only_member d) (λ m. option_and_then (user_state m.0) (user_read p m.1)) s h in
+      user_state_within p r.found.0 r.found.1 s r.then_
 ]
 
 seen_at_within : (p : PolicyShape) (ds : Items) (s : StepState) → seen_at p ds ≡ Some s → IsState p s
@@ -320,7 +323,8 @@ reply_by_within p flows o told.Bad d x e = let r = map_some (bad_read d) reply.B
 pub reply_within : (p : PolicyShape) (flows : ℕ → Option ℕ) (o : Option ℕ) (d : Data) (x : Reply) → reply_read p flows o d ≡ Some x → IsReply p flows o x
 unfolding reply_read
 reply_within p flows o d x e = elim (either_read (option_and_then (row_read reply_words) (as_str d)) _ x e) [
-  | inl h ↦ let r = and_then_some (as_str d) (row_read reply_words) x h in row_holds (IsReply p flows o) reply_words r.found x (tt, (tt, (tt, (tt, tt)))) r.then_
+  | inl h ↦ let r = and_then_some (as_str d) (row_read reply_words) x h in
+      row_holds (IsReply p flows o) reply_words r.found x (tt, (tt, (tt, (tt, tt)))) r.then_
   | inr h ↦
       let r = and_then_some (only_member d) (λ m. option_and_then (λ kind. reply_by p flows o kind m.1) (row_read reply_kinds m.0)) x h in
       let q = and_then_some (row_read reply_kinds r.found.0) (λ kind. reply_by p flows o kind r.found.1) x r.then_ in

@@ -30,8 +30,9 @@ use Rattle.entry_reader.specs.declared.kind.DenialKind.{DenialKind}
 use Rattle.entry_reader.specs.declared.kind.DenialKind.TheVariants as why
 use Rattle.entry_reader.specs.Places.{number_below, place_read}
 use Rattle.entry_reader.specs.Lines.{concerned, entry_at}
-use Rattle.entry_reader.specs.Values.{row_read, or_next, only_member, at_key, below, name_read, number_read}
-use Rattle.entry_reader.specs.Values.{user_read, step_read, each_read, few_read, pair_parts, tree_in}
+use Rattle.entry_reader.specs.Values.{row_read, or_next, only_member, at_key, below, name_read}
+use Rattle.entry_reader.specs.Values.{number_read, user_read, step_read, each_read, few_read}
+use Rattle.entry_reader.specs.Values.{pair_parts, tree_in}
 use Rattle.entry_reader.specs.Values.{state_read, seen_read}
 
 -- ---- words
@@ -232,7 +233,8 @@ abbrev pub key_read : Data → Option (List ℕ)
 key_read d = at_key name_read (codes "key") d
 
 abbrev pub bad_read : Data → Option Bad
-bad_read d = or_next (option_and_then (row_read bad_words) (as_str d)) (option_map bad.Key (key_read d))
+bad_read d =
+    or_next (option_and_then (row_read bad_words) (as_str d)) (option_map bad.Key (key_read d))
 
 abbrev pub done_read : Data → Option Bool
 done_read d = at_key as_bool (codes "done") d

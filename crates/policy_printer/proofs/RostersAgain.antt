@@ -14,7 +14,7 @@ use Rattle.policy_printer.proofs.Readings.{list_back, got_middle}
 use Rattle.policy_printer.proofs.Sets.{by_first, lines, line_back, next_line, whole_part, no_part}
 use Rattle.policy_printer.proofs.Tabled.{tabled_in_order}
 use Rattle.std.proofs.lemmas.List.Quantifiers.{position-Some}
-use Rattle.policy_reader.specs.Flows.{steps_in}
+use Rattle.policy_reader.specs.Flows.{steps_named}
 
 module _ (whole : RosterShape) (sound : IsSoundRoster whole) (roles : AreNames whole.roles) (users : AreNames whole.users) where
   abbrev held : ℕ → List ℕ
@@ -106,8 +106,8 @@ roles_back again roles named some few there =
 
 -- the steps of a workflow are read from what they are written as
 pub steps_back : (f : ℕ) (again : Members) (steps : List (List ℕ)) → AreNames steps → 0 < length steps → length steps ≤ STEP_LIMIT →
-    get_member (codes "steps") again ≡ Some (names_data steps) → steps_in today f again ≡ Ok steps
-unfolding steps_in items_at array_at count_in value_at array_in
+    get_member (codes "steps") again ≡ Some (names_data steps) → steps_named today f again ≡ Ok steps
+unfolding steps_named items_at array_at count_in value_at array_in
 steps_back f again steps named some few there =
     rw (
       there,

@@ -17,7 +17,7 @@ use Rattle.policy_reader.specs.Grammars.{earlier, first_with, today}
 use Rattle.policy_reader.specs.Parts.{at_least_one, at_most, array_at, count_in, entries, entries_at, items, items_at, name_in, no_others, number_in, table_at}
 use Rattle.policy_reader.specs.Parts.{table_in, value_at}
 use Rattle.policy_reader.specs.Rosters.{roles_of, roster_of}
-use Rattle.policy_reader.specs.Flows.{flow_in, flows_in, next_flow, ruled_in, steps_in, workflow_in}
+use Rattle.policy_reader.specs.Flows.{flow_in, flows_in, next_flow, ruled_in, steps_named, workflow_in}
 use Rattle.policy_reader.specs.Files.{admin_of, document_in, format_of, policy_by, policy_in, rest_of, staff_of, start_named, start_of, start_over, start_with}
 use Rattle.policy_reader.specs.Laws.{OldFormatReadsAlike}
 
@@ -102,15 +102,15 @@ start_grows file =
     (λ staff. start_over staff.1 staff.0 file) (staff_grows roles name file)
     (λ staff. same (start_over staff.1 staff.0 file))))
 
-steps_grow : (f : ℕ) (ms : Members) → Grows (steps_in earlier f ms) (steps_in today f ms)
-unfolding steps_in
+steps_grow : (f : ℕ) (ms : Members) → Grows (steps_named earlier f ms) (steps_named today f ms)
+unfolding steps_named
 steps_grow f ms =
     and_then (items_at Flows f earlier.steps (codes "steps") ms) (items_at Flows f today.steps (codes "steps") ms) _ _
     (items_grow Flows f earlier.steps today.steps (codes "steps") ms (omega arith)) (λ steps. same _)
 
 flow_grows : (f : ℕ) (roles : List (List ℕ)) (ms : Members) → Grows (flow_in earlier f roles ms) (flow_in today f roles ms)
 unfolding flow_in
-flow_grows f roles ms = and_then (steps_in earlier f ms) (steps_in today f ms) _ _ (steps_grow f ms) (λ steps. same _)
+flow_grows f roles ms = and_then (steps_named earlier f ms) (steps_named today f ms) _ _ (steps_grow f ms) (λ steps. same _)
 
 workflow_grows : (format : Format) (p : PolicyShape) (ms : Members) → Grows (workflow_in earlier format p ms) (workflow_in today format p ms)
 unfolding workflow_in

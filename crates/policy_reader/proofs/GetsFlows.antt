@@ -29,7 +29,7 @@ use Rattle.policy_reader.specs.Relations.{complement_in, entry_of, first_declare
 use Rattle.policy_reader.specs.Relations.{next_relation, relations_in, relations_of}
 use Rattle.policy_reader.specs.Rules.{rules_of}
 use Rattle.policy_reader.specs.Flows.{flow_in, flows_in, next_flow, next_permit, next_permitted, no_cycle, order_pairs, ordered_in, permits_of, ruled_in}
-use Rattle.policy_reader.specs.Flows.{steps_in, workflow_in}
+use Rattle.policy_reader.specs.Flows.{steps_named, workflow_in}
 use Rattle.policy_reader.proofs.Gets.{AreFew, Gets, after, and_so, each_gets, few_entries, few_items, formed, named_number, next_below, next_few, push_form}
 use Rattle.policy_reader.proofs.Gets.{weaker}
 use Rattle.policy_reader.proofs.GetsRules.{rules_sound}
@@ -152,8 +152,8 @@ related users rs h rho pairs e = h.kinds rho (listed pairs) e
 
 -- ---- the steps of a workflow, and to which roles they are permitted
 
-steps_read : (f : ℕ) (ms : Members) → Gets (λ steps. AreFew STEP_LIMIT steps 0) (steps_in today f ms)
-unfolding steps_in
+steps_read : (f : ℕ) (ms : Members) → Gets (λ steps. AreFew STEP_LIMIT steps 0) (steps_named today f ms)
+unfolding steps_named
 steps_read f ms =
     and_so (λ steps. length (items steps) ≤ STEP_LIMIT) (λ steps. AreFew STEP_LIMIT steps 0) (items_at Flows f STEP_LIMIT (codes "steps") ms) _
     (few_items Flows f STEP_LIMIT (codes "steps") ms)
@@ -213,7 +213,7 @@ record IsReadSteps (roles : ℕ) (flow : FlowShape) : Type 0 where
 flow_read : (f : ℕ) (roles : List (List ℕ)) (ms : Members) → Gets (IsReadSteps (length roles)) (flow_in today f roles ms)
 unfolding flow_in
 flow_read f roles ms =
-    and_so (λ steps. AreFew STEP_LIMIT steps 0) (IsReadSteps (length roles)) (steps_in today f ms) _ (steps_read f ms)
+    and_so (λ steps. AreFew STEP_LIMIT steps 0) (IsReadSteps (length roles)) (steps_named today f ms) _ (steps_read f ms)
     (λ steps h. and_so (IsPermitting (length roles) steps) (IsReadSteps (length roles)) (ordered_in f steps ms) (λ flow. permits_of f roles flow ms)
     (ordered_read f (length roles) steps ms)
     (λ flow k. weaker (IsPermitting (length roles) steps) (IsReadSteps (length roles)) (permits_of f roles flow ms) (permits_read f roles steps flow ms k)

@@ -18,7 +18,7 @@ pub use Rattle.policy_reader.specs.Faults.{Reading, fault, fault_of, fault_about
 pub use Rattle.policy_reader.specs.Flows.{least_below, found_or, cycle_at, next_flow, next_permit, next_permitted}
 pub use Rattle.policy_reader.specs.Kept.{IsGrown, IsCycleOrMemory, HasStepsBelow}
 pub use Rattle.policy_reader.specs.Kinds.{is_marked, IsTarget, IsReadKind, AreReadRelations}
-pub use Rattle.policy_reader.specs.Parts.{entries, is_one_of, items, both_texts, texts_in, next_pair, next_name, known_key}
+pub use Rattle.policy_reader.specs.Parts.{entries, lists_text, items, both_texts, texts_in, next_pair, next_name, known_key}
 pub use Rattle.policy_reader.specs.Printable.{Ascend, IsFreshPolicy, IsPrintable}
 pub use Rattle.policy_reader.specs.Relations.{names_of, first_declared, entry_of, is_complement, is_complement_table, passes, next_relation}
 pub use Rattle.policy_reader.specs.Rosters.{some_user_has, next_held, next_role, next_user}

@@ -19,8 +19,8 @@ use Rattle.policy_reader.specs.Parts.{next_name, next_pair, no_others}
 use Rattle.policy_reader.specs.Rules.{rules_of}
 
 -- the steps of a workflow: an array of distinct names
-unfoldable pub steps_in : Grammar → ℕ → Members → Reading (List (List ℕ))
-steps_in g f ms = do
+unfoldable pub steps_named : Grammar → ℕ → Members → Reading (List (List ℕ))
+steps_named g f ms = do
   steps ← items_at Flows f g.steps (codes "steps") ms
   each (next_name Flows f) [] (items steps)
 
@@ -87,7 +87,7 @@ ordered_in f steps ms = do
 -- the steps, the order and the permissions of a workflow
 unfoldable pub flow_in : Grammar → ℕ → List (List ℕ) → Members → Reading FlowShape
 flow_in g f roles ms = do
-  steps ← steps_in g f ms
+  steps ← steps_named g f ms
   ordered ← ordered_in f steps ms
   permits_of f roles ordered ms
 

@@ -49,8 +49,8 @@ abbrev pub first_said : Data → List ℕ
 first_said d = unwrap_or (option_map (λ texts. texts.0) (two_texts d)) []
 
 -- a text is one of `texts`
-abbrev pub is_one_of : List (List ℕ) → List ℕ → Bool
-is_one_of texts text = list_any (pointwise nat_eq text) texts
+abbrev pub lists_text : List (List ℕ) → List ℕ → Bool
+lists_text texts text = list_any (pointwise nat_eq text) texts
 
 module _ (table : PolicyPart) (index : ℕ) where
   -- the value at a key that has to be there
@@ -155,7 +155,7 @@ module _ (table : PolicyPart) (index : ℕ) where
   -- a key that is one of these
   unfoldable pub known_key : List (List ℕ) → Unit {0} → List ℕ × Data → Reading (Unit {0})
   known_key keys _ entry =
-      check (is_one_of keys entry.0) (fault_about kind.Extra table index entry.0)
+      check (lists_text keys entry.0) (fault_about kind.Extra table index entry.0)
 
   -- no other keys than these; the least one is at fault
   unfoldable pub no_others : List (List ℕ) → Members → Reading (Unit {0})

@@ -13,7 +13,7 @@ use Rattle.policy_reader.specs.declared.fault.PolicyPart.TheVariants.{Relations}
 use Rattle.policy_reader.specs.declared.fault.PolicyKind.TheVariants as kind
 use Rattle.policy_reader.specs.Faults.{Reading, fault, fault_about}
 use Rattle.policy_reader.specs.Parts.{items, entries, text_in, array_in, table_in, at_most, name_in}
-use Rattle.policy_reader.specs.Parts.{next_pair, is_one_of}
+use Rattle.policy_reader.specs.Parts.{next_pair, lists_text}
 
 -- the names of relations, in order
 abbrev pub names_of : List RelationShape → List (List ℕ)
@@ -25,7 +25,7 @@ first_declared = 2
 
 -- the name of a relation that every policy has
 abbrev pub is_built_in : List ℕ → Bool
-is_built_in text = is_one_of (codes "same" ∷ codes "other" ∷ []) text
+is_built_in text = lists_text (codes "same" ∷ codes "other" ∷ []) text
 
 -- a table has one entry
 abbrev pub has_one : Members → Bool

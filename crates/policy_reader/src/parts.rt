@@ -349,7 +349,7 @@ fn known_key(key: &str, known: &[&str], part: PolicyPart, index: u32) -> Result<
 
 /// Whether a text is one of `texts`.
 pub(crate) fn is_among(texts: &[&str], text: &str) -> bool
-    ensures { result ≡ parts.is_one_of (map (λ k. k.now) texts.now) text.now }
+    ensures { result ≡ parts.lists_text (map (λ k. k.now) texts.now) text.now }
 {
     'texts: for word in texts {
         if text == *word {

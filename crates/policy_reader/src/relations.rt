@@ -208,7 +208,7 @@ fn next_relation(
     requires known { length users.now.names ≤ USER_LIMIT }
     requires few { length all.now.entries ≤ RELATION_LIMIT }
     requires room { length (shapes relations.old.items) < RELATION_LIMIT }
-    requires new { parts.is_one_of (names_of (shapes relations.old.items)) key.now ≡ false }
+    requires new { parts.lists_text (names_of (shapes relations.old.items)) key.now ≡ false }
     requires kept { AreReadRelations (length users.now.names) (entries (table_view all.now))
         (shapes relations.old.items) }
     requires here { is_marked first_declared (entries (table_view all.now))

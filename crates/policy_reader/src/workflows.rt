@@ -33,7 +33,7 @@ use workflow_schema::laws::order_is_chained;
 use workflow_schema::{Flow, FlowFault};
 
 /// Reads the steps of a workflow.
-#[tactic(auto, unfolding(crate::specs::Flows::steps_in), using(crate::proofs::Counts::counted))]
+#[tactic(auto, unfolding(crate::specs::Flows::steps_named), using(crate::proofs::Counts::counted))]
 pub(crate) fn read_steps(alloc: Global, table: &Table, flow: u32) -> Result<NameTable, ReadFault>
     ensures read { Gives fault_of (λ t. t.names) result
         (spec.steps_of today flow (table_view table.now)) }

@@ -6,6 +6,6 @@ use Rattle.serde_json.specs.View.{items_view}
 use Rattle.wf_commands.specs.Input.{listed_items}
 
 -- an array has as many items as it has values
-pub counted : (vs : List Value) → length (listed_items (items_view vs)) ≡ length vs
-counted [] = refl
-counted (v ∷ vs) = ap suc (counted vs)
+pub count : (vs : List Value) → length (listed_items (items_view vs)) ≡ length vs
+count [] = refl
+count (v ∷ vs) = ap suc (count vs)

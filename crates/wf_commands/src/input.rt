@@ -30,7 +30,7 @@ pub enum InputError {
 }
 
 /// The plan that an input is for a workflow.
-#[tactic(auto, using(crate::proofs::Values::counted), unfolding(crate::specs::Input::plan_of_input))]
+#[tactic(auto, using(crate::proofs::Values::count), unfolding(crate::specs::Input::plan_of_input))]
 pub(crate) fn read_plan(
     alloc: Global,
     p: &Policy,

@@ -148,7 +148,8 @@ module _ (k : List ℕ) (t : Token) (d : Data) (vt : List ℕ) (named : IsTrue (
     gaps = (g, (h, r.gaps));
     printable = (tt, (printed, r.printable));
     utf8 = subst (λ x. IsUtf8 (joint b gap ++ 34 ∷ (k ++ 34 ∷ 58 ∷ (between ++ x)))) (sym is) (part_utf8 b gap between rest g h r.utf8);
-    reading = λ n enough. member_read (value 126) (known_members old) n k _ (t ∷ unspaced r.tokens) (unspaced r.tokens) d (omega arith) refl (read (unspaced r.tokens))
+    reading = λ n enough. member_read (value 126) (known_members old) n k _ (t ∷ unspaced r.tokens) (unspaced r.tokens) d (omega arith) refl
+        (read (unspaced r.tokens))
         ∙ ap (λ ms. converted (λ js. of_members js ms) (members (value 126) (n - 1) (unspaced r.tokens))) (sym more) ∙ r.reading (n - 1) (omega arith);
   }
 

@@ -68,7 +68,8 @@ pub record IsRest (behind : Bool) (known : Members) (text : List ℕ) (all : Mem
   pub printable : ArePrintable (unspaced tokens)
   pub utf8 : IsUtf8 text
   pub reading : (n : ℕ) → length (unspaced tokens) ≤ n →
-      converted (λ ms. of_members ms known) (members (value 126) n (unspaced tokens)) ≡ Some (all, [])
+      converted (λ ms. of_members ms known) (members (value 126) n (unspaced tokens))
+      ≡ Some (all, [])
 
 -- what stands before a key
 abbrev pub joint : Bool → List ℕ → List ℕ

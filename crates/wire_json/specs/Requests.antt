@@ -32,7 +32,8 @@ text_at key d = option_and_then as_str (get key d)
 
 -- the name at a key: a text of a name's form
 abbrev pub name_at_key : List ℕ → Data → Option (List ℕ)
-name_at_key key d = option_and_then (λ text. if is_name text then Some text else None) (text_at key d)
+name_at_key key d =
+    option_and_then (λ text. if is_name text then Some text else None) (text_at key d)
 
 -- the number of a case, at the key case
 abbrev pub read_case : Data → Option ℕ

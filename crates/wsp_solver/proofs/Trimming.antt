@@ -127,7 +127,8 @@ front_twin p a done s bs i b kept steps v below is known among twins front = rec
     same : kid_users [] (joined kept (twin_kid b.user v no_kids)) ≡ kid_users [] kept
     same = tree_users_push_twin b.user v kept []
 
-    cover : (w : ℕ) → (is_one_of (kid_user_onto b.kid b.user []) w ≡ true) ⊎ (is_one_of (tree_users [] (take i bs)) w ≡ true) → IsCovered p a (kid_users [] kept) w
+    cover : (w : ℕ) → (is_one_of (kid_user_onto b.kid b.user []) w ≡ true) ⊎ (is_one_of (tree_users [] (take i bs)) w ≡ true) →
+        IsCovered p a (kid_users [] kept) w
     cover w (inl here) = inr (subst (λ x. has_twin p a x (kid_users [] kept) ≡ true) (user_here b.kid b.user w here)
         (has_twin_from p a b.user v (kid_users [] kept) among twins))
     cover w (inr before) = front.covered w before
