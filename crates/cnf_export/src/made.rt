@@ -5,8 +5,8 @@ ghost use Rattle.cnf_export.specs.Saying.{has_variable, plan_flags};
 ghost use Rattle.cnf_export.specs.Readings.{ReadsBack, SatisfiesWherever};
 
 use crate::Model;
-use crate::saying::{say_rules, say_until, say_users};
 use crate::laws::plans_are_models;
+use crate::saying::{say_rules, say_until, say_users};
 use policy_book::{Plan, Policy};
 use std::alloc::{AllocError, Global};
 use wf_names::{FlowId, STEP_LIMIT};

@@ -9,10 +9,10 @@ ghost use Rattle.cnf_export.specs.declared.tally.TheConstants.{LITERAL_LIMIT};
 ghost use Rattle.cnf_export.specs.Saying.{has_variable};
 ghost use Rattle.cnf_export.specs.Readings.{first_false, IsReading};
 
-use crate::seen::{last_seen, satisfied};
-use basics::List;
 use crate::laws::models_are_plans;
+use crate::seen::{last_seen, satisfied};
 use crate::{CnfFault, Encoder, Literals, Model};
+use basics::List;
 use constraint_forms::{Assign, StepSet};
 use policy_book::{Plan, Policy};
 use std::alloc::{AllocError, Global};

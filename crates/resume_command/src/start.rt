@@ -195,13 +195,7 @@ fn take_up<V: Decider>(
     let _ = policy.admin();
     let reader = BatchReader::new(alloc, lanes, text.lines, PIECE)?;
     let resumed = resume(
-        alloc,
-        decider,
-        policy,
-        text.batch,
-        transcript,
-        lanes,
-        rounds,
+        alloc, decider, policy, text.batch, transcript, lanes, rounds,
     )?;
     Ok(with_told(alloc, resumed, reader)?)
 }
