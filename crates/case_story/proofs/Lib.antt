@@ -4,3 +4,4 @@ pub mod Founds
 pub mod Answering
 pub mod Told
 pub mod Remarks
+mod Marks

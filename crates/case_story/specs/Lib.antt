@@ -6,3 +6,6 @@ pub mod Writing
 pub mod Run
 pub mod Session
 pub mod Follow
+pub mod Escape
+pub mod Html
+pub mod Pages

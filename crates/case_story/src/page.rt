@@ -6,10 +6,10 @@ ghost use Rattle.case_story.specs.Sessions.{IsServed};
 ghost use Rattle.case_story.specs.Printed.{TellsPage};
 
 use crate::answer::tell_by;
+use crate::case_page::Page;
 use crate::follow::Watches;
 use crate::session::Session;
 use crate::whole::audit_whole;
-use case_page::Page;
 use run_record::RunFault;
 use std::alloc::{AllocError, Global};
 use transcript_audit::Auditor;

@@ -1,8 +1,8 @@
 -- What a page is made of.
 use Rattle.std.specs.Prelude.{ℕ, List, decimal, flat_map}
-use Rattle.case_page.specs.Escape.{escaped}
-use Rattle.case_page.specs.declared.html.Part.{Part}
-use Rattle.case_page.specs.declared.html.Part.TheVariants.{Mark, Value, Number}
+use Rattle.case_story.specs.Escape.{escaped}
+use Rattle.case_story.specs.declared.html.Part.{Part}
+use Rattle.case_story.specs.declared.html.Part.TheVariants.{Mark, Value, Number}
 
 -- a part as it is written
 abbrev pub part_text : Part → List ℕ

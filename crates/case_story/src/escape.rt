@@ -1,6 +1,6 @@
 //! Values as they are written into a page.
 ghost use Rattle.std.specs.Prelude.{◌≡◌, ◌++◌, OnOk, string_bytes};
-ghost use Rattle.case_page.specs.Escape.{escape, escaped};
+ghost use Rattle.case_story.specs.Escape.{escape, escaped};
 
 use std::alloc::AllocError;
 

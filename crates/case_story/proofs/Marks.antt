@@ -4,7 +4,7 @@ use Rattle.std.proofs.lemmas.Bool.{cases_Bool, cases_lt}
 use Rattle.std.proofs.lemmas.Str.{encode_ascii, inside_one}
 use Rattle.std.proofs.lemmas.List.Elements.{All-append, All-cons, All-from_get_or, All-from_recursion, All-nil}
 use Rattle.std.specs.Prelude.{codes, encode_utf8}
-use Rattle.case_page.specs.Escape.{escape, is_mark}
+use Rattle.case_story.specs.Escape.{escape, is_mark}
 
 abbrev IsQuiet : ℕ → Type 0
 IsQuiet b = is_mark b ≡ false

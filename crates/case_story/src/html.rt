@@ -1,6 +1,6 @@
 //! The text of a page.
 ghost use Rattle.std.specs.Prelude.{◌≡◌, ◌++◌, [], OnOk, string_bytes};
-ghost use Rattle.case_page.specs.Html.{part_text, parts_text};
+ghost use Rattle.case_story.specs.Html.{part_text, parts_text};
 
 use crate::escape::push_escaped;
 use itoa::Buffer;

@@ -1,6 +1,6 @@
 //! The page of a case, taken together entry by entry.
 ghost use Rattle.std.specs.Prelude.{◌≡◌, ◌<◌, length, is_some, true, IfOk};
-ghost use Rattle.case_page.specs.Pages.{has_page};
+ghost use Rattle.case_story.specs.Pages.{has_page};
 
 use crate::head::{END, FRONT, HISTORY, STYLE};
 use crate::html::{Html, Part};

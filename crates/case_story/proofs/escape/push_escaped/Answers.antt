@@ -2,8 +2,8 @@ use Rattle.std.proofs.Common.{◌++◌, flat_map, sym, ap, ◌∙◌, map-id}
 use Rattle.std.proofs.lemmas.Iterator.{YieldsList-from_chars}
 use Rattle.std.proofs.lemmas.Iterator.Consumers.{YieldsList-end}
 use Rattle.std.specs.Prelude.{string_bytes}
-use Rattle.case_page.specs.Escape.{escape}
-use Rattle.case_page.proofs.escape.push_escaped.Goals as goal
+use Rattle.case_story.specs.Escape.{escape}
+use Rattle.case_story.proofs.escape.push_escaped.Goals as goal
 
 pub returns : goal.returns
 returns c =
