@@ -2,3 +2,8 @@ pub mod Values
 pub mod Solving
 pub mod Loading
 pub mod Runs
+pub mod ItemsSaid
+pub mod CaseLaws
+pub mod Telling
+pub mod CnfRuns
+pub mod Plain

@@ -8,3 +8,7 @@ pub mod Given
 pub mod Answer
 pub mod Load
 pub mod Judging
+pub mod Cases
+pub mod CnfAnswers
+pub mod Model
+pub mod CnfSteps

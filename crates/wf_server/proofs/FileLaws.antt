@@ -10,10 +10,10 @@ use Rattle.wf_desk.specs.Desks.{DeskShape, jobs_told}
 use Rattle.line_reader.specs.Cutter.{ends_after}
 use Rattle.line_reader.specs.Laws.{AreInOrder}
 use Rattle.transcript_audit.proofs.Batches.{ends_within, next_start, end_read, part_length, start_ahead, start_within}
-use Rattle.resume_command.specs.Unserved.{jobs_between}
-use Rattle.resume_command.proofs.Rests.{lanes_between, near_from}
-use Rattle.resume_command.specs.Begun.{StandsAt}
-use Rattle.resume_command.proofs.Stands.{jobs_here}
+use Rattle.transcript_commands.specs.Unserved.{jobs_between}
+use Rattle.transcript_commands.proofs.Rests.{lanes_between, near_from}
+use Rattle.transcript_commands.specs.Begun.{StandsAt}
+use Rattle.transcript_commands.proofs.Stands.{jobs_here}
 use Rattle.run_record.specs.declared.fault.RunFault.{RunFault}
 use Rattle.run_record.specs.declared.fault.RunFault.TheVariants as fault
 use Rattle.run_record.specs.Report.{Told}

@@ -16,9 +16,9 @@ use Rattle.run_record.specs.declared.fault.RunFault.{RunFault}
 use Rattle.run_record.specs.Report.{Told}
 use Rattle.run_record.specs.Run.{Streams}
 use Rattle.command_words.specs.Words.{AreOptions, Options}
-use Rattle.resume_command.specs.declared.start.Beginning.{Beginning}
-use Rattle.resume_command.specs.declared.start.TheConstants.{PIECE}
-use Rattle.resume_command.specs.Begun.{HasBegun, session_of}
+use Rattle.transcript_commands.specs.declared.start.Beginning.{Beginning}
+use Rattle.transcript_commands.specs.declared.start.TheConstants.{PIECE}
+use Rattle.transcript_commands.specs.Begun.{HasBegun, session_of}
 use Rattle.wf_server.specs.Batches.{AreInOrderFrom}
 use Rattle.wf_server.specs.Resuming.{setting_behind}
 use Rattle.wf_server.specs.Serving.{setting}

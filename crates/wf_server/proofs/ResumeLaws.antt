@@ -23,15 +23,15 @@ use Rattle.run_record.specs.Fault.{how_of, is_before_input, CountsLoads, CountsR
 use Rattle.run_record.specs.Report.{Told, nothing_told}
 use Rattle.run_record.specs.Run.{Run, IsOrderly, IsUntouched, Streams}
 use Rattle.transcript_audit.specs.declared.fault.AuditKind.{AuditKind}
-use Rattle.audit_command.specs.Finding.{audit_fault_line}
-use Rattle.resume_command.specs.Resumed.{IsRefused, Session}
-use Rattle.resume_command.specs.declared.start.Beginning.{Beginning}
-use Rattle.resume_command.specs.declared.start.TheConstants.{PIECE}
-use Rattle.resume_command.specs.declared.refusal.Refusal.{Refusal}
-use Rattle.resume_command.specs.declared.refusal.Refusal.TheVariants.{Ends, Line}
-use Rattle.resume_command.specs.Begun.{BeginsBy, EndsBeginning, HasBegun, StopsBy, fault_by, session_of}
-use Rattle.resume_command.specs.Load.{FileNames, OverFiles}
-use Rattle.resume_command.proofs.Files.{files_goal, files_map}
+use Rattle.transcript_commands.specs.Finding.{audit_fault_line}
+use Rattle.transcript_commands.specs.Resumed.{IsRefused, Session}
+use Rattle.transcript_commands.specs.declared.start.Beginning.{Beginning}
+use Rattle.transcript_commands.specs.declared.start.TheConstants.{PIECE}
+use Rattle.transcript_commands.specs.declared.refusal.Refusal.{Refusal}
+use Rattle.transcript_commands.specs.declared.refusal.Refusal.TheVariants.{Ends, Line}
+use Rattle.transcript_commands.specs.Begun.{BeginsBy, EndsBeginning, HasBegun, StopsBy, fault_by, session_of}
+use Rattle.transcript_commands.specs.Load.{FileNames, OverFiles}
+use Rattle.transcript_commands.proofs.Files.{files_goal, files_map}
 use Rattle.command_words.specs.Words.{AreOptions, Command, Options, may_repeat, resume}
 use Rattle.wf_server.specs.Runs.{HasRun}
 use Rattle.transcript_audit.proofs.Batches.{last_start}

@@ -7,7 +7,7 @@ use Rattle.run_record.specs.declared.fault.RunFault.{RunFault}
 use Rattle.run_record.specs.declared.fault.RunFault.TheVariants.{Write}
 use Rattle.run_record.specs.Report.{Told}
 use Rattle.line_reader.specs.Laws.{AreInOrder}
-use Rattle.resume_command.specs.Begun.{StandsAt}
+use Rattle.transcript_commands.specs.Begun.{StandsAt}
 use Rattle.wf_server.specs.Batch.{CanBeServed}
 use Rattle.wf_server.specs.Batches.{HasAnsweredAll, HasAnsweredPart}
 use Rattle.wf_server.specs.Ways.{setting_of}

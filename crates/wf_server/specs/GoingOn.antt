@@ -4,7 +4,7 @@ use Rattle.wf_talk.specs.declared.entry.Entry.{Entry}
 use Rattle.wf_board.specs.Histories.{AreAnsweredOnce, AreRightful}
 use Rattle.wf_desk.specs.Desks.{DeskShape}
 use Rattle.command_words.specs.Words.{Options}
-use Rattle.resume_command.specs.declared.start.Earlier.{Earlier}
+use Rattle.transcript_commands.specs.declared.start.Earlier.{Earlier}
 use Rattle.wf_server.specs.Ways.{ServesOnce}
 
 -- how an earlier session was served

@@ -14,13 +14,13 @@ use Rattle.run_record.specs.Fault.{CountsWrites}
 use Rattle.run_record.specs.Report.{nothing_told}
 use Rattle.run_record.specs.Run.{Run, IsOrderly, IsUntouched}
 use Rattle.transcript_audit.specs.declared.fault.AuditKind.{AuditKind}
-use Rattle.audit_command.specs.Finding.{audit_fault_line}
-use Rattle.resume_command.specs.Resumed.{IsRefused, IsTakenUp, Session}
-use Rattle.resume_command.specs.declared.start.TheConstants.{PIECE}
-use Rattle.resume_command.specs.declared.refusal.Refusal.{Refusal}
-use Rattle.resume_command.specs.declared.refusal.Refusal.TheVariants.{Ends, Line}
-use Rattle.resume_command.specs.Begun.{session_of}
-use Rattle.resume_command.specs.Load.{FileNames, OverFiles}
+use Rattle.transcript_commands.specs.Finding.{audit_fault_line}
+use Rattle.transcript_commands.specs.Resumed.{IsRefused, IsTakenUp, Session}
+use Rattle.transcript_commands.specs.declared.start.TheConstants.{PIECE}
+use Rattle.transcript_commands.specs.declared.refusal.Refusal.{Refusal}
+use Rattle.transcript_commands.specs.declared.refusal.Refusal.TheVariants.{Ends, Line}
+use Rattle.transcript_commands.specs.Begun.{session_of}
+use Rattle.transcript_commands.specs.Load.{FileNames, OverFiles}
 use Rattle.command_words.specs.Words.{AreOptions, Options}
 use Rattle.wf_server.specs.Sessions.{Served, Setting}
 

@@ -8,8 +8,8 @@ use Rattle.wf_commands.specs.Plan.{Plans}
 use Rattle.wf_commands.specs.Show.{Shows}
 use Rattle.wf_commands.specs.Solve.{Solves}
 use Rattle.wf_commands.specs.Resilience.{ChecksResilience}
-use Rattle.audit_command.specs.Running.{AuditsRun}
-use Rattle.cnf_command.specs.Model.{ReadsModelFile, WritesClauses}
+use Rattle.transcript_commands.specs.Running.{AuditsRun}
+use Rattle.wf_commands.specs.Model.{ReadsModelFile, WritesClauses}
 use Rattle.trial_command.specs.Run.{RunsTrial}
 use Rattle.command_words.specs.Words.{Command, plan, show, solve, resilience, cnf, serve, audit}
 use Rattle.command_words.specs.Words.{resume, trial}

@@ -1,6 +1,6 @@
 //! Answering the jobs of a requests file that have no entry yet.
 ghost use Rattle.std.specs.Prelude.{◌≡◌, ◌≤◌, ◌<◌, ℕ, List, length, Option, IfErr};
-ghost use Rattle.resume_command.specs.Unserved.{jobs_between};
+ghost use Rattle.transcript_commands.specs.Unserved.{jobs_between};
 ghost use Rattle.run_record.specs.Fault.{fault_in, CountsWrites};
 ghost use Rattle.wf_server.specs.Batch.{IsServedOn};
 ghost use Rattle.wf_server.specs.Batches.{told_of, HasAnsweredAll, IsWriteEnding};

@@ -12,7 +12,7 @@ mod texts;
 mod way;
 mod writing;
 
-pub use resume_command::{Resumed, resume};
 pub use run_record::{InputFault, Report, RunFault};
 pub use runs::{run, run_alone};
+pub use transcript_commands::{Resumed, resume};
 pub use wf_lanes::{Gate, OpenGate};

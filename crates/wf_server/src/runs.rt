@@ -14,17 +14,17 @@ ghost use Rattle.wf_server.specs.Runs.{Does, HasRun, IsWordsEnding, is_of_policy
 use crate::going_on::run_resume;
 use crate::serve::run_serve;
 use crate::way::{ByTurns, OnLanes};
-use audit_command::{AuditedSession, run_audit};
 use case_views::{CachingDecider, PlainDecider, SpreadDecider, VerdictCache};
-use cnf_command::{run_clauses, run_model};
 use command_words::{Command, Options, read_words};
-use resume_command::Earlier;
 use run_record::{Report, RunFault, bare_report};
 use std::alloc::Global;
 use std::sync::Wait;
 use std::thread::Threads;
+use transcript_commands::{AuditedSession, Earlier, run_audit};
 use trial_command::run_trial;
-use wf_commands::{PlanCommand, ResilienceCommand, ShowCommand, SolveCommand, answer_once};
+use wf_commands::{
+    PlanCommand, ResilienceCommand, ShowCommand, SolveCommand, answer_once, run_clauses, run_model,
+};
 use wf_desk::Desk;
 use wf_lanes::{Gate, serve_by_lanes};
 use wf_outside::{Shelf, Sink, Source};

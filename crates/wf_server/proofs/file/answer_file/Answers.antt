@@ -2,7 +2,7 @@ use Rattle.std.proofs.Common.{◌≡◌, ◌∙◌, ◌<◌, length, slice_index
 use Rattle.std.proofs.lemmas.Grind.{common_steps}
 use Rattle.line_reader.specs.Laws.{AreInOrder}
 use Rattle.wf_desk.specs.Desks.{jobs_told}
-use Rattle.resume_command.specs.Unserved.{jobs_between}
+use Rattle.transcript_commands.specs.Unserved.{jobs_between}
 use Rattle.wf_server.specs.Batches.{told_of, IsBatch}
 use Rattle.wf_server.specs.Files.{IsToldTo}
 use Rattle.wf_server.proofs.FileLaws.{file_batch, file_fails, is_next, told_more}

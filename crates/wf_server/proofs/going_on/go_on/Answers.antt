@@ -3,7 +3,7 @@ use Rattle.line_reader.specs.BatchReader.{BatchReaderShape}
 use Rattle.line_reader.specs.Jobs.{next_input}
 use Rattle.run_record.specs.Report.{told_by}
 use Rattle.run_record.specs.Run.{Streams}
-use Rattle.resume_command.specs.declared.start.TheConstants.{PIECE}
+use Rattle.transcript_commands.specs.declared.start.TheConstants.{PIECE}
 use Rattle.wf_server.specs.Batches.{told_of}
 use Rattle.wf_server.proofs.ResumeLaws.{begun_lanes, begun_order, begun_told, served_begun, serving_begun, stops_begun}
 use Rattle.wf_server.proofs.ServedOn.{behind_then, told_then}

@@ -1,6 +1,6 @@
 use Rattle.std.proofs.Common.{inl, inr, refl}
-use Rattle.resume_command.specs.Load.{FileNames}
-use Rattle.resume_command.specs.Start.{names_in}
+use Rattle.transcript_commands.specs.Load.{FileNames}
+use Rattle.transcript_commands.specs.Start.{names_in}
 use Rattle.wf_server.specs.GoingOn.{options_by}
 use Rattle.wf_server.proofs.ResumeLaws.{all_refused, begun_there, gone_on, refused_usage, served_usage}
 use Rattle.wf_server.proofs.going_on.run_resume.Goals as goal

@@ -2,7 +2,7 @@ use Rattle.std.proofs.Common.{◌≡◌, Some, map, nat_lt, rules, true}
 use Rattle.std.specs.Prelude.{string_bytes}
 use Rattle.command_words.specs.Asked.{options_in}
 use Rattle.command_words.specs.Words.{command_of, resume}
-use Rattle.resume_command.specs.Load.{FileNames}
+use Rattle.transcript_commands.specs.Load.{FileNames}
 use Rattle.wf_server.proofs.ResumeLaws.{threaded}
 use Rattle.wf_server.proofs.runs.run.Goals as goal
 

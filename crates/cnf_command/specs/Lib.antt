@@ -1,4 +1,0 @@
-pub mod Cases
-pub mod Answers
-pub mod Model
-pub mod Steps

@@ -1,0 +1,107 @@
+-- The lines of a text are taken one after the other.
+use Rattle.std.proofs.Common.{◌≡◌, ℕ, ◌+◌, ◌-◌, ◌<◌, ◌≤◌, List, [], ◌∷◌, ◌++◌, length, take, drop, None, Result, Ok, Err, inl, inr, sym, ap, subst, ◌∙◌, arith}
+use Rattle.std.specs.Prelude.{IfErr, IsErrAnd}
+use Rattle.std.proofs.lemmas.List.{length-drop, take_all}
+use Rattle.wf_talk.specs.declared.entry.Entry.{Entry}
+use Rattle.line_reader.specs.Reader.{behind_line, first_line, lines_of}
+use Rattle.line_reader.proofs.FirstLines.{lines_first}
+use Rattle.transcript_audit.specs.declared.fault.AuditFault.{AuditFault}
+use Rattle.transcript_audit.specs.declared.fault.AuditFault.TheVariants.{At, NoMemory}
+use Rattle.transcript_audit.specs.declared.fault.AuditKind.{AuditKind}
+use Rattle.transcript_audit.specs.Auditor.{AuditShape, AreNext, HasFault, audit_of}
+use Rattle.transcript_audit.proofs.Exact.{next_pushed}
+use Rattle.transcript_audit.specs.Laws.{AreOfSession, FaultsExclude, NextIsOne, PartIsExact}
+use Rattle.transcript_audit.specs.Outcomes.{HasTakenLine, IsFirstFault}
+use Rattle.transcript_commands.specs.Auditing.{FailsIn, HasTakenAll, HasTakenFirst}
+use Rattle.transcript_commands.specs.Resumed.{FailsAt, IsTakenUp, RefusesBy, Session, whole_lines}
+
+-- ---- one line
+
+-- a line that was taken
+pub took_first : (a b : AuditShape) (text : List ℕ) (n : ℕ) → 0 < length text → take n text ≡ first_line text → drop n text ≡ behind_line text →
+    HasTakenLine a b (take n text) (Ok tt) → HasTakenFirst a b text (drop n text)
+took_first a b text n some line behind taken = record {
+  line = take n text;
+  lines = lines_first text some ∙ (λ i. (sym line) i ∷ lines_of ((sym behind) i));
+  entry = taken.1.0;
+  next = taken.1.1.0;
+  after = taken.1.1.1;
+}
+
+-- and one that was not
+pub failed_first : (a b : AuditShape) (text : List ℕ) (n : ℕ) (fault : AuditFault) → 0 < length text → take n text ≡ first_line text → a.fault ≡ None →
+    HasTakenLine a b (take n text) (Err fault) → FailsIn a (lines_of text) fault
+failed_first a b text n (At m kind) some line going taken =
+    let wrong : HasFault a (take n text) kind = subst (λ o. IsFirstFault o a (take n text) kind) going taken.1.0 in
+    subst (λ ls. FailsAt a ls m kind) (sym (lines_first text some)) (inl (taken.0, subst (λ l. HasFault a l kind) line wrong))
+failed_first a b text n NoMemory some line going taken = tt
+
+-- ---- all lines
+
+-- what is left of a text behind a place, as a slice
+pub left_at : (text : List ℕ) (at : ℕ) → take (length text - at) (drop at text) ≡ drop at text
+left_at text at = take_all (length text - at) (drop at text) (omega (arith, length-drop at text))
+
+pub left_within : (text : List ℕ) (at n : ℕ) → at ≤ length text → n ≤ length (take (length text - at) (drop at text)) → at + n ≤ length text
+left_within text at n begun within =
+    let same = ap length (left_at text at) in
+    omega (arith, begun, within, same, length-drop at text)
+
+-- ---- what was taken, and what was not
+
+-- the entries are those of the lines
+taken_up : PartIsExact → (s : Session) (transcript : List ℕ) (b : AuditShape) → AreOfSession s.policy s.rounds s.jobs s.batch_ends →
+    HasTakenAll (audit_of s.policy s.rounds s.jobs s.batch_ends) b (lines_of (whole_lines transcript)) → IsTakenUp s transcript b.entries
+taken_up exact s transcript b session all =
+    subst (λ (x : AuditShape). IsTakenUp s transcript x.entries) (sym all.after)
+    ((exact s.policy s.rounds s.jobs s.batch_ends (lines_of (whole_lines transcript)) all.entries session.order).0 all.next)
+
+-- lines of which one fails are those of no entries
+none_next : FaultsExclude → NextIsOne → (s : Session) (done lines : List (List ℕ)) (es rest : List Entry) (n : ℕ) (kind : AuditKind) →
+    AreOfSession s.policy s.rounds s.jobs s.batch_ends →
+    AreNext (audit_of s.policy s.rounds s.jobs s.batch_ends) done es →
+    AreNext (record (audit_of s.policy s.rounds s.jobs s.batch_ends) { entries = es }) lines rest →
+    FailsAt (record (audit_of s.policy s.rounds s.jobs s.batch_ends) { entries = es }) lines n kind → ⊥
+none_next law one s done [] es rest n kind session so_far next fails = fails
+none_next law one s done (line ∷ lines) es [] n kind session so_far next fails = next
+none_next law one s done (line ∷ lines) es (e ∷ rest) n kind session so_far next fails = elim fails [
+  | inl stops ↦ law s.policy s.rounds s.jobs s.batch_ends done es session so_far line kind e stops.1 next.0
+  | inr goes ↦
+      let a = audit_of s.policy s.rounds s.jobs s.batch_ends in
+      let same : goes.0 ≡ e = one s.policy s.rounds s.jobs s.batch_ends done es session so_far line goes.0 e goes.1.0 next.0 in
+      none_next law one s (done ++ line ∷ []) lines (es ++ e ∷ []) rest n kind session (next_pushed a done es line e so_far next.0) next.1
+      (subst (λ x. FailsAt (record a { entries = es ++ x ∷ [] }) lines n kind) same goes.1.1)
+]
+
+refused_by : FaultsExclude → NextIsOne → PartIsExact → (s : Session) (transcript : List ℕ) (fault : AuditFault) →
+    AreOfSession s.policy s.rounds s.jobs s.batch_ends →
+    FailsIn (audit_of s.policy s.rounds s.jobs s.batch_ends) (lines_of (whole_lines transcript)) fault → RefusesBy s transcript fault
+refused_by law one exact s transcript (At n kind) session fails = record {
+  fails = fails;
+  none = λ es taken.
+      let next = (exact s.policy s.rounds s.jobs s.batch_ends (lines_of (whole_lines transcript)) es session.order).1 taken in
+      none_next law one s [] (lines_of (whole_lines transcript)) [] es n kind session tt next fails;
+}
+refused_by law one exact s transcript NoMemory session fails = tt
+
+-- an audit of the whole lines that began so, and did not take one of them
+pub refused_of : {A : Type 0} → FaultsExclude → NextIsOne → PartIsExact →
+    (s : Session) (transcript lines : List ℕ) (a : AuditShape) (result : Result A AuditFault) (fault : AuditFault) →
+    AreOfSession s.policy s.rounds s.jobs s.batch_ends → a ≡ audit_of s.policy s.rounds s.jobs s.batch_ends → lines ≡ whole_lines transcript →
+    FailsIn a (lines_of lines) fault →
+    IsErrAnd result (λ e. e ≡ fault) → IfErr result (RefusesBy s transcript)
+refused_of law one exact s transcript lines a (Ok found) fault session begun whole fails is = tt
+refused_of law one exact s transcript lines a (Err e) fault session begun whole fails is =
+    let here : FailsIn (audit_of s.policy s.rounds s.jobs s.batch_ends) (lines_of (whole_lines transcript)) fault =
+    subst (λ (x : AuditShape). FailsIn x (lines_of (whole_lines transcript)) fault) begun (subst (λ xs. FailsIn a (lines_of xs) fault) whole fails) in
+    subst (RefusesBy s transcript) (sym is) (refused_by law one exact s transcript fault session here)
+
+-- and one that took them all
+pub taken_of : PartIsExact → (s : Session) (transcript lines : List ℕ) (a b : AuditShape) (es : List Entry) →
+    AreOfSession s.policy s.rounds s.jobs s.batch_ends →
+    a ≡ audit_of s.policy s.rounds s.jobs s.batch_ends → lines ≡ whole_lines transcript → HasTakenAll a b (lines_of lines) → es ≡ b.entries →
+    IsTakenUp s transcript es
+taken_of exact s transcript lines a b es session begun whole all same =
+    let here : HasTakenAll (audit_of s.policy s.rounds s.jobs s.batch_ends) b (lines_of (whole_lines transcript)) =
+    subst (λ (x : AuditShape). HasTakenAll x b (lines_of (whole_lines transcript))) begun (subst (λ xs. HasTakenAll a b (lines_of xs)) whole all) in
+    subst (λ xs. IsTakenUp s transcript xs) (sym same) (taken_up exact s transcript b session here)

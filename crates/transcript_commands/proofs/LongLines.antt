@@ -1,0 +1,71 @@
+-- The first line that is too long.
+use Rattle.std.proofs.Common.{◌≡◌, ℕ, suc, ◌+◌, ◌-◌, ◌==◌, ◌<◌, ◌≤◌, nat_lt, Bool, true, false, List, [], ◌∷◌, length, take, drop, Option, None, Some, refl}
+use Rattle.std.proofs.Common.{sym, ap, subst, ◌∙◌, arith}
+use Rattle.std.proofs.lemmas.Bool.{le-ltb, lt-ltb}
+use Rattle.std.proofs.lemmas.List.{drop-drop, length-drop}
+use Rattle.wf_names.specs.declared.limits.TheConstants.{TRANSCRIPT_LINE_LIMIT}
+use Rattle.memchr.specs.Find.{IsFirstByte, is_byte}
+use Rattle.line_reader.specs.Reader.{behind_line, first_line, has_end, line_length, lines_of}
+use Rattle.line_reader.specs.Steps.{FindsEnd}
+use Rattle.line_reader.proofs.FirstLines.{finds_end, lines_first, open_line}
+use Rattle.transcript_commands.specs.Resumed.{first_long, whole_lines}
+use Rattle.transcript_commands.proofs.LinesTaken.{left_at}
+
+-- ---- lengths
+
+whole_step : (b : ℕ) (bs : List ℕ) (x : Bool) → has_end (b ∷ bs) ≡ x → length (whole_lines bs) ≤ length bs → length (whole_lines (b ∷ bs)) ≤ length (b ∷ bs)
+whole_step b bs true is h = rw is (omega (arith, h))
+whole_step b bs false is h = rw is (omega arith)
+
+pub whole_short : (bytes : List ℕ) → length (whole_lines bytes) ≤ length bytes
+whole_short [] = omega arith
+whole_short (b ∷ bs) = whole_step b bs (has_end (b ∷ bs)) refl (whole_short bs)
+
+pub length_found : (bytes : List ℕ) (found : Option ℕ) (n : ℕ) → IsFirstByte (is_byte 10) bytes found → found ≡ Some n → n ≡ line_length bytes
+length_found bytes found n is some = let at : FindsEnd bytes (Some n) = subst (FindsEnd bytes) some (finds_end bytes found is) in sym at.counted
+
+pub length_open : (bytes : List ℕ) (found : Option ℕ) → IsFirstByte (is_byte 10) bytes found → found ≡ None → length bytes ≡ line_length bytes
+length_open bytes found is none = sym (open_line bytes (subst (FindsEnd bytes) none (finds_end bytes found is))).counted
+
+alone_step : (b : ℕ) (bs : List ℕ) (x : Bool) → (b == 10) ≡ x → line_length (first_line bs) ≡ line_length bs →
+    line_length (first_line (b ∷ bs)) ≡ line_length (b ∷ bs)
+alone_step b bs true is h = rw is (rw is refl)
+alone_step b bs false is h = rw is (rw is (ap suc h))
+
+-- the first line alone is as long
+alone : (bytes : List ℕ) → line_length (first_line bytes) ≡ line_length bytes
+alone [] = refl
+alone (b ∷ bs) = alone_step b bs (b == 10) refl (alone bs)
+
+-- ---- the first that is too long
+
+-- it is the first line, or one behind it
+pub long_here : (n : ℕ) (bytes : List ℕ) → 0 < length bytes → TRANSCRIPT_LINE_LIMIT < line_length bytes → first_long n (lines_of bytes) ≡ Some n
+long_here n bytes some long =
+    let here : nat_lt TRANSCRIPT_LINE_LIMIT (line_length (first_line bytes)) ≡ true =
+    lt-ltb TRANSCRIPT_LINE_LIMIT (line_length (first_line bytes)) (let same = alone bytes in omega (arith, same, long)) in
+    rw (lines_first bytes some) (rw here refl)
+
+pub long_behind : (n : ℕ) (bytes : List ℕ) → 0 < length bytes → line_length bytes ≤ TRANSCRIPT_LINE_LIMIT →
+    first_long n (lines_of bytes) ≡ first_long (n + 1) (lines_of (behind_line bytes))
+long_behind n bytes some short =
+    let here : nat_lt TRANSCRIPT_LINE_LIMIT (line_length (first_line bytes)) ≡ false =
+    le-ltb TRANSCRIPT_LINE_LIMIT (line_length (first_line bytes)) (let same = alone bytes in omega (arith, same, short)) in
+    rw (lines_first bytes some) (rw here refl)
+
+-- the same of what is left of a text behind a place, as a slice
+pub long_at : (n at : ℕ) (text : List ℕ) (found : Option ℕ) → at < length text → TRANSCRIPT_LINE_LIMIT < line_length (take (length text - at) (drop at text))
+    → first_long n (lines_of (drop at text)) ≡ found → Some n ≡ found
+long_at n at text found within long goes =
+    sym (long_here n (drop at text) (omega (arith, within, length-drop at text))
+    (subst (λ xs. TRANSCRIPT_LINE_LIMIT < line_length xs) (left_at text at) long)) ∙ goes
+
+pub long_on : (n at count : ℕ) (text : List ℕ) → at < length text → line_length (take (length text - at) (drop at text)) ≤ TRANSCRIPT_LINE_LIMIT
+    → drop count (take (length text - at) (drop at text)) ≡ behind_line (take (length text - at) (drop at text))
+    → first_long (n + 1) (lines_of (drop (at + count) text)) ≡ first_long n (lines_of (drop at text))
+long_on n at count text within short behind =
+    let rest : drop (at + count) text ≡ behind_line (drop at text) =
+    sym (drop-drop count at text) ∙ ap (drop count) (sym (left_at text at)) ∙ behind ∙ ap behind_line (left_at text at) in
+    ap (λ xs. first_long (n + 1) (lines_of xs)) rest
+    ∙ sym (long_behind n (drop at text) (omega (arith, within, length-drop at text))
+    (subst (λ xs. line_length xs ≤ TRANSCRIPT_LINE_LIMIT) (left_at text at) short))

@@ -1,0 +1,86 @@
+-- The whole lines of a text, and its first line.
+use Rattle.std.proofs.Common.{◌≡◌, ◌≢◌, ℕ, zero, suc, ◌+◌, ◌-◌, ◌==◌, ◌<◌, ◌≤◌, Bool, true, false, List, [], ◌∷◌, length, take, drop, slice_index, Option, None}
+use Rattle.std.proofs.Common.{Some, refl, sym, ap, subst, ◌∙◌, arith}
+use Rattle.std.proofs.lemmas.Grind.{common_steps}
+use Rattle.std.proofs.lemmas.List.{drop_all, take_all}
+use Rattle.memchr.specs.Find.{IsFirstByte, is_byte}
+use Rattle.line_reader.specs.Reader.{behind_line, first_line, has_end}
+use Rattle.line_reader.specs.Steps.{FindsEnd}
+use Rattle.line_reader.proofs.FirstLines.{finds_end, open_line}
+use Rattle.transcript_commands.specs.Resumed.{whole_lines}
+
+-- ---- up to the last LF
+
+not_ten : (b : ℕ) (x : Bool) → (b == 10) ≡ x → b ≢ 10 → x ≡ false
+not_ten b true is other = absurd (other (grind (arith, common_steps)))
+not_ten b false is other = refl
+
+is_ten : (b : ℕ) (x : Bool) → (b == 10) ≡ x → b ≡ 10 → x ≡ true
+is_ten b true is same = refl
+is_ten b false is same = absurd (grind (arith, common_steps))
+
+-- without LF nothing has ended
+none_ended : (bytes : List ℕ) → ((k : ℕ) → k < length bytes → slice_index bytes k ≢ 10) → has_end bytes ≡ false
+none_ended [] none = refl
+none_ended (b ∷ bs) none =
+    rw (not_ten b (b == 10) refl (none 0 (omega arith))) (none_ended bs (λ k within. none (suc k) (omega (arith, within))))
+
+end_here : (b : ℕ) (bs : List ℕ) (x : Bool) → (b == 10) ≡ x → (x ≡ false → has_end bs ≡ true) → has_end (b ∷ bs) ≡ true
+end_here b bs true is later = rw is refl
+end_here b bs false is later = rw is (later refl)
+
+-- with one some line has
+some_ended : (bytes : List ℕ) (k : ℕ) → k < length bytes → slice_index bytes k ≡ 10 → has_end bytes ≡ true
+some_ended [] k within here = absurd (omega (arith, within))
+some_ended (b ∷ bs) zero within here =
+    end_here b bs (b == 10) refl (λ other. absurd (let is = is_ten b (b == 10) refl here in let no : true ≡ false = sym is ∙ other in cc))
+some_ended (b ∷ bs) (suc k) within here = end_here b bs (b == 10) refl (λ other. some_ended bs k (omega (arith, within)) here)
+
+-- all up to the last LF are the whole lines
+pub whole_front : (bytes : List ℕ) (n : ℕ) → n ≤ length bytes → (0 < n → slice_index bytes (n - 1) ≡ 10) →
+    ((k : ℕ) → n ≤ k → k < length bytes → slice_index bytes k ≢ 10) → take n bytes ≡ whole_lines bytes
+whole_front [] zero within ended last = refl
+whole_front [] (suc n) within ended last = refl
+whole_front (b ∷ bs) zero within ended last =
+    let none : has_end (b ∷ bs) ≡ false = none_ended (b ∷ bs) (λ k below. last k (omega arith) below) in
+    rw none refl
+whole_front (b ∷ bs) (suc n) within ended last =
+    let last_one : slice_index (b ∷ bs) n ≡ 10 = let same : suc n - 1 ≡ n = omega arith in
+    subst (λ k. slice_index (b ∷ bs) k ≡ 10) same (ended (omega arith)) in
+    let here : has_end (b ∷ bs) ≡ true = some_ended (b ∷ bs) n (omega (arith, within)) last_one in
+    rw here (ap (λ xs. b ∷ xs) (whole_front bs n (omega (arith, within)) (front_ended b bs n last_one)
+    (λ k above below. last (suc k) (omega (arith, above)) (omega (arith, below)))))
+  where
+    front_ended : (b : ℕ) (bs : List ℕ) (n : ℕ) → slice_index (b ∷ bs) n ≡ 10 → 0 < n → slice_index bs (n - 1) ≡ 10
+    front_ended b bs zero here some = absurd (omega (arith, some))
+    front_ended b bs (suc n) here some = let same : n ≡ suc n - 1 = omega arith in subst (λ k. slice_index bs k ≡ 10) same here
+
+-- ---- the first line
+
+-- the first so many bytes are the first line
+pub record IsFirstLine (bytes : List ℕ) (n : ℕ) : Type 0 where
+  pub some : 0 < n
+  pub within : n ≤ length bytes
+  pub line : take n bytes ≡ first_line bytes
+  pub behind : drop n bytes ≡ behind_line bytes
+
+pub first_ended : (bytes : List ℕ) (found : Option ℕ) (n : ℕ) → IsFirstByte (is_byte 10) bytes found → found ≡ Some n → IsFirstLine bytes (n + 1)
+first_ended bytes found n is some =
+    let at = subst (FindsEnd bytes) some (finds_end bytes found is) in
+    let next : suc n ≡ n + 1 = omega arith in
+    record {
+      some = omega arith;
+      within = let within = at.within in omega (arith, within);
+      line = ap (λ m. take m bytes) (sym next) ∙ sym at.line;
+      behind = ap (λ m. drop m bytes) (sym next) ∙ sym at.behind;
+    }
+
+pub first_open : (bytes : List ℕ) (found : Option ℕ) → IsFirstByte (is_byte 10) bytes found → found ≡ None → 0 < length bytes → IsFirstLine bytes (length bytes)
+first_open bytes found is none some =
+    let whole = open_line bytes (subst (FindsEnd bytes) none (finds_end bytes found is)) in
+    record {
+      some = some;
+      within = omega arith;
+      line = take_all (length bytes) bytes (omega arith) ∙ sym whole.line;
+      behind = drop_all (length bytes) bytes (omega arith) ∙ sym whole.behind;
+    }

@@ -1,0 +1,51 @@
+use Rattle.std.proofs.Common.{subst}
+use Rattle.std.specs.Prelude.{IfOk}
+use Rattle.run_record.specs.Fault.{fault_in}
+use Rattle.run_record.specs.declared.fault.RunFault.TheVariants.{NoMemory}
+use Rattle.transcript_audit.specs.Auditor.{AuditShape}
+use Rattle.transcript_commands.specs.Finding.{HasFound}
+use Rattle.transcript_commands.proofs.Endings.{loads_end, reads_end}
+use Rattle.transcript_commands.proofs.Loaded.{finds_under, jobs_there, no_jobs}
+use Rattle.transcript_commands.proofs.Runs.{unread_after}
+use Rattle.transcript_commands.proofs.audit.find_under.Goals as goal
+
+pub returns-in_err-batch-clause-finds : goal.returns-in_err-batch-clause-finds
+returns-in_err-batch-clause-finds g c =
+    no_jobs c.args.policy
+    (record { requests = g.F.Shelf.file c.args.shelf.now c.args.session.requests.now; lanes = c.args.session.lanes; rounds = c.args.session.rounds })
+    (record { before = g.S.Source.left c.args.source.now; after = g.S.Source.left c.args.source.now })
+    c.from_residual.result c.in_err-batch.field-0.0 c.from_residual.ensures.1 c.in_err-batch.ensures.jobs c.in_err-batch.ensures.ending
+
+pub returns-in_err-batch-clause-input : goal.returns-in_err-batch-clause-input
+returns-in_err-batch-clause-input g c =
+    unread_after c.from_residual.result c.in_err-batch.field-0.0 (g.S.Source.left c.args.source.now) c.from_residual.ensures.1 c.in_err-batch.ensures.ending
+
+pub returns-in_err-auditor-clause-input : goal.returns-in_err-auditor-clause-input
+returns-in_err-auditor-clause-input g c =
+    unread_after c.from_residual-in_err-auditor.result NoMemory (g.S.Source.left c.args.source.now) c.from_residual-in_err-auditor.ensures.1 tt
+
+pub returns-clause-finds : goal.returns-clause-finds
+returns-clause-finds g c =
+    finds_under c.legal_is_exact.ensures c.args.policy
+    (record { requests = g.F.Shelf.file c.args.shelf.now c.args.session.requests.now; lanes = c.args.session.lanes; rounds = c.args.session.rounds })
+    (record { before = g.S.Source.left c.args.source.now; after = g.S.Source.left c.audit_input.new.source }) c.in_ok-batch.batch c.audit_input.result
+    c.in_ok-batch.ensures.jobs c.know_session.ensures
+    (subst (λ (a : AuditShape). IfOk c.audit_input.result (λ f. HasFound a f (g.S.Source.left c.args.source.now) (g.S.Source.left c.audit_input.new.source)))
+    c.in_ok-auditor.ensures c.audit_input.ensures.found)
+    c.audit_input.ensures.ending
+
+pub returns-in_err-batch-clause-ends : goal.returns-in_err-batch-clause-ends
+returns-in_err-batch-clause-ends g c =
+    loads_end (g.F.Shelf.file c.args.shelf.now c.args.session.requests.now) c.from_residual.result c.in_err-batch.field-0.0 c.from_residual.ensures.1
+    c.in_err-batch.ensures.ending
+
+pub returns-in_err-auditor-clause-ends : goal.returns-in_err-auditor-clause-ends
+returns-in_err-auditor-clause-ends g c =
+    loads_end (g.F.Shelf.file c.args.shelf.now c.args.session.requests.now) c.from_residual-in_err-auditor.result NoMemory
+    c.from_residual-in_err-auditor.ensures.1 tt
+
+pub returns-clause-ends : goal.returns-clause-ends
+returns-clause-ends g c =
+    let requests = g.F.Shelf.file c.args.shelf.now c.args.session.requests.now in
+    reads_end requests c.audit_input.result c.audit_input.ensures.ending
+    (jobs_there requests c.args.session.lanes c.in_ok-batch.batch (fault_in c.audit_input.result) c.in_ok-batch.ensures.jobs)

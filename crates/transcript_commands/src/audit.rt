@@ -1,0 +1,137 @@
+//! The run of the command.
+ghost use Rattle.std.specs.Prelude.{◌≡◌, ◌<◌, ◌≤◌, ℕ, List, Ok, IfErr, IfOk, OnOk};
+ghost use Rattle.wf_names.specs.declared.limits.TheConstants.{LANE_LIMIT, POLICY_FILE_LIMIT};
+ghost use Rattle.wf_outside.specs.Outside.{with_bytes};
+ghost use Rattle.run_record.specs.Fault.{fault_in, status_of, CountsLoads, CountsReadsAlone};
+ghost use Rattle.run_record.specs.Fault.{CountsWrites};
+ghost use Rattle.run_record.specs.Run.{run_of, streams_of};
+ghost use Rattle.wf_commands.specs.Load.{EndsTooLong};
+ghost use Rattle.transcript_commands.specs.Finding.{finding_text};
+ghost use Rattle.transcript_commands.specs.Run.{EndsFinding, IsOnLanes};
+ghost use Rattle.transcript_commands.specs.Running.{AuditsPolicy, AuditsRun, ReadsAsAudit};
+ghost use Rattle.transcript_commands.specs.Steps.{FailsAs, FindsAs, FindsFile};
+
+use crate::auditing::audit_input;
+use crate::finding::Finding;
+use crate::jobs_file::load_jobs;
+use crate::laws::legal_is_exact;
+use policy_book::Policy;
+use run_record::{Report, RunFault, bare_report};
+use std::alloc::Global;
+use transcript_audit::{Auditor, know_session};
+use wf_board::Decider;
+use wf_commands::load_policy;
+use wf_outside::{Shelf, Sink, Source, put_and_flush};
+
+/// A session of which a transcript is audited: its files, and how it was served.
+#[derive(Clone, Copy)]
+pub struct AuditedSession<'a> {
+    pub policy: &'a str,
+    pub requests: &'a str,
+    /// How many lanes there were, at least one.
+    pub lanes: u8,
+    /// After how many lost rounds a request was answered again.
+    pub rounds: u8,
+}
+
+/// Audits the transcript in the input: whether the session can have written it. Writes what is
+/// found.
+pub fn run_audit<V: Decider, F: Shelf, S: Source, K: Sink>(
+    alloc: Global,
+    decider: &V,
+    session: AuditedSession,
+    shelf: &mut F,
+    source: &mut S,
+    sink: &mut K,
+) -> Report
+    requires ready { V.ready decider.now }
+    requires some { 0 < session.lanes }
+    requires lanes { session.lanes ≤ LANE_LIMIT }
+    ensures status { result.status ≡ status_of result.fault }
+    ensures usage { result.fault ≡ RunFault.Usage → ⊥ }
+    ensures audits { AuditsRun session.entry.policy.now session.entry.requests.now
+        session.entry.lanes session.entry.rounds (
+        run_of F.file F.faults shelf.old shelf.new
+        (streams_of S.left S.faults K.held K.faults source.old sink.old)
+        (streams_of S.left S.faults K.held K.faults source.new sink.new) result) }
+{
+    match find(alloc, decider, session, shelf, source) {
+        Ok(finding) => match tell(alloc, finding, sink) {
+            Ok(()) => bare_report(alloc, finding.ending()),
+            Err(fault) => bare_report(alloc, fault),
+        },
+        Err(fault) => bare_report(alloc, fault),
+    }
+}
+
+// What the audit finds.
+fn find<V: Decider, F: Shelf, S: Source>(
+    alloc: Global,
+    decider: &V,
+    session: AuditedSession,
+    shelf: &mut F,
+    source: &mut S,
+) -> Result<Finding, RunFault>
+    requires ready { V.ready decider.now }
+    requires lanes { IsOnLanes session.lanes }
+    ensures finds { FindsFile (AuditsPolicy (record {
+      requests = F.file shelf.old session.entry.requests.now;
+      lanes = session.entry.lanes;
+      rounds = session.entry.rounds;
+    }) (record { before = S.left source.old; after = S.left source.new }))
+        (F.file shelf.old session.entry.policy.now) result }
+    ensures ends { EndsFinding (F.file shelf.old session.entry.requests.now) result }
+    ensures named { EndsTooLong POLICY_FILE_LIMIT (F.file shelf.old session.entry.policy.now)
+        (fault_in result) }
+    ensures loads { CountsLoads (fault_in result) (F.faults shelf.old) (F.faults shelf.new) }
+    ensures reads { CountsReadsAlone (fault_in result) (S.faults source.old) (S.faults source.new) }
+    ensures input { ReadsAsAudit (fault_in result) (S.left source.old) (S.left source.new) }
+{
+    let p = load_policy(alloc, shelf, session.policy)?;
+    find_under(alloc, decider, p, session, shelf, source)
+}
+
+// What the audit finds of a session that begins with a policy.
+fn find_under<V: Decider, F: Shelf, S: Source>(
+    alloc: Global,
+    decider: &V,
+    policy: Policy,
+    session: AuditedSession,
+    shelf: &mut F,
+    source: &mut S,
+) -> Result<Finding, RunFault>
+    requires ready { V.ready decider.now }
+    requires lanes { IsOnLanes session.lanes }
+    ensures finds { FindsAs (AuditsPolicy (record {
+      requests = F.file shelf.old session.entry.requests.now;
+      lanes = session.entry.lanes;
+      rounds = session.entry.rounds;
+    }) (record { before = S.left source.old; after = S.left source.new }) policy) result }
+    ensures ends { EndsFinding (F.file shelf.old session.entry.requests.now) result }
+    ensures loads { CountsLoads (fault_in result) (F.faults shelf.old) (F.faults shelf.new) }
+    ensures reads { CountsReadsAlone (fault_in result) (S.faults source.old) (S.faults source.new) }
+    ensures input { ReadsAsAudit (fault_in result) (S.left source.old) (S.left source.new) }
+{
+    let batch = load_jobs(alloc, shelf, session.requests, session.lanes)?;
+    know_session(&policy, session.rounds, &batch.jobs, &batch.ends);
+    legal_is_exact();
+    let auditor = Auditor::new(alloc, policy, batch.jobs, batch.ends, session.rounds)?;
+    audit_input(alloc, decider, auditor, source)
+}
+
+// Writes what is found, if it is something to write.
+fn tell<K: Sink>(alloc: Global, finding: Finding, sink: &mut K) -> Result<(), RunFault>
+    ensures told { OnOk result (K.held sink.new
+        ≡ with_bytes (K.held sink.old) (finding_text finding)) }
+    ensures fails { IfErr result (FailsAs finding (K.held sink.old) (K.held sink.new)) }
+    ensures counts { CountsWrites (fault_in result) (K.faults sink.old) (K.faults sink.new) }
+{
+    if let Finding::TooLong(_) = finding {
+        return Ok(());
+    }
+    let text = finding.text(alloc)?;
+    match put_and_flush(sink, text.as_bytes()) {
+        Ok(()) => Ok(()),
+        Err(_) => Err(RunFault::Write),
+    }
+}

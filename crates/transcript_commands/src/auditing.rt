@@ -1,0 +1,131 @@
+//! Auditing the lines of the input.
+ghost use Rattle.std.specs.Prelude.{◌≡◌, ◌<◌, ◌≤◌, ◌+◌, ℕ, List, [], length, Option, None, Some};
+ghost use Rattle.std.specs.Prelude.{Ok, Err, IfErr, IfOk};
+ghost use Rattle.wf_names.specs.declared.limits.TheConstants.{SESSION_LINE_LIMIT};
+ghost use Rattle.line_reader.specs.Reader.{pending};
+ghost use Rattle.run_record.specs.Fault.{fault_in, CountsReadsAlone};
+ghost use Rattle.transcript_audit.specs.Auditor.{AuditShape};
+ghost use Rattle.transcript_commands.specs.Finding.{EndsAs, HasFound};
+ghost use Rattle.transcript_commands.specs.Lines.{HasReadSome, IsUnread, IsAtLine, ReadsLines};
+ghost use Rattle.transcript_commands.specs.Steps.{HasAudited, HasOneMore, HasTakenSome, IsReadEnding};
+ghost use Rattle.transcript_commands.specs.Steps.{AuditStepsTo, TakesLine};
+
+use crate::finding::Finding;
+use line_reader::{LineReader, Read};
+use run_record::RunFault;
+use std::alloc::Global;
+use transcript_audit::{AuditFault, Auditor};
+use wf_board::Decider;
+use wf_names::TRANSCRIPT_LINE_LIMIT;
+use wf_outside::Source;
+
+/// How many bytes of the input are taken at once.
+const PIECE: usize = 65_536;
+
+/// Audits the transcript in the input.
+pub(crate) fn audit_input<V: Decider, S: Source>(
+    alloc: Global,
+    decider: &V,
+    auditor: Auditor,
+    source: &mut S,
+) -> Result<Finding, RunFault>
+    requires ready { V.ready decider.now }
+    requires going { auditor.fault ≡ None }
+    requires first { auditor.entries ≡ [] }
+    requires few { length auditor.jobs ≤ SESSION_LINE_LIMIT }
+    ensures found { IfOk result (λ f. HasFound auditor f (S.left source.old) (S.left source.new)) }
+    ensures taken { HasTakenSome (S.left source.old) (S.left source.new) }
+    ensures ending { IfErr result IsReadEnding }
+    ensures counts { CountsReadsAlone (fault_in result) (S.faults source.old)
+        (S.faults source.new) }
+{
+    let mut reader = LineReader::new(alloc, PIECE, TRANSCRIPT_LINE_LIMIT)?;
+    audit_lines(alloc, decider, auditor, &mut reader, source)
+}
+
+// Audits line after line.
+fn audit_lines<V: Decider, S: Source>(
+    alloc: Global,
+    decider: &V,
+    mut auditor: Auditor,
+    reader: &mut LineReader,
+    source: &mut S,
+) -> Result<Finding, RunFault>
+    requires ready { V.ready decider.now }
+    requires first { IsUnread auditor }
+    requires nothing { pending reader.old ≡ [] }
+    requires reader { ReadsLines reader.old }
+    ensures found { IfOk result (λ f. HasFound auditor f (S.left source.old) (S.left source.new)) }
+    ensures taken { HasTakenSome (S.left source.old) (S.left source.new) }
+    ensures ending { IfErr result IsReadEnding }
+    ensures counts { CountsReadsAlone (fault_in result) (S.faults source.old)
+        (S.faults source.new) }
+{
+    let mut number = 0;
+    'auditing: loop {
+        match audit_line(alloc, decider, &mut auditor, number, reader, source)? {
+            None => number += 1,
+            Some(finding) => return Ok(finding),
+        }
+    }
+}
+
+// Reads the line with this number and audits it; what is found, if anything is.
+fn audit_line<V: Decider, S: Source>(
+    alloc: Global,
+    decider: &V,
+    auditor: &mut Auditor,
+    number: u32,
+    reader: &mut LineReader,
+    source: &mut S,
+) -> Result<Option<Finding>, RunFault>
+    requires ready { V.ready decider.now }
+    requires at { IsAtLine auditor.old number }
+    requires reader { ReadsLines reader.old }
+    ensures steps { (first : AuditShape) (before : Option (List ℕ)) →
+        HasAudited first auditor.old before (S.left source.old) (pending reader.old) →
+        AuditStepsTo first auditor.new before (S.left source.new) (pending reader.new) result }
+    ensures more { result ≡ Ok None → HasOneMore auditor.old auditor.new }
+    ensures read { HasReadSome (fault_in result) (S.left source.old) (S.left source.new)
+        (S.faults source.old) (S.faults source.new) }
+    ensures ending { IfErr result IsReadEnding }
+    ensures reader { ReadsLines reader.new }
+{
+    match reader.next(source) {
+        Read::Line => take_line(alloc, decider, auditor, reader.line()),
+        Read::End => Ok(Some(find_end(auditor))),
+        Read::Failed => Err(RunFault::Read),
+        Read::TooLong => Ok(Some(Finding::TooLong(number))),
+        Read::NoMemory => Err(RunFault::NoMemory),
+    }
+}
+
+// Audits a line; the fault that is found, if it has one.
+fn take_line<V: Decider>(
+    alloc: Global,
+    decider: &V,
+    auditor: &mut Auditor,
+    line: &[u8],
+) -> Result<Option<Finding>, RunFault>
+    requires ready { V.ready decider.now }
+    requires going { auditor.old.fault ≡ None }
+    ensures takes { TakesLine auditor.old auditor.new line.now result }
+    ensures more { result ≡ Ok None → HasOneMore auditor.old auditor.new }
+{
+    match auditor.line(alloc, decider, line) {
+        Ok(()) => Ok(None),
+        Err(AuditFault::At(n, kind)) => Ok(Some(Finding::Fault(n, kind))),
+        Err(AuditFault::NoMemory) => Err(RunFault::NoMemory),
+    }
+}
+
+// What is found where no line is left. This takes no memory.
+fn find_end(auditor: &Auditor) -> Finding
+    requires { auditor.now.fault ≡ None }
+    ensures { EndsAs auditor.now result }
+{
+    match auditor.end() {
+        Err(AuditFault::At(n, kind)) => Finding::Fault(n, kind),
+        _ => Finding::Legal,
+    }
+}

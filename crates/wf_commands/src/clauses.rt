@@ -1,0 +1,92 @@
+//! The run that writes the clauses of a case.
+ghost use Rattle.std.specs.Prelude.{◌≡◌, ◌<◌, length, Some, IfErr, IfOk};
+ghost use Rattle.wf_names.specs.declared.limits.TheConstants.{LINE_LIMIT, POLICY_FILE_LIMIT};
+ghost use Rattle.run_record.specs.Fault.{fault_in, status_of, CountsLoads, CountsReadsAlone};
+ghost use Rattle.run_record.specs.Report.{nothing_told, told_by};
+ghost use Rattle.run_record.specs.Run.{run_of, streams_of};
+ghost use Rattle.wf_commands.specs.Answer.{IsAnswerEnding, IsCommandEnding};
+ghost use Rattle.wf_commands.specs.Load.{EndsTooLong};
+ghost use Rattle.wf_commands.specs.Once.{ReadsInput};
+ghost use Rattle.wf_commands.specs.CnfAnswers.{ClausesAsked};
+ghost use Rattle.wf_commands.specs.Model.{WritesClauses};
+ghost use Rattle.wf_commands.specs.CnfSteps.{EncodesAs, EncodesFile};
+
+use crate::encoding::{encode, take_case};
+use crate::{find_flow, load_policy};
+use cnf_export::model_laws::satisfiable_is_completable;
+use cnf_export::{Encoder, WriteFault, write_clauses};
+use policy_book::Policy;
+use run_record::{Report, RunFault, bare_report};
+use std::alloc::Global;
+use wf_outside::{Shelf, Sink, Source};
+
+/// Writes the clauses of the case in the input, for a workflow of the policy in a file. The text is
+/// written piece by piece, so that it is never whole in memory.
+pub fn run_clauses<F: Shelf, S: Source, K: Sink>(
+    alloc: Global,
+    policy: &str,
+    flow: &str,
+    shelf: &mut F,
+    source: &mut S,
+    sink: &mut K,
+) -> Report
+    ensures status { result.status ≡ status_of result.fault }
+    ensures usage { result.fault ≡ RunFault.Usage → ⊥ }
+    ensures told { told_by result ≡ nothing_told }
+    ensures writes { WritesClauses policy.now flow.now (
+        run_of F.file F.faults shelf.old shelf.new
+        (streams_of S.left S.faults K.held K.faults source.old sink.old)
+        (streams_of S.left S.faults K.held K.faults source.new sink.new) result) }
+{
+    match find_clauses(alloc, policy, flow, shelf, source) {
+        Ok(mut encoder) => match write_clauses(alloc, &mut encoder, sink) {
+            Ok(()) => bare_report(alloc, RunFault::Nothing),
+            Err(WriteFault::Failed) => bare_report(alloc, RunFault::Write),
+            Err(WriteFault::NoMemory) => bare_report(alloc, RunFault::NoMemory),
+        },
+        Err(fault) => bare_report(alloc, fault),
+    }
+}
+
+// An encoder of the clauses, for the policy in a file.
+fn find_clauses<F: Shelf, S: Source>(
+    alloc: Global,
+    policy: &str,
+    flow: &str,
+    shelf: &mut F,
+    source: &mut S,
+) -> Result<Encoder, RunFault>
+    ensures clauses { EncodesFile (λ p. ClausesAsked p flow.now (S.left source.old))
+        (F.file shelf.old policy.now) result }
+    ensures left { IfOk result (λ e. e.left ≡ e.all) }
+    ensures ending { IfErr result IsCommandEnding }
+    ensures named { EndsTooLong POLICY_FILE_LIMIT (F.file shelf.old policy.now) (fault_in result) }
+    ensures loads { CountsLoads (fault_in result) (F.faults shelf.old) (F.faults shelf.new) }
+    ensures reads { CountsReadsAlone (fault_in result) (S.faults source.old) (S.faults source.new) }
+    ensures input { ReadsInput (Some LINE_LIMIT) (fault_in result) (S.left source.old)
+        (S.left source.new) }
+{
+    let p = load_policy(alloc, shelf, policy)?;
+    clauses_under(alloc, &p, flow, source)
+}
+
+// The same under a policy.
+fn clauses_under<S: Source>(
+    alloc: Global,
+    p: &Policy,
+    flow: &str,
+    source: &mut S,
+) -> Result<Encoder, RunFault>
+    ensures clauses { EncodesAs (ClausesAsked p.now flow.now (S.left source.old)) result }
+    ensures left { IfOk result (λ e. e.left ≡ e.all) }
+    ensures ending { IfErr result IsAnswerEnding }
+    ensures reads { CountsReadsAlone (fault_in result) (S.faults source.old) (S.faults source.new) }
+    ensures input { ReadsInput (Some LINE_LIMIT) (fault_in result) (S.left source.old)
+        (S.left source.new) }
+{
+    let f = find_flow(p, flow)?;
+    let c = take_case(alloc, p, f, source)?;
+    satisfiable_is_completable();
+    let _ruled = p.rules(f);
+    encode(alloc, p, f, &c)
+}

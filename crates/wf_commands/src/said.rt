@@ -1,0 +1,76 @@
+//! What an item of the input says of a step.
+ghost use Rattle.std.specs.Prelude.{◌≡◌, length, option_map, IfSome};
+ghost use Rattle.serde_json.specs.View.{view};
+ghost use Rattle.wf_names.specs.declared.states.StepState.TheVariants as state;
+ghost use Rattle.wf_commands.specs.Input.{number_named};
+ghost use Rattle.wf_commands.specs.Cases.{free_said, said_in, user_said, IsOfUsers};
+
+use crate::find_user;
+use policy_book::Policy;
+use serde_json::Value;
+use wf_names::StepState;
+
+/// What an item says of a step, as a view shows it: where it stands, unless its user is not known;
+/// nothing where it is of no such form.
+#[tactic(auto, using(crate::proofs::ItemsSaid::all_said))]
+pub(crate) fn said_in(p: &Policy, item: &Value) -> Option<Option<StepState>>
+    ensures said { result ≡ said_in p.now (view item.now) }
+    ensures known { IfSome result (λ said. IfSome said (IsOfUsers (length p.now.roster.users))) }
+{
+    let items = item.as_array()?;
+    if items.len() == 1 {
+        free_said(items[0].as_str()?)
+    } else if items.len() == 2 {
+        user_said(p, items[0].as_str()?, items[1].as_str()?)
+    } else {
+        None
+    }
+}
+
+// That nobody has a step.
+fn free_said(word: &str) -> Option<Option<StepState>>
+    ensures said { result ≡ free_said word.now }
+    ensures known { IfSome result (λ said. IfSome said (IsOfUsers 0)) }
+{
+    if word == "free" {
+        Some(Some(StepState::Free))
+    } else {
+        None
+    }
+}
+
+// That a user of this name has a step.
+fn user_said(p: &Policy, word: &str, name: &str) -> Option<Option<StepState>>
+    ensures said { result ≡ user_said p.now word.now name.now }
+    ensures known { IfSome result (λ said. IfSome said (IsOfUsers (length p.now.roster.users))) }
+{
+    if word == "held" {
+        Some(held(p, name))
+    } else if word == "finished" {
+        Some(finished(p, name))
+    } else {
+        None
+    }
+}
+
+// That a user of this name holds a step, if there is one.
+fn held(p: &Policy, name: &str) -> Option<StepState>
+    ensures state { result ≡ option_map state.Held (number_named p.now.roster.users name.now) }
+    ensures known { IfSome result (IsOfUsers (length p.now.roster.users)) }
+{
+    match find_user(p, name) {
+        Some(u) => Some(StepState::Held(u)),
+        None => None,
+    }
+}
+
+// That a user of this name has finished a step, if there is one.
+fn finished(p: &Policy, name: &str) -> Option<StepState>
+    ensures state { result ≡ option_map state.Finished (number_named p.now.roster.users name.now) }
+    ensures known { IfSome result (IsOfUsers (length p.now.roster.users)) }
+{
+    match find_user(p, name) {
+        Some(u) => Some(StepState::Finished(u)),
+        None => None,
+    }
+}
