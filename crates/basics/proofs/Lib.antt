@@ -1,5 +1,2 @@
 pub mod Booleans
 pub mod Lists
-pub mod Ascending
-pub mod SetOfList
-pub mod Facts

@@ -3,5 +3,4 @@ pub mod Reading
 pub mod Shared
 pub mod Pairs
 pub mod PairLaws
-pub mod Places
 pub mod Tables

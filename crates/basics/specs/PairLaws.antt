@@ -2,9 +2,9 @@
 use Rattle.std.specs.Prelude.{[], ◌≡◌, ℕ, true, false, not, ◌&&◌, ◌||◌}
 use Rattle.std.proofs.Common.{refl, sym, ap, subst, ◌∙◌, ◌⊎◌, inl, inr}
 use Rattle.std.specs.Cmp.{IsTotalOrder, nat_cmp_total}
-use Rattle.std.proofs.lemmas.Cmp.{on_total, then_total, tied_itself}
+use Rattle.std.proofs.lemmas.Cmp.{on_total, then_total}
 use Rattle.std.proofs.lemmas.Map.Views.{tells_apart}
-use Rattle.std.specs.Ordering.{nat_cmp, eq_by_cmp, is_eq, ordering_then}
+use Rattle.std.specs.Ordering.{nat_cmp, eq_by_cmp, ordering_then}
 use Rattle.std.specs.declared.cmp.Ordering.{Ordering}
 use Rattle.std.specs.declared.cmp.Ordering.TheVariants.{Less, Equal, Greater}
 use Rattle.std.specs.FinSet as set
@@ -27,9 +27,6 @@ pair_cmp-IsAntisymmetric x y e =
     ] refl e
 
 module _ {K : Type 0} {R : K → K → Ordering} (o : IsTotalOrder R) (exact : IsAntisymmetric R) where
-  itself : (k : K) → eq_by_cmp R k k ≡ true
-  itself k = ap is_eq (tied_itself o k)
-
   -- what an element answers decides whether a set is changed by it
   or_absorbs : (s : set.FinSet R) (k q : K) → set.contains s k ≡ true →
       (eq_by_cmp R q k || set.contains s q) ≡ set.contains s q
@@ -49,15 +46,6 @@ module _ {K : Type 0} {R : K → K → Ordering} (o : IsTotalOrder R) (exact : I
         | false ↦ λ e. refl
       ] refl
 
-  and_or_absorbs : (s : set.FinSet R) (k q : K) → set.contains s k ≡ false →
-      (not (eq_by_cmp R q k) && (eq_by_cmp R q k || set.contains s q)) ≡ set.contains s q
-  and_or_absorbs s k q free =
-      elim (eq_by_cmp R q k) as
-      (λ b. eq_by_cmp R q k ≡ b → (not b && (b || set.contains s q)) ≡ set.contains s q) [
-        | true ↦ λ e. sym (ap (set.contains s) (tells_apart exact q k e) ∙ free)
-        | false ↦ λ e. refl
-      ] refl
-
   -- an element that is there is no news
   pub insert_held : (s : set.FinSet R) (k : K) → set.contains s k ≡ true → set.insert s k ≡ s
   insert_held s k held =
@@ -67,15 +55,6 @@ module _ {K : Type 0} {R : K → K → Ordering} (o : IsTotalOrder R) (exact : I
   pub remove_absent : (s : set.FinSet R) (k : K) → set.contains s k ≡ false → set.remove s k ≡ s
   remove_absent s k free =
       set.same_set o exact _ _ (λ q. set.contains-remove o s k q ∙ and_absorbs s k q free)
-
-  pub remove_inserted : (s : set.FinSet R) (k : K) → set.contains s k ≡ false →
-      set.remove (set.insert s k) k ≡ s
-  remove_inserted s k free = set.same_set o exact _ _ (λ q. set.contains-remove o _ k q ∙
-      ap (λ b. not (eq_by_cmp R q k) && b) (set.contains-insert o s k q) ∙
-      and_or_absorbs s k q free)
-
-  pub contains_inserted : (s : set.FinSet R) (k : K) → set.contains (set.insert s k) k ≡ true
-  contains_inserted s k = set.contains-insert o s k k ∙ ap (λ b. b || set.contains s k) (itself k)
 
   -- an element of the larger set is the new one or was there
   pub either_inserted : (s : set.FinSet R) (k q : K) → set.contains (set.insert s k) q ≡ true →

@@ -6,13 +6,44 @@ use Rattle.policy_reader.proofs.Grown.{push_all}
 use Rattle.policy_printer.proofs.Sets as part
 use Rattle.policy_printer.proofs.Words.{eq_by_cmp, nat_cmp, ordering_then, nat_cmp_is, eq_by_cmp_equiv, list_any, AllByRecursion, IsDistinct, find, is_sorted}
 use Rattle.policy_printer.proofs.Words.{append-nil, Pairs, pair_cmp, IsAscending, AllPairs, pair_cmp_total, pair_cmp-IsAntisymmetric, ascending_none, row, rows}
-use Rattle.policy_printer.proofs.Words.{pair_data, IsDistinct-from_sorted, AreNames, each, PolicyPart, lt_yes, lt_no}
+use Rattle.policy_printer.proofs.Words.{pair_data, IsDistinct-from_sorted, AreNames, each, PolicyPart, lt_yes, lt_no, All, or_right}
 use Rattle.std.specs.List.Sorted.{IsStrictlySortedBy}
 use Rattle.std.specs.FinMap.Entries.{below_all, same_entries}
-use Rattle.basics.proofs.SetOfList.{len-from_list}
+use Rattle.std.proofs.lemmas.Map.Keys.{sorted_head, sorted_tail}
+use Rattle.std.proofs.lemmas.List.Elements.{All-from_recursion}
 use Rattle.policy_reader.specs.Parts.{once, named_pair_in, numbers_in, next_pair}
 use Rattle.policy_printer.proofs.Readings.{list_back, middle, new_middle, number_back}
 use Rattle.policy_printer.proofs.Sets.{itself, by_first, lines}
+
+-- ---- the set of a list
+
+module _ (n : ℕ) where
+  below_each : (ps : List (ℕ × ℕ)) → AllPairs (λ a b. (a < n) × (b < n)) (set.from_list ps) → AllByRecursion (λ p. (p.0 < n) × (p.1 < n)) ps
+  below_each [] h = tt
+  below_each (p ∷ ps) h = (
+    h.each p.0 p.1 (set.contains-insert pair_cmp_total (set.from_list ps) p p ∙ ap (λ b. b || set.contains {R = pair_cmp} (set.from_list ps) p) (itself p)),
+    below_each ps (record {
+      each = λ a b here. h.each a b (set.contains-insert pair_cmp_total (set.from_list ps) p (a, b) ∙ or_right (eq_by_cmp pair_cmp (a, b) p) _ here);
+    }),
+  )
+
+  -- the pairs of a list whose set is below n
+  pub all_below : (ps : List (ℕ × ℕ)) → AllPairs (λ a b. (a < n) × (b < n)) (set.from_list ps) → All (λ p. (p.0 < n) × (p.1 < n)) ps
+  all_below ps h = All-from_recursion (λ (p : ℕ × ℕ). (p.0 < n) × (p.1 < n)) ps (below_each ps h)
+
+none_among : (x : ℕ × ℕ) (ys : List (ℕ × ℕ)) → AllByRecursion (λ y. pair_cmp x y ≡ Less) ys → list_any (eq_by_cmp pair_cmp x) ys ≡ false
+none_among x [] all = refl
+none_among x (y ∷ ys) all = rw (all.0) (none_among x ys all.1)
+
+-- an ascending list has as many pairs as its set
+len_ascending : (ps : List (ℕ × ℕ)) → IsAscending ps → set.len (set.from_list {R = pair_cmp} ps) ≡ length ps
+len_ascending [] s = set.len-empty pair_cmp
+len_ascending (p ∷ ps) s =
+    let free : set.contains (set.from_list {R = pair_cmp} ps) p ≡ false =
+    set.contains-from_list pair_cmp_total ps p ∙ none_among p ps (sorted_head pair_cmp p ps s)
+    in
+    let rest : set.len (set.from_list {R = pair_cmp} ps) ≡ length ps = len_ascending ps (sorted_tail pair_cmp p ps s) in
+    set.len-insert pair_cmp_total (set.from_list ps) p ∙ rw free (omega arith)
 
 -- ---- one pair more
 
@@ -154,5 +185,5 @@ module _ (t : PolicyPart) (f : ℕ) (names : List (List ℕ)) (whole : Pairs) (n
   pairs_back = list_back (next_pair t f names) (pair_data names) (λ ps. set.from_list ps) all step ∙ ap Ok (rows_whole (length names) whole within)
 
   pub pairs_count : length all ≡ set.len whole
-  pairs_count = sym (len-from_list pair_cmp_total pair_cmp-IsAntisymmetric all (rows_ascend (length names) whole within)) ∙
+  pairs_count = sym (len_ascending all (rows_ascend (length names) whole within)) ∙
       ap set.len (rows_whole (length names) whole within)

@@ -3,7 +3,7 @@ pub use Rattle.std.proofs.Common.{Err, Some, [], ap, arith, false, length, map, 
 pub use Rattle.std.proofs.Common.{◌<◌, ◌∙◌, ◌∷◌, ◌≡◌}
 pub use Rattle.policy_reader.proofs.Words.{length-map, map-append, append-nil, length-append, slice_cmp, nat_list_cmp_total, pointwise, nat_list_eq_equiv}
 pub use Rattle.policy_reader.proofs.Words.{AllByRecursion, All, list_any, eq_by_cmp, ordering_reverse, eq_same, or_left, or_right, not_true, ◌>>=◌, each}
-pub use Rattle.policy_reader.proofs.Words.{pair_cmp_total, pair_cmp-IsAntisymmetric, all_empty, Pairs, pair_cmp, AllPairs, IsAscending, AreOfUsers, IsSoundRule}
+pub use Rattle.policy_reader.proofs.Words.{pair_cmp_total, pair_cmp-IsAntisymmetric, all_empty, Pairs, pair_cmp, AllPairs, AreOfUsers, IsSoundRule}
 pub use Rattle.policy_reader.proofs.Words.{AreSoundRules, any_below, entries, items, IsPrintable, Ascend, first_declared, names_of, is_complement, entry_of}
 pub use Rattle.policy_reader.proofs.Words.{Members, Data, view, members_view, table_view, FlowShape, is_before}
 pub use Rattle.std.proofs.lemmas.List.{get_or_default, take_more, length-take-le, take_all}
@@ -17,6 +17,7 @@ pub use Rattle.basics.proofs.Booleans.{and_same, and_swap, and-false, or-false, 
 pub use Rattle.constraint_forms.specs.Assign.{is_member}
 pub use Rattle.constraint_forms.specs.declared.rule.Rule.{Rule}
 pub use Rattle.basics.specs.PairLaws.{ascending_none}
+pub use Rattle.basics.specs.Pairs.{IsAscending}
 pub use Rattle.policy_book.specs.Facts.{IsSoundWorkflow}
 pub use Rattle.policy_book.specs.Policies.{no_workflow, flow_at}
 pub use Rattle.policy_book.specs.Shapes.{PolicyShape, WorkflowShape}
@@ -25,7 +26,7 @@ pub use Rattle.policy_printer.specs.Documents.{pair_data, pairs_data, relation_e
 pub use Rattle.policy_printer.specs.Documents.{permits_data, rules_data, document_of}
 pub use Rattle.policy_printer.specs.Named.{IsNamedPolicy, HasFlags, HaveFlags, IsNamedWorkflow}
 pub use Rattle.policy_reader.proofs.Fresh.{none_cons, among}
-pub use Rattle.policy_reader.proofs.Orders.{least_none, all_below}
+pub use Rattle.policy_reader.proofs.Orders.{least_none}
 pub use Rattle.policy_reader.specs.Formats.{file_keys, format_number}
 pub use Rattle.policy_printer.specs.Documents.{form_of, needs_second, written_format}
 pub use Rattle.policy_reader.specs.Forms.{knows_form}

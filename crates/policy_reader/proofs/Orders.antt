@@ -1,29 +1,16 @@
--- The order of a workflow, read as a set of pairs: the list of its pairs, and the least step before itself.
-use Rattle.std.proofs.Common.{◌≡◌, ℕ, zero, suc, ◌<◌, ◌≤◌, Bool, true, false, List, [], ◌∷◌, Option, None, Some, refl, ap, subst, ◌∙◌, inl, inr, arith, length}
-use Rattle.std.proofs.Common.{Ok, Err, Less, slice_index_or}
+-- The order of a workflow, read as a set of pairs: the least step before itself.
+use Rattle.std.proofs.Common.{◌≡◌, ℕ, zero, suc, ◌<◌, ◌≤◌, Bool, true, false, List, [], Option, None, Some, refl, ap, subst, ◌∙◌, inl, inr, arith, length}
+use Rattle.std.proofs.Common.{Ok, Err, slice_index_or}
 use Rattle.std.specs.FinSet as set
 use Rattle.policy_reader.specs.declared.fault.ReadFault.TheVariants as read
 use Rattle.policy_reader.specs.declared.fault.PolicyKind.TheVariants as kind
-use Rattle.policy_reader.proofs.Words.{cases_lt, list_any, All, AllByRecursion, eq_by_cmp, sorted_head, sorted_tail, not_true, or_right, STEP_LIMIT, Pairs}
-use Rattle.policy_reader.proofs.Words.{pair_cmp, IsAscending, pair_cmp_total, pair_cmp-IsAntisymmetric, all_insert, contains_inserted, Precedes, next, through}
-use Rattle.policy_reader.proofs.Words.{is_before, IsLeastCycle, has_twice, AreBelow, least_below, found_or, cycle_at, Fails, Flows, fault_of, fault_about}
-use Rattle.policy_reader.proofs.Words.{IsCycleOrMemory}
-use Rattle.std.proofs.lemmas.List.Elements.{All-from_recursion}
+use Rattle.policy_reader.proofs.Words.{cases_lt, not_true, STEP_LIMIT, Pairs, all_insert, Precedes, next, through, is_before, IsLeastCycle, AreBelow}
+use Rattle.policy_reader.proofs.Words.{least_below, found_or, cycle_at, Fails, Flows, fault_of, fault_about, IsCycleOrMemory}
 use Rattle.workflow_schema.specs.Laws.{OrderIsDecided}
 use Rattle.policy_reader.specs.Flows.{no_cycle}
 use Rattle.workflow_schema.specs.declared.fault.FlowFault.{FlowFault}
 use Rattle.workflow_schema.specs.declared.fault.FlowFault.TheVariants.{TooMany, Twice, Cycle, NoMemory}
 use Rattle.policy_reader.specs.declared.fault.ReadFault.{ReadFault}
-
-none_above : (x : ℕ × ℕ) (ys : List (ℕ × ℕ)) → AllByRecursion (λ y. pair_cmp x y ≡ Less) ys → list_any (eq_by_cmp pair_cmp x) ys ≡ false
-none_above x [] all = refl
-none_above x (y ∷ ys) all = rw (all.0) (none_above x ys all.1)
-
--- no pair stands twice in an ascending list
-pub once_each : (ps : List (ℕ × ℕ)) → IsAscending ps → has_twice ps ≡ false
-once_each [] s = refl
-once_each (p ∷ ps) s =
-    rw (set.contains-from_list pair_cmp_total ps p ∙ none_above p ps (sorted_head pair_cmp p ps s)) (once_each ps (sorted_tail pair_cmp p ps s))
 
 -- the least number that passes
 pub least_none : (n : ℕ) (test : ℕ → Bool) → ((t : ℕ) → t < n → test t ≡ false) → least_below n test ≡ None
@@ -103,20 +90,6 @@ pub permits_insert : (n : ℕ) (permits : Pairs) (r s : ℕ) → ((a b : ℕ) �
     set.contains (set.insert permits (r, s)) (a, b) ≡ true → a < n
 permits_insert n permits r s old here = (all_insert (λ a b. a < n) permits r s here (record { each = old })).each
 
-below_each : (n : ℕ) (ps : List (ℕ × ℕ)) → AreBelow n (set.from_list ps) → AllByRecursion (λ p. (p.0 < n) × (p.1 < n)) ps
-below_each n [] h = tt
-below_each n (p ∷ ps) h = (
-  h.each p.0 p.1 (contains_inserted pair_cmp_total pair_cmp-IsAntisymmetric (set.from_list ps) p),
-  below_each n ps (record {
-    each =
-        λ a b here. h.each a b (set.contains-insert pair_cmp_total (set.from_list ps) p (a, b) ∙ or_right (eq_by_cmp pair_cmp (a, b) p) _ here);
-  }),
-)
-
--- the pairs of a list whose set is below n
-pub all_below : (n : ℕ) (ps : List (ℕ × ℕ)) → AreBelow n (set.from_list ps) → All (λ p. (p.0 < n) × (p.1 < n)) ps
-all_below n ps h = All-from_recursion (λ (p : ℕ × ℕ). (p.0 < n) × (p.1 < n)) ps (below_each n ps h)
-
 pub below_limit : (n m : ℕ) (pairs : Pairs) → n ≤ m → AreBelow n pairs → AreBelow m pairs
 below_limit n m pairs le h = record { each = λ a b here. let both = h.each a b here in (omega (arith, le, both.0), omega (arith, le, both.1)) }
 
@@ -131,6 +104,13 @@ no_cycle-err : (f : ℕ) (steps : List (List ℕ)) (order : Pairs) (s : ℕ) →
     → no_cycle f steps order ≡ Err (fault_about kind.Cycle Flows f (slice_index_or steps s []))
 unfolding no_cycle
 no_cycle-err f steps order s e = ap (cycle_at f steps) e
+
+-- a workflow that was refused neither for its count nor for a pair that stands twice
+pub other_fault : (counted : Bool) (fault : FlowFault) → counted ≡ true → (fault ≡ TooMany → counted ≡ false) → (fault ≡ Twice → ⊥) → IsCycleOrMemory fault
+other_fault counted TooMany is many twice = let not = many refl in cc
+other_fault counted Twice is many twice = twice refl
+other_fault counted (Cycle s) is many twice = tt
+other_fault counted NoMemory is many twice = tt
 
 pub refused : (fault : FlowFault) (result : ReadFault) (f : ℕ) (steps : List (List ℕ)) (order : Pairs) → IsCycleOrMemory fault
     → ((s : ℕ) → fault ≡ Cycle s → result ≡ read.Policy (fault_about kind.Cycle Flows f (slice_index_or steps s [])))

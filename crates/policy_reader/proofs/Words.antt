@@ -1,16 +1,16 @@
 -- The words that the proofs of this crate cite most, passed on from one place. Declares nothing.
-pub use Rattle.std.proofs.Common.{Err, IsTrue, Some, [], ap, arith, drop, false, length, map, refl, subst, sym, take, true, ◌+◌, ◌<◌, ◌∙◌, ◌≡◌, ◌≤◌}
+pub use Rattle.std.proofs.Common.{Err, IsTrue, Some, [], ap, arith, drop, false, length, map, refl, subst, sym, true, ◌+◌, ◌<◌, ◌∙◌, ◌≡◌, ◌≤◌}
 pub use Rattle.std.proofs.lemmas.Bool.{cases_lt}
 pub use Rattle.std.proofs.lemmas.List.{length-map, length-append, map-append, append-nil}
-pub use Rattle.std.proofs.lemmas.Map.Keys.{IsDistinct-push, sorted_head, sorted_tail}
+pub use Rattle.std.proofs.lemmas.Map.Keys.{IsDistinct-push}
 pub use Rattle.std.specs.Cmp.Lexicographic.{slice_cmp, pointwise, nat_list_cmp_total, texts_ties, nat_list_eq_equiv}
 pub use Rattle.std.specs.List.{AllByRecursion, list_any, All}
 pub use Rattle.std.specs.Ordering.{ordering_reverse, eq_by_cmp}
 pub use Rattle.basics.proofs.Booleans.{or_left, or_right, or_false, eq_same, eq_below, not_true}
 pub use Rattle.constraint_forms.specs.Rules.{any_from}
 pub use Rattle.basics.specs.Reading.{◌>>=◌, each, or_fault, Fails}
-pub use Rattle.basics.specs.PairLaws.{pair_cmp_total, pair_cmp-IsAntisymmetric, all_insert, contains_inserted, all_empty}
-pub use Rattle.basics.specs.Pairs.{Pairs, AllPairs, pair_cmp, IsAscending}
+pub use Rattle.basics.specs.PairLaws.{pair_cmp_total, pair_cmp-IsAntisymmetric, all_insert, all_empty}
+pub use Rattle.basics.specs.Pairs.{Pairs, AllPairs, pair_cmp}
 pub use Rattle.policy_book.specs.Facts.{IsSoundRule, AreOfUsers, PermitsRolesBelow, AreSoundRules}
 pub use Rattle.policy_book.specs.Policies.{any_below}
 pub use Rattle.policy_reader.specs.Bounds.{AreBelow}
@@ -29,4 +29,4 @@ pub use Rattle.toml.specs.View.{view, members_view, items_view, table_view}
 pub use Rattle.toml.specs.declared.value.Value.{Value}
 pub use Rattle.user_relations.specs.View.{kind_view, shapes}
 pub use Rattle.wf_names.specs.declared.limits.TheConstants.{RELATION_LIMIT, USER_LIMIT, STEP_LIMIT, ROLE_LIMIT}
-pub use Rattle.workflow_schema.specs.Flows.{is_count, Precedes, next, through, is_before, IsLeastCycle, has_twice, FlowShape}
+pub use Rattle.workflow_schema.specs.Flows.{is_count, Precedes, next, through, is_before, IsLeastCycle, FlowShape}

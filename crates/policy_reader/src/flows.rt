@@ -60,7 +60,7 @@ fn ordered_flow(
     ensures bare { IfOk result (λ f. f.permits ≡ set.empty) }
     ensures steps { IfOk result (λ f. f.steps ≡ steps.now.names) }
 {
-    let order = read_order(alloc, steps, table, number)?;
+    let order = read_order(steps, table, number)?;
     make_flow(alloc, steps, &order, number)
 }
 

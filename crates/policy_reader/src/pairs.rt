@@ -1,8 +1,9 @@
-//! Reads pairs of declared names, and those of a listed relation, each straight into its rows.
+//! Reads pairs of declared names: those of a listed relation and those of an order, each straight
+//! into its rows.
 ghost use Rattle.std.specs.Prelude.{◌≡◌, ◌<◌, ◌≤◌, ◌+◌, length, IfOk, OnOk, option_map};
 ghost use Rattle.std.specs.FinSet as set;
 ghost use Rattle.toml.specs.View.{view, items_view};
-ghost use Rattle.wf_names.specs.declared.limits.TheConstants.{USER_LIMIT};
+ghost use Rattle.wf_names.specs.declared.limits.TheConstants.{STEP_LIMIT, USER_LIMIT};
 ghost use Rattle.policy_reader.specs.Bounds.{AreBelow};
 ghost use Rattle.policy_reader.specs.Faults.{fault_of, fault_about};
 ghost use Rattle.policy_reader.specs.declared.fault.ReadFault.TheVariants.{Policy};
@@ -15,7 +16,8 @@ use crate::parts::number_of;
 use std::alloc::Global;
 use toml::Value;
 use user_relations::UserPairs;
-use wf_names::{NameTable, UserId};
+use wf_names::{NameTable, StepId, UserId};
+use workflow_schema::StepPairs;
 
 /// The two texts of an array of two texts.
 fn two_texts(value: &Value) -> Option<(&str, &str)>
@@ -133,6 +135,52 @@ fn next_user_pair(
 {
     let (u, v) = named_pair(users, value, part, index)?;
     if pairs.insert(UserId(u), UserId(v))? {
+        Ok(())
+    } else {
+        Err(twice_pair(value, part, index))
+    }
+}
+
+/// Reads a set of pairs of declared steps.
+#[tactic(auto, using(basics::specs::PairLaws::all_empty))]
+pub(crate) fn read_step_pairs(
+    steps: &NameTable,
+    items: &[Value],
+    part: PolicyPart,
+    index: u32,
+) -> Result<StepPairs, ReadFault>
+    requires few { length steps.now.names ≤ STEP_LIMIT }
+    ensures read { Gives fault_of (λ pairs. pairs) result
+        (each (parts.next_pair part index steps.now.names) set.empty
+        (parts.items (items_view items.now))) }
+    ensures within { IfOk result (λ pairs. AreBelow (length steps.now.names) pairs) }
+{
+    let mut pairs = StepPairs::new();
+    'items: for value in items {
+        if let Err(fault) = next_step_pair(steps, &mut pairs, value, part, index) {
+            return Err(fault);
+        }
+    }
+    Ok(pairs)
+}
+
+// Puts the next pair of declared steps in.
+#[tactic(auto, unfolding(crate::specs::Parts::next_pair, crate::specs::Parts::once), using(basics::specs::PairLaws::all_insert))]
+fn next_step_pair(
+    steps: &NameTable,
+    pairs: &mut StepPairs,
+    value: &Value,
+    part: PolicyPart,
+    index: u32,
+) -> Result<(), ReadFault>
+    requires few { length steps.now.names ≤ STEP_LIMIT }
+    requires within { AreBelow (length steps.now.names) pairs.old }
+    ensures read { Gives fault_of (λ _. pairs.new) result
+        (parts.next_pair part index steps.now.names pairs.old (view value.now)) }
+    ensures within { OnOk result (AreBelow (length steps.now.names) pairs.new) }
+{
+    let (s, t) = named_pair(steps, value, part, index)?;
+    if pairs.insert(StepId(s as u8), StepId(t as u8)) {
         Ok(())
     } else {
         Err(twice_pair(value, part, index))

@@ -3,8 +3,6 @@
 ghost use Rattle.std.specs.Prelude.{◌≡◌, ◌<◌, ◌≤◌, ◌+◌, length, map, IfOk, OnOk, option_map};
 ghost use Rattle.toml.specs.View.{view, items_view, table_view, array_view};
 ghost use Rattle.toml.specs.Data.{Data, get_member};
-ghost use Rattle.std.specs.FinSet as set;
-ghost use Rattle.policy_reader.specs.Bounds.{AreBelow};
 ghost use Rattle.policy_reader.specs.Faults.{fault_of, fault_about};
 ghost use Rattle.policy_reader.specs.declared.fault.ReadFault.TheVariants.{Policy};
 ghost use Rattle.policy_reader.specs.declared.fault.PolicyKind.TheVariants as kind;
@@ -12,8 +10,6 @@ ghost use Rattle.policy_reader.specs.Parts as parts;
 ghost use Rattle.basics.specs.Reading.{Gives, each};
 
 use crate::fault::{PolicyKind, PolicyPart, ReadFault, refuse, refuse_text};
-use crate::pairs::{named_pair, twice_pair};
-use basics::PairSet;
 use std::alloc::Global;
 use toml::Value;
 use toml::value::{Array, Table};
@@ -269,51 +265,6 @@ pub(crate) fn next_name(
         Err(NameFault::Full) => unreachable!(),
         Err(NameFault::NoMemory) => Err(ReadFault::NoMemory),
     }
-}
-
-/// Puts the next pair of declared names in.
-#[tactic(auto, unfolding(crate::specs::Parts::next_pair, crate::specs::Parts::once), using(basics::specs::PairLaws::all_insert))]
-fn next_pair(
-    names: &NameTable,
-    pairs: &mut PairSet,
-    value: &Value,
-    part: PolicyPart,
-    index: u32,
-) -> Result<(), ReadFault>
-    requires within { AreBelow (length names.now.names) pairs.old }
-    ensures read { Gives fault_of (λ _. pairs.new) result
-        (parts.next_pair part index names.now.names pairs.old (view value.now)) }
-    ensures within { OnOk result (AreBelow (length names.now.names) pairs.new) }
-{
-    let (a, b) = named_pair(names, value, part, index)?;
-    if pairs.insert(a, b)? {
-        Ok(())
-    } else {
-        Err(twice_pair(value, part, index))
-    }
-}
-
-/// Reads a set of pairs of declared names.
-#[tactic(auto, using(basics::specs::PairLaws::all_empty))]
-pub(crate) fn read_pairs(
-    alloc: Global,
-    names: &NameTable,
-    items: &[Value],
-    part: PolicyPart,
-    index: u32,
-) -> Result<PairSet, ReadFault>
-    ensures read { Gives fault_of (λ pairs. pairs) result
-        (each (parts.next_pair part index names.now.names) set.empty
-        (parts.items (items_view items.now))) }
-    ensures within { IfOk result (λ pairs. AreBelow (length names.now.names) pairs) }
-{
-    let mut pairs = PairSet::new(alloc);
-    'items: for value in items {
-        if let Err(fault) = next_pair(names, &mut pairs, value, part, index) {
-            return Err(fault);
-        }
-    }
-    Ok(pairs)
 }
 
 /// Refuses the least key that is not one of the known ones.

@@ -1,12 +1,11 @@
 //! Reads the steps, the order and the permissions of a workflow. Their faults carry the
 //! workflow's number.
-ghost use Rattle.std.specs.Prelude.{◌≡◌, ◌<◌, ◌≤◌, ℕ, ◌↔◌, false, length, slice_index_or, IsErrOf};
-ghost use Rattle.std.specs.Prelude.{IfErr, IfOk, OnOk, true, []};
-ghost use Rattle.std.specs.List.{All};
+ghost use Rattle.std.specs.Prelude.{◌≡◌, ◌<◌, ◌≤◌, ℕ, length, slice_index_or, IfOk, OnOk, true};
+ghost use Rattle.std.specs.Prelude.{[]};
 ghost use Rattle.std.specs.FinSet as set;
 ghost use Rattle.toml.specs.View.{view, items_view, table_view};
 ghost use Rattle.wf_names.specs.declared.limits.TheConstants.{ROLE_LIMIT, STEP_LIMIT};
-ghost use Rattle.workflow_schema.specs.Flows.{is_count, has_twice, IsLeastCycle};
+ghost use Rattle.workflow_schema.specs.Flows.{is_count};
 ghost use Rattle.policy_book.specs.Facts.{PermitsRolesBelow};
 ghost use Rattle.policy_reader.specs.Bounds.{AreBelow};
 ghost use Rattle.policy_reader.specs.Kept.{IsCycleOrMemory};
@@ -21,16 +20,14 @@ ghost use Rattle.policy_reader.specs.Grammars.{today};
 ghost use Rattle.basics.specs.Reading.{Gives, each};
 
 use crate::fault::{PolicyKind, PolicyPart, ReadFault, refuse_text};
-use crate::parts::{
-    array_of, find, items_at, named_of, next_name, number_of, read_pairs, table_at, twice,
-};
-use basics::PairSet;
-use std::alloc::{AllocError, Global};
+use crate::pairs::read_step_pairs;
+use crate::parts::{array_of, find, items_at, named_of, next_name, number_of, table_at, twice};
+use std::alloc::Global;
 use toml::Value;
 use toml::value::Table;
 use wf_names::{NameTable, RoleId, STEP_LIMIT, StepId};
 use workflow_schema::laws::order_is_chained;
-use workflow_schema::{Flow, FlowFault};
+use workflow_schema::{Flow, FlowFault, StepPairs};
 
 /// Reads the steps of a workflow.
 #[tactic(auto, unfolding(crate::specs::Flows::steps_named), using(crate::proofs::Counts::counted))]
@@ -61,22 +58,22 @@ fn all_steps(alloc: Global, items: &[Value], flow: u32) -> Result<NameTable, Rea
 }
 
 /// Reads the pairs of a workflow's order.
-#[tactic(auto, unfolding(crate::specs::Flows::order_pairs, crate::specs::Flows::order_in), using(basics::specs::PairLaws::all_empty))]
+#[tactic(auto, unfolding(crate::specs::Flows::order_pairs, crate::specs::Flows::order_in), using(basics::specs::PairLaws::all_empty, workflow_schema::proofs::Kept::few_steps))]
 pub(crate) fn read_order(
-    alloc: Global,
     steps: &NameTable,
     table: &Table,
     flow: u32,
-) -> Result<PairSet, ReadFault>
+) -> Result<StepPairs, ReadFault>
+    requires { is_count (length steps.now.names) ≡ true }
     ensures read { Gives fault_of (λ pairs. pairs) result
         (spec.order_pairs flow steps.now.names (table_view table.now)) }
     ensures within { IfOk result (AreBelow (length steps.now.names)) }
 {
     let Some(value) = find(table, "order") else {
-        return Ok(PairSet::new(alloc));
+        return Ok(StepPairs::new());
     };
     let items = array_of(value, PolicyPart::Flows, flow)?;
-    read_pairs(alloc, steps, items, PolicyPart::Flows, flow)
+    read_step_pairs(steps, items, PolicyPart::Flows, flow)
 }
 
 /// Makes the workflow of these steps and this order, which permits nothing yet, where no step is
@@ -85,7 +82,7 @@ pub(crate) fn read_order(
 pub(crate) fn make_flow(
     alloc: Global,
     steps: &NameTable,
-    order: &PairSet,
+    order: &StepPairs,
     flow: u32,
 ) -> Result<Flow, ReadFault>
     requires counted { is_count (length steps.now.names) ≡ true }
@@ -95,9 +92,8 @@ pub(crate) fn make_flow(
         { steps = steps.now.names; order = order.now; permits = set.empty }) }
 {
     order_is_chained();
-    let pairs = step_pairs(alloc, order.as_slice())?;
     let names = steps.copy()?;
-    match order_flow(alloc, names, &pairs) {
+    match Flow::ordered_by(alloc, names, order) {
         Ok(made) => Ok(made),
         Err(fault) => Err(flow_fault(steps, fault, flow)),
     }
@@ -119,39 +115,6 @@ fn flow_fault(steps: &NameTable, fault: FlowFault, flow: u32) -> ReadFault
         FlowFault::NoMemory => ReadFault::NoMemory,
         _ => unreachable!(),
     }
-}
-
-fn order_flow(
-    alloc: Global,
-    steps: NameTable,
-    pairs: &[(StepId, StepId)],
-) -> Result<Flow, FlowFault>
-    requires counted { is_count (length steps.names) ≡ true }
-    requires within { All (λ p. (p.0 < length steps.names) × (p.1 < length steps.names)) pairs.now }
-    requires once { has_twice pairs.now ≡ false }
-    ensures made { IfOk result (λ f. f ≡ record
-        { steps = steps.names; order = set.from_list pairs.now; permits = set.empty }) }
-    ensures cycle { (s : ℕ) → IsErrOf result (FlowFault.Cycle s)
-        ↔ IsLeastCycle (set.from_list pairs.now) s }
-    ensures known { IfErr result IsCycleOrMemory }
-{
-    Flow::build(alloc, steps, pairs, &[])
-}
-
-fn step_pairs(alloc: Global, pairs: &[(u16, u16)]) -> Result<Vec<(StepId, StepId)>, AllocError>
-    requires { All (λ p. (p.0 < STEP_LIMIT) × (p.1 < STEP_LIMIT)) pairs.now }
-    ensures { IfOk result (λ steps. steps.items ≡ pairs.now) }
-{
-    let mut steps = Vec::new(alloc);
-    'pairs: for pair in pairs {
-        if steps
-            .push((StepId(pair.0 as u8), StepId(pair.1 as u8)))
-            .is_err()
-        {
-            return Err(AllocError);
-        }
-    }
-    Ok(steps)
 }
 
 /// Permits a step to the next role.

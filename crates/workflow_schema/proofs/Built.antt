@@ -1,21 +1,17 @@
--- A workflow that is made of lists of pairs, and the cycles of such a list.
-use Rattle.std.proofs.Common.{◌≡◌, ◌≢◌, ℕ, suc, ◌<◌, ◌≤◌, inl, inr, true, false, ◌&&◌, nat_eq, nat_lt, nat_le, List, [], ◌∷◌, length, refl, sym, subst, ◌∙◌}
-use Rattle.std.proofs.Common.{arith}
+-- A workflow that is made of lists of pairs, and the cycles of an order.
+use Rattle.std.proofs.Common.{◌≡◌, ℕ, suc, ◌<◌, inl, inr, true, false, ◌&&◌, nat_eq, nat_lt, List, [], ◌∷◌, length, refl, sym, subst, ◌∙◌, arith}
 use Rattle.std.specs.List.{All}
 use Rattle.std.specs.FinSet as set
-use Rattle.basics.specs.Pairs.{Pairs, pair_cmp}
+use Rattle.basics.specs.Pairs.{Pairs, AllPairs, pair_cmp}
 use Rattle.wf_names.specs.declared.limits.TheConstants.{ROLE_LIMIT, STEP_LIMIT}
-use Rattle.workflow_schema.specs.Tables.{table_has, leads}
+use Rattle.workflow_schema.specs.Tables.{table_has, leads, pairs_in, permitted_by}
 use Rattle.workflow_schema.specs.Flows.{Precedes, is_before, is_count, IsLeastCycle}
-use Rattle.workflow_schema.specs.Stored.{IsStoredFlow}
-use Rattle.basics.proofs.Booleans.{or_cases, and_both, and_from, eq_back, lt_back, lt_back_no, lt_yes, le_yes}
+use Rattle.workflow_schema.specs.Stored.{IsClosedOrder, IsStoredFlow}
+use Rattle.basics.proofs.Booleans.{or_cases, and_both, eq_back, lt_back, lt_back_no}
 use Rattle.workflow_schema.proofs.Chains.{before_is_chain, chain_is_before}
 use Rattle.workflow_schema.proofs.PairLists.{contains-one_more}
-use Rattle.workflow_schema.proofs.Permits.{permitted_by-has}
+use Rattle.workflow_schema.proofs.TableSets.{pairs_in-has}
 use Rattle.workflow_schema.proofs.Kept.{few_steps}
-
-pub counted : (n count : ℕ) → count ≡ n → count ≢ 0 → count ≤ STEP_LIMIT → is_count n ≡ true
-counted n count e some few = and_from (nat_lt 0 n) (nat_le n STEP_LIMIT) (lt_yes 0 n (omega arith)) (le_yes n STEP_LIMIT (omega arith))
 
 -- what holds of each pair of a list holds of each pair of its set
 pub all_of : (P : (ℕ × ℕ) → Type 0) (ps : List (ℕ × ℕ)) (a b : ℕ) → All P ps → set.contains (set.from_list {R = pair_cmp} ps) (a, b) ≡ true → P (a, b)
@@ -29,29 +25,25 @@ all_of P (p ∷ ps) a b h found =
       | inr e ↦ all_of P ps a b (λ k d lt. h (suc k) d (omega arith)) e
     ]
 
-pub closed_order :
-    (order : Pairs) (later rows : List ℕ) → length later ≡ STEP_LIMIT →
-    ((s t : ℕ) → table_has later s t ≡ set.contains order (s, t)) →
-    ((s t : ℕ) → table_has rows s t ≡ leads (length later) (table_has later) s t) →
-    (s t : ℕ) → table_has rows s t ≡ is_before order s t
+pub closed_order : (rows later : List ℕ) → length rows ≡ STEP_LIMIT →
+    ((s t : ℕ) → table_has later s t ≡ leads (length rows) (table_has rows) s t) →
+    (s t : ℕ) → table_has later s t ≡ is_before (pairs_in rows) s t
 unfolding is_before
-closed_order order later rows whole same closed s t = closed s t ∙ (λ i. leads (whole i) (λ a b. same a b i) s t)
+closed_order rows later whole closed s t = closed s t ∙ (λ i. leads (whole i) (λ a b. sym (pairs_in-has rows a b) i) s t)
 
-module _ (n : ℕ) (ps : List (ℕ × ℕ)) (rows : List ℕ)
-    (few : n ≤ STEP_LIMIT)
-    (inside : All (λ (p : ℕ × ℕ). (p.0 < n) × (p.1 < n)) ps)
-    (closed : (s t : ℕ) → table_has rows s t ≡ is_before (set.from_list {R = pair_cmp} ps) s t) where
-  below : (a b : ℕ) → set.contains (set.from_list {R = pair_cmp} ps) (a, b) ≡ true → b < STEP_LIMIT
-  below a b found = let e = all_of (λ (p : ℕ × ℕ). (p.0 < n) × (p.1 < n)) ps a b inside found in let second = e.1 in omega arith
+module _ (order : Pairs) (later : List ℕ) (within : AllPairs (λ _ t. t < STEP_LIMIT) order)
+    (closed : (s t : ℕ) → table_has later s t ≡ is_before order s t) where
+  own_cycle : (s : ℕ) → table_has later s s ≡ true → Precedes order s s
+  own_cycle s h = before_is_chain order s s (sym (closed s s) ∙ h)
 
-  pub own_cycle : (s : ℕ) → table_has rows s s ≡ true → Precedes (set.from_list ps) s s
-  own_cycle s h = before_is_chain (set.from_list ps) s s (sym (closed s s) ∙ h)
+  no_cycle : (s : ℕ) → table_has later s s ≡ false → ¬ Precedes order s s
+  no_cycle s h r = let found = closed s s ∙ chain_is_before order s s within.each r in absurd (cc)
 
-  pub no_cycle : (s : ℕ) → table_has rows s s ≡ false → ¬ Precedes (set.from_list ps) s s
-  no_cycle s h r = let found = closed s s ∙ chain_is_before (set.from_list ps) s s below r in absurd (cc)
-
-  pub least_cycle : (s : ℕ) → table_has rows s s ≡ true → ((t : ℕ) → t < s → table_has rows t t ≡ false) → IsLeastCycle (set.from_list ps) s
+  pub least_cycle : (s : ℕ) → table_has later s s ≡ true → ((t : ℕ) → t < s → table_has later t t ≡ false) → IsLeastCycle order s
   least_cycle s h none = record { cycle = own_cycle s h; least = λ t lt. no_cycle t (none t lt) }
+
+  pub acyclic_order : ((s : ℕ) → table_has later s s ≡ false) → IsClosedOrder order later
+  acyclic_order none = record { closed = closed; acyclic = λ s. no_cycle s (none s) }
 
 pub one_least : (order : Pairs) (s t : ℕ) → IsLeastCycle order s → IsLeastCycle order t → s ≡ t
 one_least order s t h i =
@@ -64,26 +56,26 @@ one_least order s t h i =
           ] refl
     ] refl
 
-pub built_flow :
-    (steps : List (List ℕ)) (order permits : List (ℕ × ℕ)) (later roles : List ℕ) →
+-- the pairs of a list within bounds, as a set
+pub listed_within : (m n : ℕ) (ps : List (ℕ × ℕ)) → All (λ (p : ℕ × ℕ). (p.0 < m) × (p.1 < n)) ps →
+    AllPairs (λ a b. (a < m) × (b < n)) (set.from_list ps)
+listed_within m n ps h = record { each = λ a b found. all_of (λ (p : ℕ × ℕ). (p.0 < m) × (p.1 < n)) ps a b h found }
+
+-- a workflow's steps are below the limit
+pub order_below : (n : ℕ) (order : Pairs) → is_count n ≡ true → AllPairs (λ s t. (s < n) × (t < n)) order → AllPairs (λ _ t. t < STEP_LIMIT) order
+order_below n order count within = record {
+  each = λ a b found. let second = (within.each a b found).1 in let few = few_steps n count in omega (arith, second, few);
+}
+
+pub built_flow : (steps : List (List ℕ)) (order : Pairs) (later roles : List ℕ) →
     is_count (length steps) ≡ true →
-    All (λ (p : ℕ × ℕ). (p.0 < length steps) × (p.1 < length steps)) order →
-    All (λ (p : ℕ × ℕ). (p.0 < ROLE_LIMIT) × (p.1 < length steps)) permits →
-    ((s t : ℕ) → table_has later s t ≡ is_before (set.from_list {R = pair_cmp} order) s t) →
-    ((s : ℕ) → table_has later s s ≡ false) →
-    ((s r : ℕ) → table_has roles s r ≡ set.contains (set.from_list {R = pair_cmp} permits) (r, s)) →
+    AllPairs (λ s t. (s < length steps) × (t < length steps)) order →
+    IsClosedOrder order later →
+    AllPairs (λ r s. (r < ROLE_LIMIT) × (s < length steps)) (permitted_by roles) →
     length roles ≡ STEP_LIMIT →
-    IsStoredFlow steps (set.from_list order) later roles
-built_flow steps order permits later roles count orders_in permits_in closed none same whole = record {
-  flow = record {
-    counted = count;
-    orders = record { each = λ a b found. all_of (λ (p : ℕ × ℕ). (p.0 < length steps) × (p.1 < length steps)) order a b orders_in found };
-    acyclic = λ s. no_cycle (length steps) order later (few_steps (length steps) count) orders_in closed s (none s);
-    permitted = record {
-      each = λ r s found. all_of (λ (p : ℕ × ℕ). (p.0 < ROLE_LIMIT) × (p.1 < length steps)) permits r s permits_in
-          (sym (same s r) ∙ sym (permitted_by-has roles r s) ∙ found);
-    };
-  };
-  closed = closed;
+    IsStoredFlow steps order later roles
+built_flow steps order later roles count orders closed permitted whole = record {
+  flow = record { counted = count; orders = orders; acyclic = closed.acyclic; permitted = permitted };
+  closed = closed.closed;
   rows = whole;
 }

@@ -9,7 +9,7 @@ use Rattle.workflow_schema.specs.Flows.{FlowShape, Precedes, is_before, is_count
 use Rattle.workflow_schema.specs.Stored.{IsStoredFlow}
 use Rattle.basics.proofs.Booleans.{or_cases, and_both, eq_back, le_back}
 use Rattle.workflow_schema.proofs.Chains.{before_is_chain, chain_is_before}
-use Rattle.workflow_schema.proofs.Permits.{permitted_by-has}
+use Rattle.workflow_schema.proofs.TableSets.{permitted_by-has}
 
 pub few_steps : (n : ℕ) → is_count n ≡ true → n ≤ STEP_LIMIT
 few_steps n h = le_back n STEP_LIMIT (and_both (nat_lt 0 n) (nat_le n STEP_LIMIT) h).1

@@ -2,6 +2,6 @@ pub mod Words
 pub mod Rows
 pub mod Chains
 pub mod PairLists
-pub mod Permits
+pub mod TableSets
 pub mod Kept
 pub mod Built

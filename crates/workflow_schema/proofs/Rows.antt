@@ -1,5 +1,5 @@
 -- What the flags of tables are after a step of the code.
-use Rattle.std.proofs.Common.{◌≡◌, ◌≢◌, ℕ, ◌+◌, ◌<◌, ◌≤◌, inl, inr, Bool, true, false, not, ◌&&◌, ◌||◌, nat_eq, nat_lt, List, length, get_or, set, refl, sym}
+use Rattle.std.proofs.Common.{◌≡◌, ℕ, ◌+◌, ◌<◌, ◌≤◌, inl, inr, Bool, true, false, not, ◌&&◌, ◌||◌, nat_eq, nat_lt, List, length, get_or, set, refl, sym}
 use Rattle.std.proofs.Common.{ap, subst, ◌∙◌, add-one, get_or-set_same, get_or-set_other}
 use Rattle.std.proofs.Math.Nat.{le_trans}
 use Rattle.std.proofs.lemmas.List.{get_or_past}

@@ -3,7 +3,12 @@ use Rattle.std.specs.Prelude.{◌≡◌, ℕ, List, length}
 use Rattle.basics.specs.Pairs.{Pairs}
 use Rattle.wf_names.specs.declared.limits.TheConstants.{STEP_LIMIT}
 use Rattle.workflow_schema.specs.Tables.{table_has, permitted_by}
-use Rattle.workflow_schema.specs.Flows.{IsFlow, is_before}
+use Rattle.workflow_schema.specs.Flows.{IsFlow, Precedes, is_before}
+
+-- no step comes before itself in the order, and the table tells which comes before which
+pub record IsClosedOrder (order : Pairs) (later : List ℕ) : Type 0 where
+  pub closed : (s t : ℕ) → table_has later s t ≡ is_before order s t
+  pub acyclic : (s : ℕ) → ¬ Precedes order s s
 
 -- the tables are those of a workflow, and the order's table is closed
 pub record IsStoredFlow (steps : List (List ℕ)) (order : Pairs) (later roles : List ℕ) : Type

@@ -3,14 +3,16 @@ ghost use Rattle.std.specs.Prelude.{◌≡◌, ℕ, ◌<◌, ◌↔◌, true, fa
 ghost use Rattle.std.specs.Prelude.{IsErrOf, IsTrue};
 ghost use Rattle.std.specs.List.{All};
 ghost use Rattle.std.specs.FinSet as set;
-ghost use Rattle.wf_names.specs.declared.limits.TheConstants.{ROLE_LIMIT};
+ghost use Rattle.basics.specs.Pairs.{AllPairs};
+ghost use Rattle.wf_names.specs.declared.limits.TheConstants.{ROLE_LIMIT, STEP_LIMIT};
 ghost use Rattle.workflow_schema.specs.Flows.{has_twice, is_before, is_count, IsFlow, IsLeastCycle};
 ghost use Rattle.workflow_schema.specs.Flows.{Precedes};
+ghost use Rattle.workflow_schema.specs.Stored.{IsClosedOrder};
 
-use crate::FlowFault;
-use crate::lists::{order_set, order_table, permit_table};
-use crate::table::{clear_flag, close, first_own_flag, has_flag, set_flag};
-use basics::{PairSet, Shared};
+use crate::lists::{order_table, permit_table};
+use crate::table::{clear_flag, has_flag, set_flag};
+use crate::{FlowFault, StepPairs};
+use basics::Shared;
 use std::alloc::{AllocError, Global};
 use std::marker::Model;
 use wf_names::{NameTable, RoleId, STEP_LIMIT, StepId};
@@ -19,7 +21,7 @@ use wf_names::{NameTable, RoleId, STEP_LIMIT, StepId};
 #[derive(Drop)]
 struct Frame {
     steps: NameTable,
-    order: PairSet,
+    order: StepPairs,
     // Row s has the flag t where s comes before t.
     later: [u64; STEP_LIMIT],
 }
@@ -82,21 +84,39 @@ impl Flow {
             × ((has_twice order.now || has_twice permits.now) ≡ false)
             × IsLeastCycle (set.from_list order.now) s) }
     {
-        let count = steps.len() as usize;
-        if count == 0 || STEP_LIMIT < count {
+        if !is_counted(&steps) {
             return Err(FlowFault::TooMany);
         }
-        let (mut later, roles) = match (order_table(order), permit_table(permits)) {
-            (Some(later), Some(roles)) => (later, roles),
+        let (order, roles) = match (order_table(order), permit_table(permits)) {
+            (Some(order), Some(roles)) => (order, roles),
             _ => return Err(FlowFault::Twice),
         };
-        close(&mut later);
-        if let Some(s) = first_own_flag(&later) {
-            return Err(FlowFault::Cycle(s));
-        }
-        match frame_of(alloc, steps, order, later) {
+        match frame_of(alloc, steps, &order) {
             Ok(frame) => Ok(Flow { frame, roles }),
-            Err(_) => Err(FlowFault::NoMemory),
+            Err(fault) => Err(fault),
+        }
+    }
+
+    /// A workflow of these steps in this order, which permits nothing yet.
+    pub fn ordered_by(alloc: Global, steps: NameTable, order: &StepPairs) -> Result<Flow, FlowFault>
+        requires { AllPairs (λ s t. (s < length steps.names) × (t < length steps.names)) order.now }
+        ensures built { IfOk result (λ f. f
+            ≡ record { steps = steps.names; order = order.now; permits = set.empty }) }
+        ensures too_many { IsErrOf result FlowFault.TooMany
+            ↔ (is_count (length steps.names) ≡ false) }
+        ensures single { ¬ IsErrOf result FlowFault.Twice }
+        ensures cycle { (s : ℕ) → IsErrOf result (FlowFault.Cycle s)
+            ↔ ((is_count (length steps.names) ≡ true) × IsLeastCycle order.now s) }
+    {
+        if !is_counted(&steps) {
+            return Err(FlowFault::TooMany);
+        }
+        match frame_of(alloc, steps, order) {
+            Ok(frame) => Ok(Flow {
+                frame,
+                roles: [0; STEP_LIMIT],
+            }),
+            Err(fault) => Err(fault),
         }
     }
 
@@ -120,7 +140,7 @@ impl Flow {
     pub fn ordered(&self, s: StepId, t: StepId) -> bool
         ensures { result ≡ set.contains self.now.order (s, t) }
     {
-        self.frame.get().order.has(s.0 as u16, t.0 as u16)
+        self.frame.get().order.has(s, t)
     }
 
     /// Whether a role is permitted for a step.
@@ -169,23 +189,34 @@ impl Flow {
     }
 }
 
-// The frame of these steps, where `order` has the pairs (before, after) and `later` their closure.
-fn frame_of(
-    alloc: Global,
-    steps: NameTable,
-    order: &[(StepId, StepId)],
-    later: [u64; STEP_LIMIT],
-) -> Result<Shared<Frame>, AllocError>
-    ensures { IfOk result (λ f. f ≡ record
-        { steps = steps; order = set.from_list order.now; later = later }) }
+// Whether a workflow can have as many steps.
+fn is_counted(steps: &NameTable) -> bool
+    ensures { result ≡ is_count (length steps.now.names) }
 {
-    let order = order_set(alloc, order)?;
-    Shared::new(
-        alloc,
-        Frame {
-            steps,
-            order,
-            later,
-        },
-    )
+    let count = steps.len() as usize;
+    0 < count && count <= STEP_LIMIT
+}
+
+// The frame of these steps in this order, where no step comes before itself.
+fn frame_of(alloc: Global, steps: NameTable, order: &StepPairs) -> Result<Shared<Frame>, FlowFault>
+    requires { AllPairs (λ _ t. t < STEP_LIMIT) order.now }
+    ensures made { IfOk result (λ f. (f.steps ≡ steps) × (f.order ≡ order.now)
+        × IsClosedOrder order.now f.later) }
+    ensures counted { ¬ IsErrOf result FlowFault.TooMany }
+    ensures single { ¬ IsErrOf result FlowFault.Twice }
+    ensures cycle { (s : ℕ) → IsErrOf result (FlowFault.Cycle s) ↔ IsLeastCycle order.now s }
+{
+    let later = match order.closed() {
+        Ok(later) => later,
+        Err(s) => return Err(FlowFault::Cycle(s)),
+    };
+    let frame = Frame {
+        steps,
+        order: order.copy(),
+        later,
+    };
+    match Shared::new(alloc, frame) {
+        Ok(frame) => Ok(frame),
+        Err(_) => Err(FlowFault::NoMemory),
+    }
 }

@@ -5,7 +5,9 @@ mod fault;
 mod flow;
 pub mod laws;
 mod lists;
+mod pairs;
 mod table;
 
 pub use fault::FlowFault;
 pub use flow::Flow;
+pub use pairs::StepPairs;

@@ -1,5 +1,5 @@
 //! The pairs that a workflow is made of, read from lists.
-ghost use Rattle.std.specs.Prelude.{◌≡◌, ℕ, ◌<◌, ◌≤◌, true, false, length, IfOk, MatchOption};
+ghost use Rattle.std.specs.Prelude.{◌≡◌, ℕ, ◌<◌, ◌≤◌, true, false, length, MatchOption};
 ghost use Rattle.std.specs.List.{All};
 ghost use Rattle.std.specs.FinSet as set;
 ghost use Rattle.basics.specs.Pairs.{pair_cmp};
@@ -7,28 +7,24 @@ ghost use Rattle.wf_names.specs.declared.limits.TheConstants.{ROLE_LIMIT, STEP_L
 ghost use Rattle.workflow_schema.specs.Flows.{has_twice};
 ghost use Rattle.workflow_schema.specs.Tables.{table_has};
 
+use crate::StepPairs;
 use crate::table::{has_flag, set_flag};
-use basics::PairSet;
-use std::alloc::{AllocError, Global};
 use wf_names::{RoleId, STEP_LIMIT, StepId};
 
-/// The table with the flag `t` in row `s` for each pair (s, t), where no pair is repeated.
-pub(crate) fn order_table(order: &[(StepId, StepId)]) -> Option<[u64; STEP_LIMIT]>
+/// The set of the pairs of a list, where no pair is repeated.
+pub(crate) fn order_table(order: &[(StepId, StepId)]) -> Option<StepPairs>
     requires { All (λ p. (p.0 < STEP_LIMIT) × (p.1 < STEP_LIMIT)) order.now }
     ensures { MatchOption result (has_twice order.now ≡ true)
-        (λ rows. (has_twice order.now ≡ false) × (length rows ≡ STEP_LIMIT)
-        × ((s t : ℕ) → table_has rows s t
-        ≡ set.contains (set.from_list {R = pair_cmp} order.now) (s, t))) }
+        (λ pairs. (has_twice order.now ≡ false) × (pairs ≡ set.from_list order.now)) }
 {
-    let mut rows = [0; STEP_LIMIT];
+    let mut pairs = StepPairs::new();
     'pairs: for i in (0..order.len()).rev() {
         let (s, t) = order[i];
-        if has_flag(&rows, s.0 as usize, t.0) {
+        if !pairs.insert(s, t) {
             return None;
         }
-        set_flag(&mut rows, s.0 as usize, t.0);
     }
-    Some(rows)
+    Some(pairs)
 }
 
 /// The table with the flag `r` in row `s` for each pair (r, s), where no pair is repeated.
@@ -48,16 +44,4 @@ pub(crate) fn permit_table(permits: &[(RoleId, StepId)]) -> Option<[u64; STEP_LI
         set_flag(&mut rows, s.0 as usize, r.0);
     }
     Some(rows)
-}
-
-/// The set of the pairs of a list.
-pub(crate) fn order_set(alloc: Global, order: &[(StepId, StepId)]) -> Result<PairSet, AllocError>
-    ensures { IfOk result (λ pairs. pairs ≡ set.from_list order.now) }
-{
-    let mut pairs = PairSet::new(alloc);
-    'pairs: for i in (0..order.len()).rev() {
-        let (s, t) = order[i];
-        pairs.insert(s.0 as u16, t.0 as u16)?;
-    }
-    Ok(pairs)
 }

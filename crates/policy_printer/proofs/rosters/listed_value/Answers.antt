@@ -1,5 +1,5 @@
-use Rattle.policy_printer.proofs.Words.{length, all_below}
-use Rattle.policy_printer.proofs.Rows.{listed_rows}
+use Rattle.policy_printer.proofs.Words.{length}
+use Rattle.policy_printer.proofs.Rows.{all_below, listed_rows}
 use Rattle.policy_book.proofs.Keeping.{pairs_of_users}
 use Rattle.policy_printer.proofs.rosters.listed_value.Goals as goal
 

@@ -2,7 +2,7 @@ use Rattle.std.proofs.Common.{◌∙◌, sym, ap, arith}
 use Rattle.basics.specs.Pairs.{Pairs}
 use Rattle.basics.specs.PairLaws.{pair_cmp_total, pair_cmp-IsAntisymmetric, remove_absent}
 use Rattle.workflow_schema.specs.Tables.{permitted_by}
-use Rattle.workflow_schema.proofs.Permits.{permitted_by-has, permitted_by-without}
+use Rattle.workflow_schema.proofs.TableSets.{permitted_by-has, permitted_by-without}
 use Rattle.workflow_schema.proofs.Kept.{keeps_forbidden}
 use Rattle.workflow_schema.proofs.flow.Flow.forbid.Goals as goal
 

@@ -4,7 +4,7 @@ use Rattle.basics.specs.PairLaws.{pair_cmp_total, pair_cmp-IsAntisymmetric, inse
 use Rattle.workflow_schema.specs.Tables.{permitted_by}
 use Rattle.workflow_schema.specs.Flows.{FlowShape}
 use Rattle.basics.proofs.Booleans.{not_false}
-use Rattle.workflow_schema.proofs.Permits.{permitted_by-has, permitted_by-with}
+use Rattle.workflow_schema.proofs.TableSets.{permitted_by-has, permitted_by-with}
 use Rattle.workflow_schema.proofs.Kept.{keeps_permitted}
 use Rattle.workflow_schema.proofs.flow.Flow.permit.Goals as goal
 

@@ -1,5 +1,5 @@
 use Rattle.std.proofs.Common.{◌∙◌, sym}
-use Rattle.workflow_schema.proofs.Permits.{permitted_by-has}
+use Rattle.workflow_schema.proofs.TableSets.{permitted_by-has}
 use Rattle.workflow_schema.proofs.flow.Flow.permits.Goals as goal
 
 pub returns : goal.returns
