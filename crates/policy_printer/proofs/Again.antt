@@ -2,7 +2,7 @@
 use Rattle.std.proofs.Common.{◌≡◌, ℕ, zero, suc, ◌<◌, Bool, true, false, List, [], ◌∷◌, length, refl, sym, ap, ◌∙◌, ◌⊎◌, inl, inr, arith, codes, Some, Ok}
 use Rattle.std.proofs.Common.{slice_index_or}
 use Rattle.policy_printer.proofs.Words.{AllByRecursion, Members, get_member, OrderIsDecided, PolicyShape, WorkflowShape, no_workflow, any_below, ◌>>=◌, File}
-use Rattle.policy_printer.proofs.Words.{written_format, needs_second, form_of, flow_at, file_keys, IsPrintable, name_at, names_data, users_data, relations_data}
+use Rattle.policy_printer.proofs.Words.{written_format, needs_second, form_of, flow_at, file_keys, IsPrintable, name_at, names_array, users_data, relations_data}
 use Rattle.policy_printer.proofs.Words.{flows_data, IsNamedPolicy, Format, format_number, string, integer}
 use Rattle.policy_reader.specs.Grammars.{today}
 use Rattle.policy_reader.specs.Parts.{value_at, text_in, name_in, text_name_in, no_others, known_key}
@@ -65,7 +65,7 @@ module _ (decided : OrderIsDecided) (p : PolicyShape) (h : IsNamedPolicy p) (is 
       ∷ (codes "flows", flows_data p)
       ∷ (codes "format", integer (pos (format_number format)))
       ∷ (codes "relations", relations_data p.roster.users p.relations)
-      ∷ (codes "roles", names_data p.roster.roles)
+      ∷ (codes "roles", names_array p.roster.roles)
       ∷ (codes "users", users_data p.roster)
       ∷ [])
 
@@ -77,7 +77,7 @@ module _ (decided : OrderIsDecided) (p : PolicyShape) (h : IsNamedPolicy p) (is 
   -- what stands at the keys
   written : (format_of today doc ≡ Ok (written_format p)) × (no_others File 0 (file_keys (written_format p)) doc ≡ Ok tt) ×
       (get_member (codes "users") doc ≡ Some (users_data p.roster))
-      × (get_member (codes "roles") doc ≡ Some (names_data p.roster.roles)) ×
+      × (get_member (codes "roles") doc ≡ Some (names_array p.roster.roles)) ×
       (get_member (codes "relations") doc ≡ Some (relations_data p.roster.users p.relations)) × (get_member (codes "flows") doc ≡ Some (flows_data p))
   unfolding document_of
   written = let known = format_back (written_format p) in (known.0, known.1, refl, refl, refl, refl)

@@ -3,7 +3,7 @@ use Rattle.std.proofs.Common.{◌≡◌, ℕ, suc, ◌<◌, ◌≤◌, false, Li
 use Rattle.std.specs.FinSet as set
 use Rattle.policy_printer.proofs.Words.{length-map, each, take_all, not_true, and_both, lt_back, le_back, AreNames, Members, get_member, STEP_LIMIT, FLOW_LIMIT}
 use Rattle.policy_printer.proofs.Words.{AllPairs, RelationShape, known_names, is_before, OrderIsDecided, PolicyShape, WorkflowShape, IsSoundWorkflow, flow_at}
-use Rattle.policy_printer.proofs.Words.{no_workflow, Flows, Ascend, names_data, pair_data, pairs_data, permits_data, rules_data, rows, flow_entry, flows_data}
+use Rattle.policy_printer.proofs.Words.{no_workflow, Flows, Ascend, names_array, pair_data, pairs_data, permits_data, rules_data, rows, flow_entry, flows_data}
 use Rattle.policy_printer.proofs.Words.{IsNamedWorkflow, least_none, Format}
 use Rattle.policy_reader.specs.Grammars.{today}
 use Rattle.policy_reader.specs.Parts.{value_at, array_in, table_in, table_at, count_in, entries_at, name_in, no_others, known_key}
@@ -45,7 +45,7 @@ module _ (decided : OrderIsDecided) (f : ℕ) (roles : List (List ℕ)) (relatio
   ordered_again = rw (order_again, no_cycle-again) refl
 
   -- what stands at the keys
-  there : (get_member (codes "steps") written ≡ Some (names_data steps)) × (get_member (codes "permit") written ≡ Some (permits_data roles w.flow)) ×
+  there : (get_member (codes "steps") written ≡ Some (names_array steps)) × (get_member (codes "permit") written ≡ Some (permits_data roles w.flow)) ×
       (get_member (codes "rules") written ≡ Some (rules_data relations steps w.rules))
       × (no_others Flows f (codes "order" ∷ codes "permit" ∷ codes "rules" ∷ codes "steps" ∷ []) written ≡ Ok tt)
   unfolding no_others known_key workflow_members

@@ -4,7 +4,7 @@ use Rattle.std.proofs.Common.{codes, Some, Ok, is_some, position, slice_get}
 use Rattle.std.specs.FinSet as set
 use Rattle.policy_printer.proofs.Words.{length-map, length-take-le, take_all, lt_yes, lt_no, Members, get_member, string, AreNames, place_of, USER_LIMIT}
 use Rattle.policy_printer.proofs.Words.{ROLE_LIMIT, STEP_LIMIT, Pairs, RosterShape, has_role, IsSoundRoster, each, Users, Roles, Flows, Ascend, chosen}
-use Rattle.policy_printer.proofs.Words.{user_entry, users_data, names_data, pointwise, none_cons, PolicyPart}
+use Rattle.policy_printer.proofs.Words.{user_entry, users_data, names_array, pointwise, none_cons, PolicyPart}
 use Rattle.policy_reader.specs.Grammars.{today}
 use Rattle.policy_reader.specs.Parts.{value_at, array_in, table_in, array_at, table_at, count_in, items_at, entries_at, text_in, name_in, text_name_in}
 use Rattle.policy_reader.specs.Parts.{named_in, once, next_name}
@@ -91,7 +91,7 @@ name_again names h t f before x after e =
 
 -- the roles are read from what they are written as
 pub roles_back : (again : Members) (roles : List (List ℕ)) → AreNames roles → 0 < length roles → length roles ≤ ROLE_LIMIT →
-    get_member (codes "roles") again ≡ Some (names_data roles) → roles_of again ≡ Ok roles
+    get_member (codes "roles") again ≡ Some (names_array roles) → roles_of again ≡ Ok roles
 unfolding roles_of items_at array_at count_in value_at array_in next_role
 roles_back again roles named some few there =
     rw (
@@ -106,7 +106,7 @@ roles_back again roles named some few there =
 
 -- the steps of a workflow are read from what they are written as
 pub steps_back : (f : ℕ) (again : Members) (steps : List (List ℕ)) → AreNames steps → 0 < length steps → length steps ≤ STEP_LIMIT →
-    get_member (codes "steps") again ≡ Some (names_data steps) → steps_named today f again ≡ Ok steps
+    get_member (codes "steps") again ≡ Some (names_array steps) → steps_named today f again ≡ Ok steps
 unfolding steps_named items_at array_at count_in value_at array_in
 steps_back f again steps named some few there =
     rw (

@@ -4,7 +4,7 @@ use Rattle.std.proofs.Common.{codes, Some, Ok, slice_set, slice_get, replicate}
 use Rattle.constraint_forms.specs.declared.rule.Rule.TheVariants as rule
 use Rattle.policy_printer.proofs.Words.{length-map, not_true, or_left, or_right, eq_same, each, string, Members, get_member, AreNames, STEP_LIMIT, RULE_LIMIT}
 use Rattle.policy_printer.proofs.Words.{RelationShape, known_names, is_member, Rule, IsSoundRule, AreSoundRules, Flows, name_at, names_where, chosen, rule_data}
-use Rattle.policy_printer.proofs.Words.{rules_data, HasFlags, HaveFlags, Format, form_of, has_form, le_yes}
+use Rattle.policy_printer.proofs.Words.{rules_data, HasFlags, HaveFlags, Format, form_of, knows_form, le_yes}
 use Rattle.constraint_forms.specs.Assign.{no_steps}
 use Rattle.constraint_forms.specs.Rules.{any_from, count_members}
 use Rattle.policy_reader.specs.Parts.{value_at, array_in, table_in, text_in, named_in, once, no_others, known_key}
@@ -15,7 +15,7 @@ use Rattle.policy_printer.proofs.Readings.{list_back, chosen_back, got_middle, i
 
 -- a format has the forms of rules
 abbrev pub HaveForms : Format → List Rule → Type 0
-HaveForms format rules = (k : ℕ) (r : Rule) → slice_get rules k ≡ Some r → has_form format (form_of r) ≡ true
+HaveForms format rules = (k : ℕ) (r : Rule) → slice_get rules k ≡ Some r → knows_form format (form_of r) ≡ true
 
 -- ---- groups
 
@@ -110,7 +110,7 @@ module _ (f : ℕ) (steps : List (List ℕ)) (named : AreNames steps) where
     unfolding step_in named_in text_in
     step_again s lt = number_back Flows f steps s named lt
 
-    rule_again : (format : Format) (r : Rule) → IsSoundRule (length steps) (length relations) r → HasFlags r → has_form format (form_of r) ≡ true → rule_in
+    rule_again : (format : Format) (r : Rule) → IsSoundRule (length steps) (length relations) r → HasFlags r → knows_form format (form_of r) ≡ true → rule_in
         format f relations steps (rule_data relations steps r) ≡ Ok r
     unfolding rule_in form_in rule_of_form keys_in key_in relation_at step_at group_at limit_at limit_in counting_keys_in counting_in pair_in grouped_in
         value_at table_in no_others known_key rule_members grouped_members counting_members

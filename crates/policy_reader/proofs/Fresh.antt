@@ -2,7 +2,7 @@
 use Rattle.std.proofs.Common.{◌≡◌, ℕ, Bool, false, List, [], ◌∷◌, ◌++◌, map, String, Global, string_bytes, refl, sym, ap, ◌∙◌, length, Ok, subst, append_assoc}
 use Rattle.std.proofs.Common.{arith, nat_cmp, is_eq, is_some, nat_eq, position, Less}
 use Rattle.policy_reader.proofs.Words.{length-map, map-append, append-nil, ordering_reverse, slice_cmp, pointwise, nat_list_cmp_total, texts_ties}
-use Rattle.policy_reader.proofs.Words.{AllByRecursion, Value, Data, view, members_view, ◌>>=◌, each, Reading, entries, is_among, Ascend}
+use Rattle.policy_reader.proofs.Words.{AllByRecursion, Value, Data, view, members_view, ◌>>=◌, each, Reading, entries, lists_text, Ascend}
 use Rattle.std.proofs.lemmas.Grind.{common_steps}
 use Rattle.std.specs.List.Sorted.{IsStrictlySortedBy}
 use Rattle.std.specs.Map.{keys_of}
@@ -45,7 +45,7 @@ new_in [] k ks h = refl
 new_in (n ∷ names) k ks h =
     none_cons (pointwise nat_eq k) n names (differs n k (among (λ y. slice_cmp nat_cmp n y ≡ Less) names k ks h.0)) (new_in names k ks h.1)
 
-none_in : (names : List (List ℕ)) (k : List ℕ) (ks : List (List ℕ)) → Ascend (names ++ k ∷ ks) → is_among names k ≡ false
+none_in : (names : List (List ℕ)) (k : List ℕ) (ks : List (List ℕ)) → Ascend (names ++ k ∷ ks) → lists_text names k ≡ false
 unfolding IsStrictlySortedBy
 none_in [] k ks h = refl
 none_in (n ∷ names) k ks h = rw (differs n k (among (λ y. slice_cmp nat_cmp n y ≡ Less) names k ks h.0)) (none_in names k ks h.1)
@@ -82,7 +82,7 @@ module _ {S : Type 0} (read : S → List ℕ × Data → Reading S) (names : S �
   parts s left e es steps h = ap texts (h.split ∙ ap (λ x. h.before ++ x) steps) ∙ map-append (λ (x : Entry). string_bytes x.0) h.before (e ∷ es)
 
   pub left_none : (s : S) (left : List Entry) (e : Entry) (es : List Entry) → left ≡ e ∷ es → IsLeft read names all whole s left →
-      is_among (names s) (string_bytes e.0) ≡ false
+      lists_text (names s) (string_bytes e.0) ≡ false
   left_none s left e es steps h = rw h.named (none_in (texts h.before) (string_bytes e.0) (texts es) (subst Ascend (parts s left e es steps h) h.ascend))
 
   pub left_new : (s : S) (left : List Entry) (e : Entry) (es : List Entry) → left ≡ e ∷ es → IsLeft read names all whole s left → IsNew (names s) e

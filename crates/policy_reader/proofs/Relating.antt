@@ -3,7 +3,7 @@ use Rattle.std.proofs.Common.{◌≡◌, ℕ, zero, suc, ◌+◌, ◌<◌, ◌�
 use Rattle.std.proofs.Common.{inr, arith, Option, Some, None, option_map, slice_get, nat_eq, codes, Ok, string_bytes}
 use Rattle.policy_reader.specs.declared.fault.PolicyKind.TheVariants as kind
 use Rattle.policy_reader.proofs.Words.{list_any, pointwise, nat_list_eq_equiv, or_false, eq_same, eq_below, length-map, map-append, IsDistinct-push, Data}
-use Rattle.policy_reader.proofs.Words.{Members, as_table, RELATION_LIMIT, USER_LIMIT, AreOfUsers, or_fault, fault, Reading, is_among, entries, first_declared}
+use Rattle.policy_reader.proofs.Words.{Members, as_table, RELATION_LIMIT, USER_LIMIT, AreOfUsers, or_fault, fault, Reading, lists_text, entries, first_declared}
 use Rattle.policy_reader.proofs.Words.{entry_of, is_complement, is_complement_table, passes, names_of, Ascend, view, members_view, is_marked, IsTarget}
 use Rattle.policy_reader.proofs.Words.{IsReadKind, AreReadRelations}
 use Rattle.std.specs.List.{IsDistinct}
@@ -19,7 +19,7 @@ use Rattle.policy_reader.proofs.Fresh.{Entry, texts_count, IsLeft}
 -- ---- one relation more
 
 -- a name that is neither built in nor declared is unknown
-unknown_name : (rs : List RelationShape) (key : List ℕ) → is_among (codes "same" ∷ codes "other" ∷ []) key ≡ false → is_among (names_of rs) key ≡ false →
+unknown_name : (rs : List RelationShape) (key : List ℕ) → lists_text (codes "same" ∷ codes "other" ∷ []) key ≡ false → lists_text (names_of rs) key ≡ false →
     list_any (pointwise nat_eq key) (known_names rs) ≡ false
 unknown_name rs key free new =
     let apart = or_false (pointwise nat_eq key (codes "same")) _ free in
@@ -45,8 +45,8 @@ kind_pushed rs r (suc (suc n)) = elim (pushed rs r n) [
 ]
 
 pub kept_push : (users : ℕ) (all : List (List ℕ × Data)) (rs : List RelationShape) (r : RelationShape) → AreReadRelations users all rs →
-    is_among (codes "same" ∷ codes "other" ∷ []) r.name ≡ false
-    → is_among (names_of rs) r.name ≡ false → IsReadKind users all (is_marked first_declared all (first_declared + length rs)) r.kind →
+    lists_text (codes "same" ∷ codes "other" ∷ []) r.name ≡ false
+    → lists_text (names_of rs) r.name ≡ false → IsReadKind users all (is_marked first_declared all (first_declared + length rs)) r.kind →
     AreReadRelations users all (rs ++ r ∷ [])
 kept_push users all rs r h free new here = record {
   names = subst (λ ns. IsDistinct (pointwise nat_eq) (codes "same" ∷ codes "other" ∷ ns)) (sym (names_push rs r))
