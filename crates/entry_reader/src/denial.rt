@@ -28,7 +28,7 @@ pub(crate) fn denial_of<F: FlowOf>(
     flow: Option<FlowId>,
     value: &Value,
 ) -> Result<Denial, TextFault>
-    ensures { Reads (λ d. d) result (told.denial_in p.now (F.FlowOf.flows cases.now) flow
+    ensures { Reads (λ d. d) result (told.denial_read p.now (F.FlowOf.flows cases.now) flow
         (view value.now)) }
 {
     if let Some(denial) = word_denial(value) {
@@ -104,7 +104,7 @@ fn strands_of<F: FlowOf>(
     cases: &F,
     value: &Value,
 ) -> Result<Denial, TextFault>
-    ensures { Reads (λ d. d) result (told.strands_in p.now (F.FlowOf.flows cases.now)
+    ensures { Reads (λ d. d) result (told.strands_read p.now (F.FlowOf.flows cases.now)
         (view value.now)) }
 {
     let Some(case) = case_of(value) else {
@@ -153,7 +153,7 @@ fn flow_within(p: &Policy, flow: Option<FlowId>) -> Option<FlowId>
 }
 
 fn missing_of(value: &Value) -> Option<Missing>
-    ensures { result ≡ told.missing_in (view value.now) }
+    ensures { result ≡ told.missing_read (view value.now) }
 {
     missing_word(value.as_str()?)
 }

@@ -18,7 +18,7 @@ use wf_talk::{CaseList, FlowOf, RoleList, States, WorkItem, WorkList};
 
 /// The plan at the key plan.
 pub(crate) fn plan_of(alloc: Global, p: &Policy, value: &Value) -> Result<Plan, TextFault>
-    ensures { Reads (λ plan. plan) result (told.plan_in p.now (view value.now)) }
+    ensures { Reads (λ plan. plan) result (told.plan_read p.now (view value.now)) }
 {
     let Some(value) = value.get("plan") else {
         return Err(TextFault::NotText);
@@ -32,7 +32,7 @@ pub(crate) fn plan_of(alloc: Global, p: &Policy, value: &Value) -> Result<Plan, 
 
 /// The states at the key steps.
 pub(crate) fn states_of(alloc: Global, p: &Policy, value: &Value) -> Result<States, TextFault>
-    ensures { Reads (λ states. states) result (told.states_in p.now (view value.now)) }
+    ensures { Reads (λ states. states) result (told.states_read p.now (view value.now)) }
 {
     let Some(value) = value.get("steps") else {
         return Err(TextFault::NotText);
@@ -46,7 +46,7 @@ pub(crate) fn states_of(alloc: Global, p: &Policy, value: &Value) -> Result<Stat
 
 /// Roles.
 pub(crate) fn roles_of(alloc: Global, p: &Policy, value: &Value) -> Result<RoleList, TextFault>
-    ensures { Reads (λ roles. roles) result (told.roles_in p.now (view value.now)) }
+    ensures { Reads (λ roles. roles) result (told.roles_read p.now (view value.now)) }
 {
     each_role(alloc, p, items_of(value)?)
 }
@@ -59,14 +59,14 @@ pub(crate) fn work_of<F: FlowOf>(
     value: &Value,
 ) -> Result<WorkList, TextFault>
     ensures { Reads (λ items. items) result
-        (told.work_in p.now (F.FlowOf.flows cases.now) (view value.now)) }
+        (told.work_read p.now (F.FlowOf.flows cases.now) (view value.now)) }
 {
     each_item(alloc, p, cases, items_of(value)?)
 }
 
 /// Numbers of cases.
 pub(crate) fn cases_of(alloc: Global, value: &Value) -> Result<CaseList, TextFault>
-    ensures { Reads (λ cases. cases) result (told.cases_in (view value.now)) }
+    ensures { Reads (λ cases. cases) result (told.cases_read (view value.now)) }
 {
     each_case(alloc, items_of(value)?)
 }
@@ -134,7 +134,7 @@ fn each_item<F: FlowOf>(
     items: &[Value],
 ) -> Result<WorkList, TextFault>
     ensures { Reads (λ work. work) result
-        (read.each_read (told.item_in p.now (F.FlowOf.flows cases.now)) (items_view items.now)) }
+        (read.each_read (told.item_read p.now (F.FlowOf.flows cases.now)) (items_view items.now)) }
 {
     let mut work = List::new(alloc);
     'items: for item in items {
@@ -148,7 +148,7 @@ fn each_item<F: FlowOf>(
 
 // A step of a work list, of the workflow of its case.
 fn item_of<F: FlowOf>(p: &Policy, cases: &F, value: &Value) -> Option<WorkItem>
-    ensures { result ≡ told.item_in p.now (F.FlowOf.flows cases.now) (view value.now) }
+    ensures { result ≡ told.item_read p.now (F.FlowOf.flows cases.now) (view value.now) }
 {
     let (case, step) = pair_of(value)?;
     let case = case_number_of(case)?;

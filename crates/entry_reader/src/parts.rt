@@ -46,7 +46,7 @@ pub(crate) fn number_below(value: &Value, key: &str, bound: u64) -> Option<u64>
 
 /// The number of a case, at the key case.
 pub(crate) fn case_of(value: &Value) -> Option<CaseId>
-    ensures { result ≡ told.case_in (view value.now) }
+    ensures { result ≡ told.case_read (view value.now) }
 {
     match number_below(value, "case", CASE_NUMBER_LIMIT as u64 + 1) {
         Some(n) => Some(CaseId(n as u16)),

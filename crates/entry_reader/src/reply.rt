@@ -89,7 +89,7 @@ fn entry_in<F: FlowOf>(
     ask: &Ask,
     value: &Value,
 ) -> Result<Entry, TextFault>
-    ensures { Reads (λ e. e) result (told.entry_in p.now (F.FlowOf.flows cases.now) ask.now
+    ensures { Reads (λ e. e) result (told.entry_read p.now (F.FlowOf.flows cases.now) ask.now
         (view value.now)) }
 {
     let Some(place) = place_in(value) else {
@@ -137,7 +137,7 @@ fn reply_of<F: FlowOf>(
     flow: Option<FlowId>,
     value: &Value,
 ) -> Result<Reply, TextFault>
-    ensures { Reads (λ r. r) result (told.reply_in p.now (F.FlowOf.flows cases.now) flow
+    ensures { Reads (λ r. r) result (told.reply_read p.now (F.FlowOf.flows cases.now) flow
         (view value.now)) }
 {
     if let Some(reply) = word_reply(value) {
@@ -207,13 +207,13 @@ fn short_reply(kind: ReplyKind, value: &Value) -> Option<Reply>
 
 // Whether a case is done.
 fn done_of(value: &Value) -> Option<bool>
-    ensures { result ≡ told.done_in (view value.now) }
+    ensures { result ≡ told.done_read (view value.now) }
 {
     value.get("done")?.as_bool()
 }
 
 fn opened_of(alloc: Global, p: &Policy, value: &Value) -> Result<Reply, TextFault>
-    ensures { Reads (λ r. r) result (told.opened_in p.now (view value.now)) }
+    ensures { Reads (λ r. r) result (told.opened_read p.now (view value.now)) }
 {
     let Some(case) = case_of(value) else {
         return Err(TextFault::NotText);
@@ -223,7 +223,7 @@ fn opened_of(alloc: Global, p: &Policy, value: &Value) -> Result<Reply, TextFaul
 }
 
 fn face_of(alloc: Global, p: &Policy, value: &Value) -> Result<Face, TextFault>
-    ensures { Reads (λ face. face) result (told.face_in p.now (view value.now)) }
+    ensures { Reads (λ face. face) result (told.face_read p.now (view value.now)) }
 {
     let Some(flow) = flow_of(p, value) else {
         return Err(TextFault::NotText);
@@ -241,7 +241,7 @@ fn face_of(alloc: Global, p: &Policy, value: &Value) -> Result<Face, TextFault>
 
 // The workflow at the key flow.
 fn flow_of(p: &Policy, value: &Value) -> Option<FlowId>
-    ensures { result ≡ told.flow_in p.now (view value.now) }
+    ensures { result ≡ told.flow_read p.now (view value.now) }
 {
     match numbered(p.flows(), value.get("flow")?) {
         Some(f) => Some(FlowId(f as u8)),
@@ -250,13 +250,13 @@ fn flow_of(p: &Policy, value: &Value) -> Option<FlowId>
 }
 
 fn phase_of(value: &Value) -> Option<Phase>
-    ensures { result ≡ told.phase_in (view value.now) }
+    ensures { result ≡ told.phase_read (view value.now) }
 {
     phase_word(value.get("phase")?.as_str()?)
 }
 
 fn again_of(value: &Value) -> Option<Reply>
-    ensures { result ≡ told.again_in (view value.now) }
+    ensures { result ≡ told.again_read (view value.now) }
 {
     let at = number_below(value, "at", 1 << 32)?;
     let rounds = number_below(value, "rounds", 1 << 8)?;
@@ -267,7 +267,7 @@ fn again_of(value: &Value) -> Option<Reply>
 }
 
 fn bad_of(value: &Value) -> Option<Bad>
-    ensures { result ≡ told.bad_in (view value.now) }
+    ensures { result ≡ told.bad_read (view value.now) }
 {
     if let Some(bad) = word_bad(value) {
         return Some(bad);
@@ -282,7 +282,7 @@ fn word_bad(value: &Value) -> Option<Bad>
 }
 
 fn key_of(value: &Value) -> Option<Name>
-    ensures { result ≡ told.key_in (view value.now) }
+    ensures { result ≡ told.key_read (view value.now) }
 {
     name_of(value.get("key")?)
 }

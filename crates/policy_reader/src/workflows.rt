@@ -33,7 +33,7 @@ use workflow_schema::{Flow, FlowFault, StepPairs};
 #[tactic(auto, unfolding(crate::specs::Flows::steps_named), using(crate::proofs::Counts::counted))]
 pub(crate) fn read_steps(alloc: Global, table: &Table, flow: u32) -> Result<NameTable, ReadFault>
     ensures read { Gives fault_of (λ t. t.names) result
-        (spec.steps_of today flow (table_view table.now)) }
+        (spec.steps_named today flow (table_view table.now)) }
     ensures counted { IfOk result (λ t. is_count (length t.names) ≡ true) }
 {
     match items_at(STEP_LIMIT, table, "steps", PolicyPart::Flows, flow) {
