@@ -1,7 +1,7 @@
 //! What several crates share and none owns: lists and shared values that contracts see as what
-//! they hold. Beside them, specs/ has finite sets of pairs with their laws, and the words for readers
-//! whose contract names the first fault that they meet (their result gives what a definition
-//! reads), and proofs/ has facts of Booleans and numbers.
+//! they hold. Beside them, specs/ has finite sets of pairs with their laws, and the words for
+//! readers whose contract names the first fault that they meet (their result gives what a
+//! definition reads), and proofs/ has facts of Booleans and numbers.
 #![tactic(auto)]
 
 mod list;

@@ -2,7 +2,8 @@
 use Rattle.std.proofs.Common.{◌≡◌, ℕ, zero, suc, ◌<◌, Bool, true, false, List, [], ◌∷◌, length, refl, sym, ap, ◌∙◌, ◌⊎◌, inl, inr, arith, codes, Some, Ok}
 use Rattle.std.proofs.Common.{slice_index_or}
 use Rattle.policy_printer.proofs.Words.{AllByRecursion, Members, get_member, OrderIsDecided, PolicyShape, WorkflowShape, no_workflow, any_below, ◌>>=◌, File}
-use Rattle.policy_printer.proofs.Words.{written_format, needs_second, form_of, flow_at, file_keys, IsPrintable, name_at, names_array, users_data, relations_data}
+use Rattle.policy_printer.proofs.Words.{written_format, needs_second, form_of, flow_at, file_keys, IsPrintable, name_at, names_array, users_data}
+use Rattle.policy_printer.proofs.Words.{relations_data}
 use Rattle.policy_printer.proofs.Words.{flows_data, IsNamedPolicy, Format, format_number, string, integer}
 use Rattle.policy_reader.specs.Grammars.{today}
 use Rattle.policy_reader.specs.Parts.{value_at, text_in, name_in, text_name_in, no_others, known_key}

@@ -7,8 +7,8 @@ ghost use Rattle.run_record.specs.Fault.{fault_in, CountsReadsAlone};
 ghost use Rattle.transcript_audit.specs.Auditor.{AuditShape};
 ghost use Rattle.transcript_commands.specs.Finding.{EndsAs, HasFound};
 ghost use Rattle.transcript_commands.specs.Lines.{HasReadSome, IsUnread, IsAtLine, ReadsLines};
-ghost use Rattle.transcript_commands.specs.Steps.{HasAudited, HasOneMore, HasTakenSome, IsReadEnding};
-ghost use Rattle.transcript_commands.specs.Steps.{AuditStepsTo, TakesLine};
+ghost use Rattle.transcript_commands.specs.Steps.{HasAudited, HasOneMore, HasTakenSome};
+ghost use Rattle.transcript_commands.specs.Steps.{IsReadEnding, AuditStepsTo, TakesLine};
 
 use crate::finding::Finding;
 use line_reader::{LineReader, Read};

@@ -1,6 +1,7 @@
 //! The commands over a transcript. `audit`: whether it is that of a legal session over a policy and
-//! requests. `resume`: the files of an earlier session are loaded, the whole lines of its transcript
-//! are audited, and a session begins with the desk after their entries and the jobs that have none.
+//! requests. `resume`: the files of an earlier session are loaded, the whole lines of its
+//! transcript are audited, and a session begins with the desk after their entries and the jobs that
+//! have none.
 #![tactic(auto)]
 
 mod audit;

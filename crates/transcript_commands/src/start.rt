@@ -6,8 +6,8 @@ ghost use Rattle.transcript_commands.specs.Sessions.{AreServedWithin};
 ghost use Rattle.transcript_commands.specs.Start.{AreWhole, names_in};
 ghost use Rattle.transcript_commands.specs.Load.{IsCutOf, ending_at, OverBoth, OverFiles};
 ghost use Rattle.transcript_commands.specs.Load.{OverTranscript, OverTranscriptFile};
-ghost use Rattle.transcript_commands.specs.Begun.{BeginsBy, EndsBeginning, EndsLoaded, StopsBy, ends_to};
-ghost use Rattle.transcript_commands.specs.Begun.{fault_by, session_of};
+ghost use Rattle.transcript_commands.specs.Begun.{BeginsBy, EndsBeginning, EndsLoaded, StopsBy};
+ghost use Rattle.transcript_commands.specs.Begun.{ends_to, fault_by, session_of};
 
 use crate::load::load_requests;
 use crate::{Refusal, Resumed, first_long, resume};

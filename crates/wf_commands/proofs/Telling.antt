@@ -28,7 +28,8 @@ use Rattle.wf_commands.proofs.Loading.{answers_file}
 use Rattle.wf_commands.specs.declared.case.Case.{Case}
 use Rattle.wf_commands.specs.declared.model_file.TheConstants.{MODEL_FILE_LIMIT}
 use Rattle.wf_commands.specs.Cases.{IsCaseOf}
-use Rattle.wf_commands.specs.CnfAnswers.{clauses_for, ClausesAsked, ModelAsked, OverCase, OverModel, OverText, ReadsModel, TellsClauses, TellsReading, UnlessLarge}
+use Rattle.wf_commands.specs.CnfAnswers.{clauses_for, ClausesAsked, ModelAsked, OverCase, OverModel, OverText, ReadsModel, TellsClauses}
+use Rattle.wf_commands.specs.CnfAnswers.{TellsReading, UnlessLarge}
 use Rattle.wf_commands.specs.CnfSteps.{EncodesAs, EncodesFile, GivesCase, GivesEncoder, GivesModel, IsCaseEnding}
 
 -- ---- in general

@@ -1,5 +1,5 @@
-//! The commands that answer once: each loads a policy, and writes one text, or the clauses of a case
-//! as they come.
+//! The commands that answer once: each loads a policy, and writes one text, or the clauses of a
+//! case as they come.
 #![tactic(auto)]
 
 mod answer;

@@ -1,5 +1,5 @@
 -- A workflow that is made of lists of pairs, and the cycles of an order.
-use Rattle.std.proofs.Common.{◌≡◌, ℕ, suc, ◌<◌, inl, inr, true, false, ◌&&◌, nat_eq, nat_lt, List, [], ◌∷◌, length, refl, sym, subst, ◌∙◌, arith}
+use Rattle.std.proofs.Common.{◌≡◌, ℕ, suc, ◌<◌, inl, inr, true, false, ◌&&◌, nat_eq, List, [], ◌∷◌, length, sym, subst, ◌∙◌, arith}
 use Rattle.std.specs.List.{All}
 use Rattle.std.specs.FinSet as set
 use Rattle.basics.specs.Pairs.{Pairs, AllPairs, pair_cmp}
@@ -7,7 +7,7 @@ use Rattle.wf_names.specs.declared.limits.TheConstants.{ROLE_LIMIT, STEP_LIMIT}
 use Rattle.workflow_schema.specs.Tables.{table_has, leads, pairs_in, permitted_by}
 use Rattle.workflow_schema.specs.Flows.{Precedes, is_before, is_count, IsLeastCycle}
 use Rattle.workflow_schema.specs.Stored.{IsClosedOrder, IsStoredFlow}
-use Rattle.basics.proofs.Booleans.{or_cases, and_both, eq_back, lt_back, lt_back_no}
+use Rattle.basics.proofs.Booleans.{or_cases, and_both, eq_back}
 use Rattle.workflow_schema.proofs.Chains.{before_is_chain, chain_is_before}
 use Rattle.workflow_schema.proofs.PairLists.{contains-one_more}
 use Rattle.workflow_schema.proofs.TableSets.{pairs_in-has}
@@ -44,17 +44,6 @@ module _ (order : Pairs) (later : List ℕ) (within : AllPairs (λ _ t. t < STEP
 
   pub acyclic_order : ((s : ℕ) → table_has later s s ≡ false) → IsClosedOrder order later
   acyclic_order none = record { closed = closed; acyclic = λ s. no_cycle s (none s) }
-
-pub one_least : (order : Pairs) (s t : ℕ) → IsLeastCycle order s → IsLeastCycle order t → s ≡ t
-one_least order s t h i =
-    elim (nat_lt s t) as (λ b. nat_lt s t ≡ b → s ≡ t) [
-      | true ↦ λ e. absurd (i.least s (lt_back s t e) h.cycle)
-      | false ↦ λ e.
-          elim (nat_lt t s) as (λ b. nat_lt t s ≡ b → s ≡ t) [
-            | true ↦ λ f. absurd (h.least t (lt_back t s f) i.cycle)
-            | false ↦ λ f. let ts = lt_back_no s t e in let st = lt_back_no t s f in omega arith
-          ] refl
-    ] refl
 
 -- the pairs of a list within bounds, as a set
 pub listed_within : (m n : ℕ) (ps : List (ℕ × ℕ)) → All (λ (p : ℕ × ℕ). (p.0 < m) × (p.1 < n)) ps →
