@@ -2,7 +2,7 @@
 use Rattle.std.proofs.Common.{◌≡◌, ℕ, zero, suc, true, Some, slice_get, List, [], ◌∷◌, ◌++◌, if◌then◌else◌, append_assoc, ap, sym, subst, ◌∙◌, codes}
 use Rattle.policy_book.specs.Shapes.{PolicyShape}
 use Rattle.policy_book.specs.Policies.{flow_at}
-use Rattle.policy_printer.specs.Documents.{name_at}
+use Rattle.policy_reader.specs.Documents.{name_at}
 use Rattle.case_story.specs.Printed.{retired_line}
 
 pub remark_line : (p : PolicyShape) (f : ℕ) (old one two three name : List ℕ) → (flow_at p f).retired ≡ true → one ≡ old ++ codes "# workflow " →

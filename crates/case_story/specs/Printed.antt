@@ -5,7 +5,7 @@ use Rattle.policy_book.specs.Shapes.{PolicyShape}
 use Rattle.policy_book.specs.Policies.{any_below, flow_at}
 use Rattle.policy_reader.specs.Files.{document_in, policy_of_file}
 use Rattle.policy_reader.specs.Printable.{IsPrintable}
-use Rattle.policy_printer.specs.Documents.{document_of, name_at}
+use Rattle.policy_reader.specs.Documents.{document_of, name_at}
 use Rattle.wf_talk.specs.declared.entry.Entry.{Entry}
 use Rattle.line_reader.specs.Reader.{lines_of}
 use Rattle.run_record.specs.declared.fault.RunFault.{RunFault}

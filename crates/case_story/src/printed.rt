@@ -1,11 +1,11 @@
 //! A policy as a file, with what a file cannot hold.
 ghost use Rattle.std.specs.Prelude.{◌≡◌, ◌<◌, ◌++◌, ◌||◌, IfOk, OnOk, length, string_bytes};
 ghost use Rattle.policy_book.specs.Policies.{flow_at};
-ghost use Rattle.policy_printer.specs.Documents.{name_at};
+ghost use Rattle.policy_reader.specs.Documents.{name_at};
 ghost use Rattle.case_story.specs.Printed.{WritesPolicy, has_retired, retired_line, retired_lines};
 
 use policy_book::Policy;
-use policy_printer::print;
+use policy_reader::print;
 use std::alloc::{AllocError, Global};
 use wf_names::FlowId;
 

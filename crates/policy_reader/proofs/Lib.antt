@@ -13,3 +13,16 @@ pub mod Gets
 pub mod GetsRules
 pub mod GetsFlows
 pub mod GetsFile
+pub mod PrinterWords
+pub mod Writing
+pub mod Plain
+pub mod Readings
+pub mod Tabled
+pub mod RostersAgain
+pub mod PermitsAgain
+pub mod RulesAgain
+pub mod RelationsAgain
+pub mod FlowsAgain
+pub mod Again
+pub mod Sets
+pub mod Rows

@@ -15,3 +15,5 @@ pub mod Forms
 pub mod Rules
 pub mod Flows
 pub mod Files
+pub mod Documents
+pub mod Named

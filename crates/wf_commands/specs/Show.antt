@@ -2,7 +2,7 @@
 use Rattle.std.specs.Prelude.{◌≡◌, ℕ, List, None, Ok}
 use Rattle.policy_book.specs.Shapes.{PolicyShape}
 use Rattle.policy_reader.specs.Files.{document_in, policy_of_file}
-use Rattle.policy_printer.specs.Documents.{document_of}
+use Rattle.policy_reader.specs.Documents.{document_of}
 use Rattle.run_record.specs.declared.fault.RunFault.{RunFault}
 use Rattle.run_record.specs.declared.fault.RunFault.TheVariants.{Nothing}
 use Rattle.run_record.specs.Run.{Run}

@@ -4,7 +4,7 @@ ghost use Rattle.wf_commands.specs.Show.{ShowsPolicy};
 
 use crate::answer::{Answer, Answers};
 use policy_book::Policy;
-use policy_printer::print;
+use policy_reader::print;
 use run_record::RunFault;
 use std::alloc::Global;
 use wf_outside::Source;

@@ -1,6 +1,6 @@
 use Rattle.std.proofs.Common.{◌≡◌, ◌∙◌, ℕ, true, Some, slice_get, subst, ap, string_bytes, codes}
 use Rattle.policy_book.specs.Policies.{flow_at}
-use Rattle.policy_printer.specs.Documents.{name_at}
+use Rattle.policy_reader.specs.Documents.{name_at}
 use Rattle.case_story.proofs.Remarks.{named_at, remark_line}
 use Rattle.case_story.proofs.printed.push_remark.Goals as goal
 

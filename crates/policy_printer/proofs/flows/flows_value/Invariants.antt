@@ -1,7 +1,0 @@
-use Rattle.policy_printer.proofs.Words.{◌≡◌, ℕ, ◌<◌, table_view, flow_at, table_below, flow_entry, IsNamedWorkflow}
-use Rattle.policy_printer.proofs.flows.flows_value.Given as goal
-
-abbrev pub invariant-flows : goal.invariant-flows
-invariant-flows l =
-    (table_view l.table ≡ table_below l.f (flow_entry l.policy))
-    × ((m : ℕ) → m < l.f → IsNamedWorkflow (flow_at l.policy m))

@@ -1,5 +1,0 @@
-use Rattle.policy_printer.proofs.Words.{◌≡◌, map, string, view, is_member, name_at, chosen}
-use Rattle.policy_printer.proofs.flows.group_value.Given as goal
-
-abbrev pub invariant-steps : goal.invariant-steps
-invariant-steps l = map view l.values.items ≡ map (λ n. string (name_at l.steps.names n)) (chosen l.s (is_member l.group))

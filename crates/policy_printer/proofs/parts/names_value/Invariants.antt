@@ -1,5 +1,0 @@
-use Rattle.policy_printer.proofs.Words.{◌≡◌, map, take, string, view}
-use Rattle.policy_printer.proofs.parts.names_value.Given as goal
-
-abbrev pub invariant-names : goal.invariant-names
-invariant-names l = map view l.values.items ≡ map string (take l.n l.names.names)

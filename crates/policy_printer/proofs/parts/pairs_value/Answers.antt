@@ -1,6 +1,0 @@
-use Rattle.policy_printer.proofs.Words.{arith, pair_data}
-use Rattle.policy_printer.proofs.Writing.{all_written}
-use Rattle.policy_printer.proofs.parts.pairs_value.Goals as goal
-
-pub returns : goal.returns
-returns c = all_written (pair_data c.args.names.now.names) c.pairs.values c.pairs.pair-index c.args.pairs.now c.pairs.invariant (omega arith)

@@ -1,5 +1,0 @@
-use Rattle.policy_printer.proofs.Words.{◌≡◌, map, take, view, pair_data}
-use Rattle.policy_printer.proofs.parts.pairs_value.Given as goal
-
-abbrev pub invariant-pairs : goal.invariant-pairs
-invariant-pairs l = map view l.values.items ≡ map (pair_data l.names.names) (take l.pair-index l.pairs)
