@@ -12,11 +12,11 @@ ghost use Rattle.wf_names.specs.Table.{AreNames};
 ghost use Rattle.policy_reader.specs.Documents as spec;
 ghost use Rattle.policy_reader.specs.Named.{HasFlags, HaveFlags, IsNamedWorkflow};
 
+use crate::Form;
 use crate::printed_parts::{push, push_name, push_pair, put, put_name, put_names, put_word};
 use crate::printed_rosters::put_related;
 use constraint_forms::{Rule, Rules, StepSet};
 use policy_book::Policy;
-use crate::Form;
 use std::alloc::{AllocError, Global};
 use toml::Value;
 use toml::value::Table;

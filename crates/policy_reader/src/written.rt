@@ -4,9 +4,9 @@ ghost use Rattle.policy_book.specs.Policies.{any_below, flow_at};
 ghost use Rattle.policy_reader.specs.Documents as spec;
 ghost use Rattle.policy_reader.specs.Forms.{is_first_form};
 
+use crate::{Form, Format};
 use constraint_forms::{Rule, Rules};
 use policy_book::Policy;
-use crate::{Form, Format};
 use wf_names::FlowId;
 
 /// The format that a policy is written in: the first one, where it has the forms of all rules.

@@ -1,7 +1,0 @@
-pub mod FirstLine
-pub mod Following
-pub mod Founds
-pub mod Answering
-pub mod Told
-pub mod Remarks
-mod Marks

@@ -1,0 +1,25 @@
+use Rattle.tell_run.proofs.Following.{stepped, walked}
+use Rattle.tell_run.proofs.Founds.{Laws}
+use Rattle.tell_run.proofs.Told.{told}
+use Rattle.tell_run.proofs.entry.audit_entry.Goals as goal
+
+pub returns-in-Some : goal.returns-in-Some
+returns-in-Some c =
+    let laws : Laws = record { exact = c.audit_is_exact.ensures; exclude = c.faults_exclude.ensures; one = c.next_is_one.ensures } in
+    record {
+      finds = told laws c.args.s.now c.in_ok-auditor.auditor c.follow_to.new.auditor c.as_bytes-text.result.now c.start-place.result c.in-Some.verdict
+          c.in_ok-auditor.ensures.session c.in_ok-auditor.ensures.auditor c.as_bytes-text.ensures c.start-place.ensures.at c.start-place.ensures.number
+          (λ first h. stepped first c.follow_to.new.auditor c.as_bytes-text.result.now c.follow_to.new.place c.in_ok-verdict.field-0 c.in-Some.verdict
+          c.in-Some.is (c.in_ok-verdict.ensures.steps first h));
+    }
+
+pub returns : goal.returns
+returns c =
+    let laws : Laws = record { exact = c.audit_is_exact.ensures; exclude = c.faults_exclude.ensures; one = c.next_is_one.ensures } in
+    record {
+      finds = told laws c.args.s.now c.in_ok-auditor.auditor c.follow_rest.new.auditor c.as_bytes-text.result.now c.start-place.result
+          c.in_ok-verdict-in-None.verdict c.in_ok-auditor.ensures.session c.in_ok-auditor.ensures.auditor c.as_bytes-text.ensures c.start-place.ensures.at
+          c.start-place.ensures.number
+          (λ first h. c.in_ok-verdict-in-None.ensures.stops first (walked first c.follow_to.new.auditor c.as_bytes-text.result.now c.follow_to.new.place
+          c.in_ok-verdict.field-0 c.in-None.is (c.in_ok-verdict.ensures.steps first h)));
+    }
