@@ -1,10 +1,10 @@
 -- A policy is read from the document that it is written as.
 use Rattle.std.proofs.Common.{◌≡◌, ℕ, zero, suc, ◌<◌, Bool, true, false, List, [], ◌∷◌, length, refl, sym, ap, ◌∙◌, ◌⊎◌, inl, inr, arith, codes, Some, Ok}
 use Rattle.std.proofs.Common.{slice_index_or}
-use Rattle.policy_reader.proofs.PrinterWords.{AllByRecursion, Members, get_member, OrderIsDecided, PolicyShape, WorkflowShape, no_workflow, any_below, ◌>>=◌, File}
-use Rattle.policy_reader.proofs.PrinterWords.{written_format, needs_second, form_of, flow_at, file_keys, IsPrintable, name_at, names_array, users_data}
-use Rattle.policy_reader.proofs.PrinterWords.{relations_data}
-use Rattle.policy_reader.proofs.PrinterWords.{flows_data, IsNamedPolicy, Format, format_number, string, integer}
+use Rattle.policy_reader.proofs.Prints.{AllByRecursion, Members, get_member, OrderIsDecided, PolicyShape, WorkflowShape, no_workflow, any_below, ◌>>=◌, File}
+use Rattle.policy_reader.proofs.Prints.{written_format, needs_second, form_of, flow_at, file_keys, IsPrintable, name_at, names_array, users_data}
+use Rattle.policy_reader.proofs.Prints.{relations_data}
+use Rattle.policy_reader.proofs.Prints.{flows_data, IsNamedPolicy, Format, format_number, string, integer}
 use Rattle.policy_reader.specs.Grammars.{today}
 use Rattle.policy_reader.specs.Parts.{value_at, text_in, name_in, text_name_in, no_others, known_key}
 use Rattle.policy_reader.specs.Files.{document_in, format_of, admin_of, start_over, related_over, staff_of, start_with, start_named, start_of, rest_of}

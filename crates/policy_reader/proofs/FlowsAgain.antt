@@ -1,10 +1,10 @@
 -- The workflows are read from what they are written as.
 use Rattle.std.proofs.Common.{◌≡◌, ℕ, suc, ◌<◌, ◌≤◌, false, List, [], ◌∷◌, length, map, take, refl, sym, ap, ◌∙◌, arith, codes, Some, Ok}
 use Rattle.std.specs.FinSet as set
-use Rattle.policy_reader.proofs.PrinterWords.{length-map, each, take_all, not_true, and_both, lt_back, le_back, AreNames, Members, get_member, STEP_LIMIT, FLOW_LIMIT}
-use Rattle.policy_reader.proofs.PrinterWords.{AllPairs, RelationShape, known_names, is_before, OrderIsDecided, PolicyShape, WorkflowShape, IsSoundWorkflow, flow_at}
-use Rattle.policy_reader.proofs.PrinterWords.{no_workflow, Flows, Ascend, names_array, pair_data, pairs_data, permits_data, rules_data, rows, flow_entry, flows_data}
-use Rattle.policy_reader.proofs.PrinterWords.{IsNamedWorkflow, least_none, Format}
+use Rattle.policy_reader.proofs.Prints.{length-map, each, take_all, not_true, and_both, lt_back, le_back, AreNames, Members, get_member, STEP_LIMIT, FLOW_LIMIT}
+use Rattle.policy_reader.proofs.Prints.{AllPairs, RelationShape, known_names, is_before, OrderIsDecided, PolicyShape, WorkflowShape, IsSoundWorkflow, flow_at}
+use Rattle.policy_reader.proofs.Prints.{no_workflow, Flows, Ascend, names_array, pair_data, pairs_data, permits_data, rules_data, rows, flow_entry, flows_data}
+use Rattle.policy_reader.proofs.Prints.{IsNamedWorkflow, least_none, Format}
 use Rattle.policy_reader.specs.Grammars.{today}
 use Rattle.policy_reader.specs.Parts.{value_at, array_in, table_in, table_at, count_in, entries_at, name_in, no_others, known_key}
 use Rattle.policy_reader.specs.Rules.{rules_of}

@@ -13,7 +13,7 @@ pub mod Gets
 pub mod GetsRules
 pub mod GetsFlows
 pub mod GetsFile
-pub mod PrinterWords
+pub mod Prints
 pub mod Writing
 pub mod Plain
 pub mod Readings

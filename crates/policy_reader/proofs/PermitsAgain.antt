@@ -2,9 +2,9 @@
 use Rattle.std.proofs.Common.{◌≡◌, ℕ, ◌<◌, Bool, false, nat_eq, nat_lt, ◌||◌, List, [], ◌∷◌, ◌++◌, length, map, refl, sym, ap, subst, ◌∙◌, arith, codes, Some}
 use Rattle.std.proofs.Common.{Ok}
 use Rattle.std.specs.FinSet as set
-use Rattle.policy_reader.proofs.PrinterWords.{IsDistinct, list_any, nat_eq_equiv, slice_cmp-IsAntisymmetric, nat_cmp-IsAntisymmetric, eq_same, or-false, lt_back}
-use Rattle.policy_reader.proofs.PrinterWords.{lt_yes, Members, get_member, place_of, AreNames, Pairs, AllPairs, FlowShape, Flows, name_at, chosen, permit_entry}
-use Rattle.policy_reader.proofs.PrinterWords.{permits_data}
+use Rattle.policy_reader.proofs.Prints.{IsDistinct, list_any, nat_eq_equiv, slice_cmp-IsAntisymmetric, nat_cmp-IsAntisymmetric, eq_same, or-false, lt_back}
+use Rattle.policy_reader.proofs.Prints.{lt_yes, Members, get_member, place_of, AreNames, Pairs, AllPairs, FlowShape, Flows, name_at, chosen, permit_entry}
+use Rattle.policy_reader.proofs.Prints.{permits_data}
 use Rattle.std.proofs.lemmas.List.Folds.{list_any-append}
 use Rattle.policy_reader.specs.Parts.{value_at, array_in, table_in, table_at, text_in, named_in, once}
 use Rattle.policy_reader.specs.Flows.{permits_of, next_permit, next_permitted}

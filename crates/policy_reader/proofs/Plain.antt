@@ -2,11 +2,11 @@
 use Rattle.std.proofs.Common.{◌≡◌, ℕ, zero, suc, ◌+◌, ◌≤◌, Bool, true, List, [], ◌∷◌, map, length, Less, Equal, Greater, refl, arith, Option, Some, None, max}
 use Rattle.std.proofs.Common.{pos}
 use Rattle.constraint_forms.specs.declared.rule.Rule.TheVariants as rule
-use Rattle.policy_reader.proofs.PrinterWords.{nat_cmp, match_ordering, slice_cmp, and_both, and_from, Data, string, integer, array, table, Members, no_members}
-use Rattle.policy_reader.proofs.PrinterWords.{member, depth, items_depth, members_depth, has_valid_dates, members_have_valid_dates, items_of, Rule, has_role}
-use Rattle.policy_reader.proofs.PrinterWords.{RelationShape, complement_of, PolicyShape, WorkflowShape, flow_at, format_number, written_format, first_declared}
-use Rattle.policy_reader.proofs.PrinterWords.{with_member, table_below, name_at, names_where, pair_data, pairs_data, relation_entry, rule_data, flow_entry}
-use Rattle.policy_reader.proofs.PrinterWords.{permit_entry, user_entry, Pairs}
+use Rattle.policy_reader.proofs.Prints.{nat_cmp, match_ordering, slice_cmp, and_both, and_from, Data, string, integer, array, table, Members, no_members}
+use Rattle.policy_reader.proofs.Prints.{member, depth, items_depth, members_depth, has_valid_dates, members_have_valid_dates, items_of, Rule, has_role}
+use Rattle.policy_reader.proofs.Prints.{RelationShape, complement_of, PolicyShape, WorkflowShape, flow_at, format_number, written_format, first_declared}
+use Rattle.policy_reader.proofs.Prints.{with_member, table_below, name_at, names_where, pair_data, pairs_data, relation_entry, rule_data, flow_entry}
+use Rattle.policy_reader.proofs.Prints.{permit_entry, user_entry, Pairs}
 use Rattle.policy_reader.specs.declared.form.Form.{Form}
 use Rattle.policy_reader.specs.Documents.{kind_members, grouped_members, rule_members, workflow_members, document_of, counting_members}
 

@@ -1,8 +1,8 @@
 -- Lists that are read back from what they are written as.
 use Rattle.std.proofs.Common.{◌≡◌, ℕ, zero, suc, ◌+◌, ◌<◌, ◌≤◌, Bool, true, false, List, [], ◌∷◌, ◌++◌, length, map, take, refl, sym, ap, ◌∙◌, append_assoc}
 use Rattle.std.proofs.Common.{arith, Result, Ok, Err, slice_get, slice_index_or, Some, if◌then◌else◌}
-use Rattle.policy_reader.proofs.PrinterWords.{list_any, append-nil, map-append, length-append, take_more, slice_get-get_or, or_left, or_right, eq_above, le_yes, Data}
-use Rattle.policy_reader.proofs.PrinterWords.{string, items_of, ◌>>=◌, each, PolicyPart, items, among, name_at, chosen, is_name, place_of, AreNames}
+use Rattle.policy_reader.proofs.Prints.{list_any, append-nil, map-append, length-append, take_more, slice_get-get_or, or_left, or_right, eq_above, le_yes, Data}
+use Rattle.policy_reader.proofs.Prints.{string, items_of, ◌>>=◌, each, PolicyPart, items, among, name_at, chosen, is_name, place_of, AreNames}
 use Rattle.std.specs.List.{IsDistinct}
 use Rattle.policy_reader.specs.Parts.{number_in, at_least_one, at_most}
 

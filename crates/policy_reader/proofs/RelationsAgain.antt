@@ -1,11 +1,11 @@
 -- The relations are read from what they are written as.
 use Rattle.std.proofs.Common.{◌≡◌, ℕ, zero, suc, ◌+◌, true, false, nat_eq, List, [], ◌∷◌, ◌++◌, length, map, refl, sym, ap, subst, ◌∙◌, arith, codes, Option}
 use Rattle.std.proofs.Common.{Some, None, option_map, Ok, slice_get}
-use Rattle.policy_reader.proofs.PrinterWords.{AllByRecursion, pointwise, nat_list_eq_equiv, slice_get-map, get_or_from_slice_get, length-map, Data, string, table}
-use Rattle.policy_reader.proofs.PrinterWords.{Members, no_members, member, get_member, AreNames, RELATION_LIMIT, PAIR_LIMIT, Pairs, RelationKind, listed, complement}
-use Rattle.policy_reader.proofs.PrinterWords.{RelationShape, known_names, complement_of, kind_of, complemented, has_list, is_listed, listed_pairs, AreSoundRelations}
-use Rattle.policy_reader.proofs.PrinterWords.{AreOfUsers, Relations, entries, first_declared, names_of, is_built_in, is_complement, entry_of, Ascend, name_at}
-use Rattle.policy_reader.proofs.PrinterWords.{pair_data, pairs_data, rows, table_below, relation_entry, relations_data}
+use Rattle.policy_reader.proofs.Prints.{AllByRecursion, pointwise, nat_list_eq_equiv, slice_get-map, get_or_from_slice_get, length-map, Data, string, table}
+use Rattle.policy_reader.proofs.Prints.{Members, no_members, member, get_member, AreNames, RELATION_LIMIT, PAIR_LIMIT, Pairs, RelationKind, listed, complement}
+use Rattle.policy_reader.proofs.Prints.{RelationShape, known_names, complement_of, kind_of, complemented, has_list, is_listed, listed_pairs, AreSoundRelations}
+use Rattle.policy_reader.proofs.Prints.{AreOfUsers, Relations, entries, first_declared, names_of, is_built_in, is_complement, entry_of, Ascend, name_at}
+use Rattle.policy_reader.proofs.Prints.{pair_data, pairs_data, rows, table_below, relation_entry, relations_data}
 use Rattle.std.specs.List.{IsDistinct}
 use Rattle.policy_reader.specs.Parts.{array_in, table_in, text_in, name_in}
 use Rattle.policy_reader.specs.Relations.{listed_in, complement_in, kind_in, kind_at, free_name_in, next_relation, relations_in, relations_of}

@@ -2,9 +2,9 @@
 use Rattle.std.proofs.Common.{◌≡◌, ℕ, suc, ◌<◌, false, nat_lt, List, [], length, map, take, refl, ap, ◌∙◌, arith, ◌≤◌, Bool, nat_eq, ◌∷◌, ◌++◌, get_or, sym}
 use Rattle.std.proofs.Common.{codes, Some, Ok, is_some, position, slice_get}
 use Rattle.std.specs.FinSet as set
-use Rattle.policy_reader.proofs.PrinterWords.{length-map, length-take-le, take_all, lt_yes, lt_no, Members, get_member, string, AreNames, place_of, USER_LIMIT}
-use Rattle.policy_reader.proofs.PrinterWords.{ROLE_LIMIT, STEP_LIMIT, Pairs, RosterShape, has_role, IsSoundRoster, each, Users, Roles, Flows, Ascend, chosen}
-use Rattle.policy_reader.proofs.PrinterWords.{user_entry, users_data, names_array, pointwise, none_cons, PolicyPart}
+use Rattle.policy_reader.proofs.Prints.{length-map, length-take-le, take_all, lt_yes, lt_no, Members, get_member, string, AreNames, place_of, USER_LIMIT}
+use Rattle.policy_reader.proofs.Prints.{ROLE_LIMIT, STEP_LIMIT, Pairs, RosterShape, has_role, IsSoundRoster, each, Users, Roles, Flows, Ascend, chosen}
+use Rattle.policy_reader.proofs.Prints.{user_entry, users_data, names_array, pointwise, none_cons, PolicyPart}
 use Rattle.policy_reader.specs.Grammars.{today}
 use Rattle.policy_reader.specs.Parts.{value_at, array_in, table_in, array_at, table_at, count_in, items_at, entries_at, text_in, name_in, text_name_in}
 use Rattle.policy_reader.specs.Parts.{named_in, once, next_name}

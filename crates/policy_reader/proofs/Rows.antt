@@ -4,9 +4,9 @@ use Rattle.std.proofs.Common.{append_assoc, arith, length, nat_lt, if◌then◌e
 use Rattle.std.specs.FinSet as set
 use Rattle.policy_reader.proofs.Grown.{push_all}
 use Rattle.policy_reader.proofs.Sets as part
-use Rattle.policy_reader.proofs.PrinterWords.{eq_by_cmp, nat_cmp, ordering_then, nat_cmp_is, eq_by_cmp_equiv, list_any, AllByRecursion, IsDistinct, find, is_sorted}
-use Rattle.policy_reader.proofs.PrinterWords.{append-nil, Pairs, pair_cmp, IsAscending, AllPairs, pair_cmp_total, pair_cmp-IsAntisymmetric, ascending_none, row, rows}
-use Rattle.policy_reader.proofs.PrinterWords.{pair_data, IsDistinct-from_sorted, AreNames, each, PolicyPart, lt_yes, lt_no, All, or_right}
+use Rattle.policy_reader.proofs.Prints.{eq_by_cmp, nat_cmp, ordering_then, nat_cmp_is, eq_by_cmp_equiv, list_any, AllByRecursion, IsDistinct, find, is_sorted}
+use Rattle.policy_reader.proofs.Prints.{append-nil, Pairs, pair_cmp, IsAscending, AllPairs, pair_cmp_total, pair_cmp-IsAntisymmetric, ascending_none, row, rows}
+use Rattle.policy_reader.proofs.Prints.{pair_data, IsDistinct-from_sorted, AreNames, each, PolicyPart, lt_yes, lt_no, All, or_right}
 use Rattle.std.specs.List.Sorted.{IsStrictlySortedBy}
 use Rattle.std.specs.FinMap.Entries.{below_all, same_entries}
 use Rattle.std.proofs.lemmas.Map.Keys.{sorted_head, sorted_tail}

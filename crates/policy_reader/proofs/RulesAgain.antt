@@ -2,9 +2,9 @@
 use Rattle.std.proofs.Common.{◌≡◌, ℕ, zero, suc, ◌+◌, ◌<◌, ◌≤◌, Bool, true, false, cond, nat_eq, List, [], ◌∷◌, ◌++◌, length, map, refl, sym, ap, ◌∙◌, arith}
 use Rattle.std.proofs.Common.{codes, Some, Ok, slice_set, slice_get, replicate}
 use Rattle.constraint_forms.specs.declared.rule.Rule.TheVariants as rule
-use Rattle.policy_reader.proofs.PrinterWords.{length-map, not_true, or_left, or_right, eq_same, each, string, Members, get_member, AreNames, STEP_LIMIT, RULE_LIMIT}
-use Rattle.policy_reader.proofs.PrinterWords.{RelationShape, known_names, is_member, Rule, IsSoundRule, AreSoundRules, Flows, name_at, names_where, chosen, rule_data}
-use Rattle.policy_reader.proofs.PrinterWords.{rules_data, HasFlags, HaveFlags, Format, form_of, knows_form, le_yes}
+use Rattle.policy_reader.proofs.Prints.{length-map, not_true, or_left, or_right, eq_same, each, string, Members, get_member, AreNames, STEP_LIMIT, RULE_LIMIT}
+use Rattle.policy_reader.proofs.Prints.{RelationShape, known_names, is_member, Rule, IsSoundRule, AreSoundRules, Flows, name_at, names_where, chosen, rule_data}
+use Rattle.policy_reader.proofs.Prints.{rules_data, HasFlags, HaveFlags, Format, form_of, knows_form, le_yes}
 use Rattle.constraint_forms.specs.Assign.{no_steps}
 use Rattle.constraint_forms.specs.Rules.{any_from, count_members}
 use Rattle.policy_reader.specs.Parts.{value_at, array_in, table_in, text_in, named_in, once, no_others, known_key}

@@ -1,8 +1,8 @@
 -- Parts of a set of pairs, as they are read or written line by line.
 use Rattle.std.proofs.Common.{◌≡◌, ℕ, suc, ◌<◌, Bool, true, false, ◌||◌, ◌&&◌, nat_eq, nat_lt, map, refl, sym, ap, ◌∙◌, arith, Result, Ok}
 use Rattle.std.specs.FinSet as set
-use Rattle.policy_reader.proofs.PrinterWords.{eq_by_cmp, is_eq, tied_itself, and_same, and_swap, and-false, or-false, eq_same, eq_back, lt_yes, lt_no, Pairs}
-use Rattle.policy_reader.proofs.PrinterWords.{pair_cmp, pair_cmp_total, pair_cmp-IsAntisymmetric, each, chosen}
+use Rattle.policy_reader.proofs.Prints.{eq_by_cmp, is_eq, tied_itself, and_same, and_swap, and-false, or-false, eq_same, eq_back, lt_yes, lt_no, Pairs}
+use Rattle.policy_reader.proofs.Prints.{pair_cmp, pair_cmp_total, pair_cmp-IsAntisymmetric, each, chosen}
 use Rattle.std.proofs.lemmas.Map.Views.{tells_apart}
 use Rattle.policy_reader.proofs.PairSets.{same_pairs}
 use Rattle.policy_reader.proofs.Readings.{chosen_back}

@@ -1,10 +1,10 @@
 -- The entries of a table that was put together by numbers.
 use Rattle.std.proofs.Common.{◌≡◌, ℕ, zero, suc, ◌<◌, ◌≤◌, true, false, ◌||◌, nat_eq, nat_lt, List, [], ◌∷◌, ◌++◌, length, map, Ordering, Less, Equal, Greater}
 use Rattle.std.proofs.Common.{nat_cmp, refl, sym, ap, ◌∙◌, arith, IsPermutation}
-use Rattle.policy_reader.proofs.PrinterWords.{AllByRecursion, list_any, match_ordering, ordering_reverse, nat_eq_equiv, slice_cmp, nat_list_cmp_total}
-use Rattle.policy_reader.proofs.PrinterWords.{slice_cmp-IsAntisymmetric, nat_cmp-IsAntisymmetric, Less-from_sorted, IsDistinct-cons, IsDistinct-IsPermutation}
-use Rattle.policy_reader.proofs.PrinterWords.{or_left, or_right, eq_same, eq_above, lt_back, lt_no, Data, Members, no_members, member, entries, Ascend, with_member}
-use Rattle.policy_reader.proofs.PrinterWords.{table_below, name_at}
+use Rattle.policy_reader.proofs.Prints.{AllByRecursion, list_any, match_ordering, ordering_reverse, nat_eq_equiv, slice_cmp, nat_list_cmp_total}
+use Rattle.policy_reader.proofs.Prints.{slice_cmp-IsAntisymmetric, nat_cmp-IsAntisymmetric, Less-from_sorted, IsDistinct-cons, IsDistinct-IsPermutation}
+use Rattle.policy_reader.proofs.Prints.{or_left, or_right, eq_same, eq_above, lt_back, lt_no, Data, Members, no_members, member, entries, Ascend, with_member}
+use Rattle.policy_reader.proofs.Prints.{table_below, name_at}
 use Rattle.std.specs.List.{IsDistinct}
 use Rattle.std.proofs.lemmas.List.Sorted.{IsPermutation-refl, IsPermutation-cons, IsPermutation-trans, IsPermutation-middle, list_any-IsPermutation}
 use Rattle.policy_reader.proofs.Readings.{upto}

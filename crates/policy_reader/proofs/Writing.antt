@@ -3,11 +3,11 @@ use Rattle.std.proofs.Common.{◌≡◌, ℕ, suc, ◌+◌, ◌<◌, ◌≤◌, 
 use Rattle.std.proofs.Common.{Ordering, Less, Equal, Greater, string_bytes, refl, sym, ap, ◌∙◌, append_assoc, arith, Result, Ok, Err, OnOk, slice_get, Option}
 use Rattle.std.proofs.Common.{Some, None, option_map, zero, subst, inl, inr}
 use Rattle.std.specs.FinSet as set
-use Rattle.policy_reader.proofs.PrinterWords.{All, get_or_from_slice_get, slice_get_past, slice_get_within, AreNames, first_declared, RELATION_LIMIT, Pairs}
-use Rattle.policy_reader.proofs.PrinterWords.{RelationShape, RelationKind, listed, complement, kind_of, known_names, has_list, is_listed, complemented, complement_of}
-use Rattle.policy_reader.proofs.PrinterWords.{AreSoundRelations, match_ordering, get_or_default, length-map, map-append, take_more, take_all, Data, Members, member}
-use Rattle.policy_reader.proofs.PrinterWords.{view}
-use Rattle.policy_reader.proofs.PrinterWords.{members_view, with_member, table_below, chosen, name_at, row, rows, string, array, items_of, pair_data}
+use Rattle.policy_reader.proofs.Prints.{All, get_or_from_slice_get, slice_get_past, slice_get_within, AreNames, first_declared, RELATION_LIMIT, Pairs}
+use Rattle.policy_reader.proofs.Prints.{RelationShape, RelationKind, listed, complement, kind_of, known_names, has_list, is_listed, complemented, complement_of}
+use Rattle.policy_reader.proofs.Prints.{AreSoundRelations, match_ordering, get_or_default, length-map, map-append, take_more, take_all, Data, Members, member}
+use Rattle.policy_reader.proofs.Prints.{view}
+use Rattle.policy_reader.proofs.Prints.{members_view, with_member, table_below, chosen, name_at, row, rows, string, array, items_of, pair_data}
 use Rattle.std.proofs.lemmas.Bool.{cases_lt}
 use Rattle.wf_names.specs.Names.{is_name}
 use Rattle.wf_names.proofs.Places.{are_names}

@@ -1,7 +1,7 @@
 //! The program that tells in words, over whatever shelf, source and sink it is given: what a policy
-//! says and why there is no plan; and what a transcript tells, whose session's files are loaded and
-//! which is audited, as far as it is right, as lines or as a page of HTML about one case. What comes
-//! from the files is escaped there.
+//! says and why there is no plan; and what a transcript tells. There the session is loaded from its
+//! files and audited, and told as far as it is right, as lines or as a page of HTML about one case.
+//! What comes from the files is escaped in a page.
 #![tactic(auto)]
 
 mod answer;

@@ -1,4 +1,4 @@
-use Rattle.policy_reader.proofs.PrinterWords.{subst, ap, ◌∙◌, RosterShape, IsSoundRoster, AreNames}
+use Rattle.policy_reader.proofs.Prints.{subst, ap, ◌∙◌, RosterShape, IsSoundRoster, AreNames}
 use Rattle.policy_reader.proofs.Writing.{on_ok}
 use Rattle.policy_reader.proofs.document.fill.Goals as goal
 

@@ -1,4 +1,4 @@
-use Rattle.policy_reader.proofs.PrinterWords.{◌∙◌, sym, ap, arith, refl, ◌≡◌, true, false, Err, string_bytes, members_have_valid_dates, document_of}
+use Rattle.policy_reader.proofs.Prints.{◌∙◌, sym, ap, arith, refl, ◌≡◌, true, false, Err, string_bytes, members_have_valid_dates, document_of}
 use Rattle.std.proofs.lemmas.Str.{IsUtf8-string_bytes}
 use Rattle.policy_reader.proofs.Plain.{document_plain}
 use Rattle.policy_reader.proofs.Again.{file_back}

@@ -1,4 +1,4 @@
-use Rattle.policy_reader.proofs.PrinterWords.{◌≡◌, ℕ, ◌<◌, table_view, flow_at, table_below, flow_entry, IsNamedWorkflow}
+use Rattle.policy_reader.proofs.Prints.{◌≡◌, ℕ, ◌<◌, table_view, flow_at, table_below, flow_entry, IsNamedWorkflow}
 use Rattle.policy_reader.proofs.printed_flows.flows_value.Given as goal
 
 abbrev pub invariant-flows : goal.invariant-flows

@@ -1,4 +1,4 @@
-use Rattle.policy_reader.proofs.PrinterWords.{map, length, arith, string, name_at, chosen, is_member}
+use Rattle.policy_reader.proofs.Prints.{map, length, arith, string, name_at, chosen, is_member}
 use Rattle.policy_reader.proofs.Writing.{written_to}
 use Rattle.policy_reader.proofs.printed_flows.group_value.Goals as goal
 

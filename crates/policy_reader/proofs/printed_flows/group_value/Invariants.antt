@@ -1,4 +1,4 @@
-use Rattle.policy_reader.proofs.PrinterWords.{◌≡◌, map, string, view, is_member, name_at, chosen}
+use Rattle.policy_reader.proofs.Prints.{◌≡◌, map, string, view, is_member, name_at, chosen}
 use Rattle.policy_reader.proofs.printed_flows.group_value.Given as goal
 
 abbrev pub invariant-steps : goal.invariant-steps

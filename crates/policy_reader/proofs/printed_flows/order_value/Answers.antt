@@ -1,4 +1,4 @@
-use Rattle.policy_reader.proofs.PrinterWords.{map, length, ap, arith, pair_data, rows}
+use Rattle.policy_reader.proofs.Prints.{map, length, ap, arith, pair_data, rows}
 use Rattle.policy_reader.proofs.Writing.{written_to}
 use Rattle.policy_reader.proofs.printed_flows.order_value.Goals as goal
 

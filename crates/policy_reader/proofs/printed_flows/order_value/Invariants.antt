@@ -1,4 +1,4 @@
-use Rattle.policy_reader.proofs.PrinterWords.{◌≡◌, map, length, view, pair_data, rows}
+use Rattle.policy_reader.proofs.Prints.{◌≡◌, map, length, view, pair_data, rows}
 use Rattle.policy_reader.proofs.printed_flows.order_value.Given as goal
 
 abbrev pub invariant-steps : goal.invariant-steps

@@ -1,4 +1,4 @@
-use Rattle.policy_reader.proofs.PrinterWords.{◌≡◌, table_view, table_below, permit_entry}
+use Rattle.policy_reader.proofs.Prints.{◌≡◌, table_view, table_below, permit_entry}
 use Rattle.policy_reader.proofs.printed_flows.permits_value.Given as goal
 
 abbrev pub invariant-steps : goal.invariant-steps

@@ -1,5 +1,5 @@
 use Rattle.std.specs.FinSet as set
-use Rattle.policy_reader.proofs.PrinterWords.{map, length, arith, string, name_at, chosen}
+use Rattle.policy_reader.proofs.Prints.{map, length, arith, string, name_at, chosen}
 use Rattle.policy_reader.proofs.Writing.{written_to}
 use Rattle.policy_reader.proofs.printed_flows.permitted_value.Goals as goal
 

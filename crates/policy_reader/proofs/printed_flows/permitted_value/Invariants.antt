@@ -1,5 +1,5 @@
 use Rattle.std.specs.FinSet as set
-use Rattle.policy_reader.proofs.PrinterWords.{◌≡◌, map, string, view, name_at, chosen}
+use Rattle.policy_reader.proofs.Prints.{◌≡◌, map, string, view, name_at, chosen}
 use Rattle.policy_reader.proofs.printed_flows.permitted_value.Given as goal
 
 abbrev pub invariant-roles : goal.invariant-roles

@@ -1,4 +1,4 @@
-use Rattle.policy_reader.proofs.PrinterWords.{◌≡◌, ◌++◌, map, view, pair_data, row}
+use Rattle.policy_reader.proofs.Prints.{◌≡◌, ◌++◌, map, view, pair_data, row}
 use Rattle.policy_reader.proofs.printed_flows.push_row.Given as goal
 
 abbrev pub invariant-steps : goal.invariant-steps

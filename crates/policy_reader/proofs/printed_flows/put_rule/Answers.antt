@@ -1,4 +1,4 @@
-use Rattle.policy_reader.proofs.PrinterWords.{length, subst, nat_eq, or_left, or_right, eq_same, IsSoundRule}
+use Rattle.policy_reader.proofs.Prints.{length, subst, nat_eq, or_left, or_right, eq_same, IsSoundRule}
 use Rattle.policy_reader.proofs.printed_flows.put_rule.Goals as goal
 
 pub put_pair-requires-clause-first : goal.put_pair-requires-clause-first

@@ -1,4 +1,4 @@
-use Rattle.policy_reader.proofs.PrinterWords.{sym, ap, ◌∙◌, ◌++◌, ◌∷◌, [], ◌≡◌, Some, subst, arith, slice_get, slice_get_within, Rule, rule_data, HasFlags}
+use Rattle.policy_reader.proofs.Prints.{sym, ap, ◌∙◌, ◌++◌, ◌∷◌, [], ◌≡◌, Some, subst, arith, slice_get, slice_get_within, Rule, rule_data, HasFlags}
 use Rattle.policy_reader.proofs.Writing.{map_take_got, one_further, all_written}
 use Rattle.policy_reader.proofs.RuleLists.{same_rule}
 use Rattle.policy_reader.proofs.printed_flows.rules_value.Goals as goal

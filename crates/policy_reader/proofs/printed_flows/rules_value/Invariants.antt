@@ -1,4 +1,4 @@
-use Rattle.policy_reader.proofs.PrinterWords.{◌≡◌, ℕ, ◌<◌, map, take, Some, slice_get, view, Rule, rule_data, HasFlags}
+use Rattle.policy_reader.proofs.Prints.{◌≡◌, ℕ, ◌<◌, map, take, Some, slice_get, view, Rule, rule_data, HasFlags}
 use Rattle.policy_reader.proofs.printed_flows.rules_value.Given as goal
 
 abbrev pub invariant-rules : goal.invariant-rules

@@ -1,4 +1,4 @@
-use Rattle.policy_reader.proofs.PrinterWords.{arith, string}
+use Rattle.policy_reader.proofs.Prints.{arith, string}
 use Rattle.policy_reader.proofs.Writing.{all_written}
 use Rattle.policy_reader.proofs.printed_parts.names_value.Goals as goal
 

@@ -1,4 +1,4 @@
-use Rattle.policy_reader.proofs.PrinterWords.{◌≡◌, map, take, string, view}
+use Rattle.policy_reader.proofs.Prints.{◌≡◌, map, take, string, view}
 use Rattle.policy_reader.proofs.printed_parts.names_value.Given as goal
 
 abbrev pub invariant-names : goal.invariant-names

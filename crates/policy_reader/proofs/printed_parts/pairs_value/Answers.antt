@@ -1,4 +1,4 @@
-use Rattle.policy_reader.proofs.PrinterWords.{arith, pair_data}
+use Rattle.policy_reader.proofs.Prints.{arith, pair_data}
 use Rattle.policy_reader.proofs.Writing.{all_written}
 use Rattle.policy_reader.proofs.printed_parts.pairs_value.Goals as goal
 

@@ -1,4 +1,4 @@
-use Rattle.policy_reader.proofs.PrinterWords.{◌≡◌, map, take, view, pair_data}
+use Rattle.policy_reader.proofs.Prints.{◌≡◌, map, take, view, pair_data}
 use Rattle.policy_reader.proofs.printed_parts.pairs_value.Given as goal
 
 abbrev pub invariant-pairs : goal.invariant-pairs

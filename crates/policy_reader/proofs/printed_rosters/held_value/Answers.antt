@@ -1,4 +1,4 @@
-use Rattle.policy_reader.proofs.PrinterWords.{map, length, ap, arith, string, name_at, chosen, has_role}
+use Rattle.policy_reader.proofs.Prints.{map, length, ap, arith, string, name_at, chosen, has_role}
 use Rattle.policy_reader.proofs.Writing.{written_to}
 use Rattle.policy_reader.proofs.printed_rosters.held_value.Goals as goal
 

@@ -1,4 +1,4 @@
-use Rattle.policy_reader.proofs.PrinterWords.{◌≡◌, map, string, view, has_role, name_at, chosen}
+use Rattle.policy_reader.proofs.Prints.{◌≡◌, map, string, view, has_role, name_at, chosen}
 use Rattle.policy_reader.proofs.printed_rosters.held_value.Given as goal
 
 abbrev pub invariant-roles : goal.invariant-roles

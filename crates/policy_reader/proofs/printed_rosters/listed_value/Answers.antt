@@ -1,4 +1,4 @@
-use Rattle.policy_reader.proofs.PrinterWords.{length}
+use Rattle.policy_reader.proofs.Prints.{length}
 use Rattle.policy_reader.proofs.Rows.{all_below, listed_rows}
 use Rattle.policy_book.proofs.Keeping.{pairs_of_users}
 use Rattle.policy_reader.proofs.printed_rosters.listed_value.Goals as goal

@@ -1,4 +1,4 @@
-use Rattle.policy_reader.proofs.PrinterWords.{arith, ◌≡◌, true, ℕ, ◌+◌, ap, ◌∙◌, sym, known_names, first_declared, name_at, with_member, relation_entry, is_name}
+use Rattle.policy_reader.proofs.Prints.{arith, ◌≡◌, true, ℕ, ◌+◌, ap, ◌∙◌, sym, known_names, first_declared, name_at, with_member, relation_entry, is_name}
 use Rattle.policy_reader.proofs.Writing.{table_more, one_further, known_named}
 use Rattle.policy_reader.proofs.printed_rosters.relations_value.Goals as goal
 

@@ -1,4 +1,4 @@
-use Rattle.policy_reader.proofs.PrinterWords.{◌≡◌, ℕ, ◌+◌, ◌<◌, true, table_view, known_names, first_declared, name_at, table_below, relation_entry, is_name}
+use Rattle.policy_reader.proofs.Prints.{◌≡◌, ℕ, ◌+◌, ◌<◌, true, table_view, known_names, first_declared, name_at, table_below, relation_entry, is_name}
 use Rattle.policy_reader.proofs.printed_rosters.relations_value.Given as goal
 
 abbrev pub invariant-relations : goal.invariant-relations

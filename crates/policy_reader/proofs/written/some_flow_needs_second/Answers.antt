@@ -1,4 +1,4 @@
-use Rattle.policy_reader.proofs.PrinterWords.{◌∙◌, sym, ap, length, arith, flow_at, needs_second}
+use Rattle.policy_reader.proofs.Prints.{◌∙◌, sym, ap, length, arith, flow_at, needs_second}
 use Rattle.policy_book.proofs.Counting.{any_below-at}
 use Rattle.policy_reader.proofs.written.some_flow_needs_second.Goals as goal
 

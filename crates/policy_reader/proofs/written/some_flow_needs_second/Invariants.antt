@@ -1,4 +1,4 @@
-use Rattle.policy_reader.proofs.PrinterWords.{◌≡◌, false, any_below, flow_at, needs_second}
+use Rattle.policy_reader.proofs.Prints.{◌≡◌, false, any_below, flow_at, needs_second}
 use Rattle.policy_reader.proofs.written.some_flow_needs_second.Given as goal
 
 abbrev pub invariant-flows : goal.invariant-flows
