@@ -4,9 +4,9 @@ use Rattle.json.specs.Token.{Token, begin_object, end_object, begin_array, end_a
 use Rattle.json.specs.Word.{ends_word, word}
 use Rattle.json.specs.Lex.{Lexeme, token, colon, string_token, lex, between, fresh, punctuate, tokens}
 use Rattle.json.specs.Print.{escape, quoted, token_text, begins, ends, separator, print_from, print, IsPrintable, ArePrintable}
-use Rattle.json.proofs.Prints.Strings.{content-escape, lex-escape}
-use Rattle.json.proofs.Prints.Numbers.{lex-number, in_word-ended}
-use Rattle.json.proofs.Prints.Tokens.{tokens-print}
+use Rattle.json.proofs.Printed.Strings.{content-escape, lex-escape}
+use Rattle.json.proofs.Printed.Numbers.{lex-number, in_word-ended}
+use Rattle.json.proofs.Printed.Tokens.{tokens-print}
 
 abbrev pub line_end : List ℕ
 line_end = 10 ∷ []

@@ -2,7 +2,7 @@
 use Rattle.std.proofs.Common.{ℕ, suc, ◌<◌, ◌≤◌, ◌^◌, List, [], ◌∷◌, length, refl, arith, IsUtf8}
 use Rattle.std.specs.Prelude.{codes, map, Option}
 use Rattle.std.specs.List.{All}
-use Rattle.json.proofs.Prints.Utf8.{IsUtf8-are_ascii}
+use Rattle.json.proofs.Printed.Utf8.{IsUtf8-are_ascii}
 use Rattle.serde_json.specs.Data.{Data, number, unsigned, string, array}
 use Rattle.serde_json.specs.View.{items_of}
 use Rattle.wf_names.proofs.NameForms.{name_utf8}

@@ -14,11 +14,11 @@ use Rattle.json.specs.Lex.{tokens}
 use Rattle.json.specs.Json as json
 use Rattle.json.specs.Tree as tree
 use Rattle.json.specs.Tree.{json_tokens, HasNumbers, ItemsHaveNumbers, MembersHaveNumbers}
-use Rattle.json.proofs.Prints.Decimals.{IsNumber-decimal}
-use Rattle.json.proofs.Prints.Trees.{value-json_tokens, ArePrintable-json_tokens}
+use Rattle.json.proofs.Printed.Decimals.{IsNumber-decimal}
+use Rattle.json.proofs.Printed.Trees.{value-json_tokens, ArePrintable-json_tokens}
 use Rattle.json.proofs.Nesting.{value-depth}
 use Rattle.json.proofs.Found.{one_reading}
-use Rattle.json.proofs.Prints.Utf8.{IsUtf8-quoted, IsUtf8-are_ascii, IsUtf8-boolean}
+use Rattle.json.proofs.Printed.Utf8.{IsUtf8-quoted, IsUtf8-are_ascii, IsUtf8-boolean}
 use Rattle.serde_json.specs.Data.{Num, unsigned, negative, float, Data, null, boolean, number, string, array, object, Items, no_items, item, Members}
 use Rattle.serde_json.specs.Data.{no_members, member, put, depth, items_depth, members_depth}
 use Rattle.serde_json.specs.Read.{read, of_json, of_items, of_members, max_depth}

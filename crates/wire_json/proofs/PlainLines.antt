@@ -12,9 +12,9 @@ use Rattle.json.specs.Lex.{tokens}
 use Rattle.json.specs.Print.{escape, separator, token_text, ends, IsPrintable, ArePrintable}
 use Rattle.json.specs.Spaced.{IsGap, print_spaced}
 use Rattle.json.proofs.Grammar.{value_is}
-use Rattle.json.proofs.Prints.Tokens.{tokens-print_spaced}
-use Rattle.json.proofs.Prints.Decimals.{IsNumber-decimal}
-use Rattle.json.proofs.Prints.Utf8.{IsUtf8-are_ascii, IsUtf8-IsGap}
+use Rattle.json.proofs.Printed.Tokens.{tokens-print_spaced}
+use Rattle.json.proofs.Printed.Decimals.{IsNumber-decimal}
+use Rattle.json.proofs.Printed.Utf8.{IsUtf8-are_ascii, IsUtf8-IsGap}
 use Rattle.serde_json.specs.Data as v
 use Rattle.serde_json.specs.Data.{Data, Members, no_members, member, object, put}
 use Rattle.serde_json.specs.Read.{of_json, of_members, converted}
