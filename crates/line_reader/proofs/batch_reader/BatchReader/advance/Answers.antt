@@ -2,7 +2,7 @@ use Rattle.std.proofs.Common.{ap, arith}
 use Rattle.std.proofs.lemmas.Grind.{common_steps}
 use Rattle.line_reader.specs.BatchReader.{BatchReaderShape}
 use Rattle.line_reader.proofs.ReadingLaws.{take_more}
-use Rattle.line_reader.proofs.reader.Reader.advance.Goals.{in-Ok-true, in-Ok-false, in-Err}
+use Rattle.line_reader.proofs.batch_reader.BatchReader.advance.Goals.{in-Ok-true, in-Ok-false, in-Err}
 use Rattle.line_reader.proofs.batch_reader.BatchReader.advance.Goals as goal
 
 pub returns-then-not-is_empty-clause-steps : goal.returns-then-not-is_empty-clause-steps
