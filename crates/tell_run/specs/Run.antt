@@ -7,8 +7,8 @@ use Rattle.wf_commands.specs.declared.answer.Answer.{Answer}
 use Rattle.wf_commands.specs.Answer.{AnswersAs}
 use Rattle.wf_commands.specs.Load.{IsLoadEnding}
 use Rattle.wf_commands.specs.Once.{Ends}
-use Rattle.tell_run.specs.declared.told.What.{What}
-use Rattle.tell_run.specs.declared.told.What.TheVariants as what
+use Rattle.tell_run.specs.declared.transcript.What.{What}
+use Rattle.tell_run.specs.declared.transcript.What.TheVariants as what
 use Rattle.tell_run.specs.declared.session.Session.{Session}
 use Rattle.tell_run.specs.Sessions.{GivesSession, Names}
 use Rattle.tell_run.specs.Printed.{TellsEntry, TellsLog, TellsNow, TellsPage}

@@ -4,7 +4,7 @@ use Rattle.tell_run.specs.Run.{Tells}
 use Rattle.tell_run.specs.Session.{named_by}
 use Rattle.tell_run.specs.Sessions.{Names}
 use Rattle.tell_run.proofs.Answering.{told_none, told_part, told_whole}
-use Rattle.tell_run.proofs.told.run_told.Goals as goal
+use Rattle.tell_run.proofs.transcript.run_told.Goals as goal
 
 pub returns-in-Ok-put_and_flush-clause-tells : goal.returns-in-Ok-put_and_flush-clause-tells
 returns-in-Ok-put_and_flush-clause-tells g c =

@@ -2,7 +2,7 @@ use Rattle.tell_run.specs.Run.{Tells}
 use Rattle.tell_run.specs.Session.{named_by}
 use Rattle.tell_run.specs.Sessions.{Names}
 use Rattle.tell_run.proofs.Answering.{found_all, found_none}
-use Rattle.tell_run.proofs.told.find.Goals as goal
+use Rattle.tell_run.proofs.transcript.find.Goals as goal
 
 pub returns-in_err-s-clause-finds : goal.returns-in_err-s-clause-finds
 returns-in_err-s-clause-finds g c =
