@@ -1,5 +1,5 @@
 -- How the search for a finding ends.
-use Rattle.std.proofs.Common.{◌≡◌, List, ℕ, Result, Ok, Err}
+use Rattle.std.proofs.Common.{◌≡◌, Result, Ok, Err}
 use Rattle.std.specs.Prelude.{IfErr, IsErrAnd}
 use Rattle.wf_outside.specs.Outside.{Filed, told, missing, untold}
 use Rattle.run_record.specs.declared.fault.RunFault.{RunFault}

@@ -7,7 +7,6 @@ use Rattle.line_reader.specs.declared.whole.CutText.{CutText}
 use Rattle.line_reader.specs.Jobs.{Cut, jobs_of_input, next_input, start_from}
 use Rattle.line_reader.specs.Laws.{AreInOrder, GoesOn, InputsGoOn}
 use Rattle.wf_board.specs.Histories.{batch_start}
-use Rattle.wf_desk.specs.Desks.{DeskShape}
 use Rattle.line_reader.specs.BatchReader.{BatchReaderShape}
 use Rattle.run_record.specs.declared.fault.RunFault.{RunFault}
 use Rattle.run_record.specs.declared.fault.RunFault.TheVariants as run

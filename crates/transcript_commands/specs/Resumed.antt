@@ -1,7 +1,7 @@
 -- Going on from a transcript: its whole lines, the entries that they tell, and the first line that
 -- tells none.
 use Rattle.std.specs.Prelude.{◌≡◌, ℕ, ◌+◌, nat_lt, List, [], ◌∷◌, length, take, Option, None, Some}
-use Rattle.std.specs.Prelude.{Result, Ok, Err, if◌then◌else◌}
+use Rattle.std.specs.Prelude.{if◌then◌else◌}
 use Rattle.std.proofs.Common.{◌⊎◌}
 use Rattle.wf_names.specs.declared.limits.TheConstants.{TRANSCRIPT_LINE_LIMIT}
 use Rattle.policy_book.specs.Shapes.{PolicyShape}
@@ -12,7 +12,7 @@ use Rattle.wf_desk.specs.Desks.{DeskShape}
 use Rattle.transcript_audit.specs.declared.fault.AuditFault.{AuditFault}
 use Rattle.transcript_audit.specs.declared.fault.AuditFault.TheVariants.{At, NoMemory}
 use Rattle.transcript_audit.specs.declared.fault.AuditKind.{AuditKind}
-use Rattle.transcript_audit.specs.Auditor.{AuditShape, AreNext, HasFault, IsNextLine}
+use Rattle.transcript_audit.specs.Auditor.{AuditShape, HasFault, IsNextLine}
 use Rattle.transcript_audit.specs.Auditor.{IsTranscriptPart, audit_of, with_entry}
 use Rattle.transcript_commands.specs.Unserved.{end_at, jobs_between, start_at}
 

@@ -1,6 +1,6 @@
 -- The command `audit`: the transcript in the input is audited for a policy file and a requests
 -- file.
-use Rattle.std.specs.Prelude.{◌≡◌, ◌↔◌, ◌<◌, ℕ, List, [], length, Option, IfSome, MatchBool, nat_lt}
+use Rattle.std.specs.Prelude.{◌≡◌, ◌↔◌, ◌<◌, ℕ, List, length, Option, IfSome, MatchBool, nat_lt}
 use Rattle.std.specs.Prelude.{true}
 use Rattle.wf_names.specs.declared.limits.TheConstants.{REQUESTS_FILE_LIMIT}
 use Rattle.wf_outside.specs.Outside.{Filed, told, missing, untold, HasTaken}

@@ -1,5 +1,5 @@
 -- Inside: the steps of an audit, and of the run of its command.
-use Rattle.std.specs.Prelude.{◌≡◌, ℕ, ◌+◌, ◌≤◌, List, [], ◌++◌, length, Option, None, Some, Result}
+use Rattle.std.specs.Prelude.{◌≡◌, ℕ, ◌+◌, ◌≤◌, List, ◌++◌, length, Option, None, Some, Result}
 use Rattle.std.specs.Prelude.{Ok, Err}
 use Rattle.wf_outside.specs.Outside.{Filed, told, missing, untold, HasPart, HasTaken}
 use Rattle.policy_book.specs.Shapes.{PolicyShape}

@@ -1,7 +1,10 @@
 use Rattle.std.proofs.Common.{ap, subst, sym}
+use Rattle.policy_book.specs.Shapes.{PolicyShape}
 use Rattle.line_reader.specs.Laws.{AreInOrder}
 use Rattle.wf_desk.specs.Desks.{DeskShape}
 use Rattle.wf_desk.specs.Parts.{FillsPart}
+use Rattle.transcript_commands.specs.Resumed.{GoesOnAt}
+use Rattle.transcript_commands.specs.Sessions.{session_over}
 use Rattle.transcript_commands.proofs.GoingOn.{goes_on_with, restored_with}
 use Rattle.transcript_commands.proofs.resumed.go_on.Goals as goal
 
@@ -18,4 +21,6 @@ take_rest-requires-clause-part c =
 
 pub returns : goal.returns
 returns c =
-    goes_on_with _ _ _ _ _ _ c.in_ok-desk.desk c.args.batch.now c.in_ok-next.next c.take_rest.new.desk c.in_ok-desk.ensures c.in_ok-next.ensures
+    subst (λ (p : PolicyShape). GoesOnAt (session_over p c.args.lanes c.args.rounds c.args.batch.now) c.args.journal.entries c.in_ok-next.next
+    c.take_rest.new.desk) c.in_ok-copy.ensures
+    (goes_on_with _ _ _ _ _ _ c.in_ok-desk.desk c.args.batch.now c.in_ok-next.next c.take_rest.new.desk c.in_ok-desk.ensures c.in_ok-next.ensures)
