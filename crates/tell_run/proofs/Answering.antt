@@ -1,6 +1,6 @@
 -- How an answer stands for a wider one, and over the files.
-use Rattle.std.proofs.Common.{◌≡◌, ℕ, Bool, true, false, ◌||◌, nat_lt, List, [], ◌++◌, length, Option, None, Some, Result, Ok, Err, MatchBool, refl, ap, sym}
-use Rattle.std.proofs.Common.{subst, ◌∙◌, inl, inr, codes, arith}
+use Rattle.std.proofs.Common.{◌≡◌, ℕ, Bool, true, false, List, [], Option, Result, Ok, Err, sym}
+use Rattle.std.proofs.Common.{subst, inl, inr}
 use Rattle.std.specs.Prelude.{IsErrAnd}
 use Rattle.wf_outside.specs.Outside.{Filed, HasPart, with_bytes}
 use Rattle.run_record.specs.declared.fault.RunFault.{RunFault}

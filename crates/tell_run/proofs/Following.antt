@@ -1,6 +1,6 @@
 -- How a transcript is followed, line after line.
-use Rattle.std.proofs.Common.{◌≡◌, ℕ, ◌+◌, ◌-◌, ◌<◌, ◌≤◌, nat_lt, false, true, List, [], ◌∷◌, ◌++◌, length, take, drop, Option, None, Some, Ok, Err, refl, ap}
-use Rattle.std.proofs.Common.{sym, subst, ◌∙◌, inl, inr, arith}
+use Rattle.std.proofs.Common.{◌≡◌, ℕ, ◌+◌, ◌<◌, ◌≤◌, nat_lt, false, true, List, [], ◌∷◌, ◌++◌, length, take, drop, Option, None, Some, Ok, Err, refl, ap}
+use Rattle.std.proofs.Common.{sym, subst, ◌∙◌, arith}
 use Rattle.std.proofs.lemmas.Grind.{common_steps}
 use Rattle.std.proofs.lemmas.List.{append-nil, append_assoc, drop_all, drop-drop, length-append}
 use Rattle.wf_names.specs.declared.limits.TheConstants.{TRANSCRIPT_LINE_LIMIT}
@@ -8,7 +8,7 @@ use Rattle.wf_talk.specs.declared.entry.Entry.{Entry}
 use Rattle.line_reader.specs.Reader.{AreShort, behind_line, first_line, line_length, lines_of}
 use Rattle.line_reader.proofs.FirstLines.{line_alone, lines_first}
 use Rattle.transcript_audit.specs.declared.fault.AuditKind.{AuditKind}
-use Rattle.transcript_audit.specs.Auditor.{AuditShape, AreNext, HasFault, IsNextLine, with_entry}
+use Rattle.transcript_audit.specs.Auditor.{AuditShape, HasFault, IsNextLine, with_entry}
 use Rattle.transcript_audit.specs.Outcomes.{HasTakenLine, IsFirstFault}
 use Rattle.transcript_audit.specs.declared.fault.AuditFault.TheVariants.{At}
 use Rattle.transcript_audit.proofs.Exact.{next_pushed}

@@ -1,5 +1,5 @@
 -- What is known of a transcript that was followed from its first line on.
-use Rattle.std.proofs.Common.{◌≡◌, ℕ, ◌+◌, ◌<◌, ◌≤◌, nat_lt, min, Bool, true, ◌||◌, List, [], ◌∷◌, ◌++◌, length, Result}
+use Rattle.std.proofs.Common.{◌≡◌, ℕ, ◌<◌, ◌≤◌, nat_lt, min, Bool, true, List, [], ◌++◌, length, Result}
 use Rattle.std.proofs.Common.{ap, subst, ◌∙◌, codes, inl, inr, arith}
 use Rattle.std.proofs.lemmas.Grind.{common_steps}
 use Rattle.basics.proofs.Booleans.{bool_cases}
@@ -15,7 +15,6 @@ use Rattle.tell_run.specs.Sessions.{audit_in, cut_in, state_of}
 use Rattle.tell_run.specs.Verdicts.{right_lines}
 use Rattle.transcript_audit.specs.declared.fault.AuditKind.{AuditKind}
 use Rattle.run_record.specs.declared.fault.RunFault.{RunFault}
-use Rattle.run_record.specs.declared.fault.InputFault.TheVariants as input
 use Rattle.wf_commands.specs.declared.answer.Answer.{Answer}
 use Rattle.wf_commands.specs.Answer.{ending_with, AnswersAs}
 use Rattle.tell_run.specs.Printed.{Finds, TellsBy, TellsEntry, TellsLog, TellsPage, WritesPolicy, verdict_line, has_retired}

@@ -10,6 +10,7 @@ use Rattle.wf_board.specs.Histories.{state_after}
 use Rattle.line_reader.specs.Jobs.{Cut, jobs_of_input}
 use Rattle.line_reader.specs.Reader.{lines_of}
 use Rattle.transcript_audit.specs.Auditor.{AuditShape, IsTranscriptPart, audit_of}
+use Rattle.transcript_audit.specs.Laws.{AreOfSession}
 use Rattle.run_record.specs.declared.fault.RunFault.{RunFault}
 use Rattle.wf_commands.specs.Load.{GivesBytes, GivesPolicy}
 use Rattle.tell_run.specs.declared.session.Session.{Session}
@@ -28,6 +29,11 @@ cut_in s = jobs_of_input s.requests true s.lanes
 -- the audit of the transcript, before its first line
 abbrev pub audit_in : Session → AuditShape
 audit_in s = audit_of s.policy s.rounds (cut_in s).jobs (cut_in s).ends
+
+-- an audit is that of the transcript, before its first line
+pub record IsBefore (s : Session) (a : AuditShape) : Type 0 where
+  pub auditor : a ≡ audit_in s
+  pub session : AreOfSession s.policy s.rounds (cut_in s).jobs (cut_in s).ends
 
 -- a session has lanes, and its transcript is not too long
 pub record IsServed (s : Session) : Type 0 where

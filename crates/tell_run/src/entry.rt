@@ -1,7 +1,7 @@
 //! The command `entry`: one entry, with the case before it and why it was answered so.
 ghost use Rattle.std.specs.Prelude.{◌≡◌, IfOk, nat_lt, IfErr};
 ghost use Rattle.wf_commands.specs.Answer.{AnswersAs, IsAnswerEnding};
-ghost use Rattle.tell_run.specs.Sessions.{IsServed};
+ghost use Rattle.tell_run.specs.Sessions.{IsBefore, IsServed};
 ghost use Rattle.tell_run.specs.Printed.{Finds, TellsEntry};
 
 use crate::answer::{push_wrong, tell_by};
@@ -41,21 +41,36 @@ fn audit_entry(
     requires served { IsServed s.now }
     ensures finds { IfOk result (Finds s.now) }
 {
+    let mut auditor = s.auditor(alloc)?;
+    audit_entry_by(alloc, s, at, body, &mut auditor)
+}
+
+// Audits all by an audit before the first line, and adds what is told of the entry, if it is there.
+fn audit_entry_by(
+    alloc: Global,
+    s: &Session,
+    at: u32,
+    body: &mut String,
+    auditor: &mut Auditor,
+) -> Result<Verdict, AllocError>
+    requires served { IsServed s.now }
+    requires session { IsBefore s.now auditor.old }
+    ensures finds { IfOk result (Finds s.now) }
+{
     audit_is_exact();
     faults_exclude();
     next_is_one();
-    let mut auditor = s.auditor(alloc)?;
     let mut place = Place::start();
     let text = s.transcript.as_bytes();
     let most = at.saturating_add(1);
-    match follow_to(alloc, &mut auditor, text, &mut place, most, &mut Quiet)? {
+    match follow_to(alloc, auditor, text, &mut place, most, &mut Quiet)? {
         Some(verdict) => {
             push_wrong(alloc, body, verdict, text, &place)?;
             Ok(verdict)
         }
         None => {
-            push_told(alloc, body, s, &auditor, at)?;
-            let verdict = follow_rest(alloc, &mut auditor, text, &mut place, &mut Quiet)?;
+            push_told(alloc, body, s, auditor, at)?;
+            let verdict = follow_rest(alloc, auditor, text, &mut place, &mut Quiet)?;
             push_wrong(alloc, body, verdict, text, &place)?;
             Ok(verdict)
         }
@@ -106,12 +121,26 @@ fn push_before(
         return Ok(());
     };
     let mut auditor = s.auditor(alloc)?;
+    push_before_by(alloc, out, s, entry.at, number, &mut auditor)
+}
+
+// Adds how a case stood before the entry with a number, by an audit before the first line.
+fn push_before_by(
+    alloc: Global,
+    out: &mut String,
+    s: &Session,
+    at: u32,
+    number: CaseId,
+    auditor: &mut Auditor,
+) -> Result<(), AllocError>
+    requires served { IsServed s.now }
+    requires session { IsBefore s.now auditor.old }
+{
     let mut place = Place::start();
     let text = s.transcript.as_bytes();
-    let found = follow_to(alloc, &mut auditor, text, &mut place, entry.at, &mut Quiet)?;
-    match found {
+    match follow_to(alloc, auditor, text, &mut place, at, &mut Quiet)? {
         Some(_) => Ok(()),
-        None => push_stood(alloc, out, &auditor, number),
+        None => push_stood(alloc, out, auditor, number),
     }
 }
 

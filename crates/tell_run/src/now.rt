@@ -2,7 +2,7 @@
 ghost use Rattle.std.specs.Prelude.{◌≡◌, ◌+◌, ◌++◌, ◌||◌, IfOk, MatchOption, codes, min};
 ghost use Rattle.std.specs.Prelude.{string_bytes, IfErr};
 ghost use Rattle.wf_commands.specs.Answer.{AnswersAs, IsAnswerEnding};
-ghost use Rattle.tell_run.specs.Sessions.{IsServed};
+ghost use Rattle.tell_run.specs.Sessions.{IsBefore, IsServed};
 ghost use Rattle.tell_run.specs.Writing.{PrintsAfter};
 ghost use Rattle.tell_run.specs.Verdicts.{is_wrong, right_lines};
 ghost use Rattle.tell_run.specs.Printed.{Finds, TellsNow, verdict_line, is_asked_after, is_told};
@@ -15,6 +15,7 @@ use crate::session::Session;
 use crate::verdict::Verdict;
 use run_record::RunFault;
 use std::alloc::{AllocError, Global};
+use transcript_audit::Auditor;
 use transcript_audit::laws::{audit_is_exact, faults_exclude, next_is_one, part_is_exact};
 use wf_commands::Answer;
 
@@ -79,14 +80,31 @@ fn audit_now(alloc: Global, s: &Session, most: u32) -> Result<After, AllocError>
     ensures prints { IfOk result (λ r. PrintsAfter s.now r.number
         (string_bytes r.printed.remarks) r.printed.is_less (string_bytes r.printed.document)) }
 {
+    let mut auditor = s.auditor(alloc)?;
+    audit_now_by(alloc, s, most, &mut auditor)
+}
+
+// The same by an audit before the first line.
+fn audit_now_by(
+    alloc: Global,
+    s: &Session,
+    most: u32,
+    auditor: &mut Auditor,
+) -> Result<After, AllocError>
+    requires served { IsServed s.now }
+    requires session { IsBefore s.now auditor.old }
+    ensures finds { IfOk result (λ r. Finds s.now r.verdict) }
+    ensures number { IfOk result (λ r. r.number ≡ min most (right_lines r.verdict)) }
+    ensures prints { IfOk result (λ r. PrintsAfter s.now r.number
+        (string_bytes r.printed.remarks) r.printed.is_less (string_bytes r.printed.document)) }
+{
     audit_is_exact();
     faults_exclude();
     next_is_one();
     part_is_exact();
-    let mut auditor = s.auditor(alloc)?;
     let mut place = Place::start();
     let text = s.transcript.as_bytes();
-    match follow_to(alloc, &mut auditor, text, &mut place, most, &mut Quiet)? {
+    match follow_to(alloc, auditor, text, &mut place, most, &mut Quiet)? {
         Some(verdict) => {
             let printed = print_policy(alloc, auditor.board().policy())?;
             let number = place.number;
@@ -99,7 +117,7 @@ fn audit_now(alloc: Global, s: &Session, most: u32) -> Result<After, AllocError>
         None => {
             let printed = print_policy(alloc, auditor.board().policy())?;
             let number = place.number;
-            let verdict = follow_rest(alloc, &mut auditor, text, &mut place, &mut Quiet)?;
+            let verdict = follow_rest(alloc, auditor, text, &mut place, &mut Quiet)?;
             Ok(After {
                 verdict,
                 number,

@@ -52,17 +52,36 @@ pub(crate) fn read_words<'a>(alloc: Global, words: &'a [String]) -> Result<Asked
 }
 
 fn form<'a>(alloc: Global) -> Result<Command<'a>, AllocError> {
-    Command::new(alloc, "wftell")
+    let told = about_policies(alloc, bare_form(alloc)?)?;
+    about_cases(alloc, about_entries(alloc, told)?)
+}
+
+// The form without the commands.
+fn bare_form<'a>(alloc: Global) -> Result<Command<'a>, AllocError> {
+    let form = Command::new(alloc, "wftell")
         .about("Tells in words what a workflow policy says, and what is wrong with it")
         .version("0.1.0, for the policy formats 1 and 2")
         .no_binary_name(true)
         .bin_name("wftell")?
-        .subcommand_required(true)
-        .subcommand(policy_form(alloc)?)?
-        .subcommand(why_form(alloc)?)?
-        .subcommand(log_form(alloc)?)?
-        .subcommand(entry_form(alloc)?)?
-        .subcommand(now_form(alloc)?)?
+        .subcommand_required(true);
+    Ok(form)
+}
+
+// The form with the commands about a policy.
+fn about_policies<'a>(alloc: Global, form: Command<'a>) -> Result<Command<'a>, AllocError> {
+    form.subcommand(policy_form(alloc)?)?
+        .subcommand(why_form(alloc)?)
+}
+
+// The form with the commands about the entries of a transcript.
+fn about_entries<'a>(alloc: Global, form: Command<'a>) -> Result<Command<'a>, AllocError> {
+    form.subcommand(log_form(alloc)?)?
+        .subcommand(entry_form(alloc)?)
+}
+
+// The form with the commands about what stands behind them.
+fn about_cases<'a>(alloc: Global, form: Command<'a>) -> Result<Command<'a>, AllocError> {
+    form.subcommand(now_form(alloc)?)?
         .subcommand(page_form(alloc)?)
 }
 

@@ -1,5 +1,4 @@
-use Rattle.std.proofs.Common.{◌≡◌, ◌<◌, Option, None, Ok, ap, arith}
-use Rattle.tell_run.specs.declared.verdict.Verdict.{Verdict}
+use Rattle.std.proofs.Common.{◌≡◌, ◌<◌, None, Ok, ap, arith}
 use Rattle.tell_run.specs.Followed.{IsAt}
 use Rattle.tell_run.proofs.Following.{at_end, stepped, walked}
 use Rattle.tell_run.proofs.follow.follow_rest.Goals as goal

@@ -1,4 +1,4 @@
-use Rattle.std.proofs.Common.{◌≡◌, ◌∙◌, ℕ, true, Some, slice_get, subst, ap, string_bytes, codes}
+use Rattle.std.proofs.Common.{◌≡◌, ◌∙◌, true, Some, slice_get, subst, ap, string_bytes}
 use Rattle.policy_book.specs.Policies.{flow_at}
 use Rattle.policy_reader.specs.Documents.{name_at}
 use Rattle.tell_run.proofs.Remarks.{named_at, remark_line}

@@ -1,4 +1,4 @@
-use Rattle.std.proofs.Common.{List, ℕ, refl, subst, sym, ap, ◌∙◌}
+use Rattle.std.proofs.Common.{List, ℕ, refl, subst, ap, ◌∙◌}
 use Rattle.wf_outside.specs.Outside.{HasPart, with_bytes}
 use Rattle.tell_run.specs.Run.{Tells}
 use Rattle.tell_run.specs.Session.{named_by}
