@@ -1,5 +1,5 @@
 use Rattle.std.proofs.Common.{length}
-use Rattle.wf_tests.proofs.desks.+are_of_two_lanes.Given as goal
+use Rattle.server_tests.proofs.desks.+are_of_two_lanes.Given as goal
 
 abbrev pub decreases-are_of_two_lanes : goal.decreases-are_of_two_lanes
 decreases-are_of_two_lanes l = length l.jobs.now
