@@ -8,7 +8,7 @@ use Rattle.run_record.specs.Report.{Told}
 use Rattle.run_record.specs.Run.{Streams}
 use Rattle.wf_commands.specs.declared.answer.Answer.{Answer}
 use Rattle.wf_commands.specs.Once.{RunsOnce}
-use Rattle.tell_run.proofs.Answering.{ends_part}
+use Rattle.case_story.proofs.Answering.{ends_part}
 use Rattle.tell_run.specs.Policy.{FindsBytes, JudgesBytes, JudgesFiled}
 use Rattle.tell_run.specs.Runs.{run_to}
 

@@ -1,9 +1,2 @@
 pub mod Telling
 pub mod Filed
-pub mod FirstLine
-pub mod Following
-pub mod Founds
-pub mod Answering
-pub mod Told
-pub mod Remarks
-mod Marks

@@ -2,14 +2,3 @@ pub mod Why
 pub mod Policy
 pub mod Words
 pub mod Runs
-pub mod Verdicts
-pub mod Sessions
-pub mod Followed
-pub mod Printed
-pub mod Writing
-pub mod Run
-pub mod Session
-pub mod Follow
-pub mod Escape
-pub mod Html
-pub mod Pages

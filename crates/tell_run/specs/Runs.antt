@@ -8,7 +8,7 @@ use Rattle.run_record.specs.Fault.{CountsLoads, CountsWrites}
 use Rattle.run_record.specs.Report.{nothing_told}
 use Rattle.run_record.specs.Run.{Run, Streams}
 use Rattle.wf_commands.specs.Once.{Ends, RunsOnce}
-use Rattle.tell_run.specs.Run.{Tells, TellsRun}
+use Rattle.case_story.specs.Run.{Tells, TellsRun}
 use Rattle.tell_run.specs.declared.words.Asked.{Asked}
 use Rattle.tell_run.specs.declared.words.Asked.TheVariants as asked
 use Rattle.tell_run.specs.Words.{CanTell}

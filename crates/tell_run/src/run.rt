@@ -9,9 +9,9 @@ ghost use Rattle.tell_run.specs.Why.{TellsWhy};
 
 use crate::ended::Ended;
 use crate::policy::run_policy;
-use crate::run_told;
 use crate::why::WhyCommand;
 use crate::words::{Asked, Unread, read_words};
+use case_story::run_told;
 use run_record::{Report, RunFault};
 use std::alloc::Global;
 use wf_commands::answer_once;

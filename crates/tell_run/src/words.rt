@@ -3,7 +3,7 @@ ghost use Rattle.std.specs.Prelude.{◌<◌, ◌≤◌, IfSome, IfOk};
 ghost use Rattle.wf_names.specs.declared.limits.TheConstants.{LANE_LIMIT};
 ghost use Rattle.tell_run.specs.Words.{CanTell};
 
-use crate::{Files, What};
+use case_story::{Files, What};
 use clap::error::ErrorKind;
 use clap::{Arg, ArgMatches, Command};
 use std::alloc::{AllocError, Global};

@@ -1,0 +1,11 @@
+pub mod Verdicts
+pub mod Sessions
+pub mod Followed
+pub mod Printed
+pub mod Writing
+pub mod Run
+pub mod Session
+pub mod Follow
+pub mod Escape
+pub mod Html
+pub mod Pages

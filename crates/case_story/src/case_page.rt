@@ -1,0 +1,250 @@
+//! The page of a case, taken together entry by entry.
+ghost use Rattle.std.specs.Prelude.{◌≡◌, ◌<◌, length, is_some, true, IfOk};
+ghost use Rattle.case_story.specs.Pages.{has_page};
+
+use crate::head::{END, FRONT, HISTORY, STYLE};
+use crate::html::{Html, Part};
+use crate::picture::put_picture;
+use crate::standing::{put_plan, put_rules, put_standing};
+use crate::steps::put_steps;
+use case_record::Case;
+use grant_table::Cases;
+use plain_words::flow_text;
+use policy_book::Policy;
+use std::alloc::{AllocError, Global};
+use std::marker::Model;
+use story_words::{push_answer, push_ask, push_reasons, push_reply, subject};
+use wf_names::{CaseId, FlowId};
+use wf_talk::{Ask, Denial, Entry, Reply, Request};
+
+/// The page of a case so far. Contracts see the number of the case.
+///
+/// It keeps the rows of the history alone: the other parts tell how the case stands in the end.
+#[derive(Drop)]
+pub struct Page {
+    case: CaseId,
+    rows: Html,
+    /// How often the policy was changed before the case was opened.
+    edits: u32,
+}
+
+impl Model for Page {
+    ghost use Rattle.std.specs.Prelude.{ℕ};
+
+    ghost Value = { ℕ };
+
+    ghost view = { λ page. page.case };
+}
+
+impl Page {
+    /// The page of the case with this number, before the first entry.
+    pub fn new(alloc: Global, case: CaseId) -> Page
+        ensures { result ≡ case }
+    {
+        Page {
+            case,
+            rows: Html::new(alloc),
+            edits: 0,
+        }
+    }
+
+    /// Takes an entry, with the policy and the cases behind it, and all entries up to it. One that
+    /// is about another case costs no more than a look.
+    pub fn take(
+        &mut self,
+        alloc: Global,
+        p: &Policy,
+        cases: &Cases,
+        entries: &[Entry],
+        entry: &Entry,
+    ) -> Result<(), AllocError>
+        ensures { self.new ≡ self.old }
+    {
+        if subject(&entry.ask, &entry.reply) == Some(self.case) {
+            return put_row(alloc, &mut self.rows, p, cases, entries, entry);
+        }
+        if !matches!(entry.reply, Reply::Edited { .. }) {
+            return Ok(());
+        }
+        match cases.case(self.case) {
+            None => {
+                self.edits = self.edits.saturating_add(1);
+                Ok(())
+            }
+            Some(case) if case.phase().is_live() => {
+                put_row(alloc, &mut self.rows, p, cases, entries, entry)
+            }
+            Some(_) => Ok(()),
+        }
+    }
+
+    /// The whole page, with the policy and the cases behind the last entry, and what an audit says
+    /// of them; none where there is no such case.
+    pub fn finish(
+        &self,
+        alloc: Global,
+        p: &Policy,
+        cases: &Cases,
+        verdict: &str,
+    ) -> Result<Option<String>, AllocError>
+        ensures { IfOk result (λ page. is_some page ≡ has_page p.now cases.now self.now) }
+    {
+        let Some(case) = cases.case(self.case) else {
+            return Ok(None);
+        };
+        let f = case.flow();
+        if p.flows().len() <= f.0 as u16 {
+            return Ok(None);
+        }
+        let mut out = Html::new(alloc);
+        self.put_front(alloc, &mut out, p, case, verdict)?;
+        put_steps_of(alloc, &mut out, p, cases, self.case, case)?;
+        put_rules(alloc, &mut out, p, f)?;
+        self.put_history(&mut out)?;
+        Ok(Some(out.into_text()))
+    }
+
+    // What stands above the steps.
+    fn put_front(
+        &self,
+        alloc: Global,
+        out: &mut Html,
+        p: &Policy,
+        case: &Case,
+        verdict: &str,
+    ) -> Result<(), AllocError> {
+        let flow = flow_text(alloc, p, case.flow())?;
+        out.put(&[Part::Mark(FRONT)])?;
+        self.put_name(out, flow.as_str())?;
+        out.put(&[Part::Mark(STYLE)])?;
+        self.put_name(out, flow.as_str())?;
+        out.put(&[Part::Mark("</h1>\n")])?;
+        put_standing(out, case)?;
+        out.put(&[
+            Part::Mark("<p class=\"told\">"),
+            Part::Value(verdict),
+            Part::Mark("</p>\n"),
+        ])
+    }
+
+    fn put_name(&self, out: &mut Html, flow: &str) -> Result<(), AllocError> {
+        out.put(&[
+            Part::Mark("Case "),
+            Part::Number(self.case.0 as u32),
+            Part::Mark(" of "),
+            Part::Value(flow),
+        ])
+    }
+
+    fn put_history(&self, out: &mut Html) -> Result<(), AllocError> {
+        out.put(&[Part::Mark("<h2>History</h2>\n")])?;
+        if 0 < self.edits {
+            out.put(&[
+                Part::Mark("<p>Changes of the policy before the case was opened: "),
+                Part::Number(self.edits),
+                Part::Mark(".</p>\n"),
+            ])?;
+        }
+        out.put(&[Part::Mark(HISTORY)])?;
+        out.join(&self.rows)?;
+        out.put(&[Part::Mark(END)])
+    }
+}
+
+// Adds the steps: as a picture and as a table, and for an open case a way to finish it.
+fn put_steps_of(
+    alloc: Global,
+    out: &mut Html,
+    p: &Policy,
+    cases: &Cases,
+    number: CaseId,
+    case: &Case,
+) -> Result<(), AllocError>
+    requires { case.now.flow < length p.now.flows }
+{
+    let f = case.flow();
+    out.put(&[Part::Mark("<h2>Steps</h2>\n")])?;
+    put_picture(alloc, out, p, f, case)?;
+    put_steps(alloc, out, p, f, case)?;
+    match cases.plan(number) {
+        Some(plan) => put_plan(alloc, out, p, f, case, &plan),
+        None => Ok(()),
+    }
+}
+
+// Adds the row of an entry.
+fn put_row(
+    alloc: Global,
+    rows: &mut Html,
+    p: &Policy,
+    cases: &Cases,
+    entries: &[Entry],
+    entry: &Entry,
+) -> Result<(), AllocError> {
+    let mut ask = String::new(alloc);
+    push_ask(alloc, &mut ask, &entry.ask)?;
+    rows.put(&[
+        Part::Mark(row_start(&entry.reply)),
+        Part::Number(entry.at),
+        Part::Mark("</th><td>"),
+        Part::Number(entry.line),
+        Part::Mark("</td><td>"),
+        Part::Mark(badge(&entry.ask)),
+        Part::Value(ask.as_str()),
+        Part::Mark("</td><td>"),
+    ])?;
+    if has_tree(&entry.reply) {
+        put_tree(alloc, rows, p, cases, entries, entry)?;
+    } else {
+        let mut answer = String::new(alloc);
+        push_answer(alloc, &mut answer, p, cases, entries, entry)?;
+        rows.put(&[Part::Value(answer.as_str())])?;
+    }
+    rows.put(&[Part::Mark("</td></tr>\n")])
+}
+
+// The kind of a row: of a change of the policy, of what was not done, and of the others.
+fn row_start(reply: &Reply) -> &'static str {
+    match reply {
+        Reply::Edited { .. } => "<tr class=\"edit\"><th scope=\"row\">",
+        Reply::Denied(_) | Reply::Again { .. } | Reply::NoMemory | Reply::Bad(_) => {
+            "<tr class=\"no\"><th scope=\"row\">"
+        }
+        _ => "<tr><th scope=\"row\">",
+    }
+}
+
+// What marks a change of the policy in words too.
+fn badge(ask: &Ask) -> &'static str {
+    match ask {
+        Ask::Request(Request::Change { .. }) => "<b>policy</b> ",
+        _ => "",
+    }
+}
+
+fn has_tree(reply: &Reply) -> bool {
+    matches!(
+        reply,
+        Reply::Denied(Denial::Stranded { .. } | Denial::Strands { .. })
+    )
+}
+
+// Adds an answer, and why nobody could finish the case.
+fn put_tree(
+    alloc: Global,
+    rows: &mut Html,
+    p: &Policy,
+    cases: &Cases,
+    entries: &[Entry],
+    entry: &Entry,
+) -> Result<(), AllocError> {
+    let (mut answer, mut why) = (String::new(alloc), String::new(alloc));
+    push_reply(alloc, &mut answer, p, cases, entries, entry)?;
+    push_reasons(alloc, &mut why, p, cases, entry)?;
+    rows.put(&[
+        Part::Value(answer.as_str()),
+        Part::Mark("<details open><summary>why</summary><pre>"),
+        Part::Value(why.as_str()),
+        Part::Mark("</pre></details>"),
+    ])
+}

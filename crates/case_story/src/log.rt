@@ -1,0 +1,72 @@
+//! The command `log`: a line in words for each entry.
+ghost use Rattle.std.specs.Prelude.{IfErr};
+ghost use Rattle.wf_commands.specs.Answer.{AnswersAs, IsAnswerEnding};
+ghost use Rattle.case_story.specs.Sessions.{IsServed};
+ghost use Rattle.case_story.specs.Printed.{TellsLog};
+
+use crate::answer::{push_wrong, tell_by};
+use crate::follow::Watches;
+use crate::session::Session;
+use crate::whole::audit_whole;
+use plain_words::say;
+use run_record::RunFault;
+use std::alloc::{AllocError, Global};
+use story_words::push_line;
+use transcript_audit::Auditor;
+use wf_commands::Answer;
+
+/// How wide the numbers are.
+const WIDTH: usize = 4;
+
+// The lines so far.
+#[derive(Drop)]
+struct Log {
+    text: String,
+}
+
+impl Watches for Log {
+    fn see(&mut self, alloc: Global, auditor: &Auditor) -> Result<(), AllocError> {
+        let entries = auditor.entries();
+        let board = auditor.board();
+        match entries.last() {
+            Some(entry) => {
+                push_number(alloc, &mut self.text, entry.at)?;
+                push_line(
+                    alloc,
+                    &mut self.text,
+                    board.policy(),
+                    board.cases(),
+                    entries,
+                    entry,
+                )?;
+                self.text.push_str("\n")
+            }
+            None => Ok(()),
+        }
+    }
+}
+
+// Adds a number, with blanks before it, and a blank.
+fn push_number(alloc: Global, out: &mut String, n: u32) -> Result<(), AllocError> {
+    let number = format!(in alloc; "{n}")?;
+    'blanks: for _ in number.len()..WIDTH {
+        out.push_str(" ")?;
+    }
+    say(out, &[number.as_str(), " "])
+}
+
+/// Tells all entries that are right.
+pub(crate) fn tell_log(alloc: Global, s: &Session) -> Result<Answer, RunFault>
+    requires served { IsServed s.now }
+    ensures tells { AnswersAs (TellsLog s.now) result }
+    ensures ending { IfErr result IsAnswerEnding }
+{
+    let mut log = Log {
+        text: String::new(alloc),
+    };
+    let audited = audit_whole(alloc, s, &mut log)?;
+    let text = s.transcript.as_bytes();
+    push_wrong(alloc, &mut log.text, audited.verdict, text, &audited.place)?;
+    let body = log.text.as_str();
+    tell_by(alloc, "", audited.verdict, "\n", true, body)
+}

@@ -1,0 +1,88 @@
+//! The files of a session, and its audit.
+ghost use Rattle.std.specs.Prelude.{◌≡◌, ◌<◌, ◌≤◌, ℕ, true, List, None, IfErr, IfOk, length};
+ghost use Rattle.wf_names.specs.declared.limits.TheConstants.{LANE_LIMIT};
+ghost use Rattle.transcript_audit.specs.Laws.{AreOfSession};
+ghost use Rattle.run_record.specs.Fault.{fault_in, CountsLoads};
+ghost use Rattle.wf_commands.specs.Load.{IsLoadEnding};
+ghost use Rattle.case_story.specs.Session.{named_by};
+ghost use Rattle.case_story.specs.Sessions.{GivesSession, IsServed, audit_in, cut_in};
+
+use line_reader::jobs_of;
+use policy_book::Policy;
+use run_record::RunFault;
+use std::alloc::{AllocError, Global};
+use transcript_audit::{Auditor, know_session};
+use wf_commands::{load_file, load_policy};
+use wf_names::REQUESTS_FILE_LIMIT;
+use wf_outside::{Loaded, Shelf};
+
+/// Most bytes of a transcript.
+pub const TRANSCRIPT_FILE_LIMIT: usize = 67_108_864;
+
+/// The files of a session, and how it was served.
+#[derive(Clone, Copy)]
+pub struct Files<'a> {
+    pub policy: &'a str,
+    pub requests: &'a str,
+    pub transcript: &'a str,
+    /// How many lanes there were, at least one.
+    pub lanes: u8,
+    /// After how many lost rounds a request was answered again.
+    pub rounds: u8,
+}
+
+/// What is told of a session: the policy at its beginning, the texts of its requests and of its
+/// transcript, and how it was served.
+#[derive(Drop)]
+pub struct Session {
+    pub policy: Policy,
+    pub requests: Loaded,
+    pub transcript: Loaded,
+    /// How many lanes there were.
+    pub lanes: u8,
+    /// After how many lost rounds a request was answered again.
+    pub rounds: u8,
+}
+
+impl Session {
+    /// An audit before the first line of the transcript. Where the requests meet a limit, the lines
+    /// before it count.
+    pub(crate) fn auditor(&self, alloc: Global) -> Result<Auditor, AllocError>
+        requires served { IsServed self.now }
+        ensures auditor { IfOk result (λ a. a ≡ audit_in self.now) }
+        ensures session { IfOk result (λ _. AreOfSession self.now.policy self.now.rounds
+            (cut_in self.now).jobs (cut_in self.now).ends) }
+    {
+        let policy = self.policy.copy()?;
+        let batch = jobs_of(alloc, self.requests.as_bytes(), self.lanes)?;
+        know_session(&policy, self.rounds, &batch.jobs, &batch.ends);
+        Auditor::new(alloc, policy, batch.jobs, batch.ends, self.rounds)
+    }
+}
+
+/// Loads the policy, the requests and the transcript of a session, in this order.
+pub(crate) fn load_session<F: Shelf>(
+    alloc: Global,
+    files: Files,
+    shelf: &mut F,
+) -> Result<Session, RunFault>
+    requires some { 0 < files.lanes }
+    requires lanes { files.lanes ≤ LANE_LIMIT }
+    ensures gives { GivesSession (F.file shelf.old) (named_by files.entry) result }
+    ensures lanes { IfOk result (λ s. s.lanes ≡ files.entry.lanes) }
+    ensures rounds { IfOk result (λ s. s.rounds ≡ files.entry.rounds) }
+    ensures served { IfOk result IsServed }
+    ensures ending { IfErr result IsLoadEnding }
+    ensures loads { CountsLoads (fault_in result) (F.faults shelf.old) (F.faults shelf.new) }
+{
+    let policy = load_policy(alloc, shelf, files.policy)?;
+    let requests = load_file(alloc, shelf, files.requests, REQUESTS_FILE_LIMIT)?;
+    let transcript = load_file(alloc, shelf, files.transcript, TRANSCRIPT_FILE_LIMIT)?;
+    Ok(Session {
+        policy,
+        requests,
+        transcript,
+        lanes: files.lanes,
+        rounds: files.rounds,
+    })
+}

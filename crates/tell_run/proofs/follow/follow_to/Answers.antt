@@ -1,7 +1,0 @@
-use Rattle.tell_run.proofs.Following.{stepped}
-use Rattle.tell_run.proofs.follow.follow_to.Goals as goal
-
-pub returns-in-Some-clause-steps : goal.returns-in-Some-clause-steps
-returns-in-Some-clause-steps g c first h =
-    stepped first c.follow_line.new.auditor c.args.text.now c.follow_line.new.place c.in_ok-found.found c.in-Some.verdict c.in-Some.is
-    (c.in_ok-found.ensures.steps first (c.lines.invariant.goes first h))
