@@ -66,10 +66,9 @@ const OTHERS: [&str; 10] = [
     r#"{"stranded":{"step":"pay","users":[["bob",{"rule":0}]]},"rule":0}"#,
 ];
 
-#[test]
-fn plain_lines_are_read(rt: HostRuntime) -> Result<(), Fail> {
-    assert!(rt; is_right(rt.alloc(), PAY, Look::Lines)?);
-    Ok(())
+/// Whether each line is read, and is one that is read fastest or not, as its list says.
+pub fn plain_lines_are_read(alloc: Global) -> Result<bool, Fail> {
+    is_right(alloc, PAY, Look::Lines)
 }
 
 pub(crate) fn are_read(alloc: Global, p: &Policy) -> Result<bool, Fail> {

@@ -3,6 +3,7 @@
 use crate::fixture::{FLOW, Look, is_right_in_trio};
 use constraint_forms::{Assign, falsified};
 use policy_book::Policy;
+use std::alloc::Global;
 use std::test::Fail;
 use wf_names::{StepId, UserId};
 
@@ -70,10 +71,9 @@ const ROWS: [Row; 38] = [
     (8, 9, "-kl", false, false),
 ];
 
-#[test]
-fn rules_are_falsified_where_they_should(rt: HostRuntime) -> Result<(), Fail> {
-    assert!(rt; is_right_in_trio(rt.alloc(), RULES, Look::Rules)?);
-    Ok(())
+/// Whether each assignment falsifies its rules, or not, as its row says.
+pub fn rules_are_falsified_where_they_should(alloc: Global) -> Result<bool, Fail> {
+    is_right_in_trio(alloc, RULES, Look::Rules)
 }
 
 pub(crate) fn are_falsified_so(p: &Policy) -> bool {

@@ -37,10 +37,9 @@ const LEAN: &str = concat!(
     r#"["lee",{"twin":"kim"}],["max",{"twin":"kim"}]]}"#
 );
 
-#[test]
-fn a_step_that_is_not_mentioned_goes_and_makes_twins(rt: HostRuntime) -> Result<(), Fail> {
-    assert!(rt; is_right_in_trio(rt.alloc(), SAME_AND_OTHER, Look::Tree)?);
-    Ok(())
+/// Whether trimming leaves of the tree what it should.
+pub fn a_step_that_is_not_mentioned_goes_and_makes_twins(alloc: Global) -> Result<bool, Fail> {
+    is_right_in_trio(alloc, SAME_AND_OTHER, Look::Tree)
 }
 
 pub(crate) fn is_trimmed(alloc: Global, p: &Policy) -> Result<bool, Fail> {

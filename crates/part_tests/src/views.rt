@@ -16,11 +16,10 @@ const CASES: u16 = 40;
 
 const CYD: UserId = UserId(2);
 
-#[test]
-fn both_deciders_see_the_same(rt: HostRuntime) -> Result<(), Fail> {
-    let mut board = payments(rt.alloc())?;
-    assert!(rt; all_see(&rt, rt.alloc(), &mut board)?);
-    Ok(())
+/// Whether both decide rightly and alike.
+pub fn both_deciders_see_the_same<R: Threads + Sync>(rt: &R, alloc: Global) -> Result<bool, Fail> {
+    let mut board = payments(alloc)?;
+    Ok(all_see(rt, alloc, &mut board)?)
 }
 
 fn payments(alloc: Global) -> Result<Board, Fail> {

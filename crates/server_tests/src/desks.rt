@@ -25,25 +25,24 @@ enum Scene<'a> {
     Checked,
 }
 
-#[test]
-fn tasks_are_served_begun_and_committed(rt: HostRuntime) -> Result<(), Fail> {
+/// Whether each schedule leaves the marks and the entries that it says.
+pub fn tasks_are_served_begun_and_committed(alloc: Global) -> Result<bool, Fail> {
     for row in &ALL {
-        let right = is_right(rt.alloc(), row.policy, row.rounds, Scene::Turns(row))?;
-        assert!(rt; right, "{}", row.requests);
+        if !is_right(alloc, row.policy, row.rounds, Scene::Turns(row))? {
+            return Ok(false);
+        }
     }
-    Ok(())
+    Ok(true)
 }
 
-#[test]
-fn some_entries_lose_no_task(rt: HostRuntime) -> Result<(), Fail> {
-    assert!(rt; is_right(rt.alloc(), PAY, 2, Scene::Misses)?);
-    Ok(())
+/// Whether entries that do not count lose no task.
+pub fn some_entries_lose_no_task(alloc: Global) -> Result<bool, Fail> {
+    is_right(alloc, PAY, 2, Scene::Misses)
 }
 
-#[test]
-fn a_checked_edit_is_never_lost(rt: HostRuntime) -> Result<(), Fail> {
-    assert!(rt; is_right(rt.alloc(), STAFFED, 1, Scene::Checked)?);
-    Ok(())
+/// Whether a stale edit that is checked once more is decided in its turn.
+pub fn a_checked_edit_is_never_lost(alloc: Global) -> Result<bool, Fail> {
+    is_right(alloc, STAFFED, 1, Scene::Checked)
 }
 
 // Whether all is right at a desk over a policy.

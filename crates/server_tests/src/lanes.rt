@@ -7,7 +7,6 @@ use crate::policies::{PAY, STAFFED};
 use std::alloc::{AllocError, Global};
 use std::sync::Wait;
 use std::sync::atomic::{AtomicU64, Ordering};
-use std::test::Fail;
 use std::thread::{Threads, yield_now};
 use wf_outside::{MemShelf, MemSink};
 use wf_server::{Gate, Report, run};
@@ -101,16 +100,17 @@ const CLAIMS: &str = r#"{"do":"open","flow":"pay"}
 {"do":"claim","case":1,"step":"approve","user":"cyd","lane":1}
 "#;
 
-// Each of two claims waits at the gate for the other.
-#[test]
-fn two_claims_solve_at_once(rt: HostRuntime) -> Result<(), Fail> {
+/// Whether two claims are searched for at once: each waits at the gate for the other.
+pub fn two_claims_solve_at_once<R: Threads + Wait + Sync>(
+    rt: &R,
+    alloc: Global,
+) -> Result<bool, AllocError> {
     let holds = [Hold { line: 6, until: 8 }, Hold { line: 8, until: 6 }];
     let parts = [
         r#""lane":0,"line":6,"reply":{"granted":{"plan":["ann","cyd","bob"]}}}"#,
         r#""lane":1,"line":8,"reply":{"granted":{"plan":["bob","cyd","ann"]}}}"#,
     ];
-    assert!(rt; writes(&rt, rt.alloc(), PAY, CLAIMS, holds, &parts)?);
-    Ok(())
+    writes(rt, alloc, PAY, CLAIMS, holds, &parts)
 }
 
 // A case is prepared; then lane 0 claims its next step, while lane 1 dismisses dan and opens a
@@ -124,35 +124,46 @@ const STALE: &str = r#"{"do":"open","flow":"pay"}
 {"do":"open","flow":"pay","lane":1}
 "#;
 
-// The dismissal waits for the claim to be searched for, and the claim until the dismissal is done.
-#[test]
-fn stale_task_meets_its_commit(rt: HostRuntime) -> Result<(), Fail> {
+/// Whether a claim is answered again where the policy was changed meanwhile: the dismissal waits for
+/// the claim to be searched for, and the claim until the dismissal is done.
+pub fn stale_task_meets_its_commit<R: Threads + Wait + Sync>(
+    rt: &R,
+    alloc: Global,
+) -> Result<bool, AllocError> {
     let holds = [Hold { line: 5, until: 4 }, Hold { line: 4, until: 6 }];
     let parts = [
         r#"{"at":3,"lane":1,"line":5,"reply":{"edited":{"number":1}}}"#,
         r#""lane":0,"line":4,"reply":{"again":{"at":3,"rounds":1}}}"#,
         r#""lane":1,"line":6,"reply":{"opened":{"case":1,"plan":["#,
     ];
-    assert!(rt; writes(&rt, rt.alloc(), STAFFED, STALE, holds, &parts)?);
-    Ok(())
+    writes(rt, alloc, STAFFED, STALE, holds, &parts)
 }
 
-// In each of eight lanes a case is opened, prepared by ann, and claimed by cyd. The openings and
-// the claims are searched for outside the turns, but where there are no rounds.
-#[test]
-fn eight_lanes_answer_each_line_once(rt: HostRuntime) -> Result<(), Fail> {
+/// Whether in each of eight lanes a case is opened, prepared by ann, and claimed by cyd. The openings
+/// and the claims are searched for outside the turns, but where there are no rounds.
+pub fn eight_lanes_answer_each_line_once<R: Threads + Wait + Sync>(
+    rt: &R,
+    alloc: Global,
+) -> Result<bool, AllocError> {
     for (rounds, searches) in [("2", 24), ("0", 0)] {
-        assert!(rt; is_whole(&rt, rt.alloc(), rounds, searches)?, "{rounds}");
+        if !is_whole(rt, alloc, rounds, searches)? {
+            return Ok(false);
+        }
     }
-    Ok(())
+    Ok(true)
 }
 
-// The same where nobody watches: the first opening is searched for, and those beside it may be.
-// Each claim has a plan at hand, which is the one of its case, and is searched for nowhere.
-#[test]
-fn plans_at_hand_answer_on_eight_lanes(rt: HostRuntime) -> Result<(), Fail> {
-    assert!(rt; is_whole_unwatched(&rt, rt.alloc())?);
-    Ok(())
+/// Whether they are where nobody watches, with one to eight searches: the first opening is searched
+/// for, and those beside it may be. Each claim has a plan at hand, which is the one of its case, and
+/// is searched for nowhere.
+pub fn plans_at_hand_answer_on_eight_lanes<R: Threads + Wait + Sync>(
+    rt: &R,
+    alloc: Global,
+) -> Result<bool, AllocError> {
+    let gate = TwoHolds::new(false, [FREE, FREE]);
+    let whole = answers_each(rt, alloc, "2", &gate)?;
+    let searches = gate.count.load(Ordering::SeqCst);
+    Ok(whole && 1 <= searches && searches <= 8)
 }
 
 // Each lane works on the case with its own number.
@@ -244,14 +255,11 @@ const PACTS: &str = r#"{"do":"open","flow":"pact"}
 {"do":"open","flow":"pact"}
 "#;
 
-// A session of two lanes writes what one of one lane does, where all lines are of one lane.
-#[test]
-fn long_lines_are_written_alike(rt: HostRuntime) -> Result<(), Fail> {
-    assert!(rt; writes_alike(&rt, rt.alloc())?);
-    Ok(())
-}
-
-fn writes_alike<R: Threads + Wait + Sync>(rt: &R, alloc: Global) -> Result<bool, AllocError> {
+/// Whether a session of two lanes writes what one of one lane does, where all lines are of one lane.
+pub fn long_lines_are_written_alike<R: Threads + Wait + Sync>(
+    rt: &R,
+    alloc: Global,
+) -> Result<bool, AllocError> {
     let mut beside = sink_of(alloc)?;
     Ok(denies_pacts(rt, alloc, "2", &mut beside)? && is_written_alone(rt, alloc, &beside)?)
 }
@@ -295,14 +303,6 @@ fn is_whole<R: Threads + Wait + Sync>(
     let gate = TwoHolds::new(true, [FREE, FREE]);
     let whole = answers_each(rt, alloc, rounds, &gate)?;
     Ok(whole && gate.count.load(Ordering::SeqCst) == searches)
-}
-
-// The same at a gate that does not watch, with one to eight searches.
-fn is_whole_unwatched<R: Threads + Wait + Sync>(rt: &R, alloc: Global) -> Result<bool, AllocError> {
-    let gate = TwoHolds::new(false, [FREE, FREE]);
-    let whole = answers_each(rt, alloc, "2", &gate)?;
-    let searches = gate.count.load(Ordering::SeqCst);
-    Ok(whole && 1 <= searches && searches <= 8)
 }
 
 // At which no line waits.

@@ -3,7 +3,6 @@
 
 use crate::outsides::{shelf_of, sink_of, source_of, words_of};
 use std::alloc::{AllocError, Global};
-use std::test::Fail;
 use wf_outside::{MemShelf, MemSink, MemSource};
 use wf_server::{Report, run_alone};
 use wf_talk::{Denial, Entry, Reply};
@@ -32,14 +31,8 @@ struct Told {
     last: u16,
 }
 
-// By opening and withdrawing in turn every number is given once.
-#[test]
-fn numbers_end(rt: HostRuntime) -> Result<(), Fail> {
-    assert!(rt; turns_are_served(rt.alloc())?);
-    Ok(())
-}
-
-fn turns_are_served(alloc: Global) -> Result<bool, AllocError> {
+/// Whether by opening and withdrawing in turn every number is given once.
+pub fn numbers_end(alloc: Global) -> Result<bool, AllocError> {
     let input = turns(alloc)?;
     is_served(alloc, input.as_str(), &TURNS)
 }
@@ -67,15 +60,9 @@ fn put_withdrawal(alloc: Global, case: u16, all: &mut String) -> Result<(), Allo
     all.push_str(line.as_str())
 }
 
-// No case is opened beside 1,024 others, and one again where one of them was withdrawn. The batch
-// ends at 1,024 lines.
-#[test]
-fn open_cases_are_limited(rt: HostRuntime) -> Result<(), Fail> {
-    assert!(rt; a_crowd_is_served(rt.alloc())?);
-    Ok(())
-}
-
-fn a_crowd_is_served(alloc: Global) -> Result<bool, AllocError> {
+/// Whether no case is opened beside 1,024 others, and one again where one of them was withdrawn. The
+/// batch ends at 1,024 lines.
+pub fn open_cases_are_limited(alloc: Global) -> Result<bool, AllocError> {
     let input = crowd(alloc)?;
     is_served(alloc, input.as_str(), &CROWD)
 }

@@ -6,7 +6,6 @@ use grant_table::Cases;
 use policy_book::Policy;
 use run_record::Report;
 use std::alloc::{AllocError, Global};
-use std::test::Fail;
 use trial_command::run_trial;
 use wf_board::{Decider, Deed, Refused, Snap, Verdict, decision_aside};
 use wf_outside::MemSink;
@@ -46,14 +45,8 @@ fn no_verdict(_: Refused) -> Verdict
     Verdict::Nothing
 }
 
-// No case is opened, so no step is granted or finished.
-#[test]
-fn a_trial_is_served(rt: HostRuntime) -> Result<(), Fail> {
-    assert!(rt; is_served(rt.alloc())?);
-    Ok(())
-}
-
-fn is_served(alloc: Global) -> Result<bool, AllocError> {
+/// Whether a trial is served. No case is opened, so no step is granted or finished.
+pub fn a_trial_is_served(alloc: Global) -> Result<bool, AllocError> {
     let mut sink = MemSink::new(alloc, 200, 7, Vec::new(alloc))?;
     Ok(tells(&run_trial(alloc, &Idle, 7, &mut sink)) && writes(&sink))
 }

@@ -1,5 +1,5 @@
-//! Runs each row of its files over a source, a sink and a shelf in memory, and says which do not
-//! hold.
+//! Runs each row of its files over a source, a sink and a shelf in memory, and each trial that no row
+//! can say, and says which do not hold.
 #![tactic(auto)]
 
 mod disk;
@@ -7,12 +7,14 @@ mod outside;
 mod row;
 mod session;
 mod told;
+mod trials;
 
 use crate::disk::count_loads;
 use crate::outside::{shelf_of, sink_of, source_of, with_pieces, words_of};
 use crate::row::{is_row, list, number, text};
 use crate::session::{is_legal, is_told_of};
 use crate::told::{is_fault_told, is_told};
+use crate::trials::{Found, try_lanes, try_parts, try_sessions};
 use std::alloc::{AllocError, AllocGlobal, Global};
 use std::fs;
 use std::rt::Files;
@@ -51,6 +53,16 @@ fn main(rt: HostRuntime) -> anyhow::Result<()> {
         let sessions = table_of(&rt, file)?;
         let legal = count_sessions(&rt, rt.alloc(), &sessions)?;
         println!(rt; "{file}: {legal} sessions are legal")?;
+    }
+    tell(&rt, &try_parts(&rt, rt.alloc()))?;
+    tell(&rt, &try_sessions(rt.alloc()))?;
+    tell(&rt, &try_lanes(&rt, rt.alloc()))
+}
+
+// What was found by trials.
+fn tell(rt: &impl Print, found: &[Found]) -> anyhow::Result<()> {
+    for (name, right) in found {
+        println!(rt; "{name}: {}", if *right { "right" } else { "WRONG" })?;
     }
     Ok(())
 }
