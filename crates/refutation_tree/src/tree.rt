@@ -104,9 +104,13 @@ impl Branch {
     pub fn copy(&self) -> Result<Branch, AllocError>
         ensures { IfOk result (λ b. b ≡ self.now) }
     {
+        let kid = match &self.kid {
+            Kid::Tree(tree) => Kid::Tree(tree.copy()?),
+            Kid::Twin(twin) => Kid::Twin(*twin),
+        };
         Ok(Branch {
             user: self.user,
-            kid: self.kid.copy()?,
+            kid,
         })
     }
 
@@ -117,18 +121,6 @@ impl Branch {
         match &self.kid {
             Kid::Tree(tree) => tree.nodes(),
             Kid::Twin(_) => 1,
-        }
-    }
-}
-
-impl Kid {
-    #[cycle(copy)]
-    fn copy(&self) -> Result<Kid, AllocError>
-        ensures { IfOk result (λ k. k ≡ self.now) }
-    {
-        match self {
-            Kid::Tree(tree) => Ok(Kid::Tree(tree.copy()?)),
-            Kid::Twin(twin) => Ok(Kid::Twin(*twin)),
         }
     }
 }

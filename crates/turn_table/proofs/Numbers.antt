@@ -50,6 +50,14 @@ some_of (Some n) h = (n, refl)
 pub at_some : (P : ℕ → Type 0) (o : Option ℕ) (n : ℕ) → o ≡ Some n → IfSome o P → P n
 at_some P o n e h = subst (λ x. IfSome x P) e h
 
+pub if_numbered : (P : ℕ → Type 0) (o : Option ℕ) → ((n : ℕ) → o ≡ Some n → P n) → IfSome o P
+if_numbered P None h = tt
+if_numbered P (Some n) h = h n refl
+
+-- a lane without the value need have no number
+pub outside : (o : Option ℕ) → false ≡ true → IsSome o
+outside o e = cc
+
 -- only a lane with a number has the value out
 pub inside : (out : Bool) (o : Option ℕ) → (out ≡ true → IsSome o) → o ≡ None → out ≡ false
 inside false o h e = refl

@@ -71,6 +71,29 @@ fn find_file<'a>(files: &'a [MemFile], name: &str) -> Option<&'a [u8]>
     None
 }
 
+// The bytes of a file, unless there are more than the limit or the call is to fail.
+fn read_file(
+    counts: &mut Counts,
+    alloc: Global,
+    content: &[u8],
+    limit: usize,
+) -> Result<Loaded, LoadFault>
+    ensures answer { LoadsFrom counts.old (told content.now) limit result }
+    ensures counts { counts.new ≡ counts_after counts.old result }
+    ensures loaded { LoadsAs (told content.now) limit result }
+{
+    if limit < content.len() {
+        counts.pass();
+        return Err(LoadFault::TooLong);
+    }
+    if counts.is_failing() {
+        counts.fail();
+        return Err(LoadFault::Failed);
+    }
+    counts.pass();
+    Ok(Loaded::from_bytes(content.to_vec(alloc)?))
+}
+
 impl Shelf for MemShelf {
     ghost file = { λ s name. file_of s.files name };
 
@@ -89,15 +112,6 @@ impl Shelf for MemShelf {
             self.counts.fail();
             return Err(LoadFault::Failed);
         };
-        if limit < content.len() {
-            self.counts.pass();
-            return Err(LoadFault::TooLong);
-        }
-        if self.counts.is_failing() {
-            self.counts.fail();
-            return Err(LoadFault::Failed);
-        }
-        self.counts.pass();
-        Ok(Loaded::from_bytes(content.to_vec(alloc)?))
+        read_file(&mut self.counts, alloc, content, limit)
     }
 }

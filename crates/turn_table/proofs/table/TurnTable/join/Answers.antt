@@ -1,8 +1,9 @@
-use Rattle.std.proofs.Common.{◌≡◌, false, ◌++◌, rules, ap, ◌∙◌, sym, subst}
+use Rattle.std.proofs.Common.{◌≡◌, false, IsSome, ◌++◌, rules, ap, ◌∙◌, sym, subst}
 use Rattle.std.specs.List.{Contains}
 use Rattle.std.proofs.lemmas.List.Elements.{Contains-append_left, Contains-append_right}
 use Rattle.turn_table.specs.Table.{brought}
-use Rattle.turn_table.specs.Lanes.{hold_of, carried_by}
+use Rattle.turn_table.specs.Lanes.{hold_of, carried_by, shape_of, joined_lane}
+use Rattle.turn_table.specs.Plays.{united}
 use Rattle.turn_table.proofs.Seats.{joins}
 use Rattle.turn_table.proofs.Keeps.{compares}
 use Rattle.turn_table.proofs.Numbers.{some_of, brought_has}
@@ -30,10 +31,31 @@ load-requires g c = (
   compares g.D.Tabled.fixed_part g.D.Tabled.list _ _ _ _ _ c.join_seat.new.seat.me (ap (λ m. m.0.live) c.join_seat.ensures.2 ∙ c.into.invariant.live),
 )
 
--- the numbers that were joined, once both steps are done
+-- the seat, once both steps are done
+both : (g : _) (c : After-load g) → c.load.new.seat.me ≡ (united c.into.inside.seat.me.0 c.into_seat.result.me.0, c.into.inside.seat.me.1)
+both g c = c.load.ensures.2.0 ∙ c.join_seat.ensures.2
+
+-- and the numbers that were joined
 numbers : (g : _) (c : After-load g) →
     c.load.new.seat.me.0.joined ≡ brought c.into_seat.result.me.0.number c.into_seat.result.me.0.joined ++ c.into.inside.seat.me.0.joined
-numbers g c = ap (λ m. m.0.joined) c.load.ensures.2.0 ∙ ap (λ m. m.0.joined) c.join_seat.ensures.2
+numbers g c = ap (λ m. m.0.joined) (both g c)
+
+pub invariant_of-into : goal.invariant_of-into
+invariant_of-into g c =
+    let me = both g (goal.at.invariant_of-into g c).After-load in
+    let before = c.into.invariant in
+    record {
+      live = ap (λ m. m.0.live) me ∙ before.live;
+      slots = ap (λ m. m.1) me ∙ before.slots;
+      hold = ap (λ m. m.0.hold) me ∙ before.hold;
+      numbered = λ out. subst IsSome (sym (ap (λ m. m.0.number) me)) (before.numbered out);
+    }
+
+pub returns-clause-into : goal.returns-clause-into
+returns-clause-into g c =
+    let me = both g (goal.at.returns-clause-into g c).After-load in
+    let there = c.load.ensures.0 ∙ c.join_seat.ensures.0 in
+    (λ i. shape_of (there i) c.into.inside.out (me i).0) ∙ (λ i. joined_lane (c.into.view_is i) (sym c.into_seat.ensures.shape i))
 
 pub returns-clause-counted : goal.returns-clause-counted
 returns-clause-counted g c = λ n h.
