@@ -7,7 +7,7 @@ use Rattle.clap.specs.Lexer.{without_minus}
 use Rattle.clap.specs.Words.{App, Row, Text, built}
 use Rattle.clap.specs.Simple.{Shape}
 use Rattle.clap.specs.Faults.{turn_fault}
-use Rattle.clap.specs.Walk.{idle}
+use Rattle.clap.specs.Walk.{idle, positional}
 use Rattle.clap.specs.ValueTests.{accepts}
 use Rattle.clap.specs.declared.builder.value_parser.Reading.{Reading}
 use Rattle.clap.specs.declared.builder.value_parser.Reading.TheVariants.{AsWritten, WithoutMinus}
@@ -99,8 +99,11 @@ unfolding clap_on_literals
 resilience_found p f n plain plain_f few =
     let takes = absences_taken n few in
     let below : n ≤ 3 = few in
+    let rows = policy_row p ∷ word_row (codes "FLOW") f ∷ [] in
+    let end = at (record { rows = rows; pending = Some (codes "T", decimal n ∷ []); skip = 0 }) positional 4 in
+    let none : end_fault (built resilience_form) end ≡ [] = none_at_end (built resilience_form) end refl (rw takes refl) refl refl in
     found_by resilience_form (codes "resilience") (as_value p ∷ as_value f ∷ as_value (decimal n) ∷ []) _ refl refl
-    ((plain, refl, refl), ((plain_f, refl, refl), ((small_plain n (omega arith), refl, refl), tt))) (rw takes refl) refl
+    ((plain, refl, refl), ((plain_f, refl, refl), ((small_plain n (omega arith), refl, refl), tt))) none refl
 
 cnf_found : (p f : Text) → IsPlain p → IsPlain f
     → found cnf_form (codes "cnf" ∷ p ∷ f ∷ []) ≡ Some (policy_row p ∷ word_row (codes "FLOW") f ∷ [])
@@ -175,12 +178,13 @@ audit_found p q plain plain_q None None are =
     let rounds_ok = usual_rounds in
     found_by audit_form (codes "audit") (as_value p ∷ as_value q ∷ []) _ refl refl
     ((plain, refl, refl), ((plain_q, refl, refl), tt))
-    (rw (lanes_ok, rounds_ok) refl) refl
+    (none_at_end (built audit_form) (at (record { rows = audit_files p q; pending = None; skip = 0 }) idle 2) refl refl
+    (rw (lanes_ok, rounds_ok) refl) refl) refl
 audit_found p q plain plain_q None (Some rounds) are =
     let lanes_ok = usual_lanes in
     let rounds_ok = rounds_taken rounds are.rounds in
     let end = at (record { rows = audit_files p q; pending = Some (codes "rounds", decimal rounds ∷ []); skip = 0 }) idle 3 in
-    let none : end_fault (built audit_form) end ≡ [] = rw (lanes_ok, rounds_ok) refl in
+    let none : end_fault (built audit_form) end ≡ [] = none_at_end (built audit_form) end refl (rw rounds_ok refl) (rw lanes_ok refl) refl in
     found_by audit_form (codes "audit") (as_value p ∷ as_value q ∷ as_option (codes "--rounds") ∷ as_value (decimal rounds) ∷ []) _ refl refl
     ((plain, refl, refl), ((plain_q, refl, refl), (refl, ((small_plain rounds are.rounds, refl, refl), tt))))
     none refl
@@ -188,7 +192,7 @@ audit_found p q plain plain_q (Some lanes) None are =
     let lanes_ok = lanes_taken lanes are.some are.lanes in
     let rounds_ok = usual_rounds in
     let end = at (record { rows = audit_files p q; pending = Some (codes "lanes", decimal lanes ∷ []); skip = 0 }) idle 3 in
-    let none : end_fault (built audit_form) end ≡ [] = rw (lanes_ok, rounds_ok) refl in
+    let none : end_fault (built audit_form) end ≡ [] = none_at_end (built audit_form) end refl (rw lanes_ok refl) (rw rounds_ok refl) refl in
     found_by audit_form (codes "audit") (as_value p ∷ as_value q ∷ as_option (codes "--lanes") ∷ as_value (decimal lanes) ∷ []) _ refl refl
     ((plain, refl, refl), ((plain_q, refl, refl), (refl, ((small_plain lanes are.lanes, refl, refl), tt))))
     none refl
@@ -203,7 +207,7 @@ audit_found p q plain plain_q (Some lanes) (Some rounds) are =
           (codes "rounds", decimal rounds ∷ []);
       skip = 0;
     }) idle 3 in
-    let none : end_fault (built audit_form) end ≡ [] = rw rounds_ok refl in
+    let none : end_fault (built audit_form) end ≡ [] = none_at_end (built audit_form) end refl (rw rounds_ok refl) refl refl in
     found_by audit_form (codes "audit") (as_value p ∷ as_value q ∷ as_option (codes "--lanes") ∷ as_value (decimal lanes) ∷ as_option
     (codes "--rounds") ∷ as_value (decimal rounds) ∷ []) _ refl refl (
       (plain, refl, refl),

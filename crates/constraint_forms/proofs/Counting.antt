@@ -1,8 +1,8 @@
 -- How many users a set's members have.
-use Rattle.std.proofs.Common.{◌≡◌, ◌≢◌, ℕ, zero, suc, ◌+◌, ◌<◌, ◌≤◌, Bool, true, false, cond, not, ◌&&◌, ◌||◌, ◌==◌, nat_eq, nat_lt, nat_le, List, [], ◌∷◌}
+use Rattle.std.proofs.Common.{◌≡◌, ◌≢◌, ℕ, zero, suc, ◌+◌, ◌≤◌, Bool, true, false, cond, not, ◌||◌, ◌==◌, nat_eq, nat_lt, nat_le, List, [], ◌∷◌}
 use Rattle.std.proofs.Common.{Option, Some, None, is_none, ◌⊎◌, inl, inr, refl, sym, ap, subst, ◌∙◌, arith, add-zero, zero-add}
 use Rattle.std.specs.Bool.{IsTrue}
-use Rattle.basics.proofs.Booleans.{bool_cases, eq_back, eq_same, lt_back, lt_yes, lt_no, not_true, or_cases, or_left, or_right, same_by}
+use Rattle.basics.proofs.Booleans.{bool_cases, eq_back, eq_same, lt_back, lt_yes, not_true, or_cases, or_left, or_right}
 use Rattle.constraint_forms.specs.Assign.{is_member}
 use Rattle.constraint_forms.specs.Rules.{different, free_from, is_among, user_onto, users_from}
 

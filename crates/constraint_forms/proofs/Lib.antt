@@ -9,3 +9,4 @@ pub mod Members
 pub mod Reading
 pub mod NextSteps
 pub mod Walking
+pub mod Related

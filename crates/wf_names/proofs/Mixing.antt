@@ -1,5 +1,7 @@
 -- Lists of words mixed place by place, several places at a time and then one by one.
-use Rattle.std.proofs.Common.{◌≡◌, ℕ, ◌+◌, ◌-◌, ◌<◌, ◌≤◌, List, length, get_or, slice_index, bit_and, bit_xor, sym, ap, ◌∙◌, arith, []}
+use Rattle.std.proofs.Common.{◌≡◌, ℕ, ◌+◌, ◌-◌, ◌*◌, ◌<◌, ◌≤◌, List, length, get_or, slice_index, slice_set, bit_and, bit_xor, sym, ap, subst, ◌∙◌, arith}
+use Rattle.std.proofs.Common.{inl, inr, length-set, get_or-set_same, get_or-set_other}
+use Rattle.std.proofs.lemmas.Bool.{cases_eq, cases_lt}
 use Rattle.std.specs.Simd.Lanes.{zip2, chunk, put_chunk}
 use Rattle.std.proofs.lemmas.Simd.{length-zip2, length-chunk, get_or-chunk, get_or-zip2, get_or-put_chunk_below, get_or-put_chunk_at, get_or-put_chunk_above}
 use Rattle.std.proofs.lemmas.Grind.{same_number_lists}
@@ -49,3 +51,36 @@ mixed_all f n old by new same whole m =
     (λ i h.
     m.below i (omega (arith, h, m.whole, whole))
     ∙ sym (get_or-zip2 f old by i 0 0 0 (omega (arith, h, m.whole)) (omega (arith, h, m.whole, same))))
+
+-- eight words more
+pub mixed_on : (f : ℕ → ℕ → ℕ) (lane : ℕ) (old by into new : List ℕ) → length new ≡ length into
+    → IsMixedUpTo f (lane * 8) old by into → IsMixedFrom f (lane * 8) into by new → IsMixedUpTo f ((lane + 1) * 8) old by new
+mixed_on f lane old by into new same m n = record {
+  whole = same ∙ m.whole;
+  below = λ i h. elim (cases_lt i (lane * 8)) [
+    | inl lt ↦ n.below i lt ∙ m.below i lt
+    | inr ge ↦
+        let k = i - lane * 8 in
+        let is : lane * 8 + k ≡ i = omega (arith, ge) in
+        subst (λ j. slice_index new j ≡ f (slice_index old j) (slice_index by j)) is
+        (n.mixed k (omega (arith, h, is)) ∙ ap (λ a. f a (slice_index by (lane * 8 + k))) (m.above (lane * 8 + k) (omega arith)))
+  ];
+  above = λ i h. n.above i (omega (arith, h)) ∙ m.above i (omega (arith, h));
+}
+
+-- one word more
+pub mixed_next : (f : ℕ → ℕ → ℕ) (n : ℕ) (old by into : List ℕ) → n < length into → IsMixedUpTo f n old by into
+    → IsMixedUpTo f (n + 1) old by (slice_set into n (f (slice_index into n) (slice_index by n)))
+mixed_next f n old by into within m =
+    let x = f (slice_index into n) (slice_index by n) in
+    record {
+      whole = length-set into n x ∙ m.whole;
+      below = λ i h. elim (cases_eq i n) [
+        | inl e ↦
+            ap (slice_index (slice_set into n x)) e ∙ get_or-set_same into n x 0 within
+            ∙ ap (λ a. f a (slice_index by n)) (m.above n (omega arith))
+            ∙ ap (λ j. f (slice_index old j) (slice_index by j)) (sym e)
+        | inr ne ↦ get_or-set_other into n i x 0 ne ∙ m.below i (omega (arith, h, ne))
+      ];
+      above = λ i h. get_or-set_other into n i x 0 (λ e. absurd (omega (arith, h, e))) ∙ m.above i (omega (arith, h));
+    }

@@ -10,7 +10,6 @@ use std::simd::prelude::*;
 const LANES: usize = 8;
 
 /// Keeps in each word the bits that are also in the word of `by` at its place.
-#[tactic(auto, using(crate::proofs::Mixing::mixed_all))]
 pub fn meet_words(into: &mut [u64], by: &[u64])
     requires { length into.old ≡ length by.now }
     ensures { into.new ≡ zip2 bit_and into.old by.now }
@@ -36,7 +35,6 @@ fn meet_lanes(into: &mut [u64], by: &[u64], at: usize)
 }
 
 /// Keeps in each word the bits that are not in the word of `by` at its place.
-#[tactic(auto, using(crate::proofs::Mixing::mixed_all))]
 pub fn strike_words(into: &mut [u64], by: &[u64])
     requires { length into.old ≡ length by.now }
     ensures { into.new ≡ zip2 minus into.old by.now }
@@ -61,7 +59,6 @@ fn strike_lanes(into: &mut [u64], by: &[u64], at: usize)
 }
 
 /// Puts into each word the bits of the word of `by` at its place.
-#[tactic(auto, using(crate::proofs::Mixing::mixed_all))]
 pub fn join_words(into: &mut [u64], by: &[u64])
     requires { length into.old ≡ length by.now }
     ensures { into.new ≡ zip2 bit_or into.old by.now }

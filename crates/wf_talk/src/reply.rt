@@ -7,7 +7,7 @@ use refutation_tree::Tree;
 use wf_names::{CaseId, FlowId, Phase, StepId, StepState, UserId};
 
 /// The answer to what a line asks.
-#[derive(Clone, Drop)]
+#[derive(Drop)]
 pub enum Reply {
     /// The step is held by the caller; the plan is the one that is kept for the case.
     Granted(Plan),
@@ -57,7 +57,7 @@ pub struct WorkItem {
 }
 
 /// Why a request was denied.
-#[derive(Clone, Drop)]
+#[derive(Drop)]
 pub enum Denial {
     /// The policy has no workflow of that name.
     NoFlow,

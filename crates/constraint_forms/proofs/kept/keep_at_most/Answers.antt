@@ -1,17 +1,14 @@
-use Rattle.std.proofs.Common.{◌≡◌, ◌<◌, ◌+◌, ℕ, Bool, List, Option, None, length, not, slice_set, sym, ap, subst, ◌∙◌, arith}
+use Rattle.std.proofs.Common.{◌≡◌, ℕ, Bool, List, Option, None, slice_set, sym, ap, ◌∙◌, arith}
 use Rattle.basics.proofs.Booleans.{and_same}
 use Rattle.wf_names.specs.UserSets.{has_user}
 use Rattle.constraint_forms.specs.Assign.{user_at}
-use Rattle.constraint_forms.specs.Kept.{too_many_with}
-use Rattle.constraint_forms.specs.Rules.{different, free_from, is_among, users_from}
+use Rattle.constraint_forms.specs.Rules.{different, is_among, users_from}
 use Rattle.constraint_forms.proofs.Counted.{all_left, nobody_left, most_full, most_keeps, most_meets, most_out}
+use Rattle.constraint_forms.proofs.Related.{step_in}
 use Rattle.constraint_forms.proofs.kept.keep_at_most.Goals as goal
 use Rattle.constraint_forms.proofs.kept.keep_at_most.Goals.{else-count-limit-2-via-then-count-limit-2+else-has, else-count-limit-2-via-else-count-limit-2}
 
--- the step has a place, and what is counted
-step_in : (a : List (Option ℕ)) (s n : ℕ) → s < n → length a ≡ n → s < length a
-step_in a s n h e = omega (arith, h, e)
-
+-- what is counted
 counted : (group : List Bool) (a o : List (Option ℕ)) (s n : ℕ) → o ≡ slice_set a s None → n ≡ different (users_from 0 group (user_at o)) →
     different (users_from 0 group (user_at (slice_set a s None))) ≡ n
 counted group a o s n e is = sym (is ∙ ap (λ x. different (users_from 0 group (user_at x))) e)

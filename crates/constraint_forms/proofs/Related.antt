@@ -1,0 +1,95 @@
+-- Whom a pair of steps leaves of the users who could be given a step.
+use Rattle.std.proofs.Common.{◌≡◌, ◌≢◌, ℕ, ◌+◌, ◌<◌, ◌≤◌, Bool, true, false, not, ◌&&◌, ◌||◌, nat_eq, nat_lt, List, length, slice_set, Option, Some, None}
+use Rattle.std.proofs.Common.{is_some, get_or-set_same, get_or-set_other, refl, sym, ap, ap₂, subst, ◌∙◌, ◌⊎◌, inl, inr, arith}
+use Rattle.basics.proofs.Booleans.{and_same, bool_cases, differ, eq_back, eq_is, lt_yes, not_true, or-false, or_right}
+use Rattle.constraint_forms.specs.Assign.{user_at}
+use Rattle.constraint_forms.specs.Kept.{are_unrelated_with}
+use Rattle.constraint_forms.specs.Rules.{Relating, are_unrelated, turned}
+
+-- the step has a place
+pub step_in : (a : List (Option ℕ)) (s n : ℕ) → s < n → length a ≡ n → s < length a
+step_in a s n h e = omega (arith, h, e)
+
+-- ---- a relation that is read as it is, or the other way round
+
+twice_not : (b : Bool) → b ≡ not (not b)
+twice_not true = refl
+twice_not false = refl
+
+self_related : (related : Relating) (rho u : ℕ) (back : Bool) → related rho u u ≡ not (not (turned back related rho u u))
+self_related related rho u true = twice_not (related rho u u)
+self_related related rho u false = twice_not (related rho u u)
+
+-- the users who stay are those who are related to v
+pub stay_before : (related : Relating) (rho users u v : ℕ) (b t : Bool) → (b ≡ true → u < users) → t ≡ (nat_lt u users && related rho u v) →
+    (b && t) ≡ (b && not (are_unrelated related rho (Some u) (Some v)))
+stay_before related rho users u v b t below is =
+    and_same b t _ (λ e. is ∙ ap (λ l. l && related rho u v) (lt_yes u users (below e)) ∙ twice_not (related rho u v))
+
+-- the users who stay are those to whom v is related
+pub stay_after : (related : Relating) (back : Bool) (rho users u v : ℕ) (b t : Bool) → (b ≡ true → u < users) →
+    t ≡ (nat_lt u users && turned (not back) related rho u v) → (b && t) ≡ (b && not (are_unrelated (turned back related) rho (Some v) (Some u)))
+stay_after related true rho users u v b t below is = stay_before related rho users u v b t below is
+stay_after related false rho users u v b t below is = stay_before (turned true related) rho users u v b t below is
+
+-- ---- with a step given to a user
+
+module _ (a : List (Option ℕ)) (s u : ℕ) (within : s < length a) where
+  pub at_step : (x : ℕ) → true ≡ nat_eq x s → user_at (slice_set a s (Some u)) x ≡ Some u
+  at_step x is = ap (user_at (slice_set a s (Some u))) (eq_back x s (sym is)) ∙ get_or-set_same a s (Some u) None within
+
+  pub at_other : (x : ℕ) → false ≡ nat_eq x s → user_at (slice_set a s (Some u)) x ≡ user_at a x
+  at_other x is = get_or-set_other a s x (Some u) None (λ same. differ (nat_eq x s) (eq_is x s same) (sym is))
+
+  -- whom the steps x and y leave, by the users that they have then
+  pub left_by : (related : Relating) (rho x y : ℕ) (b : Bool) (f g : Option ℕ) → user_at (slice_set a s (Some u)) x ≡ f
+      → user_at (slice_set a s (Some u)) y ≡ g → (b && not (are_unrelated related rho f g)) ≡ (b && not (are_unrelated_with related rho a x y s u))
+  left_by related rho x y b f g is_x is_y = sym (ap₂ (λ o p. b && not (are_unrelated related rho o p)) is_x is_y)
+
+  pub left_by_itself : (related : Relating) (back : Bool) (rho x y : ℕ) (b : Bool) → true ≡ nat_eq x s → true ≡ nat_eq y s
+      → (b && related rho u u) ≡ (b && not (are_unrelated_with (turned back related) rho a x y s u))
+  left_by_itself related back rho x y b is_x is_y =
+      ap (λ t. b && t) (self_related related rho u back)
+      ∙ left_by (turned back related) rho x y b (Some u) (Some u) (at_step x is_x) (at_step y is_y)
+
+  -- a step has a user then, if it had one or is the step that is given
+  pub is_given : (x : ℕ) → is_some (user_at (slice_set a s (Some u)) x) ≡ (is_some (user_at a x) || nat_eq s x)
+  is_given x = at (bool_cases (nat_eq s x))
+    where
+      at : (nat_eq s x ≡ true) ⊎ (nat_eq s x ≡ false) → is_some (user_at (slice_set a s (Some u)) x) ≡ (is_some (user_at a x) || nat_eq s x)
+      at (inl is) = ap is_some (at_step x (sym (eq_is x s (sym (eq_back s x is))))) ∙ sym (or_right (is_some (user_at a x)) (nat_eq s x) is)
+      at (inr is) =
+          let other : nat_eq x s ≡ false = not_true (nat_eq x s) (λ e. differ (nat_eq s x) (eq_is s x (sym (eq_back x s e))) is) in
+          ap is_some (at_other x (sym other)) ∙ sym (ap (λ b. is_some (user_at a x) || b) is ∙ or-false (is_some (user_at a x)))
+
+-- ---- user by user
+
+-- those before n are kept where they pass, and n is looked at now
+module _ (old before after passes : ℕ → Bool) (n : ℕ) (done : (v : ℕ) → v < n → before v ≡ (old v && passes v)) (ahead : (v : ℕ) → n ≤ v → before v ≡ old v)
+    (others : (v : ℕ) → v ≢ n → after v ≡ before v) where
+  pub one_done : after n ≡ (before n && passes n) → (v : ℕ) → v < n + 1 → after v ≡ (old v && passes v)
+  one_done here v below = at (bool_cases (nat_eq v n))
+    where
+      at : (nat_eq v n ≡ true) ⊎ (nat_eq v n ≡ false) → after v ≡ (old v && passes v)
+      at (inl is) =
+          let same : n ≡ v = sym (eq_back v n is) in
+          subst (λ m. after m ≡ (old m && passes m)) same (here ∙ ap (λ b. b && passes n) (ahead n (omega arith)))
+      at (inr is) =
+          let other : v ≢ n = λ e. differ (nat_eq v n) (eq_is v n e) is in
+          others v other ∙ done v (omega (arith, below, other))
+
+  pub one_ahead : (v : ℕ) → n + 1 ≤ v → after v ≡ old v
+  one_ahead v from = others v (λ e. absurd (omega (arith, from, e))) ∙ ahead v (omega (arith, from))
+
+pub kept_if : (b t : Bool) → t ≡ true → b ≡ (b && t)
+kept_if true t e = sym e
+kept_if false t e = refl
+
+pub out_before : (b t : Bool) → b ≡ false → b ≡ (b && t)
+out_before true t e = absurd (cc)
+out_before false t e = refl
+
+pub taken_out : (m b t : Bool) → m ≡ true → t ≡ false → (not m && b) ≡ (b && t)
+taken_out true true t e f = sym f
+taken_out true false t e f = refl
+taken_out false b t e f = absurd (cc)
