@@ -9,7 +9,9 @@ ghost use Rattle.policy_book.specs.Facts.{IsSoundRule, AreSoundRules, IsWithinGr
 ghost use Rattle.policy_reader.specs.Faults.{fault_of};
 ghost use Rattle.policy_reader.specs.declared.fault.ReadFault.TheVariants.{NoMemory};
 ghost use Rattle.policy_reader.specs.Kept.{HasStepsBelow};
-ghost use Rattle.policy_reader.specs.Parts.{items as part_items};
+ghost use Rattle.policy_reader.specs.Parts.{items as part_items, number_in};
+ghost use Rattle.policy_reader.specs.declared.fault.PolicyPart.TheVariants.{Flows};
+ghost use Rattle.user_relations.specs.Relations.{known_names};
 ghost use Rattle.policy_reader.specs.Rules as spec;
 ghost use Rattle.basics.specs.Reading.{Gives, each};
 
@@ -27,14 +29,26 @@ use user_relations::Relations;
 use wf_names::{Name, NameTable, RULE_LIMIT, RelId, StepId};
 
 /// The relation that is named in a table.
-#[tactic(auto, unfolding(crate::specs::Rules::relation_at, crate::specs::Rules::relation_in, crate::specs::Parts::number_in))]
+#[tactic(auto, unfolding(crate::specs::Rules::relation_at, crate::specs::Rules::relation_in))]
 fn relation_at(table: &Table, relations: &Relations, flow: u32) -> Result<RelId, ReadFault>
     ensures read { Gives fault_of (λ rho. rho) result
         (spec.relation_at flow relations.now (table_view table.now)) }
     ensures within { IfOk result (λ rho. rho < length relations.now + 2) }
 {
     let value = value_at(table, "relation", PolicyPart::Flows, flow)?;
-    let text = text_of(value, PolicyPart::Flows, flow)?;
+    match text_of(value, PolicyPart::Flows, flow) {
+        Ok(text) => relation_named(text, relations, flow),
+        Err(fault) => Err(fault),
+    }
+}
+
+/// The number of the relation with a name.
+#[tactic(auto, unfolding(crate::specs::Parts::number_in))]
+fn relation_named(text: &str, relations: &Relations, flow: u32) -> Result<RelId, ReadFault>
+    ensures read { Gives fault_of (λ rho. rho) result
+        (number_in Flows flow (known_names relations.now) text.now) }
+    ensures within { IfOk result (λ rho. rho < length relations.now + 2) }
+{
     let Some(name) = Name::read(text) else {
         return Err(refuse(PolicyKind::Unknown, PolicyPart::Flows, flow));
     };
@@ -94,8 +108,10 @@ fn group_at(table: &Table, steps: &NameTable, flow: u32) -> Result<StepSet, Read
 {
     let value = value_at(table, "group", PolicyPart::Flows, flow)?;
     let items = array_of(value, PolicyPart::Flows, flow)?;
-    at_least_one(items.len(), PolicyPart::Flows, flow)?;
-    all_members(steps, items, flow)
+    match at_least_one(items.len(), PolicyPart::Flows, flow) {
+        Ok(()) => all_members(steps, items, flow),
+        Err(fault) => Err(fault),
+    }
 }
 
 fn all_members(steps: &NameTable, items: &[Value], flow: u32) -> Result<StepSet, ReadFault>
@@ -130,8 +146,10 @@ fn check_keys(
 {
     value_at(table, "relation", PolicyPart::Flows, flow)?;
     value_at(table, first, PolicyPart::Flows, flow)?;
-    value_at(table, second, PolicyPart::Flows, flow)?;
-    no_others(table, form.keys(), PolicyPart::Flows, flow)
+    match value_at(table, second, PolicyPart::Flows, flow) {
+        Ok(_) => no_others(table, form.keys(), PolicyPart::Flows, flow),
+        Err(fault) => Err(fault),
+    }
 }
 
 /// The rule over two steps in a table.
@@ -204,8 +222,10 @@ fn check_counting_keys(form: Form, table: &Table, flow: u32) -> Result<(), ReadF
         (spec.counting_keys_in form flow (table_view table.now)) }
 {
     value_at(table, "group", PolicyPart::Flows, flow)?;
-    value_at(table, "limit", PolicyPart::Flows, flow)?;
-    no_others(table, form.keys(), PolicyPart::Flows, flow)
+    match value_at(table, "limit", PolicyPart::Flows, flow) {
+        Ok(_) => no_others(table, form.keys(), PolicyPart::Flows, flow),
+        Err(fault) => Err(fault),
+    }
 }
 
 /// The number of users and the group of steps in a table.
@@ -332,8 +352,10 @@ fn rule_of(
 {
     let table = table_of(value, PolicyPart::Flows, flow)?;
     let form = value_at(table, "form", PolicyPart::Flows, flow)?;
-    let form = form_of(format, form, flow)?;
-    rule_of_form(form, table, relations, steps, flow)
+    match form_of(format, form, flow) {
+        Ok(form) => rule_of_form(form, table, relations, steps, flow),
+        Err(fault) => Err(fault),
+    }
 }
 
 /// Adds the next rule.
@@ -414,6 +436,8 @@ pub(crate) fn read_rules(
         return Ok(Rules::new(alloc));
     };
     let items = array_of(value, PolicyPart::Flows, flow)?;
-    at_most(RULE_LIMIT, items.len(), PolicyPart::Flows, flow)?;
-    all_rules(alloc, format, items, relations, steps, flow)
+    match at_most(RULE_LIMIT, items.len(), PolicyPart::Flows, flow) {
+        Ok(()) => all_rules(alloc, format, items, relations, steps, flow),
+        Err(fault) => Err(fault),
+    }
 }
