@@ -92,7 +92,7 @@ fn policy_in(alloc: Global, file: &Table) -> Result<Policy, ReadFault>
     }
 }
 
-/// Reads the rest of it, into a policy without workflows.
+/// Reads the rest of the document, into a policy without workflows.
 fn with_rest(
     alloc: Global,
     format: Format,

@@ -9,9 +9,7 @@ ghost use Rattle.policy_book.specs.Facts.{IsSoundRule, AreSoundRules, IsWithinGr
 ghost use Rattle.policy_reader.specs.Faults.{fault_of};
 ghost use Rattle.policy_reader.specs.declared.fault.ReadFault.TheVariants.{NoMemory};
 ghost use Rattle.policy_reader.specs.Kept.{HasStepsBelow};
-ghost use Rattle.policy_reader.specs.Parts.{items as part_items, number_in};
-ghost use Rattle.policy_reader.specs.declared.fault.PolicyPart.TheVariants.{Flows};
-ghost use Rattle.user_relations.specs.Relations.{known_names};
+ghost use Rattle.policy_reader.specs.Parts.{items as part_items};
 ghost use Rattle.policy_reader.specs.Rules as spec;
 ghost use Rattle.basics.specs.Reading.{Gives, each};
 
@@ -29,26 +27,14 @@ use user_relations::Relations;
 use wf_names::{Name, NameTable, RULE_LIMIT, RelId, StepId};
 
 /// The relation that is named in a table.
-#[tactic(auto, unfolding(crate::specs::Rules::relation_at, crate::specs::Rules::relation_in))]
+#[tactic(auto, unfolding(crate::specs::Rules::relation_at, crate::specs::Rules::relation_in, crate::specs::Parts::number_in))]
 fn relation_at(table: &Table, relations: &Relations, flow: u32) -> Result<RelId, ReadFault>
     ensures read { Gives fault_of (λ rho. rho) result
         (spec.relation_at flow relations.now (table_view table.now)) }
     ensures within { IfOk result (λ rho. rho < length relations.now + 2) }
 {
     let value = value_at(table, "relation", PolicyPart::Flows, flow)?;
-    match text_of(value, PolicyPart::Flows, flow) {
-        Ok(text) => relation_named(text, relations, flow),
-        Err(fault) => Err(fault),
-    }
-}
-
-/// The number of the relation with a name.
-#[tactic(auto, unfolding(crate::specs::Parts::number_in))]
-fn relation_named(text: &str, relations: &Relations, flow: u32) -> Result<RelId, ReadFault>
-    ensures read { Gives fault_of (λ rho. rho) result
-        (number_in Flows flow (known_names relations.now) text.now) }
-    ensures within { IfOk result (λ rho. rho < length relations.now + 2) }
-{
+    let text = text_of(value, PolicyPart::Flows, flow)?;
     let Some(name) = Name::read(text) else {
         return Err(refuse(PolicyKind::Unknown, PolicyPart::Flows, flow));
     };

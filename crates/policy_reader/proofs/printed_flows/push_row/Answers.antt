@@ -1,4 +1,4 @@
-use Rattle.std.proofs.Common.{Vec, Global, sym, ap, ◌∙◌, ◌++◌, ◌∷◌, [], map}
+use Rattle.std.proofs.Common.{sym, ap, ◌∙◌, ◌++◌, ◌∷◌, [], map}
 use Rattle.policy_reader.proofs.Prints.{view, pair_data}
 use Rattle.policy_reader.proofs.Writing.{row_more, row_skip, when_ok, seen}
 use Rattle.policy_reader.proofs.printed_flows.push_row.Goals as goal
