@@ -7,6 +7,7 @@ pub mod RuleLists
 pub mod Orders
 pub mod Relating
 pub mod Held
+pub mod Loops
 pub mod Grown
 pub mod Ends
 pub mod Gets

@@ -3,6 +3,7 @@ use Rattle.std.proofs.Common.{◌≡◌, ℕ, suc, ◌+◌, ◌<◌, ◌≤◌, 
 use Rattle.std.proofs.Common.{Ordering, Less, Equal, Greater, string_bytes, refl, sym, ap, ◌∙◌, append_assoc, arith, Result, Ok, Err, OnOk, slice_get, Option}
 use Rattle.std.proofs.Common.{Some, None, option_map, zero, subst, inl, inr}
 use Rattle.std.specs.FinSet as set
+use Rattle.std.specs.Result.{is_err}
 use Rattle.policy_reader.proofs.Prints.{All, get_or_from_slice_get, slice_get_past, slice_get_within, AreNames, first_declared, RELATION_LIMIT, Pairs}
 use Rattle.policy_reader.proofs.Prints.{RelationShape, RelationKind, listed, complement, kind_of, known_names, has_list, is_listed, complemented, complement_of}
 use Rattle.policy_reader.proofs.Prints.{AreSoundRelations, match_ordering, get_or_default, length-map, map-append, take_more, take_all, Data, Members, member}
@@ -31,6 +32,10 @@ pub insert_view : (es : List Entry) (k : String Global) (v : Value) →
 insert_view [] k v = refl
 insert_view (e ∷ es) k v = placed (string_cmp k e.0) k v e es _ _ (insert_view es k v)
 
+-- what values say
+abbrev pub seen : Vec Value Global → List Data
+seen values = map view values.items
+
 -- an array of values, which were written to the last
 pub written_to : (ds : ℕ → List Data) (v : Vec Value Global) (n m : ℕ) → map view v.items ≡ ds n → n ≡ m → view (Array v) ≡ array (items_of (ds m))
 written_to ds v n m e same = view-Array v ∙ ap (λ xs. array (items_of xs)) (e ∙ ap ds same)
@@ -48,6 +53,18 @@ chosen_more f n test here = rw (one_more n, here) (map-append f (chosen n test) 
 
 pub chosen_skip : {Y : Type 0} (f : ℕ → Y) (n : ℕ) (test : ℕ → Bool) → test n ≡ false → map f (chosen (n + 1) test) ≡ map f (chosen n test)
 chosen_skip f n test not_here = rw (one_more n, not_here) refl
+
+-- an array of the names that are chosen, after the next number
+pub names_next : (names : List (List ℕ)) (test : ℕ → Bool) (n : ℕ) (before after : List Data) → test n ≡ true
+    → before ≡ map (λ n. string (name_at names n)) (chosen n test) → after ≡ before ++ string (name_at names n) ∷ []
+    → after ≡ map (λ n. string (name_at names n)) (chosen (n + 1) test)
+names_next names test n before after here same more =
+    more ∙ ap (λ ds. ds ++ string (name_at names n) ∷ []) same ∙ sym (chosen_more (λ n. string (name_at names n)) n test here)
+
+pub names_skip : (names : List (List ℕ)) (test : ℕ → Bool) (n : ℕ) (before after : List Data) → test n ≡ false
+    → before ≡ map (λ n. string (name_at names n)) (chosen n test) → after ≡ before → after ≡ map (λ n. string (name_at names n)) (chosen (n + 1) test)
+names_skip names test n before after not_here same as_before =
+    as_before ∙ same ∙ sym (chosen_skip (λ n. string (name_at names n)) n test not_here)
 
 pub table_more : (n : ℕ) (entry : ℕ → List ℕ × Data) → table_below (n + 1) entry ≡ with_member (entry n).0 (entry n).1 (table_below n entry)
 table_more n entry = rw (one_more n) refl
@@ -90,6 +107,11 @@ name_found names n name h = get_or_from_slice_get names n name [] h
 pub on_ok : {A E : Type 0} (result : Result A E) (P : Type 0) → P → OnOk result P
 on_ok (Ok x) P h = h
 on_ok (Err e) P h = tt
+
+-- a call that gave no fault did what it says that it does
+pub when_ok : {A E : Type 0} (result : Result A E) (P : Type 0) → is_err result ≡ false → OnOk result P → P
+when_ok (Ok x) P went h = h
+when_ok (Err e) P went h = cc
 
 -- what holds of each number below the next
 pub one_further : (P : ℕ → Type 0) (n : ℕ) → ((m : ℕ) → m < n → P m) → P n → (m : ℕ) → m < n + 1 → P m

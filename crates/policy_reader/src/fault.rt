@@ -128,9 +128,11 @@ impl fmt::Display for PolicyFault {
     ghost output = { λ fault. Some (fault_text fault) };
 
     fn fmt<W: fmt::Write>(&self, f: &mut fmt::Formatter<W>) -> fmt::Result {
-        let (kind, table, index) = (self.kind.word(), self.table.word(), self.index);
+        let kind = self.kind.word();
+        let table = self.table.word();
+        let index = self.index;
         write!(f, "{kind} {table} {index}")?;
-        match self.name {
+        match &self.name {
             None => Ok(()),
             Some(name) => write!(f, " {}", name.as_str()),
         }

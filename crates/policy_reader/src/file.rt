@@ -86,7 +86,24 @@ fn policy_in(alloc: Global, file: &Table) -> Result<Policy, ReadFault>
     ensures printable { IfOk result IsPrintable }
 {
     let format = read_format(file)?;
-    let mut policy = read_start(alloc, file)?;
+    match read_start(alloc, file) {
+        Ok(policy) => with_rest(alloc, format, policy, file),
+        Err(fault) => Err(fault),
+    }
+}
+
+/// Reads the rest of the document, into a policy without workflows.
+fn with_rest(
+    alloc: Global,
+    format: Format,
+    mut policy: Policy,
+    file: &Table,
+) -> Result<Policy, ReadFault>
+    requires bare { IsBare policy }
+    ensures read { Gives fault_of (λ p. p) result
+        (spec.rest_of today format policy (table_view file.now)) }
+    ensures printable { IfOk result IsPrintable }
+{
     match read_rest(alloc, format, &mut policy, file) {
         Ok(()) => Ok(policy),
         Err(fault) => Err(fault),
@@ -200,7 +217,30 @@ fn start_over(
         (spec.start_over roster admin (table_view file.now)) }
     ensures bare { IfOk result IsBare }
 {
-    let relations = relations_over(alloc, &roster, admin, file)?;
+    match relations_over(alloc, &roster, admin, file) {
+        Ok(relations) => begin(alloc, roster, relations, admin),
+        Err(fault) => Err(fault),
+    }
+}
+
+fn begin(
+    alloc: Global,
+    roster: Roster,
+    relations: Relations,
+    admin: RoleId,
+) -> Result<Policy, ReadFault>
+    requires within { admin < length roster.roles }
+    requires related { AreOfUsers (length roster.users) relations }
+    requires admin { some_user_has roster admin ≡ true }
+    ensures begun { IfOk result (λ p. p ≡ record {
+      roster = roster;
+      relations = relations;
+      flow_names = [];
+      flows = [];
+      admin = admin;
+    }) }
+    ensures memory { IfErr result (λ e. e ≡ NoMemory) }
+{
     match Policy::start(alloc, roster, relations, admin) {
         Ok(policy) => Ok(policy),
         Err(_) => Err(ReadFault::NoMemory),

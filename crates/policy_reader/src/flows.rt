@@ -39,7 +39,26 @@ fn flow_of(alloc: Global, roles: &NameTable, table: &Table, number: u32) -> Resu
     ensures counted { IfOk result (λ f. is_count (length f.steps) ≡ true) }
 {
     let steps = read_steps(alloc, table, number)?;
-    let mut made = ordered_flow(alloc, &steps, table, number)?;
+    match ordered_flow(alloc, &steps, table, number) {
+        Ok(made) => with_permits(made, roles, table, number),
+        Err(fault) => Err(fault),
+    }
+}
+
+/// Reads who may perform the steps of a workflow that permits nothing yet.
+fn with_permits(
+    mut made: Flow,
+    roles: &NameTable,
+    table: &Table,
+    number: u32,
+) -> Result<Flow, ReadFault>
+    requires few { length roles.now.names ≤ ROLE_LIMIT }
+    requires bare { made.permits ≡ set.empty }
+    ensures read { Gives fault_of (λ f. f) result
+        (spec.permits_of number roles.now.names made (table_view table.now)) }
+    ensures roles { IfOk result (PermitsRolesBelow (length roles.now.names)) }
+    ensures steps { IfOk result (λ f. f.steps ≡ made.steps) }
+{
     match read_permits(&mut made, roles, table, number) {
         Ok(()) => Ok(made),
         Err(fault) => Err(fault),
@@ -167,8 +186,10 @@ fn next_flow(
 {
     let number = policy.flows().len() as u32;
     let name = name_of(key, PolicyPart::Flows, number)?;
-    let table = table_of(value, PolicyPart::Flows, number)?;
-    add_workflow(alloc, format, policy, name, table)
+    match table_of(value, PolicyPart::Flows, number) {
+        Ok(table) => add_workflow(alloc, format, policy, name, table),
+        Err(fault) => Err(fault),
+    }
 }
 
 fn all_flows(

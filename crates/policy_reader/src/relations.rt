@@ -47,8 +47,10 @@ fn listed_of(
     ensures users { IfOk result (AreBelow (length users.now.names)) }
 {
     let items = array_of(value, PolicyPart::Relations, number)?;
-    at_most(PAIR_LIMIT, items.len(), PolicyPart::Relations, number)?;
-    read_user_pairs(alloc, users, items, PolicyPart::Relations, number)
+    match at_most(PAIR_LIMIT, items.len(), PolicyPart::Relations, number) {
+        Ok(()) => read_user_pairs(alloc, users, items, PolicyPart::Relations, number),
+        Err(fault) => Err(fault),
+    }
 }
 
 /// Whether a value is that of a complement.
@@ -264,7 +266,22 @@ fn relations_in(alloc: Global, users: &NameTable, value: &Value) -> Result<Relat
     ensures ascend { IfOk result (λ r. Ascend (names_of r)) }
 {
     let all = table_of(value, PolicyPart::Relations, 0)?;
-    at_most(RELATION_LIMIT as usize, all.len(), PolicyPart::Relations, 0)?;
+    match at_most(RELATION_LIMIT as usize, all.len(), PolicyPart::Relations, 0) {
+        Ok(()) => relations_of(alloc, users, all),
+        Err(fault) => Err(fault),
+    }
+}
+
+/// Reads the relations of a table of them.
+fn relations_of(alloc: Global, users: &NameTable, all: &Table) -> Result<Relations, ReadFault>
+    requires users { length users.now.names ≤ USER_LIMIT }
+    requires few { length all.now.entries ≤ RELATION_LIMIT }
+    ensures read { Gives fault_of (λ r. r) result
+        (each (spec.next_relation users.now.names (table_view all.now)) []
+        (entries (table_view all.now))) }
+    ensures related { IfOk result (AreOfUsers (length users.now.names)) }
+    ensures ascend { IfOk result (λ r. Ascend (names_of r)) }
+{
     let mut relations = Vec::new(alloc);
     match all_relations(alloc, users, all, &mut relations) {
         Ok(()) => Ok(Relations::build(relations)?),

@@ -94,8 +94,10 @@ fn group_at(table: &Table, steps: &NameTable, flow: u32) -> Result<StepSet, Read
 {
     let value = value_at(table, "group", PolicyPart::Flows, flow)?;
     let items = array_of(value, PolicyPart::Flows, flow)?;
-    at_least_one(items.len(), PolicyPart::Flows, flow)?;
-    all_members(steps, items, flow)
+    match at_least_one(items.len(), PolicyPart::Flows, flow) {
+        Ok(()) => all_members(steps, items, flow),
+        Err(fault) => Err(fault),
+    }
 }
 
 fn all_members(steps: &NameTable, items: &[Value], flow: u32) -> Result<StepSet, ReadFault>
@@ -130,8 +132,10 @@ fn check_keys(
 {
     value_at(table, "relation", PolicyPart::Flows, flow)?;
     value_at(table, first, PolicyPart::Flows, flow)?;
-    value_at(table, second, PolicyPart::Flows, flow)?;
-    no_others(table, form.keys(), PolicyPart::Flows, flow)
+    match value_at(table, second, PolicyPart::Flows, flow) {
+        Ok(_) => no_others(table, form.keys(), PolicyPart::Flows, flow),
+        Err(fault) => Err(fault),
+    }
 }
 
 /// The rule over two steps in a table.
@@ -204,8 +208,10 @@ fn check_counting_keys(form: Form, table: &Table, flow: u32) -> Result<(), ReadF
         (spec.counting_keys_in form flow (table_view table.now)) }
 {
     value_at(table, "group", PolicyPart::Flows, flow)?;
-    value_at(table, "limit", PolicyPart::Flows, flow)?;
-    no_others(table, form.keys(), PolicyPart::Flows, flow)
+    match value_at(table, "limit", PolicyPart::Flows, flow) {
+        Ok(_) => no_others(table, form.keys(), PolicyPart::Flows, flow),
+        Err(fault) => Err(fault),
+    }
 }
 
 /// The number of users and the group of steps in a table.
@@ -332,8 +338,10 @@ fn rule_of(
 {
     let table = table_of(value, PolicyPart::Flows, flow)?;
     let form = value_at(table, "form", PolicyPart::Flows, flow)?;
-    let form = form_of(format, form, flow)?;
-    rule_of_form(form, table, relations, steps, flow)
+    match form_of(format, form, flow) {
+        Ok(form) => rule_of_form(form, table, relations, steps, flow),
+        Err(fault) => Err(fault),
+    }
 }
 
 /// Adds the next rule.
@@ -414,6 +422,8 @@ pub(crate) fn read_rules(
         return Ok(Rules::new(alloc));
     };
     let items = array_of(value, PolicyPart::Flows, flow)?;
-    at_most(RULE_LIMIT, items.len(), PolicyPart::Flows, flow)?;
-    all_rules(alloc, format, items, relations, steps, flow)
+    match at_most(RULE_LIMIT, items.len(), PolicyPart::Flows, flow) {
+        Ok(()) => all_rules(alloc, format, items, relations, steps, flow),
+        Err(fault) => Err(fault),
+    }
 }

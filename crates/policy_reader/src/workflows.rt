@@ -183,8 +183,10 @@ fn next_permit(
     ensures roles { OnOk result (PermitsRolesBelow (length roles.now.names) made.new) }
 {
     let number = number_of(made.steps(), key, PolicyPart::Flows, flow)?;
-    let items = array_of(value, PolicyPart::Flows, flow)?;
-    all_permitted(made, roles, StepId(number as u8), items, flow)
+    match array_of(value, PolicyPart::Flows, flow) {
+        Ok(items) => all_permitted(made, roles, StepId(number as u8), items, flow),
+        Err(fault) => Err(fault),
+    }
 }
 
 fn all_permits(
