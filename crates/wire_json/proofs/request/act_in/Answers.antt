@@ -11,14 +11,16 @@ pub returns-in_err-case : goal.returns-in_err-case
 returns-in_err-case c =
     let d = data_of c.args.object.now in
     handed_on c.from_residual.result _ c.in_err-case.field-0.0 c.from_residual.ensures.1
-    (request_fault (codes "do" ∷ codes "lane" ∷ []) (case ∷ step ∷ user ∷ []) (λ d. request_of c.args.act (the_case d) (the_name step d) (the_name user d)) d (members_in d) _
+    (request_fault (codes "do" ∷ codes "lane" ∷ []) (case ∷ step ∷ user ∷ []) (λ d. request_of c.args.act (the_case d) (the_name step d) (the_name user d))
+    d (members_in d) _
     (case_missing d (step ∷ user ∷ []) _ c.in_err-case.ensures))
 
 pub returns-in_err-step : goal.returns-in_err-step
 returns-in_err-step c =
     let d = data_of c.args.object.now in
     handed_on c.from_residual-in_err-step.result _ c.in_err-step.field-0.0 c.from_residual-in_err-step.ensures.1
-    (request_fault (codes "do" ∷ codes "lane" ∷ []) (case ∷ step ∷ user ∷ []) (λ d. request_of c.args.act (the_case d) (the_name step d) (the_name user d)) d (members_in d) _
+    (request_fault (codes "do" ∷ codes "lane" ∷ []) (case ∷ step ∷ user ∷ []) (λ d. request_of c.args.act (the_case d) (the_name step d) (the_name user d))
+    d (members_in d) _
     (case_there d (step ∷ user ∷ []) _ c.in_ok-case.ensures
     ∙ name_missing d step (user ∷ []) _ refl c.in_err-step.ensures))
 
@@ -26,7 +28,8 @@ pub returns-in_err-user : goal.returns-in_err-user
 returns-in_err-user c =
     let d = data_of c.args.object.now in
     handed_on c.from_residual-in_err-user.result _ c.in_err-user.field-0.0 c.from_residual-in_err-user.ensures.1
-    (request_fault (codes "do" ∷ codes "lane" ∷ []) (case ∷ step ∷ user ∷ []) (λ d. request_of c.args.act (the_case d) (the_name step d) (the_name user d)) d (members_in d) _
+    (request_fault (codes "do" ∷ codes "lane" ∷ []) (case ∷ step ∷ user ∷ []) (λ d. request_of c.args.act (the_case d) (the_name step d) (the_name user d))
+    d (members_in d) _
     (case_there d (step ∷ user ∷ []) _ c.in_ok-case.ensures
     ∙ name_there d step (user ∷ []) _ refl c.in_ok-step.ensures
     ∙ name_missing d user [] _ refl c.in_err-user.ensures))
@@ -35,7 +38,8 @@ pub returns-in_err-no_others : goal.returns-in_err-no_others
 returns-in_err-no_others c =
     let d = data_of c.args.object.now in
     handed_on c.from_residual-in_err-no_others.result _ c.in_err-no_others.field-0.0 c.from_residual-in_err-no_others.ensures.1
-    (request_extra (codes "do" ∷ codes "lane" ∷ []) (case ∷ step ∷ user ∷ []) (λ d. request_of c.args.act (the_case d) (the_name step d) (the_name user d)) d (members_in d) _
+    (request_extra (codes "do" ∷ codes "lane" ∷ []) (case ∷ step ∷ user ∷ []) (λ d. request_of c.args.act (the_case d) (the_name step d) (the_name user d))
+    d (members_in d) _
     (case_there d (step ∷ user ∷ []) _ c.in_ok-case.ensures
     ∙ name_there d step (user ∷ []) _ refl c.in_ok-step.ensures
     ∙ name_there d user [] _ refl c.in_ok-user.ensures)
@@ -44,7 +48,8 @@ returns-in_err-no_others c =
 pub returns : goal.returns
 returns c =
     let d = data_of c.args.object.now in
-    request_read (codes "do" ∷ codes "lane" ∷ []) (case ∷ step ∷ user ∷ []) (λ d. request_of c.args.act (the_case d) (the_name step d) (the_name user d)) d (members_in d) _ _
+    request_read (codes "do" ∷ codes "lane" ∷ []) (case ∷ step ∷ user ∷ []) (λ d. request_of c.args.act (the_case d) (the_name step d) (the_name user d))
+    d (members_in d) _ _
     (case_there d (step ∷ user ∷ []) _ c.in_ok-case.ensures
     ∙ name_there d step (user ∷ []) _ refl c.in_ok-step.ensures
     ∙ name_there d user [] _ refl c.in_ok-user.ensures)

@@ -20,18 +20,23 @@ push_tree-push_node-requires t c =
 pub push_tree-returns-in-Holder : goal.push_tree-returns-in-Holder
 unfolding escape_byte
 push_tree-returns-in-Holder t c =
-    subst (λ (x : Tree). OnOk c.push_step_in.result (c.push_step_in.new.out.items ≡ c.args.out.now.items ++ compact_text (tree_data c.args.p.now c.args.f (shape_of x)))) (sym c.in-Holder.is) c.push_step_in.ensures
+    subst (λ (x : Tree). OnOk c.push_step_in.result
+    (c.push_step_in.new.out.items ≡ c.args.out.now.items ++ compact_text (tree_data c.args.p.now c.args.f (shape_of x))))
+    (sym c.in-Holder.is) c.push_step_in.ensures
 
 pub push_tree-returns-in-Rule : goal.push_tree-returns-in-Rule
 unfolding escape_byte
 push_tree-returns-in-Rule t c =
-    subst (λ (x : Tree). OnOk c.push_rule.result (c.push_rule.new.out.items ≡ c.args.out.now.items ++ compact_text (tree_data c.args.p.now c.args.f (shape_of x)))) (sym c.in-Rule.is) c.push_rule.ensures
+    subst (λ (x : Tree). OnOk c.push_rule.result
+    (c.push_rule.new.out.items ≡ c.args.out.now.items ++ compact_text (tree_data c.args.p.now c.args.f (shape_of x))))
+    (sym c.in-Rule.is) c.push_rule.ensures
 
 pub push_branch-returns-in-Tree : goal.push_branch-returns-in-Tree
 unfolding escape_byte
 push_branch-returns-in-Tree t c =
     subst (λ (kid : Kid). OnOk c.push_subtree.result (c.push_subtree.new.out.items ≡ c.args.out.now.items ++ (comma_if c.args.later
-    ++ compact_text (array (items_of (user_data c.args.p.now c.args.branch.now.user ∷ kid_data c.args.p.now c.args.f kid ∷ [])))))) (sym c.in-Tree.is) c.push_subtree.ensures
+    ++ compact_text (array (items_of (user_data c.args.p.now c.args.branch.now.user ∷ kid_data c.args.p.now c.args.f kid ∷ []))))))
+    (sym c.in-Tree.is) c.push_subtree.ensures
 
 pub push_branches-branches-init : goal.push_branches-branches-init
 push_branches-branches-init t c = items_begun _ _ _ c.in_ok-push.ensures
