@@ -157,8 +157,7 @@ fn push_roles_in(
 {
     push(out, before)?;
     push_roles(out, p.roster().roles(), roles)?;
-    push(out, b"}")?;
-    Ok(())
+    push(out, b"}")
 }
 
 // Adds bytes, a tree and a closing brace.
@@ -174,6 +173,5 @@ fn push_tree_in(
 {
     push(out, before)?;
     push_tree(out, p, f, tree)?;
-    push(out, b"}")?;
-    Ok(())
+    push(out, b"}")
 }

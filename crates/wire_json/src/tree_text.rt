@@ -117,8 +117,7 @@ fn push_subtree(
 {
     push_front(out, later, p.roster().users(), u)?;
     push_tree(out, p, f, tree)?;
-    push(out, b"]")?;
-    Ok(())
+    push(out, b"]")
 }
 
 // Adds what stands before the tree of one more branch.
