@@ -1,5 +1,5 @@
 -- The values of branches, one after the other.
-use Rattle.std.proofs.Common.{◌≡◌, ℕ, ◌+◌, ◌<◌, List, [], ◌∷◌, ◌++◌, length, drop, get_or, refl, sym, ap, ◌∙◌, Result, Ok, Err, IfOk}
+use Rattle.std.proofs.Common.{◌≡◌, ℕ, ◌+◌, ◌<◌, ◌≤◌, List, [], ◌∷◌, ◌++◌, length, drop, get_or, append-nil, refl, sym, ap, ◌∙◌, Result, Ok, Err, IfOk}
 use Rattle.std.specs.Prelude.{map}
 use Rattle.std.proofs.lemmas.List.{drop_more}
 use Rattle.serde_json.specs.declared.value.Value.{Value}
@@ -13,6 +13,7 @@ use Rattle.refutation_tree.specs.declared.tree.Kid.TheVariants as kid
 use Rattle.policy_book.specs.Shapes.{PolicyShape}
 use Rattle.wire_json.specs.Entries.{user_data}
 use Rattle.wire_json.specs.Trees.{branches_data, kid_data}
+use Rattle.wire_json.proofs.Texts.{all_dropped}
 
 -- one more value, and others behind it
 pub one_more : (vs : List Value) (v : Value) (rest : List Data) → map view (vs ++ v ∷ []) ++ rest ≡ map view vs ++ view v ∷ rest
@@ -38,3 +39,8 @@ branch_added p f bs i b old new v whole within is here e before =
     let next : drop i bs ≡ b ∷ drop (i + 1) bs = drop_more bs i b within ∙ ap (λ x. x ∷ drop (i + 1) bs) (sym is) in
     ap (λ vs. map view vs ++ branches_data p f rest) e ∙ one_more old v (branches_data p f rest) ∙ ap (λ ds. map view old ++ ds) (sym (here rest))
     ∙ ap (λ xs. map view old ++ branches_data p f (kids_of_items xs)) (sym next) ∙ before
+
+pub branches_ended : (p : PolicyShape) (f : ℕ) (bs : List Branch) (i : ℕ) (vs : List Value) (whole : List Data) → length bs ≤ i
+    → map view vs ++ branches_data p f (kids_of_items (drop i bs)) ≡ whole → map view vs ≡ whole
+branches_ended p f bs i vs whole end here =
+    sym (append-nil (map view vs)) ∙ ap (λ xs. map view vs ++ branches_data p f (kids_of_items xs)) (sym (all_dropped bs i end)) ∙ here

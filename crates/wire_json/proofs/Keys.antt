@@ -1,6 +1,6 @@
 -- Keys of two lists, one behind the other, and the keys of an edit.
 use Rattle.std.proofs.Common.{◌≡◌, ℕ, List, ◌∷◌, ◌++◌, Bool, true, refl, sym, ap, ◌∙◌, Result, Ok, Err, Option, Some, None}
-use Rattle.std.specs.Prelude.{◌||◌, is_some, IsErrAnd}
+use Rattle.std.specs.Prelude.{[], ◌||◌, is_some, unwrap_or, IsErrAnd}
 use Rattle.std.specs.List.{list_any}
 use Rattle.std.proofs.lemmas.List.Folds.{list_any-append}
 use Rattle.serde_json.specs.Data.{Data, Members}
@@ -9,7 +9,7 @@ use Rattle.wf_talk.specs.declared.edit.Edit.{Edit}
 use Rattle.wf_talk.specs.declared.request.Request.{Request}
 use Rattle.wf_talk.specs.declared.request.Bad.{Bad}
 use Rattle.wf_talk.specs.declared.request.Bad.TheVariants.{Key, Extra}
-use Rattle.wire_json.specs.Requests.{Row, by, name_at_key, has_form, has_only, request_by}
+use Rattle.wire_json.specs.Requests.{Row, by, name_at_key, the_name, has_form, has_only, request_by}
 use Rattle.wire_json.specs.Words.{edit_by}
 
 pub any_of_both : (p : List ℕ → Bool) (xs ys : List (List ℕ)) → list_any p (xs ++ ys) ≡ (list_any p xs || list_any p ys)
@@ -52,7 +52,38 @@ key_refused others r is d ms known name x b same h e k =
     let last : check (has_only (others ++ by ∷ r.keys) ms) Extra ≡ Err b = ap (λ keys. check (has_only (others ++ by ∷ keys) ms) Extra) (sym same) ∙ k in
     rw (named_by d (name_at_key by d) name h, an_edit r d x e, last) refl
 
+no_name : (o : Option (List ℕ)) (b : Bad) → or_fault o (Key by) ≡ Err b → check (is_some o) (Key by) ≡ Err b
+no_name (Some x) b h = cc
+no_name None b h = cc
+
+pub by_refused : (others keys : List (List ℕ)) (is : Data → Request) (d : Data) (ms : Members) (b : Bad) → or_fault (name_at_key by d) (Key by) ≡ Err b
+    → request_by others (by ∷ keys) is d ms ≡ Err b
+unfolding request_by
+by_refused others keys is d ms b h = rw (no_name (name_at_key by d) b h) refl
+
+name_is : (o : Option (List ℕ)) (name : List ℕ) → or_fault o (Key by) ≡ Ok name → unwrap_or o [] ≡ name
+name_is (Some x) name h = cc
+name_is None name h = cc
+
+same_ok : (r : Result (Unit {0}) Bad) (x y : Edit) → (r >>= (λ _. Ok x)) ≡ Ok y → x ≡ y
+same_ok (Ok a) x y h = cc
+same_ok (Err e) x y h = cc
+
+edit_is : (r : Row Edit) (d : Data) (e : Edit) → edit_by r d ≡ Ok e → r.is d ≡ e
+edit_is r d e h = same_ok (each (λ (_ : Unit {0}) key. check (has_form d key) (Key key)) tt r.keys) (r.is d) e h
+
+pub edit_asked : (others : List (List ℕ)) (r : Row Edit) (make : List ℕ → Edit → Request) (d : Data) (ms : Members) (known : List (List ℕ)) (name : List ℕ)
+    (x : Edit) (u : Unit {0})
+    → known ≡ r.keys → or_fault (name_at_key by d) (Key by) ≡ Ok name → edit_by r d ≡ Ok x → check (has_only (others ++ by ∷ known) ms) Extra ≡ Ok u
+    → request_by others (by ∷ r.keys) (λ c. make (the_name by c) (r.is c)) d ms ≡ Ok (make name x)
+unfolding request_by
+edit_asked others r make d ms known name x u same h e k =
+    let last : check (has_only (others ++ by ∷ r.keys) ms) Extra ≡ Ok u = ap (λ keys. check (has_only (others ++ by ∷ keys) ms) Extra) (sym same) ∙ k in
+    let asked : request_by others (by ∷ r.keys) (λ c. make (the_name by c) (r.is c)) d ms ≡ Ok (make (the_name by d) (r.is d)) =
+    rw (named_by d (name_at_key by d) name h, an_edit r d x e, last) refl in
+    asked ∙ ap (λ n. Ok (make n (r.is d))) (name_is (name_at_key by d) name h) ∙ ap (λ y. Ok (make name y)) (edit_is r d x e)
+
 -- code that handed on a fault
-pub handed_on : (result reading : Result Request Bad) (b : Bad) → IsErrAnd result (λ e. e ≡ b) → reading ≡ Err b → Gives Some (λ r. r) result reading
+pub handed_on : {A : Type 0} (result reading : Result A Bad) (b : Bad) → IsErrAnd result (λ e. e ≡ b) → reading ≡ Err b → Gives Some (λ r. r) result reading
 handed_on (Ok a) reading b is e = absurd is
 handed_on (Err x) reading b is e = e ∙ ap Err (sym is)

@@ -1,8 +1,10 @@
 pub mod Values
 pub mod Branches
+pub mod BranchTexts
 pub mod Texts
 pub mod PlainLines
 pub mod Keys
+pub mod NeededKeys
 pub mod Lines
 pub mod Flats
 pub mod Asking

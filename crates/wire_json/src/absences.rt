@@ -92,8 +92,7 @@ fn push_plan_next(out: &mut Vec<u8>, later: bool, p: &Policy, plan: &Plan) -> Re
         (comma_if later ++ compact_text (plan_data p.now.roster.users plan.now))) }
 {
     push_comma(out, later)?;
-    push_plan(out, p.roster().users(), plan)?;
-    Ok(())
+    push_plan(out, p.roster().users(), plan)
 }
 
 // Adds the names of users, in order.
@@ -122,6 +121,5 @@ fn push_user_next(
         (comma_if later ++ compact_text (user_data p.now user))) }
 {
     push_comma(out, later)?;
-    push_name(out, p.roster().users(), user.0)?;
-    Ok(())
+    push_name(out, p.roster().users(), user.0)
 }

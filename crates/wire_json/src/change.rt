@@ -12,7 +12,7 @@ use crate::word::EditWord;
 use wf_talk::{Bad, Edit, Request};
 
 /// To change the policy.
-#[tactic(auto, unfolding(crate::specs::Requests::request_by, wf_names::specs::Names::is_name))]
+#[tactic(auto, unfolding(wf_names::specs::Names::is_name))]
 pub(crate) fn change_in(word: EditWord, object: &Object<'_>) -> Result<Request, Bad>
     ensures { Gives Some (λ r. r) result (read.change_by (row_of_edit word) (data_of object.now)
         (members_in (data_of object.now))) }
@@ -49,7 +49,7 @@ fn edit_word_in(object: &Object<'_>) -> Result<EditWord, Bad>
     }
 }
 
-#[tactic(auto, unfolding(crate::specs::Requests::request_by, wf_names::specs::Names::is_name))]
+#[tactic(auto, unfolding(wf_names::specs::Names::is_name))]
 fn what_if_by(word: EditWord, object: &Object<'_>) -> Result<Request, Bad>
     ensures { Gives Some (λ r. r) result (read.what_if_by (row_of_edit word) (data_of object.now)
         (members_in (data_of object.now))) }

@@ -33,7 +33,7 @@ pub(crate) fn push_denial(out: &mut Vec<u8>, p: &Policy, denial: &Denial) -> Res
         Denial::NoStep => push(out, b"\"no_step\""),
         Denial::NoUser => push(out, b"\"no_user\""),
         Denial::Taken(u) => push_name_in(out, b"{\"taken\":", p.roster().users(), u.0, b"}"),
-        Denial::Order { flow, step } => push_step_in(out, b"{\"order\":", p, *flow, *step),
+        Denial::Order { flow, step } => push_step_in(out, b"{\"order\":", p, *flow, *step, b"}"),
         Denial::Role(roles) => push_roles_in(out, b"{\"role\":", p, roles.as_slice()),
         Denial::Rule(rule) => push_rule(out, *rule),
         Denial::Stranded { flow, tree } => {
@@ -112,21 +112,21 @@ fn push_state(out: &mut Vec<u8>, p: &Policy, state: StepState) -> Result<(), All
     }
 }
 
-// Adds bytes, the name of a step and a closing brace.
+// Adds the name of a step between bytes.
 pub(crate) fn push_step_in(
     out: &mut Vec<u8>,
     before: &[u8],
     p: &Policy,
     f: FlowId,
     s: StepId,
+    after: &[u8],
 ) -> Result<(), AllocError>
     ensures { OnOk result (out.new.items ≡ out.old.items ++
-        (before.now ++ (compact_text (step_data p.now f s) ++ 125 ∷ []))) }
+        (before.now ++ (compact_text (step_data p.now f s) ++ after.now))) }
 {
     push(out, before)?;
     push_step(out, p, f, s)?;
-    push(out, b"}")?;
-    Ok(())
+    push(out, after)
 }
 
 /// Adds the name of a step of a workflow, as text; the empty text where there is none.
@@ -157,8 +157,7 @@ fn push_roles_in(
 {
     push(out, before)?;
     push_roles(out, p.roster().roles(), roles)?;
-    push(out, b"}")?;
-    Ok(())
+    push(out, b"}")
 }
 
 // Adds bytes, a tree and a closing brace.
@@ -174,6 +173,5 @@ fn push_tree_in(
 {
     push(out, before)?;
     push_tree(out, p, f, tree)?;
-    push(out, b"}")?;
-    Ok(())
+    push(out, b"}")
 }

@@ -203,7 +203,7 @@ fn open_in(object: &Object<'_>) -> Result<Request, Bad>
 }
 
 // What a user asks of a step.
-#[tactic(auto, unfolding(crate::specs::Requests::request_by, wf_names::specs::Names::is_name))]
+#[tactic(auto, unfolding(wf_names::specs::Names::is_name))]
 fn act_in(act: Act, object: &Object<'_>) -> Result<Request, Bad>
     ensures { Gives Some (λ r. r) result (act_by act (data_of object.now)
         (members_in (data_of object.now))) }
@@ -215,7 +215,7 @@ fn act_in(act: Act, object: &Object<'_>) -> Result<Request, Bad>
     Ok(act.request(case, step, user))
 }
 
-#[tactic(auto, unfolding(crate::specs::Requests::request_by, wf_names::specs::Names::is_name))]
+#[tactic(auto, unfolding(wf_names::specs::Names::is_name))]
 fn release_in(object: &Object<'_>) -> Result<Request, Bad>
     ensures { Gives Some (λ r. r) result (reading_of_word Word.Release (data_of object.now)
         (members_in (data_of object.now))) }
@@ -227,7 +227,7 @@ fn release_in(object: &Object<'_>) -> Result<Request, Bad>
     Ok(Request::Release { by, case, step })
 }
 
-#[tactic(auto, unfolding(crate::specs::Requests::request_by, wf_names::specs::Names::is_name))]
+#[tactic(auto, unfolding(wf_names::specs::Names::is_name))]
 fn withdraw_in(object: &Object<'_>) -> Result<Request, Bad>
     ensures { Gives Some (λ r. r) result (reading_of_word Word.Withdraw (data_of object.now)
         (members_in (data_of object.now))) }

@@ -34,8 +34,7 @@ pub(crate) fn push_number(out: &mut Vec<u8>, before: &[u8], n: u32) -> Result<()
 {
     let mut digits = Buffer::new();
     push(out, before)?;
-    push(out, digits.format(n).as_bytes())?;
-    Ok(())
+    push(out, digits.format(n).as_bytes())
 }
 
 /// Adds bytes and the number of a case.
@@ -70,8 +69,7 @@ pub(crate) fn push_name_in(
 {
     push(out, before)?;
     push_name(out, names, n)?;
-    push(out, after)?;
-    Ok(())
+    push(out, after)
 }
 
 /// Adds a name in quotes.
@@ -128,8 +126,7 @@ fn push_next(out: &mut Vec<u8>, later: bool, names: &NameTable, n: u16) -> Resul
         (comma_if later ++ compact_text (named names.now.names n))) }
 {
     push_comma(out, later)?;
-    push_name(out, names, n)?;
-    Ok(())
+    push_name(out, names, n)
 }
 
 /// Adds a comma where something stands before.

@@ -10,7 +10,7 @@ ghost use Rattle.wire_json.specs.Entries.{named, user_data};
 ghost use Rattle.wire_json.specs.Pieces.{pair_text};
 ghost use Rattle.wire_json.specs.Trees.{branch_data, branches_data, node_data, tree_data};
 
-use crate::denial::{push_rule, push_step, push_step_in};
+use crate::denial::{push_rule, push_step_in};
 use crate::fill::{put_byte, put_bytes, put_comma, put_number, put_quoted};
 use crate::text::push;
 use policy_book::Policy;
@@ -35,7 +35,7 @@ pub(crate) fn push_tree(
         (tree_data p.now f (shape_of t.now))) }
 {
     match t {
-        Tree::Holder(s) => push_step_in(out, b"{\"holder\":", p, f, *s),
+        Tree::Holder(s) => push_step_in(out, b"{\"holder\":", p, f, *s, b"}"),
         Tree::Rule(k) => push_rule(out, *k),
         Tree::Step(s, branches) => push_node(out, p, f, *s, branches.as_slice()),
     }
@@ -55,12 +55,9 @@ fn push_node(
         (node_data p.now f s (array (items_of
         (branches_data p.now f (kids_of_items branches.now)))))) }
 {
-    push(out, b"{\"step\":")?;
-    push_step(out, p, f, s)?;
-    push(out, b",\"users\":")?;
+    push_step_in(out, b"{\"step\":", p, f, s, b",\"users\":")?;
     push_branches(out, p, f, branches)?;
-    push(out, b"}")?;
-    Ok(())
+    push(out, b"}")
 }
 
 // Adds the users and trees of branches, in order.
@@ -120,8 +117,7 @@ fn push_subtree(
 {
     push_front(out, later, p.roster().users(), u)?;
     push_tree(out, p, f, tree)?;
-    push(out, b"]")?;
-    Ok(())
+    push(out, b"]")
 }
 
 // Adds what stands before the tree of one more branch.

@@ -1,13 +1,14 @@
-use Rattle.std.proofs.Common.{◌≡◌, [], ◌∷◌, IfOk, sym, ap, subst, ◌∙◌, arith}
+use Rattle.std.proofs.Common.{◌≡◌, ◌++◌, [], ◌∷◌, map, IfOk, sym, ap, subst, ◌∙◌, arith}
 use Rattle.serde_json.specs.declared.value.Value.{Value}
 use Rattle.serde_json.specs.Data.{Data, array}
 use Rattle.serde_json.specs.View.{view, items_of}
+use Rattle.serde_json.proofs.Views.{view-Array}
 use Rattle.refutation_tree.specs.Tree.{Kids}
-use Rattle.refutation_tree.specs.Views.{branch_onto, shape_of}
+use Rattle.refutation_tree.specs.Views.{branch_onto, kids_of_items, shape_of}
 use Rattle.refutation_tree.proofs.Depths.{branches_below}
 use Rattle.wire_json.specs.Entries.{user_data}
 use Rattle.wire_json.specs.Trees.{branches_data, node_data, tree_data}
-use Rattle.wire_json.proofs.Branches.{branch_added, first_branch, if_ok}
+use Rattle.wire_json.proofs.Branches.{branch_added, branches_ended, first_branch, if_ok}
 use Rattle.wire_json.proofs.tree.+tree_value.Goals as goal
 
 pub tree_value-returns-in_ok-users-in-Step : goal.tree_value-returns-in_ok-users-in-Step
@@ -40,3 +41,13 @@ pub branches_value-branches-preserved : goal.branches_value-branches-preserved
 branches_value-branches-preserved t c =
     branch_added c.args.p.now c.args.f c.args.branches.now c.branches.branch-index c.branch-item.result _ _ c.in_ok-branch_value.field-0 _
     c.branches-test.true c.branch-item.is c.in_ok-branch_value.ensures c.in_ok-push.ensures.items c.branches.invariant
+
+pub branches_value-branches-init : goal.branches_value-branches-init
+branches_value-branches-init t c =
+    ap (λ vs. map view vs ++ branches_data c.args.p.now c.args.f (kids_of_items c.args.branches.now)) c.new-values.ensures.items
+
+pub branches_value-returns : goal.branches_value-returns
+branches_value-returns t c =
+    view-Array c.branches.values
+    ∙ ap (λ ds. array (items_of ds))
+    (branches_ended c.args.p.now c.args.f c.args.branches.now c.branches.branch-index _ _ c.branches-test.false c.branches.invariant)
