@@ -130,6 +130,27 @@ pub(crate) struct Relation {
     own: Rows,
 }
 
+impl Relation {
+    // Its rows, as they are or read back.
+    fn link(&self, back: bool) -> Link<'_> {
+        if back {
+            Link {
+                places: &self.places,
+                ahead: &self.back,
+                back: &self.ahead,
+                own: &self.own,
+            }
+        } else {
+            Link {
+                places: &self.places,
+                ahead: &self.ahead,
+                back: &self.back,
+                own: &self.own,
+            }
+        }
+    }
+}
+
 /// A workflow's steps and rules over the users of its policy.
 #[derive(Drop)]
 pub(crate) struct Problem {
@@ -152,18 +173,10 @@ pub(crate) struct Problem {
 impl Problem {
     /// The rows of a relation, as they are or read back.
     pub(crate) fn link(&self, at: u8, back: bool) -> Option<Link<'_>> {
-        let relation = self.relations.get(at as usize)?;
-        let (ahead, behind) = if back {
-            (&relation.back, &relation.ahead)
-        } else {
-            (&relation.ahead, &relation.back)
-        };
-        Some(Link {
-            places: &relation.places,
-            ahead,
-            back: behind,
-            own: &relation.own,
-        })
+        match self.relations.get(at as usize) {
+            Some(relation) => Some(relation.link(back)),
+            None => None,
+        }
     }
 
     /// The problem of a workflow.
