@@ -351,6 +351,14 @@ pub(crate) fn only_user(row: &[u64]) -> Option<u16> {
     if has_one(row) { nth_user(row, 0) } else { None }
 }
 
+/// The word at a place of a row; 0 where there is none.
+pub(crate) fn word_at(row: &[u64], at: usize) -> u64 {
+    match row.get(at) {
+        Some(word) => *word,
+        None => 0,
+    }
+}
+
 /// The number of the user whom a bit of a word stands for.
 pub(crate) fn user_at(at: usize, place: u32) -> u16 {
     (at.wrapping_mul(64).wrapping_add((place & 63) as usize) & 0xffff) as u16
