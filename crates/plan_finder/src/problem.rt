@@ -199,19 +199,12 @@ impl Problem {
             related: 0,
             full: false,
         };
-        problem.begin(p, users)?;
-        Ok(problem)
-    }
-
-    // Notes what the laws name, and reads the rows of all where a law asks who is related to
-    // themselves.
-    fn begin(&mut self, p: &Policy, users: u16) -> Result<(), AllocError> {
-        add_first(self.everyone.row_mut(0), users);
-        self.note_laws();
-        if reads_own(self) {
-            self.learn_all(p)?;
+        add_first(problem.everyone.row_mut(0), users);
+        problem.note_laws();
+        if reads_own(&problem) {
+            problem.learn_all(p)?;
         }
-        Ok(())
+        Ok(problem)
     }
 
     // Notes for each step the laws that name it, and which laws are over declared relations.

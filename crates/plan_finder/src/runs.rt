@@ -300,19 +300,6 @@ impl Space {
         }
         Ok(depth)
     }
-
-    // Takes the next branch of the node at a place, as the node itself does; None where no node is
-    // there.
-    fn take_branch(
-        &mut self,
-        problem: &Problem,
-        work: &mut Work,
-        at: usize,
-        run: u8,
-    ) -> Option<bool> {
-        let node = self.nodes.get_mut(at)?;
-        node.take_branch(problem, &mut self.now, work, run)
-    }
 }
 
 // Where every run starts: a block for each user who has a step already. Tells whether everything
@@ -399,7 +386,7 @@ fn run_once(
         if top >= space.nodes.len() {
             return Ok(Ending::Stopped);
         }
-        match space.take_branch(problem, work, top, run) {
+        match space.nodes[top].take_branch(problem, &mut space.now, work, run) {
             Some(can) => met = can,
             None => {
                 met = false;
