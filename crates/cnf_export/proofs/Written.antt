@@ -1,13 +1,12 @@
 -- How a text is written in pieces.
-use Rattle.std.proofs.Common.{◌≡◌, ◌∙◌, ℕ, Bool, true, false, length, List, [], ◌∷◌, ◌++◌, Option, sym, ap, subst, append_assoc}
+use Rattle.std.proofs.Common.{◌≡◌, ◌∙◌, ℕ, Bool, true, false, List, [], ◌∷◌, ◌++◌, Option, sym, ap, subst, append_assoc}
 use Rattle.std.specs.Prelude.{ℤ}
 use Rattle.std.specs.List.{flat_map}
 use Rattle.std.proofs.lemmas.List.{append-nil}
 use Rattle.wf_outside.specs.Outside.{HasPart, with_bytes}
 use Rattle.wf_outside.proofs.OutsideLaws.{more_put, nothing_put, part_all, part_first, part_second}
-use Rattle.cnf_export.specs.Encoders.{EncoderShape}
 use Rattle.cnf_export.specs.Positions.{HasGiven}
-use Rattle.cnf_export.specs.Text.{clause_line, dimacs_text, header_line}
+use Rattle.cnf_export.specs.Text.{clause_line}
 use Rattle.cnf_export.specs.Writing.{HasPut}
 
 -- nothing is put yet
@@ -54,16 +53,6 @@ so_far before after text rest put =
     subst (λ (h : Option (List ℕ)). HasPart before h text) (sym put.held)
     (subst (HasPart before (with_bytes before put.front)) (sym put.whole)
     (part_first before (with_bytes before put.front) put.front rest (part_all before put.front)))
-
--- the header is kept, and all clauses are left
-pub start_is : (e : EncoderShape) (variables clauses : ℕ) (fresh out : List ℕ) → e.left ≡ e.all → variables ≡ e.variables → clauses ≡ length e.all →
-    fresh ≡ [] → out ≡ fresh ++ header_line variables clauses
-    → dimacs_text e.variables e.all ≡ out ++ flat_map clause_line e.left
-start_is e variables clauses fresh out left vs cs none is =
-    ap (λ v. header_line v (length e.all) ++ flat_map clause_line e.all) (sym vs)
-    ∙ ap (λ n. header_line variables n ++ flat_map clause_line e.all) (sym cs)
-    ∙ ap (λ o. o ++ flat_map clause_line e.all) (sym (is ∙ ap (λ o. o ++ header_line variables clauses) none)) ∙
-    ap (λ ls. out ++ flat_map clause_line ls) (sym left)
 
 -- a clause is given where there is more, and else none is left
 pub next_is : (more : Bool) (left rest : List (List ℤ)) (c : List ℤ) → HasGiven left more c rest → more ≡ true → left ≡ c ∷ rest

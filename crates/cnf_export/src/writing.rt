@@ -1,7 +1,8 @@
 //! Writing the clauses of a case, in pieces.
-ghost use Rattle.std.specs.Prelude.{◌≡◌, [], IsErrOf, OnErr, OnOk};
+ghost use Rattle.std.specs.Prelude.{◌≡◌, ◌++◌, [], IsErrOf, OnErr, OnOk};
+ghost use Rattle.std.specs.List.{flat_map};
 ghost use Rattle.wf_outside.specs.Outside.{HasPart, Rose, with_bytes};
-ghost use Rattle.cnf_export.specs.Text.{dimacs_text};
+ghost use Rattle.cnf_export.specs.Text.{clause_line, dimacs_text};
 ghost use Rattle.cnf_export.specs.Writing.{StaysUnlessUnwritten};
 ghost use Rattle.cnf_export.specs.declared.writing.WriteFault.TheVariants.{NoMemory};
 ghost use Rattle.cnf_export.specs.declared.writing.WriteFault.TheVariants.{Failed as NotWritten};
@@ -58,15 +59,32 @@ pub fn write_clauses<K: Sink>(
 {
     let mut out = Vec::new(alloc);
     push_header(&mut out, encoder.variables(), encoder.clauses())?;
-    let mut one = Literals::new(alloc);
+    write_left(encoder, sink, &mut out, &mut Literals::new(alloc))
+}
+
+// Writes what is kept of the text, and the clauses that are left. Each is held in `one` meanwhile.
+fn write_left<K: Sink>(
+    encoder: &mut Encoder,
+    sink: &mut K,
+    out: &mut Vec<u8>,
+    one: &mut Literals,
+) -> Result<(), WriteFault>
+    ensures all { OnOk result (K.held sink.new ≡ with_bytes (K.held sink.old)
+        (out.old.items ++ flat_map clause_line encoder.old.left)) }
+    ensures part { HasPart (K.held sink.old) (K.held sink.new)
+        (out.old.items ++ flat_map clause_line encoder.old.left) }
+    ensures flushed { OnOk result (K.is_flushed sink.new) }
+    ensures rose { IsErrOf result NotWritten → Rose (K.faults sink.old) (K.faults sink.new) }
+    ensures stays { StaysUnlessUnwritten result (K.faults sink.old) (K.faults sink.new) }
+{
     'writing: loop {
-        if !encoder.next(&mut one)? {
-            put_and_flush(sink, &out)?;
+        if !encoder.next(one)? {
+            put_and_flush(sink, out)?;
             return Ok(());
         }
-        push_clause(&mut out, &one)?;
+        push_clause(out, one)?;
         if out.len() >= PIECE {
-            put_piece(sink, &mut out)?;
+            put_piece(sink, out)?;
         }
     }
 }

@@ -42,12 +42,7 @@ pub(crate) fn advised(problem: &Problem, work: &mut Work, a: &Assign) -> Option<
 pub(crate) fn best_roots(problem: &Problem, work: &mut Work, a: &Assign, most: u32) -> u32 {
     let open = open_steps(problem, a);
     let mut shares = [(0u32, 1u32); STEP_LIMIT];
-    for s in 0..problem.steps {
-        let candidates = count_candidates(problem, work, a, open, s);
-        if (s as usize) < STEP_LIMIT {
-            shares[s as usize] = (candidates, weight_of(problem, work, open, s));
-        }
-    }
+    find_shares(&mut shares, problem, work, a, open);
     let mut best = 0u32;
     for _ in 0..most {
         if let Some(s) = next_best(&shares, open & !best) {
@@ -55,6 +50,22 @@ pub(crate) fn best_roots(problem: &Problem, work: &mut Work, a: &Assign, most: u
         }
     }
     best
+}
+
+// The candidates and the weight of each step, where `open` are not assigned.
+fn find_shares(
+    shares: &mut [(u32, u32)],
+    problem: &Problem,
+    work: &mut Work,
+    a: &Assign,
+    open: u32,
+) {
+    for s in 0..problem.steps {
+        let candidates = count_candidates(problem, work, a, open, s);
+        if (s as usize) < shares.len() {
+            shares[s as usize] = (candidates, weight_of(problem, work, open, s));
+        }
+    }
 }
 
 fn next_best(shares: &[(u32, u32)], left: u32) -> Option<u8> {

@@ -78,15 +78,26 @@ pub(crate) fn make_related(
         (false, false) if state.home(x) == state.home(s) => {
             keep_own(link, state, state.home(x), changed)
         }
-        (false, false) => {
-            let ahead = reach_ahead(problem, link, state, work, x, s, changed);
-            if ahead && !keep_block(state, work, state.home(s), changed) {
-                return false;
-            }
-            !reach_back(problem, link, state, work, s, x, changed)
-                || keep_block(state, work, state.home(x), changed)
-        }
+        (false, false) => make_blocks_related(problem, link, state, work, x, s, changed),
     }
+}
+
+// The same for steps of two blocks.
+fn make_blocks_related(
+    problem: &Problem,
+    link: Link<'_>,
+    state: &mut State,
+    work: &mut Work,
+    x: u8,
+    s: u8,
+    changed: &mut Changed,
+) -> bool {
+    let ahead = reach_ahead(problem, link, state, work, x, s, changed);
+    if ahead && !keep_block(state, work, state.home(s), changed) {
+        return false;
+    }
+    !reach_back(problem, link, state, work, s, x, changed)
+        || keep_block(state, work, state.home(x), changed)
 }
 
 // Into the spare row go those to whom some user of a step's block is related, of the users of

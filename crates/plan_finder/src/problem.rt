@@ -2,7 +2,7 @@
 ghost use Rattle.std.specs.Prelude.{◌<◌, length};
 
 use crate::bits::{bit, has_bit, pop};
-use crate::rows::{Rows, add_first, add_user, has_user, put, turn, user_at};
+use crate::rows::{Rows, add_first, add_user, has_user, put, turn, user_at, word_at};
 use constraint_forms::{Assign, Rule, Rules, StepSet};
 use policy_book::Policy;
 use std::alloc::{AllocError, Global};
@@ -130,6 +130,27 @@ pub(crate) struct Relation {
     own: Rows,
 }
 
+impl Relation {
+    // Its rows, as they are or read back.
+    fn link(&self, back: bool) -> Link<'_> {
+        if back {
+            Link {
+                places: &self.places,
+                ahead: &self.back,
+                back: &self.ahead,
+                own: &self.own,
+            }
+        } else {
+            Link {
+                places: &self.places,
+                ahead: &self.ahead,
+                back: &self.back,
+                own: &self.own,
+            }
+        }
+    }
+}
+
 /// A workflow's steps and rules over the users of its policy.
 #[derive(Drop)]
 pub(crate) struct Problem {
@@ -152,18 +173,10 @@ pub(crate) struct Problem {
 impl Problem {
     /// The rows of a relation, as they are or read back.
     pub(crate) fn link(&self, at: u8, back: bool) -> Option<Link<'_>> {
-        let relation = self.relations.get(at as usize)?;
-        let (ahead, behind) = if back {
-            (&relation.back, &relation.ahead)
-        } else {
-            (&relation.ahead, &relation.back)
-        };
-        Some(Link {
-            places: &relation.places,
-            ahead,
-            back: behind,
-            own: &relation.own,
-        })
+        match self.relations.get(at as usize) {
+            Some(relation) => Some(relation.link(back)),
+            None => None,
+        }
     }
 
     /// The problem of a workflow.
@@ -174,6 +187,7 @@ impl Problem {
         let width = (users as usize).saturating_add(63) / 64;
         let mut relations = Vec::new(alloc);
         let laws = read_laws(alloc, p, p.rules(f), width, &mut relations)?;
+        note_steps(laws.as_slice(), &mut relations);
         let mut problem = Problem {
             steps: (p.flow(f).steps().len() & 0xff) as u8,
             width,
@@ -186,23 +200,11 @@ impl Problem {
             full: false,
         };
         add_first(problem.everyone.row_mut(0), users);
-        problem.note_steps();
         problem.note_laws();
         if reads_own(&problem) {
             problem.learn_all(p)?;
         }
         Ok(problem)
-    }
-
-    // Notes for each relation the steps of the laws over it.
-    fn note_steps(&mut self) {
-        for law in self.laws.as_slice().iter() {
-            if let Over::Declared(at, _) = law.over {
-                if (at as usize) < self.relations.len() {
-                    self.relations[at as usize].steps |= law.scope;
-                }
-            }
-        }
     }
 
     // Notes for each step the laws that name it, and which laws are over declared relations.
@@ -293,6 +295,17 @@ pub(crate) fn place_of(places: &[u16], u: u16) -> usize {
     match places.get(u as usize) {
         Some(place) => *place as usize,
         None => 0,
+    }
+}
+
+// Notes for each relation the steps of the laws over it.
+fn note_steps(laws: &[Law], relations: &mut Vec<Relation>) {
+    for law in laws.iter() {
+        if let Over::Declared(at, _) = law.over {
+            if let Some(relation) = relations.get_mut(at as usize) {
+                relation.steps |= law.scope;
+            }
+        }
     }
 }
 
@@ -501,9 +514,7 @@ fn some_word(allowed: &Rows, steps: u32, at: usize) -> u64 {
     let mut some = 0;
     for _ in 0..32u8 {
         let Some(s) = pop(&mut left) else { break };
-        if let Some(word) = allowed.row(s as usize).get(at) {
-            some |= *word;
-        }
+        some |= word_at(allowed.row(s as usize), at);
     }
     some
 }
@@ -553,9 +564,16 @@ fn read_allowed(alloc: Global, p: &Policy, f: FlowId, width: usize) -> Result<Ro
 {
     let steps = p.flow(f).steps().len() as usize;
     let mut allowed = Rows::new(alloc, steps, width)?;
+    put_allowed(&mut allowed, p, f, steps);
+    Ok(allowed)
+}
+
+// Puts in the users who are authorised for each of the first `steps` steps.
+fn put_allowed(allowed: &mut Rows, p: &Policy, f: FlowId, steps: usize)
+    requires { f < length p.now.flows }
+{
     for s in 0..steps {
         let users = p.authorised_users(f, StepId((s & 0xff) as u8));
         put(allowed.row_mut(s), users.as_words());
     }
-    Ok(allowed)
 }

@@ -1,5 +1,7 @@
 //! Sets of users as rows of bits.
 
+ghost use Rattle.std.specs.Prelude.{◌≤◌};
+
 use std::alloc::{AllocError, Global};
 
 /// Rows of one width, one behind the other.
@@ -85,6 +87,14 @@ impl Rows {
     }
 }
 
+// The lesser of the lengths of two rows.
+fn lesser(a: usize, b: usize) -> usize
+    ensures in_first { result ≤ a }
+    ensures in_second { result ≤ b }
+{
+    if a < b { a } else { b }
+}
+
 /// Takes all users out.
 pub(crate) fn clear(row: &mut [u64]) {
     for word in row.iter_mut() {
@@ -94,8 +104,8 @@ pub(crate) fn clear(row: &mut [u64]) {
 
 /// Makes a row the same as another.
 pub(crate) fn put(row: &mut [u64], other: &[u64]) {
-    for (word, own) in row.iter_mut().zip(other.iter()) {
-        *word = *own;
+    for at in 0..lesser(row.len(), other.len()) {
+        row[at] = other[at];
     }
 }
 
@@ -108,8 +118,8 @@ pub(crate) fn put_all(words: &mut [u64], others: &[u64]) {
 
 /// Makes a row those of another one who are not in it.
 pub(crate) fn turn(row: &mut [u64], everyone: &[u64]) {
-    for (word, all) in row.iter_mut().zip(everyone.iter()) {
-        *word = *all & !*word;
+    for at in 0..lesser(row.len(), everyone.len()) {
+        row[at] = everyone[at] & !row[at];
     }
 }
 
@@ -129,11 +139,11 @@ pub(crate) fn add_first(row: &mut [u64], users: u16) {
 /// Keeps the users of another row alone, and tells whether somebody went.
 pub(crate) fn meet(row: &mut [u64], other: &[u64]) -> bool {
     let mut changed = false;
-    for (word, mask) in row.iter_mut().zip(other.iter()) {
-        let left = *word & *mask;
-        if left != *word {
+    for at in 0..lesser(row.len(), other.len()) {
+        let left = row[at] & other[at];
+        if left != row[at] {
             changed = true;
-            *word = left;
+            row[at] = left;
         }
     }
     changed
@@ -152,11 +162,11 @@ pub(crate) struct Kept {
 pub(crate) fn keep(row: &mut [u64], other: &[u64]) -> Kept {
     let mut gone = 0u64;
     let mut stay = 0u64;
-    for (word, mask) in row.iter_mut().zip(other.iter()) {
-        let left = *word & *mask;
-        gone |= left ^ *word;
+    for at in 0..lesser(row.len(), other.len()) {
+        let left = row[at] & other[at];
+        gone |= left ^ row[at];
         stay |= left;
-        *word = left;
+        row[at] = left;
     }
     Kept {
         changed: gone != 0,
@@ -167,31 +177,31 @@ pub(crate) fn keep(row: &mut [u64], other: &[u64]) -> Kept {
 /// Puts the users of another row in, and tells whether somebody of a third one is still not in.
 pub(crate) fn join_wants(row: &mut [u64], other: &[u64], wanted: &[u64]) -> bool {
     let mut wants = 0u64;
-    for ((word, more), want) in row.iter_mut().zip(other.iter()).zip(wanted.iter()) {
-        *word |= *more;
-        wants |= *want & !*word;
+    for at in 0..lesser(row.len(), lesser(other.len(), wanted.len())) {
+        row[at] |= other[at];
+        wants |= wanted[at] & !row[at];
     }
     wants != 0
 }
 
 /// Puts the users of another row in.
 pub(crate) fn join(row: &mut [u64], other: &[u64]) {
-    for (word, more) in row.iter_mut().zip(other.iter()) {
-        *word |= *more;
+    for at in 0..lesser(row.len(), other.len()) {
+        row[at] |= other[at];
     }
 }
 
 /// Takes the users of another row out.
 pub(crate) fn strike(row: &mut [u64], other: &[u64]) {
-    for (word, less) in row.iter_mut().zip(other.iter()) {
-        *word &= !*less;
+    for at in 0..lesser(row.len(), other.len()) {
+        row[at] &= !other[at];
     }
 }
 
 /// Whether two rows have a user in common.
 pub(crate) fn meets(row: &[u64], other: &[u64]) -> bool {
-    for (word, mask) in row.iter().zip(other.iter()) {
-        if *word & *mask != 0 {
+    for at in 0..lesser(row.len(), other.len()) {
+        if row[at] & other[at] != 0 {
             return true;
         }
     }
@@ -200,8 +210,8 @@ pub(crate) fn meets(row: &[u64], other: &[u64]) -> bool {
 
 /// Whether a row has a user who is not in another.
 pub(crate) fn exceeds(row: &[u64], other: &[u64]) -> bool {
-    for (word, mask) in row.iter().zip(other.iter()) {
-        if *word & !*mask != 0 {
+    for at in 0..lesser(row.len(), other.len()) {
+        if row[at] & !other[at] != 0 {
             return true;
         }
     }
@@ -242,8 +252,8 @@ pub(crate) fn has_many(row: &[u64], least: u32) -> bool {
 /// How many users two rows have in common.
 pub(crate) fn count_common(row: &[u64], other: &[u64]) -> u32 {
     let mut users = 0u32;
-    for (word, mask) in row.iter().zip(other.iter()) {
-        users = users.saturating_add((*word & *mask).count_ones());
+    for at in 0..lesser(row.len(), other.len()) {
+        users = users.saturating_add((row[at] & other[at]).count_ones());
     }
     users
 }
@@ -287,8 +297,8 @@ pub(crate) fn nth_user(row: &[u64], place: u32) -> Option<u16> {
 
 /// A user who is in just one of two rows, other than these two.
 pub(crate) fn first_apart(row: &[u64], other: &[u64], u: u16, v: u16) -> Option<u16> {
-    for (at, (word, own)) in row.iter().zip(other.iter()).enumerate() {
-        let left = (*word ^ *own) & !word_of(at, u) & !word_of(at, v);
+    for at in 0..lesser(row.len(), other.len()) {
+        let left = (row[at] ^ other[at]) & !word_of(at, u) & !word_of(at, v);
         if left != 0 {
             return Some(user_at(at, left.trailing_zeros()));
         }
@@ -298,8 +308,8 @@ pub(crate) fn first_apart(row: &[u64], other: &[u64], u: u16, v: u16) -> Option<
 
 /// Writes a number to the place of each user who is in the first row and not in the second.
 pub(crate) fn number_struck(before: &[u64], after: &[u64], numbers: &mut [u8], number: u8) {
-    for (at, (word, left)) in before.iter().zip(after.iter()).enumerate() {
-        let mut struck = *word & !*left;
+    for at in 0..lesser(before.len(), after.len()) {
+        let mut struck = before[at] & !after[at];
         for _ in 0..64u8 {
             if struck == 0 {
                 break;
@@ -339,6 +349,14 @@ pub(crate) fn has_one(row: &[u64]) -> bool {
 /// The one user of a row, if there is just one.
 pub(crate) fn only_user(row: &[u64]) -> Option<u16> {
     if has_one(row) { nth_user(row, 0) } else { None }
+}
+
+/// The word at a place of a row; 0 where there is none.
+pub(crate) fn word_at(row: &[u64], at: usize) -> u64 {
+    match row.get(at) {
+        Some(word) => *word,
+        None => 0,
+    }
 }
 
 /// The number of the user whom a bit of a word stands for.

@@ -1,53 +1,5 @@
-use Rattle.std.proofs.Common.{List, ℕ, refl, subst}
-use Rattle.wf_outside.specs.Outside.{HasPart}
 use Rattle.wf_outside.proofs.OutsideLaws.{part_none}
-use Rattle.cnf_export.proofs.Written.{added, all_put, emptied, next_is, none_left, none_put, part_put, so_far, start_is}
 use Rattle.cnf_export.proofs.writing.write_clauses.Goals as goal
 
 pub returns-in_err-push_header-clause-part : goal.returns-in_err-push_header-clause-part
 returns-in_err-push_header-clause-part g c = part_none _ _
-
-pub writing-init : goal.writing-init
-writing-init g c = record {
-  put = none_put (g.K.Sink.held c.args.sink.now) _ _ (start_is c.args.encoder.now c.variables.result c.clauses.result c.new-out.result.items
-      c.push_header.new.out.items c.requires c.variables.ensures c.clauses.ensures (let fresh = c.new-out.ensures in cc) c.in_ok-push_header.ensures);
-  faults = refl;
-}
-
-pub returns-in_err-next-clause-part : goal.returns-in_err-next-clause-part
-returns-in_err-next-clause-part g c = so_far _ _ _ _ c.writing.invariant.put
-
-pub returns-in_err-put_and_flush-clause-part : goal.returns-in_err-put_and_flush-clause-part
-returns-in_err-put_and_flush-clause-part g c =
-    part_put _ _ _ _ c.writing.out.items _ c.writing.invariant.put
-    (subst (λ (bytes : List ℕ). HasPart (g.K.Sink.held c.writing.sink) (g.K.Sink.held c.put_and_flush.new.sink) bytes) c.deref.ensures.value
-    c.put_and_flush.ensures.part)
-
-pub returns-then-not-branch-clause-all : goal.returns-then-not-branch-clause-all
-returns-then-not-branch-clause-all g c =
-    all_put _ _ _ _ c.writing.out.items _ c.writing.invariant.put
-    (none_left _ _ _ _ c.in_ok-next.ensures.given c.if-not-branch.true)
-    (let all = c.in_ok-put_and_flush.ensures.all in let bytes = c.deref.ensures.value in cc)
-
-pub returns-then-not-branch-clause-part : goal.returns-then-not-branch-clause-part
-returns-then-not-branch-clause-part g c =
-    part_put _ _ _ _ c.writing.out.items _ c.writing.invariant.put
-    (subst (λ (bytes : List ℕ). HasPart (g.K.Sink.held c.writing.sink) (g.K.Sink.held c.put_and_flush.new.sink) bytes) c.deref.ensures.value
-    c.put_and_flush.ensures.part)
-
-pub returns-in_err-push_clause-clause-part : goal.returns-in_err-push_clause-clause-part
-returns-in_err-push_clause-clause-part g c = so_far _ _ _ _ c.writing.invariant.put
-
-pub returns-in_err-put_piece-clause-part : goal.returns-in_err-put_piece-clause-part
-returns-in_err-put_piece-clause-part g c =
-    part_put _ _ _ _ c.push_clause.new.out.items _
-    (added _ _ _ _ _ _ _ _ c.in_ok-push_clause.ensures (next_is _ _ _ _ c.in_ok-next.ensures.given c.if-not-branch.false) c.writing.invariant.put)
-    c.put_piece.ensures.part
-
-pub writing-preserved-in_ok-put_piece : goal.writing-preserved-in_ok-put_piece
-writing-preserved-in_ok-put_piece g c = record {
-  put = emptied _ _ _ _ _ c.put_piece.new.out.items _
-      (added _ _ _ _ _ _ _ _ c.in_ok-push_clause.ensures (next_is _ _ _ _ c.in_ok-next.ensures.given c.if-not-branch.false) c.writing.invariant.put)
-      c.in_ok-put_piece.ensures.all c.in_ok-put_piece.ensures.empty;
-  faults = (let stays = c.in_ok-put_piece.ensures.stays in let before = c.writing.invariant.faults in cc);
-}
