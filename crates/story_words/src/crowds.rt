@@ -27,8 +27,22 @@ pub(crate) fn push_crowd(
             &["  In short: ", all.as_str(), " can be done by nobody.\n"],
         );
     }
+    push_short_of(alloc, out, p, held, steps, all.as_str())
+}
+
+// Adds that some steps, of these names, want more different users than there are for them.
+fn push_short_of(
+    alloc: Global,
+    out: &mut String,
+    p: &Policy,
+    held: &Held,
+    steps: &[StepId],
+    names: &str,
+) -> Result<(), AllocError>
+    requires { held.now.flow < length p.now.flows }
+{
     let (users, is_given) = takers(p, held, steps);
-    push_wanted(out, all.as_str(), steps.len(), users.count(), is_given)?;
+    push_wanted(out, names, steps.len(), users.count(), is_given)?;
     push_users(alloc, out, p, &users, "and")?;
     push_parting(alloc, out, p, held, steps)
 }

@@ -1,10 +1,11 @@
 //! Why a request was denied, in words.
+ghost use Rattle.std.specs.Prelude.{◌<◌, length};
 
 use crate::about::{asker, case_of, relation_asked, step_asked};
 use crate::facts::push_broken;
 use crate::held::{held_in, held_with, place_asked};
 use crate::names::{
-    push_large, push_name, push_number, push_roles, push_step, push_steps, push_user, push_users,
+    push_large, push_number, push_roles, push_step, push_steps, push_user, push_users,
 };
 use crate::past::{Deed, push_which};
 use grant_table::Cases;
@@ -48,8 +49,9 @@ pub(crate) fn push_denial(
 }
 
 fn push_planless(out: &mut String, p: &Policy, f: FlowId) -> Result<(), AllocError> {
-    push_name(out, p.flows(), f.0 as u16)?;
-    out.push_str(" has no plan at all under the policy as it is")
+    let flow = name_of(p.flows(), f.0 as u16);
+    let end = " has no plan at all under the policy as it is";
+    say(out, &[text_of(&flow), end])
 }
 
 fn push_before(out: &mut String, p: &Policy, f: FlowId, s: StepId) -> Result<(), AllocError> {
@@ -132,19 +134,27 @@ fn push_case_words(
 
 // Adds which limit is reached.
 fn push_full(alloc: Global, out: &mut String, cases: &Cases, ask: &Ask) -> Result<(), AllocError> {
-    if let Some(relation) = relation_asked(ask) {
-        say(out, &["there is no room: \"", relation.as_str(), "\" has "])?;
-        return push_limit(alloc, out, PAIR_LIMIT as u64, " pairs");
+    match relation_asked(ask) {
+        Some(relation) => {
+            say(out, &["there is no room: \"", relation.as_str(), "\" has "])?;
+            push_limit(alloc, out, PAIR_LIMIT as u64, " pairs")
+        }
+        None => {
+            let (limit, what) = limit_of(cases, ask);
+            out.push_str("there is no room: ")?;
+            push_limit(alloc, out, limit, what)
+        }
     }
-    out.push_str("there is no room: ")?;
+}
+
+// The limit that is reached, and what there are so many of.
+fn limit_of(cases: &Cases, ask: &Ask) -> (u64, &'static str) {
     match ask {
         Ask::Request(Request::OpenCase { .. }) if cases.live() >= OPEN_CASE_LIMIT => {
-            push_limit(alloc, out, OPEN_CASE_LIMIT as u64, " cases are open")
+            (OPEN_CASE_LIMIT as u64, " cases are open")
         }
-        Ask::Request(Request::OpenCase { .. }) => {
-            push_limit(alloc, out, CASE_LIMIT as u64, " cases were opened")
-        }
-        _ => push_limit(alloc, out, USER_LIMIT as u64, " users are known"),
+        Ask::Request(Request::OpenCase { .. }) => (CASE_LIMIT as u64, " cases were opened"),
+        _ => (USER_LIMIT as u64, " users are known"),
     }
 }
 
@@ -178,13 +188,19 @@ fn push_no_step(out: &mut String, p: &Policy, cases: &Cases, ask: &Ask) -> Resul
     let Some((case, step)) = step_asked(ask) else {
         return out.push_str("there is no such step");
     };
-    let Some(held) = held_in(p, cases, case) else {
-        return say(out, &["there is no step \"", step.as_str(), "\""]);
-    };
-    let flow = name_of(p.flows(), held.flow.0 as u16);
-    let (flow, step) = (text_of(&flow), step.as_str());
-    say(out, &[flow, " has no step \"", step, "\"; its steps are "])?;
-    push_steps(out, p, held.flow)
+    match held_in(p, cases, case) {
+        Some(held) => push_own_steps(out, p, held.flow, step.as_str()),
+        None => say(out, &["there is no step \"", step.as_str(), "\""]),
+    }
+}
+
+fn push_own_steps(out: &mut String, p: &Policy, f: FlowId, step: &str) -> Result<(), AllocError>
+    requires { f < length p.now.flows }
+{
+    let flow = name_of(p.flows(), f.0 as u16);
+    let tail = "\"; its steps are ";
+    say(out, &[text_of(&flow), " has no step \"", step, tail])?;
+    push_steps(out, p, f)
 }
 
 // Adds who has the step.

@@ -35,14 +35,27 @@ pub(crate) fn push_broken(
 ) -> Result<(), AllocError>
     requires { held.now.flow < length p.now.flows }
 {
-    let Some(rule) = p.rules(held.flow).as_slice().get(k as usize) else {
-        return write!(out, "rule {k}{verb}");
-    };
+    write!(out, "rule {k}")?;
+    match p.rules(held.flow).as_slice().get(k as usize) {
+        Some(rule) => push_verb(alloc, out, p, held, rule, verb, in_words),
+        None => out.push_str(verb),
+    }
+}
+
+fn push_verb(
+    alloc: Global,
+    out: &mut String,
+    p: &Policy,
+    held: &Held,
+    rule: &Rule,
+    verb: &str,
+    in_words: bool,
+) -> Result<(), AllocError>
+    requires { held.now.flow < length p.now.flows }
+{
     let is_broken = falsified(rule, p, &held.users);
     if in_words || !is_broken {
-        push_words(alloc, out, p, held, rule, k)?;
-    } else {
-        write!(out, "rule {k}")?;
+        push_words(alloc, out, p, held, rule)?;
     }
     if !is_broken {
         return out.push_str(verb);
@@ -51,19 +64,18 @@ pub(crate) fn push_broken(
     push_fact(alloc, out, p, held, rule)
 }
 
-// Adds the number of a rule and its words.
+// Adds the words of a rule.
 fn push_words(
     alloc: Global,
     out: &mut String,
     p: &Policy,
     held: &Held,
     rule: &Rule,
-    k: u8,
 ) -> Result<(), AllocError>
     requires { held.now.flow < length p.now.flows }
 {
     let words = rule_text(alloc, p, held.flow, rule)?;
-    write!(out, "rule {k} ({words})")
+    say(out, &[" (", words.as_str(), ")"])
 }
 
 // Adds who breaks a rule that is broken.
@@ -149,11 +161,24 @@ fn push_pair(
     match listed_in(p, rho) {
         Some((lacks, name)) => {
             let verb = if lacks { "has" } else { "does not have" };
-            let relation = name.as_str();
-            write!(out, "{u} ({x}) {verb} \"{relation}\" to {v} ({y})")
+            push_listed(out, verb, name.as_str(), u, x, v, y)
         }
         None => say(out, &[u, " would do both ", x, " and ", y]),
     }
+}
+
+// Adds that `u` has a listed relation to `v`, or does not have it.
+fn push_listed(
+    out: &mut String,
+    verb: &str,
+    relation: &str,
+    u: &str,
+    x: &str,
+    v: &str,
+    y: &str,
+) -> Result<(), AllocError> {
+    say(out, &[u, " (", x, ") ", verb, " \"", relation])?;
+    say(out, &["\" to ", v, " (", y, ")"])
 }
 
 // The name of the listed relation that a relation is or complements, and whether it complements it;
@@ -249,7 +274,8 @@ fn push_neither(
 {
     let step = name_of(p.flow(held.flow).steps(), wish.step.0 as u16);
     let others = group_text(alloc, p, held.flow, &wish.group, "nor")?;
-    write!(out, "{doer} does {}, and neither {others}", text_of(&step))
+    let (step, others) = (text_of(&step), others.as_str());
+    say(out, &[doer, " does ", step, ", and neither ", others])
 }
 
 // Adds that one user would do all of a group and the step.
@@ -286,14 +312,32 @@ fn push_lone(
     } else {
         ("neither ", "nor")
     };
-    let verb = if lacks && !wish.back { "have" } else { "has" };
+    let verb = if lacks && !wish.back {
+        " have \""
+    } else {
+        " has \""
+    };
     let one = doers_text(alloc, p, held, &joined(&StepSet::empty(), wish.step), "and")?;
     let others = doers_text(alloc, p, held, &wish.group, last)?;
+    let (one, others) = (one.as_str(), others.as_str());
     if wish.back {
-        write!(out, "{one} {verb} \"{name}\" to {front}{others}")
+        push_has(out, "", one, verb, name, front, others)
     } else {
-        write!(out, "{front}{others} {verb} \"{name}\" to {one}")
+        push_has(out, front, others, verb, name, "", one)
     }
+}
+
+// Adds who has a relation to whom.
+fn push_has(
+    out: &mut String,
+    front: &str,
+    who: &str,
+    verb: &str,
+    name: &str,
+    middle: &str,
+    whom: &str,
+) -> Result<(), AllocError> {
+    say(out, &[front, who, verb, name, "\" to ", middle, whom])
 }
 
 // A group with a step.

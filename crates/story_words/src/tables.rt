@@ -8,7 +8,7 @@ use case_record::Case;
 use plain_words::{name_of, say, text_of};
 use policy_book::Policy;
 use std::alloc::{AllocError, Global};
-use wf_names::{CaseId, FlowId, NameTable, RoleId, StepId, StepState, UserId};
+use wf_names::{CaseId, FlowId, NameTable, StepId, StepState, UserId};
 use wf_talk::Entry;
 
 /// Adds a line for each step of a case: its number, its name, and where it stands or who may do it.
@@ -111,22 +111,15 @@ fn push_free(
     requires { f < length p.now.flows }
 {
     let roles = roles_of(alloc, p, f, s)?;
-    push_permitted(out, p, roles.as_slice())?;
     if roles.as_slice().is_empty() {
-        return Ok(());
+        return out.push_str("free, permitted to no role");
     }
+    out.push_str("free, permitted to ")?;
+    push_roles(out, p, roles.as_slice())?;
+    out.push_str(": ")?;
     let users = p.authorised_users(f, s);
     if users.count() == 0 {
         return out.push_str("nobody");
     }
     push_users(alloc, out, p, &users, "and")
-}
-
-fn push_permitted(out: &mut String, p: &Policy, roles: &[RoleId]) -> Result<(), AllocError> {
-    if roles.is_empty() {
-        return out.push_str("free, permitted to no role");
-    }
-    out.push_str("free, permitted to ")?;
-    push_roles(out, p, roles)?;
-    out.push_str(": ")
 }
