@@ -1,7 +1,7 @@
 //! What a policy may say and probably does not mean.
 ghost use Rattle.std.specs.Prelude.{◌<◌, length};
 
-use crate::lists::{name_of, number_text, text_of, users_text};
+use crate::lists::{name_of, text_of, users_text};
 use crate::one_way::push_one_way;
 use crate::rules::relation_name;
 use crate::texts::{joined, say};
@@ -154,13 +154,13 @@ fn push_step(
     if p.authorised_users(f, s).count() > 0 {
         return Ok(());
     }
+    let flow = name_of(p.flows(), f.0 as u16);
     let step = name_of(p.flow(f).steps(), s.0 as u16);
-    say(out, &[front, "workflow "])?;
+    let (flow, step) = (text_of(&flow), text_of(&step));
     say(
         out,
-        &[text_of(&name_of(p.flows(), f.0 as u16)), ": nobody may do "],
-    )?;
-    say(out, &[text_of(&step), "\n"])
+        &[front, "workflow ", flow, ": nobody may do ", step, "\n"],
+    )
 }
 
 // What may not be meant by a rule.
@@ -178,9 +178,11 @@ fn push_rule(
         return Ok(());
     };
     let flow = name_of(p.flows(), f.0 as u16);
-    let number = number_text(alloc, k as u64)?;
-    say(out, &[front, "workflow ", text_of(&flow), ", rule "])?;
-    say(out, &[number.as_str(), ": ", words.as_str(), "\n"])
+    write!(
+        out,
+        "{front}workflow {}, rule {k}: {words}\n",
+        text_of(&flow)
+    )
 }
 
 fn rule_advice(alloc: Global, p: &Policy, f: FlowId, k: usize) -> Result<Option<String>, AllocError>
@@ -230,16 +232,25 @@ fn pair_advice(
     if leads(p, rho, &from, &to) || !leads(p, rho, &to, &from) {
         return Ok(None);
     }
-    let x = name_of(p.flow(f).steps(), first.0 as u16);
-    let y = name_of(p.flow(f).steps(), second.0 as u16);
-    Ok(Some(turned_words(alloc, text_of(&x), text_of(&y))?))
+    Ok(Some(turned_words(alloc, p, f, first, second)?))
 }
 
 // That a relation leads the other way.
-fn turned_words(alloc: Global, x: &str, y: &str) -> Result<String, AllocError> {
+fn turned_words(
+    alloc: Global,
+    p: &Policy,
+    f: FlowId,
+    first: StepId,
+    second: StepId,
+) -> Result<String, AllocError>
+    requires { f < length p.now.flows }
+{
+    let x = name_of(p.flow(f).steps(), first.0 as u16);
+    let y = name_of(p.flow(f).steps(), second.0 as u16);
     let front = "the relation leads from nobody who may do ";
     let end = ", but the other way; exchange first and second?";
-    joined(alloc, &[front, x, " to anybody who may do ", y, end])
+    let middle = " to anybody who may do ";
+    joined(alloc, &[front, text_of(&x), middle, text_of(&y), end])
 }
 
 // Whether a relation holds from some user of a set to one of another.
@@ -276,13 +287,21 @@ fn both_advice(
     if are_parted(p, f, steps.0, steps.1) {
         return Ok(None);
     }
+    match both_user(p, rho, from, to) {
+        Some(u) => Ok(Some(both_words(alloc, p, f, u, steps)?)),
+        None => Ok(None),
+    }
+}
+
+// The first user of both sets of whom a relation holds with themselves.
+fn both_user(p: &Policy, rho: RelId, from: &UserSet, to: &UserSet) -> Option<UserId> {
     for u in 0..p.roster().users().len() {
         let both = from.has(UserId(u)) && to.has(UserId(u));
         if both && p.relations().holds(rho, UserId(u), UserId(u)) {
-            return Ok(Some(both_words(alloc, p, f, UserId(u), steps)?));
+            return Some(UserId(u));
         }
     }
-    Ok(None)
+    None
 }
 
 fn both_words(

@@ -1,7 +1,20 @@
 //! Values of another type than their keys want.
 
 use crate::marks::Mark;
-use crate::place::{Keys, Span, is_quoted, is_within, parent, span_of, value_of_key, words_at};
+use crate::place::{
+    Keys, Span, is_one_of, is_quoted, is_within, parent, span_of, value_of_key, words_at,
+};
+
+/// The keys whose value is a text.
+const TEXT_KEYS: [&str; 7] = [
+    "admin",
+    "form",
+    "relation",
+    "first",
+    "second",
+    "step",
+    "complement",
+];
 
 /// Under the keys, the first value that is of another type than its key wants; at the top the admin
 /// role where it is no text, and else the format.
@@ -30,11 +43,8 @@ fn is_amiss(text: &[u8], marks: &[Mark], mark: Mark) -> bool {
         Some(above) => words_at(text, above),
         None => return false,
     };
-    match std::str::from_utf8(key) {
-        Ok("format" | "limit") => is_quoted(text, mark.start),
-        Ok("admin" | "form" | "relation" | "first" | "second" | "step" | "complement") => {
-            !is_quoted(text, mark.start)
-        }
-        _ => !is_quoted(text, mark.start) || mark.item == 0,
+    if is_one_of(key, &["format", "limit"]) {
+        return is_quoted(text, mark.start);
     }
+    !is_quoted(text, mark.start) || mark.item == 0 && !is_one_of(key, &TEXT_KEYS)
 }

@@ -67,13 +67,10 @@ fn is_still(alloc: Global, table: &Table, fault: &PolicyFault) -> Result<bool, A
 }
 
 fn is_faulty(alloc: Global, text: &str, fault: &PolicyFault) -> Result<bool, AllocError> {
-    match read(alloc, text.as_bytes()) {
-        Ok(_policy) => Ok(false),
-        Err(ReadFault::Policy(now)) => {
-            let still = is_same(&now, fault);
-            Ok(still)
-        }
-        Err(ReadFault::NoMemory) => Err(AllocError),
+    match read(alloc, text.as_bytes()).err() {
+        None => Ok(false),
+        Some(ReadFault::Policy(now)) => Ok(is_same(&now, fault)),
+        Some(ReadFault::NoMemory) => Err(AllocError),
     }
 }
 

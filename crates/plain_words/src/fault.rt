@@ -1,12 +1,11 @@
 //! The first fault of a policy file in words, with its place.
 
 use crate::culprit::faulty_rule;
-use crate::lists::number_text;
 use crate::marks::{Mark, marks_of};
 use crate::nearest::{is_key, nearest_key, nearest_word};
 use crate::place::{Keys, Span, keys_of, place_of};
 use crate::shown::{shown, spot_of};
-use crate::texts::{joined, say};
+use crate::texts::joined;
 use policy_reader::{PolicyFault, PolicyKind, PolicyPart};
 use std::alloc::{AllocError, Global};
 use toml::Table;
@@ -23,20 +22,17 @@ pub fn fault_text(
     match std::str::from_utf8(bytes) {
         Ok(text) => text_fault(alloc, file, text, fault),
         Err(e) => {
-            let place = place_text(alloc, bytes, e.valid_up_to())?;
-            let words = ": syntax: the file is no UTF-8 from here on\n";
-            joined(alloc, &[file, ":", place.as_str(), words])
+            let place = place_text(alloc, file, bytes, e.valid_up_to())?;
+            let words = "syntax: the file is no UTF-8 from here on\n";
+            joined(alloc, &[place.as_str(), words])
         }
     }
 }
 
-// The line and the column of a place, as `3:14`.
-fn place_text(alloc: Global, bytes: &[u8], at: usize) -> Result<String, AllocError> {
-    let spot = spot_of(bytes, at);
-    let mut text = number_text(alloc, spot.line as u64)?;
-    let column = number_text(alloc, spot.column as u64)?;
-    say(&mut text, &[":", column.as_str()])?;
-    Ok(text)
+// The file, the line and the column of a place, as `pay.toml:3:14: `.
+fn place_text(alloc: Global, file: &str, text: &[u8], at: usize) -> Result<String, AllocError> {
+    let spot = spot_of(text, at);
+    format!(in alloc; "{file}:{}:{}: ", spot.line, spot.column)
 }
 
 fn text_fault(
@@ -83,14 +79,12 @@ fn told(
     kind: &str,
     words: &str,
 ) -> Result<String, AllocError> {
-    let place = place_text(alloc, text.as_bytes(), span.start)?;
+    let place = place_text(alloc, file, text.as_bytes(), span.start)?;
     let line = shown(alloc, text, span)?;
-    let mut out = String::from_str(alloc, file)?;
-    say(&mut out, &[":", place.as_str(), ": "])?;
-    say(&mut out, &[kind, ": "])?;
-    say(&mut out, &[words, "\n"])?;
-    out.push_str(line.as_str())?;
-    Ok(out)
+    joined(
+        alloc,
+        &[place.as_str(), kind, ": ", words, "\n", line.as_str()],
+    )
 }
 
 // What is wrong, and where by name.
@@ -103,37 +97,41 @@ fn words_of(
 ) -> Result<String, AllocError> {
     let mut out = String::new(alloc);
     push_kind(&mut out, fault)?;
-    out.push_str(", in ")?;
-    push_part(alloc, &mut out, keys, fault)?;
+    push_part(&mut out, keys, fault)?;
     push_meant(alloc, &mut out, text, marks, fault)?;
     Ok(out)
 }
 
 // The part of the file that a fault is in.
-fn push_part(
-    alloc: Global,
-    out: &mut String,
-    keys: Keys<'_>,
-    fault: &PolicyFault,
-) -> Result<(), AllocError> {
+fn push_part(out: &mut String, keys: Keys<'_>, fault: &PolicyFault) -> Result<(), AllocError> {
+    let (front, item) = (part_front(fault), name_or_none(keys.item));
+    let item = if front.is_empty() { "" } else { item };
+    let part = if item.is_empty() {
+        whole_part(fault)
+    } else {
+        front
+    };
     if keys.rule > 0 {
-        let number = number_text(alloc, (keys.rule - 1) as u64)?;
-        say(out, &["rule ", number.as_str(), " of "])?;
+        return write!(out, ", in rule {} of {part}{item}", keys.rule - 1);
     }
-    let item = name_or_none(keys.item);
-    let front = match fault.table {
-        _ if item.is_empty() => "",
+    write!(out, ", in {part}{item}")
+}
+
+// What stands before the name of an item; empty where items of the part have none.
+fn part_front(fault: &PolicyFault) -> &'static str {
+    match fault.table {
         PolicyPart::Users => "the user ",
         PolicyPart::Relations => "the relation ",
         PolicyPart::Flows => "the workflow ",
         _ => "",
-    };
-    let is_whole = matches!(fault.table, PolicyPart::File)
-        || matches!(fault.kind, PolicyKind::Missing);
-    match front {
-        "" if is_whole => say(out, &["the file"]),
-        "" => say(out, &[fault.table.word()]),
-        front => say(out, &[front, item]),
+    }
+}
+
+// The part of a fault that is not in one item.
+fn whole_part(fault: &PolicyFault) -> &'static str {
+    match (fault.table, fault.kind) {
+        (PolicyPart::File, _) | (_, PolicyKind::Missing) => "the file",
+        _ => fault.table.word(),
     }
 }
 
@@ -153,21 +151,38 @@ fn push_meant(
     marks: &[Mark],
     fault: &PolicyFault,
 ) -> Result<(), AllocError> {
-    let Some(name) = fault.name else {
-        return Ok(());
-    };
-    let meant = match fault.kind {
-        PolicyKind::Unknown | PolicyKind::Missing => {
-            nearest_word(alloc, text, marks, name.as_str())?
+    match fault.name {
+        Some(name) => {
+            let meant = meant_by(alloc, text, marks, fault.kind, name.as_str())?;
+            push_near(out, fault.kind, meant)
         }
-        PolicyKind::Extra => nearest_key(alloc, name.as_str())?,
-        _ => "",
-    };
-    match fault.kind {
-        _ if meant.is_empty() => Ok(()),
-        PolicyKind::Missing if is_key(meant) => Ok(()),
-        PolicyKind::Missing => say(out, &["; there is \"", meant, "\""]),
-        _ => say(out, &[". Did you mean \"", meant, "\"?"]),
+        None => Ok(()),
+    }
+}
+
+fn push_near(out: &mut String, kind: PolicyKind, meant: &str) -> Result<(), AllocError> {
+    let is_missing = matches!(kind, PolicyKind::Missing);
+    if meant.is_empty() || is_missing && is_key(meant) {
+        Ok(())
+    } else if is_missing {
+        write!(out, "; there is \"{meant}\"")
+    } else {
+        write!(out, ". Did you mean \"{meant}\"?")
+    }
+}
+
+// The name that was probably meant by another one; empty where none is near.
+fn meant_by<'a>(
+    alloc: Global,
+    text: &'a [u8],
+    marks: &[Mark],
+    kind: PolicyKind,
+    name: &str,
+) -> Result<&'a str, AllocError> {
+    match kind {
+        PolicyKind::Unknown | PolicyKind::Missing => nearest_word(alloc, text, marks, name),
+        PolicyKind::Extra => nearest_key(alloc, name),
+        _ => Ok(""),
     }
 }
 
@@ -192,7 +207,13 @@ fn shape_words(part: PolicyPart) -> &'static str {
 
 // Adds what is wrong with what has this name.
 fn push_named(out: &mut String, kind: PolicyKind, name: &str) -> Result<(), AllocError> {
-    let (front, end) = match kind {
+    let (front, end) = around(kind);
+    write!(out, "{front}{name}{end}")
+}
+
+// What stands before and behind the name that something is wrong with.
+fn around(kind: PolicyKind) -> (&'static str, &'static str) {
+    match kind {
         PolicyKind::Missing => ("the key \"", "\" is not there"),
         PolicyKind::Twice => ("\"", "\" stands twice"),
         PolicyKind::Unknown => ("\"", "\" is declared nowhere"),
@@ -200,12 +221,8 @@ fn push_named(out: &mut String, kind: PolicyKind, name: &str) -> Result<(), Allo
         PolicyKind::Chain => ("\"", "\" lists no pairs, since it is a complement itself"),
         PolicyKind::Extra => ("the key \"", "\" has no meaning here"),
         PolicyKind::Cycle => ("the step \"", "\" would come before itself"),
-        _ => {
-            out.push_str(bare_words(kind))?;
-            (" (\"", "\")")
-        }
-    };
-    say(out, &[front, name, end])
+        _ => (" (\"", "\")"),
+    }
 }
 
 // What is wrong, where nothing has a name.

@@ -1,7 +1,6 @@
 //! Names, and lists of names, as texts.
 ghost use Rattle.std.specs.Prelude.{◌<◌, length};
 
-use crate::texts::say;
 use constraint_forms::StepSet;
 use policy_book::Policy;
 use std::alloc::{AllocError, Global};
@@ -93,25 +92,30 @@ pub fn steps_text(
 /// The names of a set's users; of many the first ones, and how many others there are.
 pub fn users_text(alloc: Global, p: &Policy, users: &UserSet) -> Result<String, AllocError> {
     let count = users.count();
-    let shown = if count > MOST_NAMED { NAMED } else { count };
+    if count <= MOST_NAMED {
+        return first_users(alloc, p.roster().users(), users, count);
+    }
+    let first = first_users(alloc, p.roster().users(), users, NAMED)?;
+    format!(in alloc; "{first} and {} others", count - NAMED)
+}
+
+// The names of so many of a set's users.
+fn first_users(
+    alloc: Global,
+    names: &NameTable,
+    users: &UserSet,
+    shown: u32,
+) -> Result<String, AllocError> {
     let mut text = String::new(alloc);
     let mut place = 0u32;
-    for u in 0..p.roster().users().len() {
+    for u in 0..names.len() {
         if users.has(UserId(u)) && place < shown {
-            push_gap(&mut text, place, count, "and")?;
-            push_name(&mut text, p.roster().users(), u)?;
+            push_gap(&mut text, place, users.count(), "and")?;
+            push_name(&mut text, names, u)?;
             place = place.saturating_add(1);
         }
     }
-    if shown < count {
-        push_others(alloc, &mut text, count - shown)?;
-    }
     Ok(text)
-}
-
-fn push_others(alloc: Global, text: &mut String, count: u32) -> Result<(), AllocError> {
-    let number = number_text(alloc, count as u64)?;
-    say(text, &[" and ", number.as_str(), " others"])
 }
 
 /// A number in digits.
@@ -121,9 +125,8 @@ pub fn number_text(alloc: Global, number: u64) -> Result<String, AllocError> {
 
 /// A number of things, as `1 step` and `2 steps`.
 pub fn counted(alloc: Global, count: u64, what: &str) -> Result<String, AllocError> {
-    let mut text = number_text(alloc, count)?;
-    say(&mut text, &[" ", what, if count == 1 { "" } else { "s" }])?;
-    Ok(text)
+    let end = if count == 1 { "" } else { "s" };
+    format!(in alloc; "{count} {what}{end}")
 }
 
 fn push_name(text: &mut String, names: &NameTable, n: u16) -> Result<(), AllocError> {
@@ -138,7 +141,5 @@ pub fn push_gap(text: &mut String, place: u32, count: u32, last: &str) -> Result
     if place.saturating_add(1) < count {
         return text.push_str(", ");
     }
-    text.push_str(" ")?;
-    text.push_str(last)?;
-    text.push_str(" ")
+    write!(text, " {last} ")
 }

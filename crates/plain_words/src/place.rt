@@ -340,11 +340,18 @@ fn form_but(text: &[u8], marks: &[Mark], keys: Keys<'_>, has_later: bool) -> Opt
 }
 
 fn is_form(word: &[u8], has_later: bool) -> bool {
-    match std::str::from_utf8(word) {
-        Ok("pair" | "some" | "all") => true,
-        Ok("some_to" | "all_to" | "at_most" | "at_least") => has_later,
-        _ => false,
+    is_one_of(word, &["pair", "some", "all"])
+        || has_later && is_one_of(word, &["some_to", "all_to", "at_most", "at_least"])
+}
+
+/// Whether a word is one of these.
+pub(crate) fn is_one_of(word: &[u8], words: &[&str]) -> bool {
+    for one in words {
+        if word == one.as_bytes() {
+            return true;
+        }
     }
+    false
 }
 
 // Under the keys, the first key or text in quotes that is of no name's form.

@@ -1,7 +1,7 @@
 //! Rules as sentences.
 ghost use Rattle.std.specs.Prelude.{◌<◌, length};
 
-use crate::lists::{group_text, name_of, number_text, text_of};
+use crate::lists::{group_text, name_of, text_of};
 use crate::texts::joined;
 use constraint_forms::{Rule, StepSet};
 use policy_book::Policy;
@@ -238,14 +238,10 @@ fn limit_text(
     if limit == 1 {
         return joined(alloc, &[all.as_str(), " are done by ", one, "one person"]);
     }
-    let number = number_text(alloc, limit as u64)?;
     let people = if one.is_empty() {
-        " people"
+        "people"
     } else {
-        " different people"
+        "different people"
     };
-    joined(
-        alloc,
-        &[all.as_str(), " are done by ", most, number.as_str(), people],
-    )
+    format!(in alloc; "{all} are done by {most}{limit} {people}")
 }

@@ -3,7 +3,6 @@
 use crate::lists::number_text;
 use crate::marks::line_end;
 use crate::place::Span;
-use crate::texts::say;
 use std::alloc::{AllocError, Global};
 
 /// How many characters of a line are shown before and behind the place.
@@ -37,21 +36,17 @@ fn is_first(byte: u8) -> bool {
 
 /// The line of a place with its number, and below it marks under the place.
 pub(crate) fn shown(alloc: Global, text: &str, span: Span) -> Result<String, AllocError> {
-    let bytes = text.as_bytes();
-    let spot = spot_of(bytes, span.start);
+    let spot = spot_of(text.as_bytes(), span.start);
     let number = number_text(alloc, spot.line as u64)?;
     let from = spot.column.saturating_sub(AROUND.saturating_add(1));
-    let mut out = String::new(alloc);
-    say(&mut out, &["    ", number.as_str(), " | "])?;
-    push_part(&mut out, line_at(text, span.start), from)?;
-    out.push_str("\n    ")?;
-    push_times(&mut out, " ", number.len())?;
-    out.push_str(" | ")?;
+    let part = part_text(alloc, line_at(text, span.start), from)?;
+    let digits = number.len();
     let before = spot.column.saturating_sub(1).saturating_sub(from);
-    push_times(&mut out, " ", before)?;
-    push_times(&mut out, "^", width_of(bytes, span).min(AROUND))?;
-    out.push_str("\n")?;
-    Ok(out)
+    let width = width_of(text.as_bytes(), span).min(AROUND);
+    format!(in alloc;
+        "    {number} | {part}\n    {:digits$} | {:before$}{:^<width$}\n",
+        "", "", ""
+    )
 }
 
 // How many characters of its line a place has, at least one.
@@ -81,8 +76,14 @@ fn line_at(text: &str, at: usize) -> &str {
     }
 }
 
-// Adds the characters of a line from one on, as many as are shown; a blank for one that is no
-// letter, digit or sign.
+// The characters of a line from one on, as many as are shown; a blank for one that is no letter,
+// digit or sign.
+fn part_text(alloc: Global, line: &str, from: usize) -> Result<String, AllocError> {
+    let mut out = String::new(alloc);
+    push_part(&mut out, line, from)?;
+    Ok(out)
+}
+
 fn push_part(out: &mut String, line: &str, from: usize) -> Result<(), AllocError> {
     let mut place = 0usize;
     let until = from.saturating_add(AROUND).saturating_add(AROUND);
@@ -91,13 +92,6 @@ fn push_part(out: &mut String, line: &str, from: usize) -> Result<(), AllocError
             out.push(if c.is_control() { ' ' } else { c })?;
         }
         place = place.saturating_add(1);
-    }
-    Ok(())
-}
-
-fn push_times(out: &mut String, what: &str, times: usize) -> Result<(), AllocError> {
-    for _ in 0..times {
-        out.push_str(what)?;
     }
     Ok(())
 }

@@ -11,7 +11,7 @@ use plain_words::{push_gap, say};
 use policy_book::Policy;
 use std::alloc::{AllocError, Global};
 use wf_names::{CaseId, Phase, StepId, USER_LIMIT, UserSet};
-use wf_talk::{Bad, Entry, Reply, WorkItem};
+use wf_talk::{Ask, Bad, Denial, Entry, Reply, WorkItem};
 
 /// Adds what was answered, in one line without its full stop; a tree only where one line is enough
 /// for it. The policy and the cases are those after the entry, which is the last of the entries.
@@ -37,48 +37,62 @@ pub fn push_reply(
     entry: &Entry,
 ) -> Result<(), AllocError> {
     match &entry.reply {
-        Reply::Granted(plan) => {
-            out.push_str("granted; it can be finished by ")?;
-            push_planned(alloc, out, p, plan)
-        }
+        Reply::Granted(plan) => push_planned(alloc, out, "granted", p, plan),
         Reply::Finished { done: true } => out.push_str("finished, and with it the case"),
         Reply::Finished { done: false } => out.push_str("finished"),
         Reply::Returned => out.push_str("given back"),
-        Reply::Released => {
-            out.push_str("taken from ")?;
-            push_grantee(out, entries, &entry.ask)
-        }
-        Reply::Opened { case, plan } => {
-            out.push_str("opened as case ")?;
-            push_number(alloc, out, case.0 as u64)?;
-            out.push_str("; it can be finished by ")?;
-            push_planned(alloc, out, p, plan)
-        }
+        Reply::Released => push_released(out, entries, &entry.ask),
+        Reply::Opened { case, plan } => push_opened(alloc, out, p, *case, plan),
         Reply::Withdrawn => out.push_str("the case is ended"),
-        Reply::Edited { number } => {
-            out.push_str("accepted, edit ")?;
-            push_number(alloc, out, *number as u64)
-        }
+        Reply::Edited { number } => write!(out, "accepted, edit {number}"),
         Reply::Shown(face) => out.push_str(phase_words(face.phase)),
         Reply::Work(items) => push_work(alloc, out, p, asker(&entry.ask), items.as_slice()),
         Reply::WhatIf(stranded) => push_stranded(alloc, out, stranded.as_slice()),
-        Reply::Denied(denial) => {
-            out.push_str("denied: ")?;
-            push_denial(alloc, out, p, cases, entries, &entry.ask, denial)
-        }
-        Reply::Again { rounds, at } => push_again(alloc, out, *rounds, *at),
+        Reply::Denied(denial) => push_denied(alloc, out, p, cases, entries, &entry.ask, denial),
+        Reply::Again { rounds, at } => push_again(out, *rounds, *at),
         Reply::NoMemory => out.push_str("there was no memory; nothing changed"),
         Reply::Bad(bad) => push_bad(out, *bad),
     }
 }
 
-// Adds who is in a plan.
-fn push_planned(
+fn push_released(out: &mut String, entries: &[Entry], ask: &Ask) -> Result<(), AllocError> {
+    out.push_str("taken from ")?;
+    push_grantee(out, entries, ask)
+}
+
+fn push_opened(
     alloc: Global,
     out: &mut String,
     p: &Policy,
+    case: CaseId,
     plan: &Plan,
 ) -> Result<(), AllocError> {
+    write!(out, "opened as case {}", case.0)?;
+    push_planned(alloc, out, "", p, plan)
+}
+
+fn push_denied(
+    alloc: Global,
+    out: &mut String,
+    p: &Policy,
+    cases: &Cases,
+    entries: &[Entry],
+    ask: &Ask,
+    denial: &Denial,
+) -> Result<(), AllocError> {
+    out.push_str("denied: ")?;
+    push_denial(alloc, out, p, cases, entries, ask, denial)
+}
+
+// Adds these words, and who is in a plan.
+fn push_planned(
+    alloc: Global,
+    out: &mut String,
+    front: &str,
+    p: &Policy,
+    plan: &Plan,
+) -> Result<(), AllocError> {
+    say(out, &[front, "; it can be finished by "])?;
     let mut users = UserSet::empty();
     for s in 0..plan.len() {
         let user = plan.at(StepId(s));
@@ -114,21 +128,24 @@ fn push_work(
     for place in 0..shown {
         if let Some(item) = items.get(place as usize) {
             push_gap(out, place, count, "and")?;
-            push_step(out, p, item.flow, item.step)?;
-            out.push_str(" of case ")?;
-            push_number(alloc, out, item.case.0 as u64)?;
+            push_item(out, p, item)?;
         }
     }
     push_others(alloc, out, shown, count, "and")
 }
 
+fn push_item(out: &mut String, p: &Policy, item: &WorkItem) -> Result<(), AllocError> {
+    push_step(out, p, item.flow, item.step)?;
+    write!(out, " of case {}", item.case.0)
+}
+
 // Adds which cases an edit would strand.
 fn push_stranded(alloc: Global, out: &mut String, cases: &[CaseId]) -> Result<(), AllocError> {
-    match cases.len() {
-        0 => return out.push_str("it would strand no case"),
-        1 => out.push_str("it would strand case ")?,
-        _ => out.push_str("it would strand cases ")?,
+    if cases.is_empty() {
+        return out.push_str("it would strand no case");
     }
+    let what = if cases.len() == 1 { "case " } else { "cases " };
+    say(out, &["it would strand ", what])?;
     let count = cases.len().min(65_535) as u32;
     let shown = shown_of(count);
     for place in 0..shown {
@@ -140,16 +157,13 @@ fn push_stranded(alloc: Global, out: &mut String, cases: &[CaseId]) -> Result<()
     push_others(alloc, out, shown, count, "and")
 }
 
-fn push_again(alloc: Global, out: &mut String, rounds: u8, at: u32) -> Result<(), AllocError> {
-    out.push_str("could not be decided, since entries up to ")?;
-    push_number(alloc, out, at as u64)?;
-    out.push_str(" changed what it rests on, ")?;
-    push_number(alloc, out, rounds as u64)?;
-    out.push_str(if rounds == 1 {
-        " time; nothing changed"
-    } else {
-        " times; nothing changed"
-    })
+fn push_again(out: &mut String, rounds: u8, at: u32) -> Result<(), AllocError> {
+    let front = "could not be decided, since entries up to";
+    let times = if rounds == 1 { "time" } else { "times" };
+    write!(
+        out,
+        "{front} {at} changed what it rests on, {rounds} {times}; nothing changed"
+    )
 }
 
 // Adds why a line is no request.

@@ -16,71 +16,54 @@ pub fn push_ask(alloc: Global, out: &mut String, ask: &Ask) -> Result<(), AllocE
 
 fn push_request(alloc: Global, out: &mut String, request: &Request) -> Result<(), AllocError> {
     match request {
-        Request::OpenCase { flow } => say(out, &["somebody opens a case of ", flow.as_str()]),
+        Request::OpenCase { flow } => push_one(out, "somebody opens a case of ", flow, ""),
         Request::Claim { case, step, user } => {
-            push_deed(alloc, out, &[user.as_str(), " claims "], step, *case, "")
+            push_deed(alloc, out, user, " claims ", step, *case, "")
         }
         Request::Finish { case, step, user } => {
-            push_deed(alloc, out, &[user.as_str(), " finishes "], step, *case, "")
+            push_deed(alloc, out, user, " finishes ", step, *case, "")
         }
         Request::GiveBack { case, step, user } => {
-            push_deed(
-                alloc,
-                out,
-                &[user.as_str(), " gives "],
-                step,
-                *case,
-                " back",
-            )
+            push_deed(alloc, out, user, " gives ", step, *case, " back")
         }
         Request::Release { by, case, step } => {
-            let tail = " from its holder";
-            push_deed(alloc, out, &[by.as_str(), " takes "], step, *case, tail)
+            push_deed(alloc, out, by, " takes ", step, *case, " from its holder")
         }
-        Request::Withdraw { by, case } => {
-            say(out, &[by.as_str(), " ends case "])?;
-            push_number(alloc, out, case.0 as u64)
-        }
-        Request::Change { by, edit } => push_edit(out, &[by.as_str()], edit),
-        Request::Show { case } => {
-            out.push_str("case ")?;
-            push_number(alloc, out, case.0 as u64)?;
-            out.push_str(" is looked at")
-        }
-        Request::Worklist { user } => say(out, &[user.as_str(), " asks what there is to do"]),
-        Request::WhatIf { by, edit } => push_edit(out, &["what if ", by.as_str()], edit),
+        Request::Withdraw { by, case } => write!(out, "{} ends case {}", by.as_str(), case.0),
+        Request::Change { by, edit } => push_edit(out, "", by, edit),
+        Request::Show { case } => write!(out, "case {} is looked at", case.0),
+        Request::Worklist { user } => push_one(out, "", user, " asks what there is to do"),
+        Request::WhatIf { by, edit } => push_edit(out, "what if ", by, edit),
     }
 }
 
-// Adds what is done with a step of a case.
+// Adds what somebody does with a step of a case.
 fn push_deed(
     alloc: Global,
     out: &mut String,
-    front: &[&str],
+    user: &Name,
+    verb: &str,
     step: &Name,
     case: CaseId,
     tail: &str,
 ) -> Result<(), AllocError> {
-    say(out, front)?;
-    say(out, &[step.as_str(), " of case "])?;
+    say(out, &[user.as_str(), verb, step.as_str(), " of case "])?;
     push_number(alloc, out, case.0 as u64)?;
     out.push_str(tail)
 }
 
-// Adds what an edit does, behind who does it.
-fn push_edit(out: &mut String, front: &[&str], edit: &Edit) -> Result<(), AllocError> {
-    say(out, front)?;
+// Adds who edits, and what the edit does.
+fn push_edit(out: &mut String, front: &str, by: &Name, edit: &Edit) -> Result<(), AllocError> {
+    say(out, &[front, by.as_str()])?;
+    push_change(out, edit)
+}
+
+fn push_change(out: &mut String, edit: &Edit) -> Result<(), AllocError> {
     match edit {
-        Edit::AddUser { user } => say(out, &[" adds user ", user.as_str()]),
-        Edit::Leave { user } => say(out, &[" takes ", user.as_str(), " out (all roles)"]),
-        Edit::Enrol { role, user } => say(
-            out,
-            &[" gives the role ", role.as_str(), " to ", user.as_str()],
-        ),
-        Edit::Dismiss { role, user } => say(
-            out,
-            &[" takes the role ", role.as_str(), " from ", user.as_str()],
-        ),
+        Edit::AddUser { user } => push_one(out, " adds user ", user, ""),
+        Edit::Leave { user } => push_one(out, " takes ", user, " out (all roles)"),
+        Edit::Enrol { role, user } => push_two(out, " gives the role ", role, " to ", user),
+        Edit::Dismiss { role, user } => push_two(out, " takes the role ", role, " from ", user),
         Edit::Relate {
             first,
             relation,
@@ -93,8 +76,22 @@ fn push_edit(out: &mut String, front: &[&str], edit: &Edit) -> Result<(), AllocE
         } => push_pair(out, " takes ", first, second, " out of \"", relation),
         Edit::Permit { flow, role, step } => push_permit(out, " permits ", step, flow, role),
         Edit::Forbid { flow, role, step } => push_permit(out, " forbids ", step, flow, role),
-        Edit::Retire { flow } => say(out, &[" retires ", flow.as_str()]),
+        Edit::Retire { flow } => push_one(out, " retires ", flow, ""),
     }
+}
+
+fn push_one(out: &mut String, front: &str, name: &Name, end: &str) -> Result<(), AllocError> {
+    say(out, &[front, name.as_str(), end])
+}
+
+fn push_two(
+    out: &mut String,
+    front: &str,
+    one: &Name,
+    middle: &str,
+    other: &Name,
+) -> Result<(), AllocError> {
+    say(out, &[front, one.as_str(), middle, other.as_str()])
 }
 
 fn push_pair(

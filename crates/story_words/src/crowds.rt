@@ -2,7 +2,7 @@
 ghost use Rattle.std.specs.Prelude.{◌<◌, length};
 
 use crate::held::Held;
-use crate::names::{push_number, push_rules, push_users};
+use crate::names::{push_rules, push_users};
 use constraint_forms::Rule;
 use plain_words::{say, steps_text};
 use policy_book::Policy;
@@ -27,24 +27,63 @@ pub(crate) fn push_crowd(
             &["  In short: ", all.as_str(), " can be done by nobody.\n"],
         );
     }
-    say(out, &["  In short: ", all.as_str(), " want "])?;
-    push_number(alloc, out, steps.len() as u64)?;
-    out.push_str(" different people, and only ")?;
+    push_short_of(alloc, out, p, held, steps, all.as_str())
+}
+
+// Adds that some steps, of these names, want more different users than there are for them.
+fn push_short_of(
+    alloc: Global,
+    out: &mut String,
+    p: &Policy,
+    held: &Held,
+    steps: &[StepId],
+    names: &str,
+) -> Result<(), AllocError>
+    requires { held.now.flow < length p.now.flows }
+{
     let (users, is_given) = takers(p, held, steps);
-    push_number(alloc, out, users.count() as u64)?;
-    out.push_str(match (is_given, users.count()) {
-        (false, _) => " may do any of them: ",
-        (true, 1) => " has or may do any of them: ",
-        (true, _) => " have or may do any of them: ",
-    })?;
+    push_wanted(out, names, steps.len(), users.count(), is_given)?;
     push_users(alloc, out, p, &users, "and")?;
+    push_parting(alloc, out, p, held, steps)
+}
+
+// Adds how many different users some steps want, and how few there are for them.
+fn push_wanted(
+    out: &mut String,
+    steps: &str,
+    wanted: usize,
+    few: u32,
+    is_given: bool,
+) -> Result<(), AllocError> {
+    let may = match (is_given, few) {
+        (false, _) => "may do any of them",
+        (true, 1) => "has or may do any of them",
+        (true, _) => "have or may do any of them",
+    };
+    let people = "different people, and only";
+    write!(
+        out,
+        "  In short: {steps} want {wanted} {people} {few} {may}: "
+    )
+}
+
+// Adds by which rules some steps want different users, and ends the line.
+fn push_parting(
+    alloc: Global,
+    out: &mut String,
+    p: &Policy,
+    held: &Held,
+    steps: &[StepId],
+) -> Result<(), AllocError>
+    requires { held.now.flow < length p.now.flows }
+{
     let rules = parting(alloc, p, held, steps)?;
-    if !rules.as_slice().is_empty() {
-        out.push_str(" (")?;
-        push_rules(alloc, out, "rule", rules.as_slice())?;
-        out.push_str(")")?;
+    if rules.as_slice().is_empty() {
+        return out.push_str(".\n");
     }
-    out.push_str(".\n")
+    out.push_str(" (")?;
+    push_rules(alloc, out, "rule", rules.as_slice())?;
+    out.push_str(").\n")
 }
 
 // The users who have or may do one of the steps, and whether somebody has one.

@@ -1,18 +1,20 @@
 //! Why a request was denied, in words.
+ghost use Rattle.std.specs.Prelude.{◌<◌, length};
 
 use crate::about::{asker, case_of, relation_asked, step_asked};
 use crate::facts::push_broken;
 use crate::held::{held_in, held_with, place_asked};
 use crate::names::{
-    push_large, push_name, push_number, push_roles, push_step, push_steps, push_user, push_users,
+    push_large, push_number, push_roles, push_step, push_steps, push_user, push_users,
 };
 use crate::past::{Deed, push_which};
 use grant_table::Cases;
-use plain_words::{relation_name, say};
+use plain_words::{name_of, relation_name, say, text_of};
 use policy_book::Policy;
 use std::alloc::{AllocError, Global};
 use wf_names::{
-    CASE_LIMIT, CaseId, OPEN_CASE_LIMIT, PAIR_LIMIT, RelId, RoleId, StepState, USER_LIMIT, UserId,
+    CASE_LIMIT, CaseId, FlowId, Name, OPEN_CASE_LIMIT, PAIR_LIMIT, RelId, RoleId, StepId,
+    StepState, USER_LIMIT, UserId,
 };
 use wf_talk::{Ask, Denial, Entry, Missing, Request};
 
@@ -31,27 +33,44 @@ pub(crate) fn push_denial(
         Denial::NoFlow => say(out, &["there is no workflow \"", asker(ask), "\""]),
         Denial::Retired => say(out, &["no case of ", asker(ask), " is opened any more"]),
         Denial::Full => push_full(alloc, out, cases, ask),
-        Denial::Unsatisfiable { flow, .. } => {
-            push_name(out, p.flows(), flow.0 as u16)?;
-            out.push_str(" has no plan at all under the policy as it is")
-        }
+        Denial::Unsatisfiable { flow, .. } => push_planless(out, p, *flow),
         Denial::NoCase => push_case_words(alloc, out, "there is no case ", case_of(ask), ""),
         Denial::Closed => push_closed(alloc, out, cases, entries, ask),
         Denial::NoStep => push_no_step(out, p, cases, ask),
         Denial::NoUser => say(out, &["the policy has no user \"", asker(ask), "\""]),
         Denial::Taken(user) => push_taken(alloc, out, p, cases, entries, ask, *user),
-        Denial::Order { flow, step } => {
-            push_step(out, p, *flow, *step)?;
-            out.push_str(" comes before it and is not finished")
-        }
+        Denial::Order { flow, step } => push_before(out, p, *flow, *step),
         Denial::Role(roles) => push_role(alloc, out, p, cases, ask, roles.as_slice()),
-        Denial::Rule(k) => match held_with(p, cases, ask) {
-            Some(held) => push_broken(alloc, out, p, &held, *k, " would be broken", true),
-            None => out.push_str("a rule would be broken"),
-        },
+        Denial::Rule(k) => push_rule(alloc, out, p, cases, ask, *k),
         Denial::Stranded { .. } => out.push_str("after it, nobody could finish the case lawfully"),
         Denial::NotHeld(state) => push_not_held(out, p, *state),
         _ => push_edit_denial(alloc, out, p, ask, denial),
+    }
+}
+
+fn push_planless(out: &mut String, p: &Policy, f: FlowId) -> Result<(), AllocError> {
+    let flow = name_of(p.flows(), f.0 as u16);
+    let end = " has no plan at all under the policy as it is";
+    say(out, &[text_of(&flow), end])
+}
+
+fn push_before(out: &mut String, p: &Policy, f: FlowId, s: StepId) -> Result<(), AllocError> {
+    push_step(out, p, f, s)?;
+    out.push_str(" comes before it and is not finished")
+}
+
+// Adds which rule would be broken, and by whom.
+fn push_rule(
+    alloc: Global,
+    out: &mut String,
+    p: &Policy,
+    cases: &Cases,
+    ask: &Ask,
+    k: u8,
+) -> Result<(), AllocError> {
+    match held_with(p, cases, ask) {
+        Some(held) => push_broken(alloc, out, p, &held, k, " would be broken", true),
+        None => out.push_str("a rule would be broken"),
     }
 }
 
@@ -65,9 +84,12 @@ fn push_edit_denial(
 ) -> Result<(), AllocError> {
     match denial {
         Denial::NotAdmin => {
-            say(out, &[asker(ask), " does not have the role "])?;
-            push_name(out, p.roster().roles(), p.admin().0 as u16)?;
-            out.push_str(", which administers the policy")
+            let role = name_of(p.roster().roles(), p.admin().0 as u16);
+            let end = ", which administers the policy";
+            say(
+                out,
+                &[asker(ask), " does not have the role ", text_of(&role), end],
+            )
         }
         Denial::Unknown(what) => say(
             out,
@@ -112,26 +134,33 @@ fn push_case_words(
 
 // Adds which limit is reached.
 fn push_full(alloc: Global, out: &mut String, cases: &Cases, ask: &Ask) -> Result<(), AllocError> {
-    out.push_str("there is no room: ")?;
-    if let Some(relation) = relation_asked(ask) {
-        say(out, &["\"", relation.as_str(), "\" has "])?;
-        push_large(alloc, out, PAIR_LIMIT as u64)?;
-        return out.push_str(" pairs");
+    match relation_asked(ask) {
+        Some(relation) => {
+            say(out, &["there is no room: \"", relation.as_str(), "\" has "])?;
+            push_limit(alloc, out, PAIR_LIMIT as u64, " pairs")
+        }
+        None => {
+            let (limit, what) = limit_of(cases, ask);
+            out.push_str("there is no room: ")?;
+            push_limit(alloc, out, limit, what)
+        }
     }
+}
+
+// The limit that is reached, and what there are so many of.
+fn limit_of(cases: &Cases, ask: &Ask) -> (u64, &'static str) {
     match ask {
         Ask::Request(Request::OpenCase { .. }) if cases.live() >= OPEN_CASE_LIMIT => {
-            push_large(alloc, out, OPEN_CASE_LIMIT as u64)?;
-            out.push_str(" cases are open")
+            (OPEN_CASE_LIMIT as u64, " cases are open")
         }
-        Ask::Request(Request::OpenCase { .. }) => {
-            push_large(alloc, out, CASE_LIMIT as u64)?;
-            out.push_str(" cases were opened")
-        }
-        _ => {
-            push_large(alloc, out, USER_LIMIT as u64)?;
-            out.push_str(" users are known")
-        }
+        Ask::Request(Request::OpenCase { .. }) => (CASE_LIMIT as u64, " cases were opened"),
+        _ => (USER_LIMIT as u64, " users are known"),
     }
+}
+
+fn push_limit(alloc: Global, out: &mut String, limit: u64, what: &str) -> Result<(), AllocError> {
+    push_large(alloc, out, limit)?;
+    out.push_str(what)
 }
 
 // Adds how the case has ended, and by which entry.
@@ -159,15 +188,19 @@ fn push_no_step(out: &mut String, p: &Policy, cases: &Cases, ask: &Ask) -> Resul
     let Some((case, step)) = step_asked(ask) else {
         return out.push_str("there is no such step");
     };
-    let Some(held) = held_in(p, cases, case) else {
-        return say(out, &["there is no step \"", step.as_str(), "\""]);
-    };
-    push_name(out, p.flows(), held.flow.0 as u16)?;
-    say(
-        out,
-        &[" has no step \"", step.as_str(), "\"; its steps are "],
-    )?;
-    push_steps(out, p, held.flow)
+    match held_in(p, cases, case) {
+        Some(held) => push_own_steps(out, p, held.flow, step.as_str()),
+        None => say(out, &["there is no step \"", step.as_str(), "\""]),
+    }
+}
+
+fn push_own_steps(out: &mut String, p: &Policy, f: FlowId, step: &str) -> Result<(), AllocError>
+    requires { f < length p.now.flows }
+{
+    let flow = name_of(p.flows(), f.0 as u16);
+    let tail = "\"; its steps are ";
+    say(out, &[text_of(&flow), " has no step \"", step, tail])?;
+    push_steps(out, p, f)
 }
 
 // Adds who has the step.
@@ -203,20 +236,31 @@ fn push_role(
     ask: &Ask,
     roles: &[RoleId],
 ) -> Result<(), AllocError> {
-    say(out, &[asker(ask), " is not allowed to do it; "])?;
-    match roles.len() {
-        0 => return out.push_str("no role is"),
-        1 => out.push_str("the role ")?,
-        _ => out.push_str("the roles ")?,
+    let (front, verb) = match roles.len() {
+        0 => ("no role is", ""),
+        1 => ("the role ", " is ("),
+        _ => ("the roles ", " are ("),
+    };
+    say(out, &[asker(ask), " is not allowed to do it; ", front])?;
+    if roles.is_empty() {
+        return Ok(());
     }
     push_roles(out, p, roles)?;
-    out.push_str(if roles.len() == 1 { " is (" } else { " are (" })?;
-    match place_asked(p, cases, ask) {
-        Some(place) => {
-            let users = p.authorised_users(place.held.flow, place.step);
-            push_users(alloc, out, p, &users, "and")?;
-        }
-        None => {}
+    out.push_str(verb)?;
+    push_takers(alloc, out, p, cases, ask)
+}
+
+// Adds who may do the step that is asked for, and ends the bracket.
+fn push_takers(
+    alloc: Global,
+    out: &mut String,
+    p: &Policy,
+    cases: &Cases,
+    ask: &Ask,
+) -> Result<(), AllocError> {
+    if let Some(place) = place_asked(p, cases, ask) {
+        let users = p.authorised_users(place.held.flow, place.step);
+        push_users(alloc, out, p, &users, "and")?;
     }
     out.push_str(")")
 }
@@ -241,14 +285,18 @@ fn push_fixed(out: &mut String, p: &Policy, ask: &Ask) -> Result<(), AllocError>
     let Some(relation) = relation_asked(ask) else {
         return out.push_str("the pairs of the relation are not listed");
     };
-    say(out, &["\"", relation.as_str(), "\" is "])?;
     let rho = p.relations().find(&relation).unwrap_or(RelId::SAME);
     let of = p.relations().complement_of(rho).unwrap_or(RelId::SAME);
     match relation_name(p, of) {
-        Some(name) if of != RelId::SAME => {
-            say(out, &["the complement of \"", name.as_str(), "\""])?;
+        Some(name) if of != RelId::SAME => push_complement(out, &relation, &name),
+        _ => {
+            let end = "\" is built in: its pairs are not listed";
+            say(out, &["\"", relation.as_str(), end])
         }
-        _ => out.push_str("built in")?,
     }
-    out.push_str(": its pairs are not listed")
+}
+
+fn push_complement(out: &mut String, relation: &Name, of: &Name) -> Result<(), AllocError> {
+    let (middle, end) = ("\" is the complement of \"", "\": its pairs are not listed");
+    say(out, &["\"", relation.as_str(), middle, of.as_str(), end])
 }

@@ -5,12 +5,12 @@ ghost use Rattle.constraint_forms.specs.Rules.{are_unrelated, turned};
 ghost use Rattle.user_relations.specs.Relations.{is_related};
 
 use crate::held::Held;
-use crate::names::{push_number, push_step, push_user, push_users};
+use crate::names::push_users;
 use constraint_forms::{Assign, Rule, StepSet, falsified};
-use plain_words::{group_text, name_text, push_gap, relation_name, rule_text, say, step_text};
+use plain_words::{group_text, name_of, push_gap, relation_name, rule_text, say, text_of};
 use policy_book::Policy;
 use std::alloc::{AllocError, Global};
-use wf_names::{Name, RelId, STEP_LIMIT, StepId, USER_LIMIT, UserSet};
+use wf_names::{Name, RelId, STEP_LIMIT, StepId, USER_LIMIT, UserId, UserSet};
 
 // What a rule over a group wants: that those who do its steps are related to who does the step;
 // read back, that who does the step is related to them.
@@ -35,22 +35,47 @@ pub(crate) fn push_broken(
 ) -> Result<(), AllocError>
     requires { held.now.flow < length p.now.flows }
 {
-    out.push_str("rule ")?;
-    push_number(alloc, out, k as u64)?;
-    let Some(rule) = p.rules(held.flow).as_slice().get(k as usize) else {
-        return out.push_str(verb);
-    };
+    write!(out, "rule {k}")?;
+    match p.rules(held.flow).as_slice().get(k as usize) {
+        Some(rule) => push_verb(alloc, out, p, held, rule, verb, in_words),
+        None => out.push_str(verb),
+    }
+}
+
+fn push_verb(
+    alloc: Global,
+    out: &mut String,
+    p: &Policy,
+    held: &Held,
+    rule: &Rule,
+    verb: &str,
+    in_words: bool,
+) -> Result<(), AllocError>
+    requires { held.now.flow < length p.now.flows }
+{
     let is_broken = falsified(rule, p, &held.users);
     if in_words || !is_broken {
-        let words = rule_text(alloc, p, held.flow, rule)?;
-        say(out, &[" (", words.as_str(), ")"])?;
+        push_words(alloc, out, p, held, rule)?;
     }
-    out.push_str(verb)?;
-    if is_broken {
-        out.push_str(": ")?;
-        push_fact(alloc, out, p, held, rule)?;
+    if !is_broken {
+        return out.push_str(verb);
     }
-    Ok(())
+    say(out, &[verb, ": "])?;
+    push_fact(alloc, out, p, held, rule)
+}
+
+// Adds the words of a rule.
+fn push_words(
+    alloc: Global,
+    out: &mut String,
+    p: &Policy,
+    held: &Held,
+    rule: &Rule,
+) -> Result<(), AllocError>
+    requires { held.now.flow < length p.now.flows }
+{
+    let words = rule_text(alloc, p, held.flow, rule)?;
+    say(out, &[" (", words.as_str(), ")"])
 }
 
 // Adds who breaks a rule that is broken.
@@ -64,14 +89,12 @@ fn push_fact(
     requires { held.now.flow < length p.now.flows }
 {
     match *rule {
-        Rule::Pair { rho, first, second } => {
-            push_unrelated(alloc, out, p, held, rho, first, second)
-        }
+        Rule::Pair { rho, first, second } => { push_unrelated(out, p, held, rho, first, second) }
         Rule::AllOf { rho, group, step } => {
-            push_one(alloc, out, p, held, &wish_of(rho, &group, step, false))
+            push_one(out, p, held, &wish_of(rho, &group, step, false))
         }
         Rule::AllTo { rho, step, group } => {
-            push_one(alloc, out, p, held, &wish_of(rho, &group, step, true))
+            push_one(out, p, held, &wish_of(rho, &group, step, true))
         }
         Rule::SomeOf { rho, group, step } => {
             push_none(alloc, out, p, held, &wish_of(rho, &group, step, false))
@@ -95,7 +118,6 @@ fn wish_of(rho: RelId, group: &StepSet, step: StepId, back: bool) -> Wish {
 
 // Adds that the users of two steps are not related from the first to the second.
 fn push_unrelated(
-    alloc: Global,
     out: &mut String,
     p: &Policy,
     held: &Held,
@@ -108,27 +130,55 @@ fn push_unrelated(
     let (Some(u), Some(v)) = (held.users.at(first), held.users.at(second)) else {
         return Ok(());
     };
-    let users = p.roster().users();
-    let (u, v) = (name_text(alloc, users, u.0)?, name_text(alloc, users, v.0)?);
-    let x = step_text(alloc, p, held.flow, first)?;
-    let y = step_text(alloc, p, held.flow, second)?;
-    let (u, v, x, y) = (u.as_str(), v.as_str(), x.as_str(), y.as_str());
+    let (users, steps) = (p.roster().users(), p.flow(held.flow).steps());
+    let (u, v) = (name_of(users, u.0), name_of(users, v.0));
+    let x = name_of(steps, first.0 as u16);
+    let y = name_of(steps, second.0 as u16);
+    push_pair(
+        out,
+        p,
+        rho,
+        text_of(&u),
+        text_of(&x),
+        text_of(&v),
+        text_of(&y),
+    )
+}
+
+// Adds that `u`, who does `x`, is not related to `v`, who does `y`.
+fn push_pair(
+    out: &mut String,
+    p: &Policy,
+    rho: RelId,
+    u: &str,
+    x: &str,
+    v: &str,
+    y: &str,
+) -> Result<(), AllocError> {
     if rho == RelId::SAME {
         return say(out, &[u, " does ", x, ", but ", v, " does ", y]);
     }
     match listed_in(p, rho) {
         Some((lacks, name)) => {
             let verb = if lacks { "has" } else { "does not have" };
-            let relation = name.as_str();
-            say(
-                out,
-                &[
-                    u, " (", x, ") ", verb, " \"", relation, "\" to ", v, " (", y, ")",
-                ],
-            )
+            push_listed(out, verb, name.as_str(), u, x, v, y)
         }
         None => say(out, &[u, " would do both ", x, " and ", y]),
     }
+}
+
+// Adds that `u` has a listed relation to `v`, or does not have it.
+fn push_listed(
+    out: &mut String,
+    verb: &str,
+    relation: &str,
+    u: &str,
+    x: &str,
+    v: &str,
+    y: &str,
+) -> Result<(), AllocError> {
+    say(out, &[u, " (", x, ") ", verb, " \"", relation])?;
+    say(out, &["\" to ", v, " (", y, ")"])
 }
 
 // The name of the listed relation that a relation is or complements, and whether it complements it;
@@ -149,18 +199,12 @@ fn listed_in(p: &Policy, rho: RelId) -> Option<(bool, Name)> {
 }
 
 // Adds the first member of a group whose user is not related to that of the step.
-fn push_one(
-    alloc: Global,
-    out: &mut String,
-    p: &Policy,
-    held: &Held,
-    wish: &Wish,
-) -> Result<(), AllocError>
+fn push_one(out: &mut String, p: &Policy, held: &Held, wish: &Wish) -> Result<(), AllocError>
     requires { held.now.flow < length p.now.flows }
 {
     match first_unrelated(p, &held.users, wish) {
-        Some(x) if wish.back => push_unrelated(alloc, out, p, held, wish.rho, wish.step, x),
-        Some(x) => push_unrelated(alloc, out, p, held, wish.rho, x, wish.step),
+        Some(x) if wish.back => push_unrelated(out, p, held, wish.rho, wish.step, x),
+        Some(x) => push_unrelated(out, p, held, wish.rho, x, wish.step),
         None => Ok(()),
     }
 }
@@ -205,23 +249,49 @@ fn push_none(
         return Ok(());
     };
     if wish.group.count() < 2 {
-        return push_one(alloc, out, p, held, wish);
+        return push_one(out, p, held, wish);
     }
-    let doer = name_text(alloc, p.roster().users(), w.0)?;
-    let step = step_text(alloc, p, held.flow, wish.step)?;
+    let doer = name_of(p.roster().users(), w.0);
     match listed_in(p, wish.rho) {
         Some((lacks, name)) => push_lone(alloc, out, p, held, wish, lacks, name.as_str()),
         None if wish.rho == RelId::SAME => {
-            let others = group_text(alloc, p, held.flow, &wish.group, "nor")?;
-            let (w, s) = (doer.as_str(), step.as_str());
-            say(out, &[w, " does ", s, ", and neither ", others.as_str()])
+            push_neither(alloc, out, p, held, wish, text_of(&doer))
         }
-        None => {
-            let all = joined(&wish.group, wish.step);
-            let all = group_text(alloc, p, held.flow, &all, "and")?;
-            say(out, &[doer.as_str(), " would do ", all.as_str()])
-        }
+        None => push_all(alloc, out, p, held, wish, text_of(&doer)),
     }
+}
+
+// Adds that nobody of a group is who does the step.
+fn push_neither(
+    alloc: Global,
+    out: &mut String,
+    p: &Policy,
+    held: &Held,
+    wish: &Wish,
+    doer: &str,
+) -> Result<(), AllocError>
+    requires { held.now.flow < length p.now.flows }
+{
+    let step = name_of(p.flow(held.flow).steps(), wish.step.0 as u16);
+    let others = group_text(alloc, p, held.flow, &wish.group, "nor")?;
+    let (step, others) = (text_of(&step), others.as_str());
+    say(out, &[doer, " does ", step, ", and neither ", others])
+}
+
+// Adds that one user would do all of a group and the step.
+fn push_all(
+    alloc: Global,
+    out: &mut String,
+    p: &Policy,
+    held: &Held,
+    wish: &Wish,
+    doer: &str,
+) -> Result<(), AllocError>
+    requires { held.now.flow < length p.now.flows }
+{
+    let all = joined(&wish.group, wish.step);
+    let all = group_text(alloc, p, held.flow, &all, "and")?;
+    say(out, &[doer, " would do ", all.as_str()])
 }
 
 // Adds that nobody of a group has a listed relation to the user of the step, or that all have one
@@ -242,17 +312,32 @@ fn push_lone(
     } else {
         ("neither ", "nor")
     };
-    let single = joined(&StepSet::empty(), wish.step);
+    let verb = if lacks && !wish.back {
+        " have \""
+    } else {
+        " has \""
+    };
+    let one = doers_text(alloc, p, held, &joined(&StepSet::empty(), wish.step), "and")?;
+    let others = doers_text(alloc, p, held, &wish.group, last)?;
+    let (one, others) = (one.as_str(), others.as_str());
     if wish.back {
-        push_doers(out, p, held, &single, "and")?;
-        say(out, &[" has \"", name, "\" to ", front])?;
-        return push_doers(out, p, held, &wish.group, last);
+        push_has(out, "", one, verb, name, front, others)
+    } else {
+        push_has(out, front, others, verb, name, "", one)
     }
-    out.push_str(front)?;
-    push_doers(out, p, held, &wish.group, last)?;
-    let verb = if lacks { " have \"" } else { " has \"" };
-    say(out, &[verb, name, "\" to "])?;
-    push_doers(out, p, held, &single, "and")
+}
+
+// Adds who has a relation to whom.
+fn push_has(
+    out: &mut String,
+    front: &str,
+    who: &str,
+    verb: &str,
+    name: &str,
+    middle: &str,
+    whom: &str,
+) -> Result<(), AllocError> {
+    say(out, &[front, who, verb, name, "\" to ", middle, whom])
 }
 
 // A group with a step.
@@ -264,7 +349,21 @@ fn joined(group: &StepSet, s: StepId) -> StepSet {
     }
 }
 
-// Adds who would do each step of a group.
+// Who would do each step of a group.
+fn doers_text(
+    alloc: Global,
+    p: &Policy,
+    held: &Held,
+    group: &StepSet,
+    last: &str,
+) -> Result<String, AllocError>
+    requires { held.now.flow < length p.now.flows }
+{
+    let mut text = String::new(alloc);
+    push_doers(&mut text, p, held, group, last)?;
+    Ok(text)
+}
+
 fn push_doers(
     out: &mut String,
     p: &Policy,
@@ -279,14 +378,25 @@ fn push_doers(
     for x in 0..group.limit() {
         if let (true, Some(u)) = (group.has(StepId(x as u8)), held.users.at(StepId(x as u8))) {
             push_gap(out, place, count, last)?;
-            push_user(out, p, u)?;
-            out.push_str(" (")?;
-            push_step(out, p, held.flow, StepId(x as u8))?;
-            out.push_str(")")?;
+            push_doer(out, p, held, u, StepId(x as u8))?;
             place = place.saturating_add(1);
         }
     }
     Ok(())
+}
+
+fn push_doer(
+    out: &mut String,
+    p: &Policy,
+    held: &Held,
+    u: UserId,
+    s: StepId,
+) -> Result<(), AllocError>
+    requires { held.now.flow < length p.now.flows }
+{
+    let user = name_of(p.roster().users(), u.0);
+    let step = name_of(p.flow(held.flow).steps(), s.0 as u16);
+    say(out, &[text_of(&user), " (", text_of(&step), ")"])
 }
 
 // The steps of a group that are given to somebody, and to whom.
@@ -334,12 +444,10 @@ fn push_few(
     let open = group.count().saturating_sub(steps.count());
     let left = users.count().saturating_add(open as u32);
     let all = group_text(alloc, p, held.flow, group, "and")?;
-    out.push_str("only ")?;
-    push_number(alloc, out, left as u64)?;
-    out.push_str(if left == 1 {
-        " person is left for "
+    let people = if left == 1 {
+        "person is"
     } else {
-        " different people are left for "
-    })?;
-    out.push_str(all.as_str())
+        "different people are"
+    };
+    write!(out, "only {left} {people} left for {all}")
 }

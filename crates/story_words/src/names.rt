@@ -2,7 +2,7 @@
 ghost use Rattle.std.specs.Prelude.{◌<◌, length};
 
 use crate::held::is_flow;
-use plain_words::push_gap;
+use plain_words::{push_gap, say};
 use policy_book::Policy;
 use std::alloc::{AllocError, Global};
 use wf_names::{FlowId, NameTable, RoleId, StepId, UserId, UserSet};
@@ -145,8 +145,7 @@ pub(crate) fn push_rules(
 ) -> Result<(), AllocError> {
     let count = rules.len().min(256) as u32;
     let mut place = 0u32;
-    out.push_str(word)?;
-    out.push_str(if count == 1 { " " } else { "s " })?;
+    say(out, &[word, if count == 1 { " " } else { "s " }])?;
     for k in rules {
         push_gap(out, place, count, "and")?;
         push_number(alloc, out, *k as u64)?;

@@ -71,14 +71,26 @@ fn push_strands(
     entry: &Entry,
     telling: Telling,
 ) -> Result<(), AllocError> {
+    match edited(p, &entry.ask)? {
+        Some(after) => push_after(alloc, out, &after, cases, entry, telling),
+        None => Ok(()),
+    }
+}
+
+// The same, by the policy that the edit would have made.
+fn push_after(
+    alloc: Global,
+    out: &mut String,
+    after: &Policy,
+    cases: &Cases,
+    entry: &Entry,
+    telling: Telling,
+) -> Result<(), AllocError> {
     let Reply::Denied(Denial::Strands { case, tree, .. }) = &entry.reply else {
         return Ok(());
     };
-    let Some(after) = edited(p, &entry.ask)? else {
-        return Ok(());
-    };
-    match held_in(&after, cases, *case) {
-        Some(held) => push_told(alloc, out, &after, &held, tree.get(), telling),
+    match held_in(after, cases, *case) {
+        Some(held) => push_told(alloc, out, after, &held, tree.get(), telling),
         None => Ok(()),
     }
 }

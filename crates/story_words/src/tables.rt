@@ -2,13 +2,13 @@
 ghost use Rattle.std.specs.Prelude.{◌<◌, length};
 
 use crate::held::is_flow;
-use crate::names::{push_name, push_number, push_roles, push_user, push_users, roles_of};
+use crate::names::{push_roles, push_users, roles_of};
 use crate::past::{Deed, push_which};
 use case_record::Case;
-use plain_words::{say, step_text};
+use plain_words::{name_of, say, text_of};
 use policy_book::Policy;
 use std::alloc::{AllocError, Global};
-use wf_names::{CaseId, FlowId, NameTable, StepId, StepState};
+use wf_names::{CaseId, FlowId, NameTable, StepId, StepState, UserId};
 use wf_talk::Entry;
 
 /// Adds a line for each step of a case: its number, its name, and where it stands or who may do it.
@@ -40,32 +40,55 @@ fn push_step_line(
 ) -> Result<(), AllocError>
     requires { case.now.flow < length p.now.flows }
 {
-    out.push_str(if s.0 < 10 && case.steps() > 10 {
-        "   "
-    } else {
-        "  "
-    })?;
-    push_number(alloc, out, s.0 as u64)?;
-    let name = step_text(alloc, p, case.flow(), s)?;
-    say(out, &[" ", name.as_str(), "  "])?;
-    push_blanks(
-        out,
-        widest(p.flow(case.flow()).steps()).saturating_sub(name.len()),
-    )?;
+    let steps = p.flow(case.flow()).steps();
+    let name = name_of(steps, s.0 as u16);
+    push_front(out, case.steps(), s, text_of(&name), widest(steps))?;
+    push_state(alloc, out, p, case, number, entries, s)?;
+    out.push_str("\n")
+}
+
+// Adds the number and the name of a step, as wide as the other lines of the table.
+fn push_front(
+    out: &mut String,
+    count: u8,
+    s: StepId,
+    name: &str,
+    width: usize,
+) -> Result<(), AllocError> {
+    let blanks = if s.0 < 10 && count > 10 { "   " } else { "  " };
+    write!(out, "{blanks}{} {name:width$}  ", s.0)
+}
+
+// Adds where a step stands.
+fn push_state(
+    alloc: Global,
+    out: &mut String,
+    p: &Policy,
+    case: &Case,
+    number: CaseId,
+    entries: &[Entry],
+    s: StepId,
+) -> Result<(), AllocError>
+    requires { case.now.flow < length p.now.flows }
+{
+    let name = name_of(p.flow(case.flow()).steps(), s.0 as u16);
+    let name = text_of(&name);
     match case.state(s) {
-        StepState::Free => push_free(alloc, out, p, case.flow(), s)?,
+        StepState::Free => push_free(alloc, out, p, case.flow(), s),
         StepState::Held(user) => {
-            out.push_str("held by ")?;
-            push_user(out, p, user)?;
-            push_which(alloc, out, entries, number, Deed::Grant(name.as_str()))?;
+            push_by(out, "held by ", p, user)?;
+            push_which(alloc, out, entries, number, Deed::Grant(name))
         }
         StepState::Finished(user) => {
-            out.push_str("finished by ")?;
-            push_user(out, p, user)?;
-            push_which(alloc, out, entries, number, Deed::Finish(name.as_str()))?;
+            push_by(out, "finished by ", p, user)?;
+            push_which(alloc, out, entries, number, Deed::Finish(name))
         }
     }
-    out.push_str("\n")
+}
+
+fn push_by(out: &mut String, front: &str, p: &Policy, user: UserId) -> Result<(), AllocError> {
+    let user = name_of(p.roster().users(), user.0);
+    say(out, &[front, text_of(&user)])
 }
 
 // The length of the longest of the names.
@@ -75,13 +98,6 @@ fn widest(names: &NameTable) -> usize {
         width = width.max(names.name(n).as_str().len());
     }
     width
-}
-
-fn push_blanks(out: &mut String, count: usize) -> Result<(), AllocError> {
-    for _ in 0..count {
-        out.push_str(" ")?;
-    }
-    Ok(())
 }
 
 // Adds who may do a free step.

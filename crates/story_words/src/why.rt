@@ -5,6 +5,7 @@ use crate::crowds::push_crowd;
 use crate::held::{Held, fits};
 use crate::names::push_rules;
 use crate::trees::{push_holder, push_tree};
+use constraint_forms::Rule;
 use plain_words::rule_text;
 use policy_book::Policy;
 use refutation_tree::Tree;
@@ -91,12 +92,24 @@ fn push_rule_lines(
 {
     for k in rules {
         if let Some(rule) = p.rules(held.flow).as_slice().get(*k as usize) {
-            let words = rule_text(alloc, p, held.flow, rule)?;
-            let line = format!(in alloc; "  rule {k}: {words}\n")?;
-            out.push_str(line.as_str())?;
+            push_rule_line(alloc, out, p, held, rule, *k)?;
         }
     }
     Ok(())
+}
+
+fn push_rule_line(
+    alloc: Global,
+    out: &mut String,
+    p: &Policy,
+    held: &Held,
+    rule: &Rule,
+    k: u8,
+) -> Result<(), AllocError>
+    requires { held.now.flow < length p.now.flows }
+{
+    let words = rule_text(alloc, p, held.flow, rule)?;
+    write!(out, "  rule {k}: {words}\n")
 }
 
 // Adds that no rule is to blame, and who has lost a step.
