@@ -99,7 +99,7 @@ pub fn users_text(alloc: Global, p: &Policy, users: &UserSet) -> Result<String, 
     format!(in alloc; "{first} and {} others", count - NAMED)
 }
 
-// The names of so many of a set's users.
+// The names of a number of a set's users.
 fn first_users(
     alloc: Global,
     names: &NameTable,

@@ -124,8 +124,8 @@ const STALE: &str = r#"{"do":"open","flow":"pay"}
 {"do":"open","flow":"pay","lane":1}
 "#;
 
-/// Whether a claim is answered again where the policy was changed meanwhile: the dismissal waits for
-/// the claim to be searched for, and the claim until the dismissal is done.
+/// Whether a claim is answered again where the policy was changed meanwhile: the dismissal waits
+/// for the claim to be searched for, and the claim until the dismissal is done.
 pub fn stale_task_meets_its_commit<R: Threads + Wait + Sync>(
     rt: &R,
     alloc: Global,
@@ -139,8 +139,8 @@ pub fn stale_task_meets_its_commit<R: Threads + Wait + Sync>(
     writes(rt, alloc, STAFFED, STALE, holds, &parts)
 }
 
-/// Whether in each of eight lanes a case is opened, prepared by ann, and claimed by cyd. The openings
-/// and the claims are searched for outside the turns, but where there are no rounds.
+/// Whether in each of eight lanes a case is opened, prepared by ann, and claimed by cyd. The
+/// openings and the claims are searched for outside the turns, but where there are no rounds.
 pub fn eight_lanes_answer_each_line_once<R: Threads + Wait + Sync>(
     rt: &R,
     alloc: Global,
@@ -154,8 +154,8 @@ pub fn eight_lanes_answer_each_line_once<R: Threads + Wait + Sync>(
 }
 
 /// Whether they are where nobody watches, with one to eight searches: the first opening is searched
-/// for, and those beside it may be. Each claim has a plan at hand, which is the one of its case, and
-/// is searched for nowhere.
+/// for, and those beside it may be. Each claim has a plan at hand, which is the one of its case,
+/// and is searched for nowhere.
 pub fn plans_at_hand_answer_on_eight_lanes<R: Threads + Wait + Sync>(
     rt: &R,
     alloc: Global,
@@ -255,7 +255,8 @@ const PACTS: &str = r#"{"do":"open","flow":"pact"}
 {"do":"open","flow":"pact"}
 "#;
 
-/// Whether a session of two lanes writes what one of one lane does, where all lines are of one lane.
+/// Whether a session of two lanes writes what one of one lane does, where all lines are of one
+/// lane.
 pub fn long_lines_are_written_alike<R: Threads + Wait + Sync>(
     rt: &R,
     alloc: Global,

@@ -60,8 +60,8 @@ fn put_withdrawal(alloc: Global, case: u16, all: &mut String) -> Result<(), Allo
     all.push_str(line.as_str())
 }
 
-/// Whether no case is opened beside 1,024 others, and one again where one of them was withdrawn. The
-/// batch ends at 1,024 lines.
+/// Whether no case is opened beside 1,024 others, and one again where one of them was withdrawn.
+/// The batch ends at 1,024 lines.
 pub fn open_cases_are_limited(alloc: Global) -> Result<bool, AllocError> {
     let input = crowd(alloc)?;
     is_served(alloc, input.as_str(), &CROWD)

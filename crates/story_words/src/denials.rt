@@ -147,7 +147,7 @@ fn push_full(alloc: Global, out: &mut String, cases: &Cases, ask: &Ask) -> Resul
     }
 }
 
-// The limit that is reached, and what there are so many of.
+// The limit that is reached, and what it limits.
 fn limit_of(cases: &Cases, ask: &Ask) -> (u64, &'static str) {
     match ask {
         Ask::Request(Request::OpenCase { .. }) if cases.live() >= OPEN_CASE_LIMIT => {

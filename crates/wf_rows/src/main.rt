@@ -1,5 +1,5 @@
-//! Runs each row of its files over a source, a sink and a shelf in memory, and each trial that no row
-//! can say, and says which do not hold.
+//! Runs each row of its files over a source, a sink and a shelf in memory, and each trial that no
+//! row can say, and says which do not hold.
 #![tactic(auto)]
 
 mod disk;
