@@ -14,10 +14,11 @@ use crate::outside::{shelf_of, sink_of, source_of, with_pieces, words_of};
 use crate::row::{is_row, list, number, text};
 use crate::session::{is_legal, is_told_of};
 use crate::told::{is_fault_told, is_told};
-use crate::trials::{Found, try_lanes, try_parts, try_sessions};
+use crate::trials::{LANES, PARTS, try_lanes, try_parts, try_sessions};
 use std::alloc::{AllocError, AllocGlobal, Global};
 use std::fs;
 use std::rt::Files;
+use std::test::Fail;
 use toml::{Table, Value};
 use wf_outside::{MemShelf, MemSink, MemSource};
 use wf_server::{Report, run_alone};
@@ -39,7 +40,7 @@ const FILES: [&str; 8] = [
 // Whole sessions; and those of the examples, with what is told of them.
 const SESSIONS: [&str; 2] = ["sessions.toml", "stories.toml"];
 
-fn main(rt: HostRuntime) -> anyhow::Result<()> {
+fn main(rt: HostRuntime) -> Result<(), Fail> {
     for file in FILES {
         let rows = table_of(&rt, file)?;
         let holding = count_rows(&rt, rt.alloc(), &rows)?;
@@ -54,14 +55,15 @@ fn main(rt: HostRuntime) -> anyhow::Result<()> {
         let legal = count_sessions(&rt, rt.alloc(), &sessions)?;
         println!(rt; "{file}: {legal} sessions are legal")?;
     }
-    tell(&rt, &try_parts(&rt, rt.alloc()))?;
-    tell(&rt, &try_sessions(rt.alloc()))?;
-    tell(&rt, &try_lanes(&rt, rt.alloc()))
+    tell(&rt, &PARTS, &try_parts(&rt, rt.alloc())?)?;
+    tell(&rt, &trials::SESSIONS, &try_sessions(rt.alloc())?)?;
+    tell(&rt, &LANES, &try_lanes(&rt, rt.alloc())?)?;
+    Ok(())
 }
 
-// What was found by trials.
-fn tell(rt: &impl Print, found: &[Found]) -> anyhow::Result<()> {
-    for (name, right) in found {
+// What was found by trials of these names.
+fn tell(rt: &impl Print, names: &[&str], found: &[bool]) -> anyhow::Result<()> {
+    for (name, right) in names.iter().zip(found.iter()) {
         println!(rt; "{name}: {}", if *right { "right" } else { "WRONG" })?;
     }
     Ok(())
