@@ -1,5 +1,5 @@
 -- What views list of rows, one row after the other.
-use Rattle.std.proofs.Common.{◌≡◌, ℕ, ◌+◌, ◌<◌, true, false, Bool, List, [], ◌∷◌, ◌++◌, length, take, get_or, Option, None, Some, refl, sym, ap, subst, ◌∙◌}
+use Rattle.std.proofs.Common.{◌≡◌, ℕ, zero, suc, ◌+◌, ◌<◌, true, false, Bool, List, [], ◌∷◌, ◌++◌, length, take, get_or, Option, None, Some, refl, sym, ap, subst, ◌∙◌, arith}
 use Rattle.std.specs.Prelude.{MatchBool, is_some, option_map}
 use Rattle.std.proofs.lemmas.List.{append-nil}
 use Rattle.basics.proofs.Lists.{take_next}
@@ -21,12 +21,19 @@ use Rattle.wsp_solver.specs.Searches.{HasSolved}
 use Rattle.wsp_solver.specs.declared.search.Outcome.{Outcome}
 use Rattle.wsp_solver.specs.declared.search.Outcome.TheVariants as outcome
 use Rattle.wf_board.specs.Edition.{CanBeCompleted}
+use Rattle.wf_board.specs.Kept.{EachRow}
 use Rattle.wf_board.specs.States.{Numbered}
 use Rattle.wf_board.specs.Views.{AreThose, IsGrantable, Place, item_of, steps_from, steps_of}
 use Rattle.wf_board.proofs.Exact.{claimed_assigned}
 use Rattle.case_views.specs.Listing.{AreGrantable, AreStrandedIn, HasListed, IsWorkIn, is_plan, open_in}
 use Rattle.case_views.proofs.Editing.{open_append}
 use Rattle.case_views.proofs.Lists.{none_those, one_those, place, steps_append, steps_more, those_append}
+
+-- what holds of each row holds of one of them
+pub each_in : (P : Row → Type 0) (rows : List Row) (i : ℕ) (r : Row) → i < length rows → r ≡ get_or rows i r → EachRow P rows → P r
+each_in P [] i r below is each = absurd (omega arith)
+each_in P (x ∷ xs) zero r below is each = subst P (sym is) each.0
+each_in P (x ∷ xs) (suc i) r below is each = each_in P xs i r (omega arith) is each.1
 
 -- ---- work lists
 

@@ -1,4 +1,7 @@
 -- What was found of cases that stand alike.
+use Rattle.std.proofs.Common.{Bool, true, false, if◌then◌else◌, List, [], ◌∷◌, ◌++◌}
+use Rattle.std.specs.List.{All}
+use Rattle.std.proofs.lemmas.List.Elements.{All-push}
 use Rattle.refutation_tree.specs.Views.{shape_of}
 use Rattle.policy_book.specs.Shapes.{PolicyShape}
 use Rattle.policy_book.specs.Facts.{IsSoundPolicy}
@@ -18,3 +21,8 @@ pub told_of : (p : PolicyShape) (c : CaseShape) (o : Outcome) → IsSoundPolicy 
 told_of p c (outcome.Plan plan) sound found = (plan, found)
 told_of p c (outcome.Refuted tree) sound found =
     refutes_soundly (problem_of p c.flow) (assigned_of c) (finished_of c) (shape_of tree) (well_formed_any p c.flow sound) (finished_assigned c) found.refutes
+
+-- what holds of all still does with one more, or with none
+pub all_with : {X : Type 0} (P : X → Type 0) (xs : List X) (x : X) (b : Bool) → All P xs → P x → All P (if b then xs ++ x ∷ [] else xs)
+all_with P xs x true all one = All-push P xs x all one
+all_with P xs x false all one = all

@@ -1,10 +1,11 @@
 -- What lanes hold stays right while a schedule is gone through.
 use Rattle.std.proofs.Common.{◌≡◌, ℕ, zero, suc, ◌+◌, ◌-◌, ◌<◌, ◌≤◌, ◌⊎◌, inl, inr, Bool, true, false, List, [], ◌∷◌, ◌++◌, length, take, drop, map, get_or}
-use Rattle.std.proofs.Common.{slice_index_or, slice_set, Option, None, Some, append_assoc, append-nil, refl, sym, ap, subst, ◌∙◌, arith}
+use Rattle.std.proofs.Common.{slice_index_or, slice_set, replicate, Option, None, Some, append_assoc, append-nil, refl, sym, ap, subst, ◌∙◌, arith}
 use Rattle.std.specs.List.{filter}
 use Rattle.std.proofs.lemmas.List.{drop-append-le, drop-take, length-append, map-append, take-append-le}
 use Rattle.std.proofs.lemmas.List.Elements.{filter-append}
 use Rattle.std.proofs.Math.Seq.{drop-append_seam, take-length}
+use Rattle.wf_names.specs.declared.limits.TheConstants.{LANE_LIMIT}
 use Rattle.wf_talk.specs.declared.entry.Entry.{Entry}
 use Rattle.wf_talk.specs.declared.job.Job.{Job}
 use Rattle.wf_talk.specs.declared.reply.Reply.{Reply}
@@ -18,13 +19,14 @@ use Rattle.wf_desk.specs.declared.outcome.Outcome.{Outcome}
 use Rattle.wf_desk.specs.declared.outcome.Outcome.TheVariants as outcome
 use Rattle.wf_desk.specs.declared.task.Task.{Task}
 use Rattle.wf_desk.specs.declared.schedule.Event.{Event}
-use Rattle.wf_desk.specs.declared.schedule.Event.TheVariants.{Commit}
+use Rattle.wf_desk.specs.declared.schedule.Event.TheVariants.{Commit, Serve}
 use Rattle.wf_desk.specs.declared.schedule.Mark.{Mark}
+use Rattle.wf_desk.specs.declared.schedule.Mark.TheVariants.{NoJob, Served}
 use Rattle.wf_desk.specs.declared.schedule.Solved.{Solved}
 use Rattle.wf_desk.specs.Desks.{DeskShape, HasAdded, IsSoundDesk, served, state_after_first}
 use Rattle.wf_desk.specs.Commits.{HasCommitted, HasServed, IsTask, job_of_task, with_loss}
-use Rattle.wf_desk.specs.Schedules.{AreEventsOf, HasDone, HasDoneAll, HasGoneOn, HasGrown, Standing, held_by, lane_answers, lane_left, lane_of, mark_of}
-use Rattle.wf_desk.specs.Holding.{AreHeld, IsHeld}
+use Rattle.wf_desk.specs.Schedules.{AreEventsOf, HasDone, HasDoneAll, HasGoneOn, HasGrown, Standing, held_by, lane_answers, lane_left, lane_of, mark_of, no_tasks}
+use Rattle.wf_desk.specs.Holding.{AreHeld, IsHeld, standing}
 
 -- ---- more entries
 
@@ -166,6 +168,15 @@ held_none d held lane are m y is = by_read (read_put held lane m None y is)
     by_read (inl put) = let no = put.1 in cc
     by_read (inr before) = are m y before
 
+-- where there are no tasks, none is held
+nothing_held : (n lane : ℕ) → held_by (replicate n None) lane ≡ None
+nothing_held zero lane = refl
+nothing_held (suc n) zero = refl
+nothing_held (suc n) (suc lane) = nothing_held n lane
+
+pub none_held : (d : DeskShape) → AreHeld d no_tasks
+none_held d lane x is = let no = sym (nothing_held LANE_LIMIT lane) ∙ is in cc
+
 -- a task that was just taken is held
 pub begun_held : (d : DeskShape) (lane : ℕ) (x : Solved) → IsSoundDesk d → IsTask d lane x.task → Decides (book_on x.task.snap) x.task.ask x.verdict →
     IsHeld d lane x
@@ -224,3 +235,23 @@ pub committed_done : (s : Standing) (lane : ℕ) (x : Solved) (result : Outcome)
 committed_done s lane x outcome.NotNext m t is held done none = subst (λ k. HasDone s (Commit lane) k t) (sym is) (x, (held, (done, none)))
 committed_done s lane x outcome.Lost m t is held done none = subst (λ k. HasDone s (Commit lane) k t) (sym is) (x, (held, (done, none)))
 committed_done s lane x (outcome.Recorded place) m t is held done none = subst (λ k. HasDone s (Commit lane) k t) (sym is) (x, (held, (done, none)))
+
+-- there is an entry where a job was served
+pub served_some : (d e : DeskShape) (lane : ℕ) (any : Bool) → any ≡ true → HasServed d e lane any → 0 < length e.entries
+served_some d e lane any is done =
+    let served = subst (HasServed d e lane) is done in
+    let longer = ap length served.1.1.added ∙ length-append d.entries (served.1.1.entry ∷ []) in
+    omega (arith, longer)
+
+-- what serving a lane did, by its mark
+pub served_done : (d e : DeskShape) (held : List (Option Solved)) (lane place : ℕ) (any : Bool) → any ≡ true → HasServed d e lane any →
+    place + 1 ≡ length e.entries →
+    HasDone (standing d held) (Serve lane) (Served place) (standing e held)
+served_done d e held lane place any is done last =
+    let served = subst (HasServed d e lane) is done in
+    let longer = ap length served.1.1.added ∙ length-append d.entries (served.1.1.entry ∷ []) in
+    (served, (omega (arith, last, longer), refl))
+
+pub unserved_done : (d e : DeskShape) (held : List (Option Solved)) (lane : ℕ) (any : Bool) → any ≡ false → HasServed d e lane any →
+    HasDone (standing d held) (Serve lane) NoJob (standing e held)
+unserved_done d e held lane any is done = (subst (HasServed d e lane) is done, refl)

@@ -1,6 +1,18 @@
-use Rattle.std.proofs.Common.{◌∙◌, ◌++◌, ap}
-use Rattle.case_views.proofs.Listing.{work_more}
+use Rattle.std.proofs.Common.{◌∙◌, ◌++◌, ap, arith, subst, take_all}
+use Rattle.wf_board.specs.Kept.{IsOfPolicy, IsPlanned}
+use Rattle.case_views.specs.Listing.{IsWorkIn}
+use Rattle.case_views.proofs.Listing.{each_in, work_more}
 use Rattle.case_views.proofs.work_lists.work_in.Goals as goal
+
+pub work_at-requires-clause-known : goal.work_at-requires-clause-known
+work_at-requires-clause-known c =
+    each_in (λ r. IsOfPolicy c.args.p.now r.case) c.args.rows.now c.rows.i c.index-rows-i.result c.rows-test.true c.index-rows-i.is
+    c.requires.kept.cases
+
+pub work_at-requires-clause-planned : goal.work_at-requires-clause-planned
+work_at-requires-clause-planned c =
+    each_in (λ r. IsPlanned c.args.p.now r.case r.plan) c.args.rows.now c.rows.i c.index-rows-i.result c.rows-test.true c.index-rows-i.is
+    c.requires.kept.plans
 
 pub rows-preserved : goal.rows-preserved
 rows-preserved c = record {
@@ -9,3 +21,8 @@ rows-preserved c = record {
       (c.in_ok-push_all.ensures.pushed ∙ ap (λ l. c.rows.items ++ l) c.as_slice.ensures);
   right = c.in_ok-more.ensures.right;
 }
+
+pub returns : goal.returns
+returns c =
+    subst (λ rows. IsWorkIn c.args.p.now c.args.u rows c.rows.items)
+    (take_all c.rows.i c.args.rows.now (omega (arith, c.rows-test.false))) c.rows.invariant.work

@@ -1,10 +1,22 @@
-use Rattle.std.proofs.Common.{◌<◌, ◌++◌, ◌∷◌, [], ◌∙◌, get_or, take, sym, subst, arith}
+use Rattle.std.proofs.Common.{◌<◌, ◌++◌, ◌∷◌, [], ◌∙◌, get_or, take, refl, sym, ap, subst, take_all, arith}
 use Rattle.std.proofs.lemmas.List.{take_more}
 use Rattle.wf_desk.specs.declared.schedule.Event.TheVariants.{Begin}
-use Rattle.wf_desk.specs.Holding.{standing}
+use Rattle.wf_desk.specs.Holding.{AreHeld, standing}
 use Rattle.wf_desk.specs.Schedules.{HasDoneAll, lane_of, no_tasks}
-use Rattle.wf_desk.proofs.Scheduling.{done_more, grown_then, lane_in}
+use Rattle.wf_desk.proofs.Scheduling.{done_more, grown_none, grown_then, lane_in, none_held}
 use Rattle.wf_desk.proofs.schedule.run_all.Goals as goal
+
+pub events-init : goal.events-init
+events-init g c =
+    let d = c.args.desk.now in
+    record {
+      run = subst (λ ms. HasDoneAll (standing d no_tasks) [] ms (standing d c.no_tasks-held.result)) (sym c.requires.none)
+          (ap (standing d) c.no_tasks-held.ensures);
+      held = subst (AreHeld d) (sym c.no_tasks-held.ensures) (none_held d);
+      grown = grown_none d d refl;
+      count = c.requires.empty;
+      room = refl;
+    }
 
 pub take_turn-mark-requires-clause-lane : goal.take_turn-mark-requires-clause-lane
 take_turn-mark-requires-clause-lane g c =
@@ -34,3 +46,10 @@ events-preserved g c =
       count = omega (arith, c.push_reserved.ensures.len, inv.count);
       room = c.push_reserved.ensures.capacity ∙ inv.room;
     }
+
+pub returns-clause-run : goal.returns-clause-run
+returns-clause-run g c = (
+  c.events.held,
+  subst (λ es. HasDoneAll (standing c.args.desk.now no_tasks) es c.events.marks.items (standing c.events.desk c.events.held))
+      (take_all c.events.event-index c.args.events.now (omega (arith, c.events-test.false))) c.events.invariant.run,
+)
