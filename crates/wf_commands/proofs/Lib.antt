@@ -2,6 +2,7 @@ pub mod Values
 pub mod Solving
 pub mod Loading
 pub mod Runs
+pub mod Endings
 pub mod ItemsSaid
 pub mod CaseLaws
 pub mod Telling
