@@ -5,6 +5,7 @@ pub mod Runs
 pub mod Endings
 pub mod ItemsSaid
 pub mod CaseLaws
+pub mod StatesSaid
 pub mod Telling
 pub mod CnfRuns
 pub mod Plain
