@@ -1,12 +1,13 @@
 -- What the ending of a step says of the ending of its run.
-use Rattle.std.proofs.Common.{◌≡◌, ℕ, Result, Ok, Err, refl}
+use Rattle.std.proofs.Common.{◌≡◌, ℕ, Bool, true, false, Result, Ok, Err, refl, subst}
 use Rattle.std.specs.Prelude.{IsErrAnd, IfErr}
 use Rattle.wf_outside.specs.Outside.{Filed}
 use Rattle.run_record.specs.declared.fault.RunFault.{RunFault}
+use Rattle.run_record.specs.declared.fault.RunFault.TheVariants.{Usage}
 use Rattle.run_record.specs.Fault as ending
 use Rattle.run_record.specs.Fault.{How, how_of, fault_in, CountsLoads, CountsReadsAlone, LoadsSo, ReadsSoAlone}
 use Rattle.wf_commands.specs.Load.{EndsLoading, EndsTooLong, IsLoadEnding}
-use Rattle.wf_commands.specs.Answer.{EndsAnswering, EndsUnanswered, IsAnswerEnding, IsCommandEnding}
+use Rattle.wf_commands.specs.Answer.{ending_with, EndsAnswering, EndsUnanswered, IsAnswerEnding, IsCommandEnding}
 
 -- ---- no policy was loaded
 
@@ -80,3 +81,11 @@ pub loaded_loads : {A : Type 0} (result : Result A RunFault) (before after : ℕ
     → CountsLoads (fault_in result) before after
 loaded_loads (Ok a) before after ends same = same
 loaded_loads (Err e) before after ends same = no_loads (how_of e) before after ends same
+
+-- no ending of these is that of words that are no command
+pub answered_usage : (found : Bool) → ending_with found ≡ Usage → ⊥
+answered_usage true is = cc
+answered_usage false is = cc
+
+pub unanswered_usage : (fault : RunFault) → IsCommandEnding fault → fault ≡ Usage → ⊥
+unanswered_usage fault ends is = subst IsCommandEnding is ends
