@@ -2,8 +2,10 @@ pub mod Values
 pub mod Solving
 pub mod Loading
 pub mod Runs
+pub mod Endings
 pub mod ItemsSaid
 pub mod CaseLaws
+pub mod StatesSaid
 pub mod Telling
 pub mod CnfRuns
 pub mod Plain

@@ -2,6 +2,7 @@
 use Rattle.std.proofs.Common.{◌≡◌, ℕ, ◌+◌, ◌<◌, ◌≤◌, List, [], length, replicate, Result, Ok, Err, refl, subst, arith}
 use Rattle.std.proofs.lemmas.Bool.{le-ltb}
 use Rattle.std.proofs.lemmas.List.{length-replicate}
+use Rattle.std.specs.Prelude.{IsErrAnd}
 use Rattle.wf_names.specs.declared.limits.TheConstants.{POLICY_FILE_LIMIT}
 use Rattle.wf_outside.specs.declared.loaded.LoadFault.{LoadFault}
 use Rattle.wf_outside.specs.declared.loaded.LoadFault.TheVariants.{Failed, TooLong}
@@ -11,11 +12,12 @@ use Rattle.policy_book.specs.Shapes.{PolicyShape}
 use Rattle.policy_reader.specs.Files.{policy_of_file}
 use Rattle.run_record.specs.declared.fault.RunFault.{RunFault}
 use Rattle.run_record.specs.declared.fault.RunFault.TheVariants.{Load, NoMemory, FileTooLong}
+use Rattle.run_record.specs.declared.fault.RunFault.TheVariants as ending
 use Rattle.run_record.specs.Fault.{How, unasked, answered, misfiled, refused, unloaded, unread, unwritten, lacking, how_of}
 use Rattle.wf_commands.specs.declared.answer.Answer.{Answer}
 use Rattle.wf_commands.specs.Once.{OverPolicy}
 use Rattle.wf_commands.specs.Answer.{AnswersAs, AnswersFile, RefusesSo}
-use Rattle.wf_commands.specs.Load.{EndsTooLong, GivesBytes, GivesPolicy}
+use Rattle.wf_commands.specs.Load.{BytesOf, EndsTooLong, GivesBytes, GivesPolicy, PolicyOf}
 
 -- some bytes are more than the limit
 pub some_longer : (limit : ℕ) → (file : List ℕ) × limit < length file
@@ -50,6 +52,32 @@ other_named limit missing e fault other loads = tt
 other_named limit (told file) Failed fault other loads = λ long. let short : length file ≤ limit = loads in absurd (omega arith)
 other_named limit (told file) load.NoMemory fault other loads = λ long. let short : length file ≤ limit = loads in absurd (omega arith)
 other_named limit (told file) TooLong fault other loads = absurd (other refl)
+
+-- a file that was not loaded gives no policy
+unloaded_file : (file : List ℕ) (fault : RunFault) → BytesOf POLICY_FILE_LIMIT file (Err fault) → PolicyOf file (Err fault)
+unloaded_file file FileTooLong gives = gives
+unloaded_file file Load gives = gives
+unloaded_file file NoMemory gives = gives
+unloaded_file file ending.Nothing gives = absurd gives
+unloaded_file file ending.Found gives = absurd gives
+unloaded_file file ending.Usage gives = absurd gives
+unloaded_file file (ending.Policy e) gives = absurd gives
+unloaded_file file ending.Read gives = absurd gives
+unloaded_file file ending.Write gives = absurd gives
+unloaded_file file (ending.LineTooLong line) gives = absurd gives
+unloaded_file file ending.TooManyLines gives = absurd gives
+unloaded_file file (ending.BadInput e) gives = absurd gives
+unloaded_file file ending.TooLarge gives = absurd gives
+
+unloaded_gives : (f : Filed) (fault : RunFault) → GivesBytes POLICY_FILE_LIMIT f (Err fault) → GivesPolicy f (Err fault)
+unloaded_gives untold fault gives = (gives.0, unloaded_file gives.0 fault gives.1)
+unloaded_gives missing fault gives = cc
+unloaded_gives (told file) fault gives = unloaded_file file fault gives
+
+pub unloaded_policy : (f : Filed) (result : Result PolicyShape RunFault) (fault : RunFault) → IsErrAnd result (λ e. e ≡ fault)
+    → GivesBytes POLICY_FILE_LIMIT f (Err fault) → GivesPolicy f result
+unloaded_policy f (Ok p) fault is gives = absurd is
+unloaded_policy f (Err e) fault is gives = rw is (unloaded_gives f fault gives)
 
 pub policy_named : (f : Filed) (p : PolicyShape) (fault : RunFault) → GivesPolicy f (Ok p) → EndsTooLong POLICY_FILE_LIMIT f fault
 policy_named untold p fault gives = tt

@@ -14,10 +14,11 @@ use Rattle.wf_board.specs.declared.verdict.Verdict.{Verdict}
 use Rattle.wf_board.specs.Boards.{book_on}
 use Rattle.wf_board.specs.Verdicts.{Decides}
 use Rattle.wf_desk.specs.declared.outcome.Outcome.{Outcome}
+use Rattle.wf_desk.specs.declared.outcome.Outcome.TheVariants as outcome
 use Rattle.wf_desk.specs.declared.tabled.Fixed.{Fixed}
 use Rattle.wf_desk.specs.declared.task.Task.{Task}
 use Rattle.wf_desk.specs.Desks.{DeskShape, HasAdded, next_job, served}
-use Rattle.wf_desk.specs.Commits.{HasCommitted, HasPlanned, HasServed, IsRightFor, IsTask}
+use Rattle.wf_desk.specs.Commits.{job_of_task, HasCommitted, HasPlanned, HasServed, IsRightFor, IsTask}
 use Rattle.wf_desk.proofs.DocketLaws as docket
 use Rattle.wf_desk.specs.Schedules.{HasGrown}
 use Rattle.wf_desk.specs.Tabled.{fixed_of, tagged, tagged_of}
@@ -101,6 +102,12 @@ grows_begun d e lane begun.Served done = grows_served d e lane done.1
 grows_begun d e lane begun.Planned done = grows_planned d e lane done.1
 grows_begun d e lane begun.Lacking done = grows_served d e lane done.1
 grows_begun d e lane begun.Ended done = grows_same lane d e done.1
+
+pub grows_committed : (d e : DeskShape) (lane : ℕ) (t : Task) (v : Verdict) (result : Outcome) → t.lane ≡ lane → HasCommitted d e t v result
+    → GrowsByOne lane (tagged_of e) (tagged_of d)
+grows_committed d e lane t v outcome.NotNext own done = grows_same lane d e done.1
+grows_committed d e lane t v outcome.Lost own done = inl (ap tagged_of done.1.1.1.1)
+grows_committed d e lane t v (outcome.Recorded place) own done = grows_added lane d e (job_of_task t) place _ own done.1
 
 -- ---- what no turn changes
 

@@ -3,7 +3,7 @@ use Rattle.wf_commands.proofs.load.load_file.Goals as goal
 
 pub returns-in-Err-TooLong-clause-bytes : goal.returns-in-Err-TooLong-clause-bytes
 returns-in-Err-TooLong-clause-bytes g c =
-    too_long_given c.args.limit (g.F.Shelf.file c.args.shelf.now c.args.name.now) c.in-Err-TooLong.field-0 (let is = c.in-Err-TooLong.field-0-is in cc)
+    too_long_given c.args.limit (g.F.Shelf.file c.args.shelf.now c.args.name.now) c.in-Err-TooLong.field-0 c.in-Err-TooLong.field-0-is
     c.in-Err-TooLong.ensures.loaded
 
 pub returns-in-Err-TooLong-clause-named : goal.returns-in-Err-TooLong-clause-named
@@ -11,7 +11,7 @@ returns-in-Err-TooLong-clause-named g c = too_long_named c.args.limit (g.F.Shelf
 
 pub returns-in-Err-Failed-clause-bytes : goal.returns-in-Err-Failed-clause-bytes
 returns-in-Err-Failed-clause-bytes g c =
-    failed_given c.args.limit (g.F.Shelf.file c.args.shelf.now c.args.name.now) c.in-Err-Failed.field-0 (let is = c.in-Err-Failed.field-0-is in cc)
+    failed_given c.args.limit (g.F.Shelf.file c.args.shelf.now c.args.name.now) c.in-Err-Failed.field-0 c.in-Err-Failed.field-0-is
     c.in-Err-Failed.ensures.loaded
 
 pub returns-in-Err-Failed-clause-named : goal.returns-in-Err-Failed-clause-named
@@ -21,7 +21,7 @@ returns-in-Err-Failed-clause-named g c =
 
 pub returns-in-Err-NoMemory-clause-bytes : goal.returns-in-Err-NoMemory-clause-bytes
 returns-in-Err-NoMemory-clause-bytes g c =
-    lacking_given c.args.limit (g.F.Shelf.file c.args.shelf.now c.args.name.now) c.in-Err-NoMemory.field-0 (let is = c.in-Err-NoMemory.field-0-is in cc)
+    lacking_given c.args.limit (g.F.Shelf.file c.args.shelf.now c.args.name.now) c.in-Err-NoMemory.field-0 c.in-Err-NoMemory.field-0-is
     c.in-Err-NoMemory.ensures.loaded
 
 pub returns-in-Err-NoMemory-clause-named : goal.returns-in-Err-NoMemory-clause-named

@@ -1,5 +1,6 @@
-use Rattle.std.proofs.Common.{List, ℕ, refl, subst, ◌∙◌}
+use Rattle.std.proofs.Common.{List, ℕ, refl, sym, subst, ◌∙◌}
 use Rattle.wf_outside.specs.Outside.{HasPart}
+use Rattle.wf_commands.proofs.Endings.{answered_usage, unanswered_usage}
 use Rattle.wf_commands.proofs.Runs.{with_answer, with_part, without_answer}
 use Rattle.wf_commands.proofs.once.answer_once.Goals as goal
 
@@ -41,3 +42,20 @@ returns-clause-answers g c =
     (without_answer (g.A.Answers.limit c.args.command.now) c.args.policy.now (g.A.Answers.answers c.args.command.now) _ c.in-Err.ensures.answer
     c.in-Err.ensures.ending c.in-Err.ensures.named c.in-Err.ensures.loads c.in-Err.ensures.reads c.in-Err.ensures.input
     (record { output = refl; writes = refl; untold = refl }))
+
+pub returns-in-Ok-put_and_flush-clause-usage : goal.returns-in-Ok-put_and_flush-clause-usage
+returns-in-Ok-put_and_flush-clause-usage g c =
+    λ is. answered_usage c.in-Ok.answer.found (sym (c.bare_report.ensures.fault ∙ c.ending.ensures) ∙ is)
+
+pub returns-in-Ok-put_and_flush-clause-untouched : goal.returns-in-Ok-put_and_flush-clause-untouched
+returns-in-Ok-put_and_flush-clause-untouched g c = c.in-Ok.ensures.untouched
+
+pub returns-in-Ok-clause-untouched : goal.returns-in-Ok-clause-untouched
+returns-in-Ok-clause-untouched g c = c.in-Ok.ensures.untouched
+
+pub returns-clause-usage : goal.returns-clause-usage
+returns-clause-usage g c =
+    λ is. unanswered_usage _ c.in-Err.ensures.ending (sym c.bare_report-in-Err.ensures.fault ∙ is)
+
+pub returns-clause-untouched : goal.returns-clause-untouched
+returns-clause-untouched g c = c.in-Err.ensures.untouched

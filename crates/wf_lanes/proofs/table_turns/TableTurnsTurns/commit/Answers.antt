@@ -1,4 +1,4 @@
-use Rattle.wf_lanes.proofs.Turning.{begun_right, fixed_committed, has_turned, idle_after, quiet_starts}
+use Rattle.wf_lanes.proofs.Turning.{begun_right, fixed_committed, grows_committed, has_turned, idle_after, may_give, quiet_starts}
 use Rattle.wf_lanes.proofs.table_turns.TableTurnsTurns.commit.Goals as goal
 
 pub commit_at-outcome-requires-clause-right : goal.commit_at-outcome-requires-clause-right
@@ -6,6 +6,13 @@ commit_at-outcome-requires-clause-right g c =
     begun_right c.args.self.now.lane c.args.self.now.number c.args.task.now c.args.verdict c.take-later.result c.requires.begun c.requires.right
     c.take-later.ensures.fixed
     (quiet_starts _ _ _ c.take-later.ensures.list)
+
+pub give-requires-clause-list : goal.give-requires-clause-list
+give-requires-clause-list g c =
+    may_give c.args.self.now.lane c.take-later.new.lane c.take-later.result c.commit_at-outcome.new.desk c.args.self.now.number c.requires.fits.1.number
+    c.take-later.ensures.lane
+    (grows_committed c.take-later.result c.commit_at-outcome.new.desk c.args.self.now.number c.args.task.now c.args.verdict c.commit_at-outcome.result
+    c.requires.begun.1.1.0.lane c.commit_at-outcome.ensures)
 
 pub returns-clause-fits : goal.returns-clause-fits
 returns-clause-fits g c = (
