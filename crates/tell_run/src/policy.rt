@@ -51,10 +51,7 @@ fn tell_file(alloc: Global, policy: &str, bytes: &[u8]) -> Result<Answer, AllocE
     ensures { IfOk result (λ answer. JudgesFile bytes.now answer.found) }
 {
     match policy_reader::read(alloc, bytes) {
-        Ok(p) => {
-            let answer = tell_policy(alloc, policy, &p)?;
-            Ok(answer)
-        }
+        Ok(p) => tell_policy(alloc, policy, &p),
         Err(fault) => tell_fault(alloc, policy, bytes, &fault),
     }
 }

@@ -41,8 +41,10 @@ impl From<AllocError> for Unread {
 pub(crate) fn read_words<'a>(alloc: Global, words: &'a [String]) -> Result<Asked<'a>, Unread>
     ensures { IfOk result CanTell }
 {
-    let mut command = form(alloc)?;
-    read_by(alloc, &mut command, words)
+    match form(alloc) {
+        Ok(mut command) => read_by(alloc, &mut command, words),
+        Err(e) => Err(Unread::from(e)),
+    }
 }
 
 // What the words ask for, by the form.
@@ -84,15 +86,11 @@ fn bare_form<'a>(alloc: Global) -> Result<Command<'a>, AllocError> {
         .bin_name("wftell")
 }
 
-// The forms of the commands: about a policy, and about a transcript.
+// The forms of the commands: about a policy, about the entries of a transcript, and about what
+// stands behind them.
 fn push_forms<'a>(alloc: Global, forms: &mut Vec<Command<'a>>) -> Result<(), AllocError> {
     push_form(forms, policy_form(alloc))?;
     push_form(forms, why_form(alloc))?;
-    push_story_forms(alloc, forms)
-}
-
-// The forms of the commands about the entries of a transcript, and about what stands behind them.
-fn push_story_forms<'a>(alloc: Global, forms: &mut Vec<Command<'a>>) -> Result<(), AllocError> {
     push_form(forms, log_form(alloc))?;
     push_form(forms, entry_form(alloc))?;
     push_form(forms, now_form(alloc))?;
@@ -103,10 +101,8 @@ fn push_form<'a>(
     forms: &mut Vec<Command<'a>>,
     form: Result<Command<'a>, AllocError>,
 ) -> Result<(), AllocError> {
-    match form {
-        Ok(form) => Ok(forms.push(form)?),
-        Err(e) => Err(e),
-    }
+    forms.push(form?)?;
+    Ok(())
 }
 
 fn policy_form<'a>(alloc: Global) -> Result<Command<'a>, AllocError> {
@@ -119,8 +115,10 @@ fn policy_form<'a>(alloc: Global) -> Result<Command<'a>, AllocError> {
 fn why_form<'a>(alloc: Global) -> Result<Command<'a>, AllocError> {
     let about = "A plan of a workflow, or which rules cannot be met together";
     let flow = "The name of a workflow of the policy";
-    let words = vec![in alloc; file_word(alloc), text_word(alloc, "FLOW", flow)]?;
-    Command::new(alloc, "why").about(about).args(words)
+    Command::new(alloc, "why")
+        .about(about)
+        .arg(file_word(alloc))?
+        .arg(text_word(alloc, "FLOW", flow))
 }
 
 fn log_form<'a>(alloc: Global) -> Result<Command<'a>, AllocError> {
@@ -206,26 +204,21 @@ fn ranged<'a>(
 fn asked_in<'a>(matches: &ArgMatches<'a>) -> Option<Asked<'a>>
     ensures { IfSome result CanTell }
 {
-    let (name, found) = matches.subcommand()?;
-    match name {
-        "policy" => Some(Asked::Policy {
+    match matches.subcommand() {
+        Some(("policy", found)) => Some(Asked::Policy {
             policy: found.get_str("POLICY")?,
         }),
-        "why" => Some(Asked::Why {
+        Some(("why", found)) => Some(Asked::Why {
             policy: found.get_str("POLICY")?,
             flow: found.get_str("FLOW")?,
         }),
-        _ => told_in(name, found),
+        Some((name, found)) => {
+            let what = what_in(name, found)?;
+            let session = files_in(found)?;
+            Some(Asked::Told { what, session })
+        }
+        None => None,
     }
-}
-
-// What is asked about a transcript.
-fn told_in<'a>(name: &str, found: &ArgMatches<'a>) -> Option<Asked<'a>>
-    ensures { IfSome result CanTell }
-{
-    let what = what_in(name, found)?;
-    let session = files_in(found)?;
-    Some(Asked::Told { what, session })
 }
 
 // What is to be told of a transcript.
@@ -253,8 +246,11 @@ fn files_in<'a>(found: &ArgMatches<'a>) -> Option<Files<'a>>
     ensures some { IfSome result (λ s. 0 < s.lanes) }
     ensures lanes { IfSome result (λ s. s.lanes ≤ LANE_LIMIT) }
 {
-    let lanes = lanes_in(found)?;
+    let lanes = small_in(found, "lanes")?;
     let rounds = small_in(found, "rounds")?;
+    if lanes == 0 || lanes > LANE_LIMIT {
+        return None;
+    }
     Some(Files {
         policy: found.get_str("POLICY")?,
         requests: found.get_str("REQUESTS")?,
@@ -262,17 +258,6 @@ fn files_in<'a>(found: &ArgMatches<'a>) -> Option<Files<'a>>
         lanes,
         rounds,
     })
-}
-
-fn lanes_in(found: &ArgMatches<'_>) -> Option<u8>
-    ensures some { IfSome result (λ n. 0 < n) }
-    ensures lanes { IfSome result (λ n. n ≤ LANE_LIMIT) }
-{
-    let lanes = small_in(found, "lanes")?;
-    if lanes == 0 || lanes > LANE_LIMIT {
-        return None;
-    }
-    Some(lanes)
 }
 
 fn small_in(found: &ArgMatches<'_>, name: &str) -> Option<u8> {
