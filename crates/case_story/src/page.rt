@@ -59,8 +59,8 @@ fn tell_audited(
     audited: &Audited,
     is_there: bool,
 ) -> Result<Answer, RunFault>
-    ensures tells { AnswersAs (TellsBy (codes "<!-- ") audited.now.verdict (codes " -->\n") is_there)
-        result }
+    ensures tells { AnswersAs (TellsBy (codes "<!-- ") audited.now.verdict (codes " -->\n")
+        is_there) result }
     ensures ending { IfErr result IsAnswerEnding }
 {
     let body = finish(alloc, page, audited)?;
