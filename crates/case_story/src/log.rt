@@ -1,13 +1,13 @@
 //! The command `log`: a line in words for each entry.
-ghost use Rattle.std.specs.Prelude.{IfErr};
+ghost use Rattle.std.specs.Prelude.{[], true, codes, IfErr};
 ghost use Rattle.wf_commands.specs.Answer.{AnswersAs, IsAnswerEnding};
 ghost use Rattle.case_story.specs.Sessions.{IsServed};
-ghost use Rattle.case_story.specs.Printed.{TellsLog};
+ghost use Rattle.case_story.specs.Printed.{TellsBy, TellsLog};
 
 use crate::answer::{push_wrong, tell_by};
 use crate::follow::Watches;
 use crate::session::Session;
-use crate::whole::audit_whole;
+use crate::whole::{Audited, audit_whole};
 use plain_words::say;
 use run_record::RunFault;
 use std::alloc::{AllocError, Global};
@@ -65,8 +65,20 @@ pub(crate) fn tell_log(alloc: Global, s: &Session) -> Result<Answer, RunFault>
         text: String::new(alloc),
     };
     let audited = audit_whole(alloc, s, &mut log)?;
+    tell_audited(alloc, s, &mut log.text, &audited)
+}
+
+// Tells what the audit found, and these lines with the one that is wrong.
+fn tell_audited(
+    alloc: Global,
+    s: &Session,
+    lines: &mut String,
+    audited: &Audited,
+) -> Result<Answer, RunFault>
+    ensures tells { AnswersAs (TellsBy [] audited.now.verdict (codes "\n") true) result }
+    ensures ending { IfErr result IsAnswerEnding }
+{
     let text = s.transcript.as_bytes();
-    push_wrong(alloc, &mut log.text, audited.verdict, text, &audited.place)?;
-    let body = log.text.as_str();
-    tell_by(alloc, "", audited.verdict, "\n", true, body)
+    push_wrong(alloc, lines, audited.verdict, text, &audited.place)?;
+    tell_by(alloc, "", audited.verdict, "\n", true, lines.as_str())
 }

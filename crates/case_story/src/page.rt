@@ -1,15 +1,15 @@
 //! The command `page`: one case as a page that stands alone.
-ghost use Rattle.std.specs.Prelude.{◌≡◌, IfOk, nat_lt, IfErr};
+ghost use Rattle.std.specs.Prelude.{◌≡◌, nat_lt, codes, IfErr};
 ghost use Rattle.transcript_audit.specs.Auditor.{state_now};
 ghost use Rattle.wf_commands.specs.Answer.{AnswersAs, IsAnswerEnding};
 ghost use Rattle.case_story.specs.Sessions.{IsServed};
-ghost use Rattle.case_story.specs.Printed.{TellsPage};
+ghost use Rattle.case_story.specs.Printed.{TellsBy, TellsPage};
 
 use crate::answer::tell_by;
 use crate::case_page::Page;
 use crate::follow::Watches;
 use crate::session::Session;
-use crate::whole::audit_whole;
+use crate::whole::{Audited, audit_whole};
 use run_record::RunFault;
 use std::alloc::{AllocError, Global};
 use transcript_audit::Auditor;
@@ -49,8 +49,21 @@ pub(crate) fn tell_page(alloc: Global, s: &Session, case: CaseId) -> Result<Answ
     };
     let audited = audit_whole(alloc, s, &mut rows)?;
     let is_there = was_opened(&audited.auditor, case);
-    let words = audited.verdict.words(alloc)?;
-    let body = finish(alloc, &rows.page, &audited.auditor, words.as_str())?;
+    tell_audited(alloc, &rows.page, &audited, is_there)
+}
+
+// Tells a case by what the audit found, if it is there.
+fn tell_audited(
+    alloc: Global,
+    page: &Page,
+    audited: &Audited,
+    is_there: bool,
+) -> Result<Answer, RunFault>
+    ensures tells { AnswersAs (TellsBy (codes "<!-- ") audited.now.verdict (codes " -->\n")
+        is_there) result }
+    ensures ending { IfErr result IsAnswerEnding }
+{
+    let body = finish(alloc, page, audited)?;
     tell_by(
         alloc,
         "<!-- ",
@@ -69,14 +82,10 @@ fn was_opened(auditor: &Auditor, case: CaseId) -> bool
 }
 
 // The page as a text; empty where the case is not there.
-fn finish(
-    alloc: Global,
-    page: &Page,
-    auditor: &Auditor,
-    verdict: &str,
-) -> Result<String, AllocError> {
-    let board = auditor.board();
-    match page.finish(alloc, board.policy(), board.cases(), verdict)? {
+fn finish(alloc: Global, page: &Page, audited: &Audited) -> Result<String, AllocError> {
+    let board = audited.auditor.board();
+    let words = audited.verdict.words(alloc)?;
+    match page.finish(alloc, board.policy(), board.cases(), words.as_str())? {
         Some(text) => Ok(text),
         None => Ok(String::new(alloc)),
     }

@@ -1,9 +1,11 @@
 -- What is known once it is told whether workflows can be done.
-use Rattle.std.proofs.Common.{◌≡◌, ◌≢◌, refl, sym, subst, ℕ, ◌+◌, ◌<◌, Bool, true, false, ◌||◌, List, length, Ok, ◌⊎◌, inl, inr, eqb, arith}
+use Rattle.std.proofs.Common.{◌≡◌, ◌≢◌, refl, sym, subst, ℕ, ◌+◌, ◌<◌, Bool, true, false, ◌||◌, List, length, ◌⊎◌, inl, inr, eqb, arith}
+use Rattle.std.proofs.Common.{Result, Ok, Err, IfOk}
 use Rattle.std.proofs.lemmas.Bool.{false≢true}
 use Rattle.std.proofs.lemmas.Bool.Decides.{eqb_tells}
 use Rattle.policy_book.specs.Shapes.{PolicyShape}
 use Rattle.policy_reader.specs.Files.{policy_of_file}
+use Rattle.wf_commands.specs.declared.answer.Answer.{Answer}
 use Rattle.tell_run.specs.Policy.{CanAllBeDone, JudgesFile}
 use Rattle.tell_run.specs.Why.{CanBeDone}
 
@@ -24,3 +26,9 @@ pub judged : (p : PolicyShape) (file : List ℕ) (lacks tells : Bool) → (lacks
 judged p file true tells all is = tt
 judged p file false true all is = tt
 judged p file false false all is = (p, is, all refl)
+
+-- what is told of a policy is told of the file that it is
+pub judged_read : {E : Type 0} (file : List ℕ) (p : PolicyShape) (result : Result Answer E) → policy_of_file file ≡ Ok p →
+    IfOk result (λ answer. (f : List ℕ) → policy_of_file f ≡ Ok p → JudgesFile f answer.found) → IfOk result (λ answer. JudgesFile file answer.found)
+judged_read file p (Ok answer) is h = h file is
+judged_read file p (Err e) is h = tt

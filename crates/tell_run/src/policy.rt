@@ -51,15 +51,26 @@ fn tell_file(alloc: Global, policy: &str, bytes: &[u8]) -> Result<Answer, AllocE
     ensures { IfOk result (λ answer. JudgesFile bytes.now answer.found) }
 {
     match policy_reader::read(alloc, bytes) {
-        Ok(p) => {
-            let answer = tell_policy(alloc, policy, &p)?;
-            Ok(answer)
-        }
-        Err(ReadFault::Policy(fault)) => Ok(Answer {
+        Ok(p) => tell_policy(alloc, policy, &p),
+        Err(fault) => tell_fault(alloc, policy, bytes, &fault),
+    }
+}
+
+// Why the bytes of a file are no policy.
+fn tell_fault(
+    alloc: Global,
+    policy: &str,
+    bytes: &[u8],
+    fault: &ReadFault,
+) -> Result<Answer, AllocError>
+    ensures { IfOk result (λ answer. JudgesFile bytes.now answer.found) }
+{
+    match fault {
+        ReadFault::Policy(fault) => Ok(Answer {
             found: true,
-            text: fault_text(alloc, policy, bytes, &fault)?.into_bytes(),
+            text: fault_text(alloc, policy, bytes, fault)?.into_bytes(),
         }),
-        Err(ReadFault::NoMemory) => Err(AllocError),
+        ReadFault::NoMemory => Err(AllocError),
     }
 }
 

@@ -41,48 +41,68 @@ impl From<AllocError> for Unread {
 pub(crate) fn read_words<'a>(alloc: Global, words: &'a [String]) -> Result<Asked<'a>, Unread>
     ensures { IfOk result CanTell }
 {
-    let mut command = form(alloc)?;
+    match form(alloc) {
+        Ok(mut command) => read_by(alloc, &mut command, words),
+        Err(e) => Err(Unread::from(e)),
+    }
+}
+
+// What the words ask for, by the form.
+fn read_by<'a>(
+    alloc: Global,
+    command: &mut Command<'a>,
+    words: &'a [String],
+) -> Result<Asked<'a>, Unread>
+    ensures { IfOk result CanTell }
+{
     match command.try_get_matches_from_mut(words) {
-        Ok(matches) => match asked_in(&matches) {
-            Some(asked) => Ok(asked),
-            None => Err(Unread::Usage(String::new(alloc))),
-        },
+        Ok(matches) => found_in(alloc, &matches),
         Err(e) => Err(refused(alloc, &e)),
     }
 }
 
+fn found_in<'a>(alloc: Global, matches: &ArgMatches<'a>) -> Result<Asked<'a>, Unread>
+    ensures { IfOk result CanTell }
+{
+    match asked_in(matches) {
+        Some(asked) => Ok(asked),
+        None => Err(Unread::Usage(String::new(alloc))),
+    }
+}
+
 fn form<'a>(alloc: Global) -> Result<Command<'a>, AllocError> {
-    let told = about_policies(alloc, bare_form(alloc)?)?;
-    about_cases(alloc, about_entries(alloc, told)?)
+    let mut forms = Vec::new(alloc);
+    push_forms(alloc, &mut forms)?;
+    bare_form(alloc)?.subcommands(forms)
 }
 
 // The form without the commands.
 fn bare_form<'a>(alloc: Global) -> Result<Command<'a>, AllocError> {
-    let form = Command::new(alloc, "wftell")
+    Command::new(alloc, "wftell")
         .about("Tells in words what a workflow policy says, and what is wrong with it")
         .version("0.1.0, for the policy formats 1 and 2")
         .no_binary_name(true)
-        .bin_name("wftell")?
-        .subcommand_required(true);
-    Ok(form)
+        .subcommand_required(true)
+        .bin_name("wftell")
 }
 
-// The form with the commands about a policy.
-fn about_policies<'a>(alloc: Global, form: Command<'a>) -> Result<Command<'a>, AllocError> {
-    form.subcommand(policy_form(alloc)?)?
-        .subcommand(why_form(alloc)?)
+// The forms of the commands: about a policy, about the entries of a transcript, and about what
+// stands behind them.
+fn push_forms<'a>(alloc: Global, forms: &mut Vec<Command<'a>>) -> Result<(), AllocError> {
+    push_form(forms, policy_form(alloc))?;
+    push_form(forms, why_form(alloc))?;
+    push_form(forms, log_form(alloc))?;
+    push_form(forms, entry_form(alloc))?;
+    push_form(forms, now_form(alloc))?;
+    push_form(forms, page_form(alloc))
 }
 
-// The form with the commands about the entries of a transcript.
-fn about_entries<'a>(alloc: Global, form: Command<'a>) -> Result<Command<'a>, AllocError> {
-    form.subcommand(log_form(alloc)?)?
-        .subcommand(entry_form(alloc)?)
-}
-
-// The form with the commands about what stands behind them.
-fn about_cases<'a>(alloc: Global, form: Command<'a>) -> Result<Command<'a>, AllocError> {
-    form.subcommand(now_form(alloc)?)?
-        .subcommand(page_form(alloc)?)
+fn push_form<'a>(
+    forms: &mut Vec<Command<'a>>,
+    form: Result<Command<'a>, AllocError>,
+) -> Result<(), AllocError> {
+    forms.push(form?)?;
+    Ok(())
 }
 
 fn policy_form<'a>(alloc: Global) -> Result<Command<'a>, AllocError> {
@@ -94,13 +114,11 @@ fn policy_form<'a>(alloc: Global) -> Result<Command<'a>, AllocError> {
 
 fn why_form<'a>(alloc: Global) -> Result<Command<'a>, AllocError> {
     let about = "A plan of a workflow, or which rules cannot be met together";
-    let flow = Arg::new(alloc, "FLOW")
-        .required(true)
-        .help("The name of a workflow of the policy");
+    let flow = "The name of a workflow of the policy";
     Command::new(alloc, "why")
         .about(about)
         .arg(file_word(alloc))?
-        .arg(flow)
+        .arg(text_word(alloc, "FLOW", flow))
 }
 
 fn log_form<'a>(alloc: Global) -> Result<Command<'a>, AllocError> {
@@ -109,26 +127,17 @@ fn log_form<'a>(alloc: Global) -> Result<Command<'a>, AllocError> {
 
 fn entry_form<'a>(alloc: Global) -> Result<Command<'a>, AllocError> {
     let about = "An entry of a transcript: what the case was before it, and why it was answered so";
-    let number = number_word(alloc, "N", "The number of an entry, from 0").required(true);
-    session_form(alloc, "entry", about)?.arg(number)
+    session_form(alloc, "entry", about)?.arg(entry_word(alloc).required(true))
 }
 
 fn now_form<'a>(alloc: Global) -> Result<Command<'a>, AllocError> {
     let about = "The policy after an entry of a transcript, or after all";
-    session_form(alloc, "now", about)?.arg(number_word(
-        alloc,
-        "N",
-        "The number of an entry, from 0",
-    ))
+    session_form(alloc, "now", about)?.arg(entry_word(alloc))
 }
 
 fn page_form<'a>(alloc: Global) -> Result<Command<'a>, AllocError> {
     let about = "A case, as a page of HTML that stands alone";
-    let number = Arg::new(alloc, "CASE")
-        .required(true)
-        .value_parser(clap::value_parser!(u16))
-        .help("The number of a case, from 0");
-    session_form(alloc, "page", about)?.arg(number)
+    session_form(alloc, "page", about)?.arg(case_word(alloc))
 }
 
 // A command over the files of a session.
@@ -137,27 +146,22 @@ fn session_form<'a>(
     name: &'a str,
     about: &'a str,
 ) -> Result<Command<'a>, AllocError> {
-    Command::new(alloc, name)
-        .about(about)
-        .arg(file_word(alloc))?
-        .arg(text_word(alloc, "REQUESTS", "A file of requests"))?
-        .arg(text_word(alloc, "TRANSCRIPT", "The file of their transcript"))?
-        .arg(ranged(
-            alloc,
-            "lanes",
-            1,
-            LANE_LIMIT,
-            "1",
-            "How many lanes there were",
-        ))?
-        .arg(ranged(
-            alloc,
-            "rounds",
-            0,
-            ROUND_LIMIT,
-            "2",
-            "After how many lost rounds a request was answered again",
-        ))
+    let words = session_words(alloc)?;
+    Command::new(alloc, name).about(about).args(words)
+}
+
+// The files of a session, and its options.
+fn session_words<'a>(alloc: Global) -> Result<Vec<Arg<'a>>, AllocError> {
+    let lanes = "How many lanes there were";
+    let rounds = "After how many lost rounds a request was answered again";
+    let words = vec![in alloc;
+        file_word(alloc),
+        text_word(alloc, "REQUESTS", "A file of requests"),
+        text_word(alloc, "TRANSCRIPT", "The file of their transcript"),
+        ranged(alloc, "lanes", 1, LANE_LIMIT, "1", lanes),
+        ranged(alloc, "rounds", 0, ROUND_LIMIT, "2", rounds),
+    ]?;
+    Ok(words)
 }
 
 fn file_word<'a>(alloc: Global) -> Arg<'a> {
@@ -168,10 +172,17 @@ fn text_word<'a>(alloc: Global, name: &'a str, help: &'a str) -> Arg<'a> {
     Arg::new(alloc, name).required(true).help(help)
 }
 
-fn number_word<'a>(alloc: Global, name: &'a str, help: &'a str) -> Arg<'a> {
-    Arg::new(alloc, name)
+fn entry_word<'a>(alloc: Global) -> Arg<'a> {
+    Arg::new(alloc, "N")
         .value_parser(clap::value_parser!(u32))
-        .help(help)
+        .help("The number of an entry, from 0")
+}
+
+fn case_word<'a>(alloc: Global) -> Arg<'a> {
+    Arg::new(alloc, "CASE")
+        .required(true)
+        .value_parser(clap::value_parser!(u16))
+        .help("The number of a case, from 0")
 }
 
 // An option with a number, which is as `usual` writes it where the option is left out.
