@@ -1,5 +1,5 @@
 -- A session behind the entries that were taken up, and the run of its command.
-use Rattle.std.proofs.Common.{◌≡◌, ℕ, zero, suc, ◌≤◌, nat_lt, Bool, true, false, List, [], ◌∷◌, length, take, drop, slice_index_or, Option}
+use Rattle.std.proofs.Common.{◌≡◌, ℕ, zero, suc, ◌<◌, ◌≤◌, nat_lt, Bool, true, false, List, [], ◌∷◌, length, take, drop, slice_index_or, Option}
 use Rattle.std.proofs.Common.{Some, Result, Ok, Err, ◌&&◌, inl, inr, refl, sym, ap, subst, ◌∙◌, arith, ◌⊎◌}
 use Rattle.std.proofs.lemmas.Grind.{common_steps}
 use Rattle.std.proofs.lemmas.List.{take_all}
@@ -315,6 +315,16 @@ begun_there files names options b over =
     ((s : Session) × ((cut : Cut) × ((transcript : List ℕ) × HasBegun s cut transcript b)))
     (λ x stops. absurd cc)
     (λ p cut transcript begun. (session_of p options.lanes options.rounds cut, (cut, (transcript, begun)))) over
+
+-- and it has a lane
+pub lanes_there : (files : List ℕ → Filed) (names : FileNames) (options : Options) (b : Beginning) → 0 < options.lanes
+    → OverFiles files names options.lanes (StopsBy (Ok b)) (λ p cut transcript. BeginsBy (session_of p options.lanes options.rounds cut) cut transcript (Ok b))
+    → 0 < b.desk.lanes
+lanes_there files names options b some over =
+    files_goal files names options.lanes (StopsBy (Ok b)) (λ p cut transcript. BeginsBy (session_of p options.lanes options.rounds cut) cut transcript (Ok b))
+    (0 < b.desk.lanes)
+    (λ x stops. absurd cc)
+    (λ p cut transcript begun. subst (λ n. 0 < n) (sym begun.lanes) some) over
 
 went_orderly : (s : Session) (cut : Cut) (n : ℕ) (r : Run) → Served (setting_behind s n) (next_input cut) PIECE r.before r.after r.told r.fault →
     r.load_faults_after ≡ r.load_faults → IsOrderly r
