@@ -1,6 +1,6 @@
 -- A reply that was taken or refused, and what becomes of its line.
 use Rattle.std.proofs.Common.{◌≡◌, ◌↔◌, ℕ, ◌+◌, ◌<◌, ◌≤◌, ◌⊎◌, inl, inr, max, Bool, true, false, ◌&&◌, nat_eq, nat_le, List, length, map, drop, Option}
-use Rattle.std.proofs.Common.{Some, Result, Ok, Err, refl, sym, ap, subst, ◌∙◌, arith}
+use Rattle.std.proofs.Common.{None, Some, Result, Ok, Err, refl, sym, ap, subst, ◌∙◌, arith}
 use Rattle.std.proofs.lemmas.Grind.{common_steps}
 use Rattle.std.specs.Option.{option_map}
 use Rattle.basics.proofs.Booleans.{and_both, and_from, eq_back, eq_is, same_by}
@@ -13,6 +13,10 @@ use Rattle.wf_talk.specs.declared.job.Job.{Job}
 use Rattle.wf_talk.specs.declared.reply.Reply.{Reply}
 use Rattle.wf_talk.specs.declared.reply.Reply.TheVariants as reply
 use Rattle.wf_talk.specs.declared.request.Ask.{Ask}
+use Rattle.wf_board.specs.declared.admit.AdmitFault.{AdmitFault}
+use Rattle.wf_board.specs.declared.admit.AdmitFault.TheVariants as admit
+use Rattle.wf_board.specs.declared.verdict.Verdict.{Verdict}
+use Rattle.wf_board.specs.Admit.{HasAdmittedStep}
 use Rattle.wf_board.specs.Boards.{BoardShape, numbered, state_on}
 use Rattle.wf_board.specs.Counting.{counted, counted_end, counts_for, lane_end}
 use Rattle.wf_board.specs.Decisions.{decision_of, is_view, needs_verdict}
@@ -29,7 +33,7 @@ use Rattle.transcript_audit.specs.declared.fault.AuditKind.TheVariants as kinds
 use Rattle.transcript_audit.specs.declared.flaw.Flaw.{Flaw}
 use Rattle.transcript_audit.specs.declared.flaw.Flaw.TheVariants as flaw
 use Rattle.transcript_audit.specs.Auditor.{AuditShape, ComesNext, HasFault, IsNextLine, flows_now, next_job, present_jobs, present_start, state_now, with_entry}
-use Rattle.transcript_audit.specs.Keeping.{HasEntered, TellsReply, TriesLine, entry_next, rests_on}
+use Rattle.transcript_audit.specs.Keeping.{HasEntered, TellsReply, TriesLine, again_in, entry_next, rests_on}
 use Rattle.transcript_audit.proofs.Excludes.{one_place, told_named}
 
 -- ---- steps
@@ -42,6 +46,25 @@ state_next a b s j r same after = after ∙ ap (λ t. state_after_step t j.ask r
 -- and after what is answered again
 pub state_again : (a : AuditShape) (s : State) (j : Job) (n place : ℕ) → s ≡ state_now a → s ≡ state_now (with_entry a (entry_next a j (reply.Again n place)))
 state_again a s j n place same = same ∙ sym (after_again (opening_state a.opening) a.entries (entry_next a j (reply.Again n place)) n place refl)
+
+-- a reply that is not `again`
+not_again : (r : Reply) (n place : ℕ) → again_in r ≡ None → r ≡ reply.Again n place → ⊥
+not_again r n place once is = let h : again_in (reply.Again n place) ≡ None = ap again_in (sym is) ∙ once in cc
+
+-- a step that a board takes comes next
+pub step_next : (a : AuditShape) (b : BoardShape) (j : Job) (r : Reply) → state_on b ≡ state_now a → next_job a j.lane ≡ Some j → again_in r ≡ None →
+    IsStep (state_on b) j.ask r → ComesNext a (entry_next a j r)
+step_next a b j r same next once step = record {
+  answers = next;
+  right = (refl, inl (subst (λ (s : State). IsStep s j.ask r) same step));
+  rests = λ n place is. absurd (not_again r n place once is);
+}
+
+-- where a board does not take a reply, it stays
+pub board_stays : (b c : BoardShape) (s : State) (what : Ask) (v : Verdict) (r : Reply) (fault : AdmitFault) → HasAdmittedStep b c what v r (Err fault) →
+    state_on b ≡ s → state_on c ≡ s
+board_stays b c s what v r admit.NotStep admitted same = ap state_on admitted.0 ∙ same
+board_stays b c s what v r admit.NoMemory admitted same = ap state_on admitted.0 ∙ same
 
 -- ---- answered again
 

@@ -3,12 +3,16 @@ use Rattle.std.proofs.Common.{◌≡◌, ℕ, ◌+◌, ◌-◌, ◌<◌, ◌≤�
 use Rattle.std.specs.Prelude.{IfErr, IsErrAnd}
 use Rattle.std.proofs.lemmas.List.{length-drop, take_all}
 use Rattle.wf_talk.specs.declared.entry.Entry.{Entry}
+use Rattle.wf_talk.specs.declared.job.Job.{Job}
 use Rattle.line_reader.specs.Reader.{behind_line, first_line, lines_of}
 use Rattle.line_reader.proofs.FirstLines.{lines_first}
 use Rattle.transcript_audit.specs.declared.fault.AuditFault.{AuditFault}
 use Rattle.transcript_audit.specs.declared.fault.AuditFault.TheVariants.{At, NoMemory}
 use Rattle.transcript_audit.specs.declared.fault.AuditKind.{AuditKind}
-use Rattle.transcript_audit.specs.Auditor.{AuditShape, AreNext, HasFault, audit_of}
+use Rattle.policy_book.specs.Shapes.{PolicyShape}
+use Rattle.wf_board.specs.States.{State, opening_state}
+use Rattle.wf_board.specs.Histories.{state_after}
+use Rattle.transcript_audit.specs.Auditor.{AuditShape, AreNext, HasFault, audit_of, state_now}
 use Rattle.transcript_audit.proofs.Exact.{next_pushed}
 use Rattle.transcript_audit.specs.Laws.{AreOfSession, FaultsExclude, NextIsOne, PartIsExact}
 use Rattle.transcript_audit.specs.Outcomes.{HasTakenLine, IsFirstFault}
@@ -105,3 +109,10 @@ taken_of exact s transcript lines a b es session begun whole all same =
     let here : HasTakenAll (audit_of s.policy s.rounds s.jobs s.batch_ends) b (lines_of (whole_lines transcript)) =
     subst (λ (x : AuditShape). HasTakenAll x b (lines_of (whole_lines transcript))) begun (subst (λ xs. HasTakenAll a b (lines_of xs)) whole all) in
     subst (λ xs. IsTakenUp s transcript xs) (sym same) (taken_up exact s transcript b session here)
+
+-- and the board behind its entries
+pub state_of : (p : PolicyShape) (rounds : ℕ) (jobs : List Job) (ends : List ℕ) (lines : List (List ℕ)) (a b : AuditShape) (s : State) (es : List Entry) →
+    a ≡ audit_of p rounds jobs ends → HasTakenAll a b lines → s ≡ state_now b → es ≡ b.entries → s ≡ state_after (opening_state p) es
+state_of p rounds jobs ends lines a b s es begun all is same =
+    let opening : b.opening ≡ p = ap (λ (x : AuditShape). x.opening) all.after ∙ ap (λ (x : AuditShape). x.opening) begun in
+    is ∙ ap (λ q. state_after (opening_state q) b.entries) opening ∙ ap (state_after (opening_state p)) (sym same)

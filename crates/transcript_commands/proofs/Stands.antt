@@ -1,11 +1,10 @@
 -- The batch in which a session stopped, and those before it.
 use Rattle.std.proofs.Common.{◌≡◌, ℕ, zero, suc, ◌+◌, ◌<◌, ◌≤◌, nat_le, nat_lt, true, false, inl, inr, List, [], ◌∷◌, ◌++◌, length, take, drop, map}
 use Rattle.std.proofs.Common.{slice_index_or, refl, sym, ap, subst, ◌∙◌, arith}
-use Rattle.std.proofs.lemmas.Grind.{common_steps}
 use Rattle.std.proofs.Common.{◌⊎◌}
 use Rattle.std.proofs.lemmas.Bool.{le-ltb, lt-ltb}
 use Rattle.std.proofs.lemmas.List.{length-take-le, take-append-drop, take-take, take_more}
-use Rattle.basics.proofs.Booleans.{bool_cases}
+use Rattle.basics.proofs.Booleans.{bool_cases, le_back, le_yes}
 use Rattle.wf_talk.specs.declared.entry.Entry.{Entry}
 use Rattle.wf_talk.specs.declared.job.Job.{Job}
 use Rattle.wf_board.specs.Histories.{EachAfter, FillsJobs, RestsFrom, batch_end, batch_jobs, batch_start, job_of_entry, lane_jobs}
@@ -22,12 +21,17 @@ use Rattle.transcript_commands.specs.Begun.{StandsAt, ends_to}
 
 -- ---- how many ends are not behind a place
 
+le_no : (m n : ℕ) → n < m → nat_le m n ≡ false
+le_no m n h = grind arith
+
+le_back_no : (m n : ℕ) → nat_le m n ≡ false → n < m
+le_back_no m n h = grind arith
+
 -- the first of the ends behind a place is behind it
 none_to : (x : ℕ) (ends : List ℕ) (total : ℕ) → LeadTo x ends total → ends_to x ends ≡ 0
 none_to x [] total lead = refl
 none_to x (y ∷ ys) total lead =
-    let above = lead.0 in
-    let past : nat_le y x ≡ false = grind (arith, common_steps) in
+    let past = le_no y x lead.0 in
     rw past refl
 
 -- where a batch begins or ends
@@ -43,22 +47,22 @@ bound_more before x xs p c first rest =
     record { known = omega (arith, known); there = rest.there; above = omega (arith, first, above) }
 
 to_more : (x : ℕ) (xs : List ℕ) (p : ℕ) → x ≤ p → ends_to p (x ∷ xs) ≡ suc (ends_to p xs)
-to_more x xs p le = let here : nat_le x p ≡ true = grind (arith, common_steps) in rw here refl
+to_more x xs p le = let here = le_yes x p le in rw here refl
 
 to_none : (x : ℕ) (xs : List ℕ) (p : ℕ) → p < x → ends_to p (x ∷ xs) ≡ 0
-to_none x xs p lt = let here : nat_le x p ≡ false = grind (arith, common_steps) in rw here refl
+to_none x xs p lt = let here = le_no x p lt in rw here refl
 
 start_past : (before x n : ℕ) (xs : List ℕ) → x ≤ n → start_at before n (x ∷ xs) ≡ start_at x n xs
-start_past before x n xs le = let here : nat_le x n ≡ true = grind (arith, common_steps) in rw here refl
+start_past before x n xs le = let here = le_yes x n le in rw here refl
 
 start_first : (before x n : ℕ) (xs : List ℕ) → n < x → start_at before n (x ∷ xs) ≡ before
-start_first before x n xs lt = let here : nat_le x n ≡ false = grind (arith, common_steps) in rw here refl
+start_first before x n xs lt = let here = le_no x n lt in rw here refl
 
 stop_past : (x n : ℕ) (xs : List ℕ) → x ≤ n → end_at n (x ∷ xs) ≡ end_at n xs
-stop_past x n xs le = let here : nat_le x n ≡ true = grind (arith, common_steps) in rw here refl
+stop_past x n xs le = let here = le_yes x n le in rw here refl
 
 stop_first : (x n : ℕ) (xs : List ℕ) → n < x → end_at n (x ∷ xs) ≡ x
-stop_first x n xs lt = let here : nat_le x n ≡ false = grind (arith, common_steps) in rw here refl
+stop_first x n xs lt = let here = le_no x n lt in rw here refl
 
 -- so many ends are up to the place where the batches before one end
 starts_from : (before : ℕ) (ends : List ℕ) (total n : ℕ) → LeadTo before ends total → before ≤ n → n ≤ total →
@@ -68,13 +72,13 @@ starts_from before (x ∷ xs) total n lead begun within =
     let first = lead.0 in
     elim (bool_cases (nat_le x n)) [
       | inl past ↦
-          let le : x ≤ n = grind (arith, common_steps) in
+          let le = le_back x n past in
           let rest = starts_from x xs total n lead.2 le within in
           subst (λ p. IsBound before (x ∷ xs) p (ends_to p (x ∷ xs))) (sym (start_past before x n xs le))
           (subst (λ c. IsBound before (x ∷ xs) (start_at x n xs) c) (sym (to_more x xs (start_at x n xs) rest.above))
           (bound_more before x xs (start_at x n xs) (ends_to (start_at x n xs) xs) (omega (arith, first)) rest))
       | inr ahead ↦
-          let lt : n < x = grind (arith, common_steps) in
+          let lt = le_back_no x n ahead in
           subst (λ p. IsBound before (x ∷ xs) p (ends_to p (x ∷ xs))) (sym (start_first before x n xs lt))
           (subst (λ c. IsBound before (x ∷ xs) before c) (sym (to_none x xs before first))
           (record { known = omega arith; there = refl; above = omega arith }))
@@ -87,13 +91,13 @@ stops_from before (x ∷ xs) total n lead begun within =
     let first = lead.0 in
     elim (bool_cases (nat_le x n)) [
       | inl past ↦
-          let le : x ≤ n = grind (arith, common_steps) in
+          let le = le_back x n past in
           let rest = stops_from x xs total n lead.2 le within in
           subst (λ p. IsBound before (x ∷ xs) p (ends_to p (x ∷ xs))) (sym (stop_past x n xs le))
           (subst (λ c. IsBound before (x ∷ xs) (end_at n xs) c) (sym (to_more x xs (end_at n xs) rest.above))
           (bound_more before x xs (end_at n xs) (ends_to (end_at n xs) xs) (omega (arith, first)) rest))
       | inr ahead ↦
-          let lt : n < x = grind (arith, common_steps) in
+          let lt = le_back_no x n ahead in
           subst (λ p. IsBound before (x ∷ xs) p (ends_to p (x ∷ xs))) (sym (stop_first x n xs lt))
           (subst (λ c. IsBound before (x ∷ xs) x c) (sym (to_more x xs x (omega arith) ∙ ap suc (none_to x xs total lead.2)))
           (record { known = omega arith; there = refl; above = omega (arith, first) }))
@@ -110,7 +114,7 @@ next_end before (x ∷ xs) total n lead begun within =
     let first = lead.0 in
     elim (bool_cases (nat_le x n)) [
       | inl past ↦
-          let le : x ≤ n = grind (arith, common_steps) in
+          let le = le_back x n past in
           let above = (starts_from x xs total n lead.2 le within).above in
           let over = (stops_from x xs total n lead.2 le within).above in
           let start = start_at x n xs in
@@ -122,7 +126,7 @@ next_end before (x ∷ xs) total n lead begun within =
             | inr more ↦ inr (more.0, to_more x xs stop over ∙ ap suc (more.1 ∙ sym (to_more x xs start above)))
           ]))
       | inr ahead ↦
-          let lt : n < x = grind (arith, common_steps) in
+          let lt = le_back_no x n ahead in
           subst (λ p. IsNextEnd (x ∷ xs) p (end_at n (x ∷ xs))) (sym (start_first before x n xs lt))
           (subst (λ q. IsNextEnd (x ∷ xs) before q) (sym (stop_first x n xs lt))
           (inr (first, to_more x xs x (omega arith) ∙ ap suc (none_to x xs total lead.2 ∙ sym (to_none x xs before first)))))

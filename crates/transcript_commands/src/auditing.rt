@@ -26,7 +26,7 @@ const PIECE: usize = 65_536;
 pub(crate) fn audit_input<V: Decider, S: Source>(
     alloc: Global,
     decider: &V,
-    auditor: Auditor,
+    mut auditor: Auditor,
     source: &mut S,
 ) -> Result<Finding, RunFault>
     requires ready { V.ready decider.now }
@@ -40,22 +40,23 @@ pub(crate) fn audit_input<V: Decider, S: Source>(
         (S.faults source.new) }
 {
     let mut reader = LineReader::new(alloc, PIECE, TRANSCRIPT_LINE_LIMIT)?;
-    audit_lines(alloc, decider, auditor, &mut reader, source)
+    audit_lines(alloc, decider, &mut auditor, &mut reader, source)
 }
 
 // Audits line after line.
 fn audit_lines<V: Decider, S: Source>(
     alloc: Global,
     decider: &V,
-    mut auditor: Auditor,
+    auditor: &mut Auditor,
     reader: &mut LineReader,
     source: &mut S,
 ) -> Result<Finding, RunFault>
     requires ready { V.ready decider.now }
-    requires first { IsUnread auditor }
+    requires first { IsUnread auditor.old }
     requires nothing { pending reader.old ≡ [] }
     requires reader { ReadsLines reader.old }
-    ensures found { IfOk result (λ f. HasFound auditor f (S.left source.old) (S.left source.new)) }
+    ensures found { IfOk result (λ f. HasFound auditor.old f (S.left source.old)
+        (S.left source.new)) }
     ensures taken { HasTakenSome (S.left source.old) (S.left source.new) }
     ensures ending { IfErr result IsReadEnding }
     ensures counts { CountsReadsAlone (fault_in result) (S.faults source.old)
@@ -63,7 +64,7 @@ fn audit_lines<V: Decider, S: Source>(
 {
     let mut number = 0;
     'auditing: loop {
-        match audit_line(alloc, decider, &mut auditor, number, reader, source)? {
+        match audit_line(alloc, decider, auditor, number, reader, source)? {
             None => number += 1,
             Some(finding) => return Ok(finding),
         }

@@ -220,6 +220,23 @@ loaded_to held mid aft l d before after text es (Err fault) h is new all part so
 pub jobs_grown : (b c : DeskShape) → HasGrown b c → jobs_told c ≡ jobs_told b
 jobs_grown b c grown = λ i. grown.earlier i ++ grown.jobs i
 
+-- the entries that a desk had are among those that it has
+pub grown_past : (b c : DeskShape) (n : ℕ) (es : List Entry) → HasGrown b c → n ≡ length b.entries → es ≡ c.entries → n ≤ length es
+grown_past b c n es grown count same =
+    let size = ap length (same ∙ grown.extends) in
+    let sum = length-append b.entries grown.more in
+    omega (arith, size, sum, count)
+
+-- where some entries stand behind a place, a desk has some
+pub some_behind : (d : DeskShape) (n : ℕ) (es : List Entry) (result : Result (Unit {0}) RunFault) → es ≡ drop n d.entries → OnErr result (0 < length es) →
+    OnErr result (0 < length d.entries)
+some_behind d n es (Ok done) behind some = tt
+some_behind d n es (Err fault) behind some =
+    let more : 0 < length es = some in
+    let same = ap length behind in
+    let size = length-drop n d.entries in
+    omega (arith, more, same, size)
+
 pub added_on : (l d : DeskShape) (before : Told) (a : Answered) → HasGrown l d → IsBatchAdded before l.jobs (told_of l a) →
     IsBatchAdded before l.jobs (told_of d a)
 added_on l d before a grown added = record { jobs = jobs_grown l d grown ∙ added.jobs; ends = added.ends }

@@ -1,5 +1,5 @@
 -- A session behind the entries that were taken up, and the run of its command.
-use Rattle.std.proofs.Common.{◌≡◌, ℕ, zero, suc, ◌≤◌, nat_lt, Bool, true, false, List, [], ◌∷◌, length, take, drop, slice_index_or, Option}
+use Rattle.std.proofs.Common.{◌≡◌, ℕ, zero, suc, ◌<◌, ◌≤◌, nat_lt, Bool, true, false, List, [], ◌∷◌, length, take, drop, slice_index_or, Option}
 use Rattle.std.proofs.Common.{Some, Result, Ok, Err, ◌&&◌, inl, inr, refl, sym, ap, subst, ◌∙◌, arith, ◌⊎◌}
 use Rattle.std.proofs.lemmas.Grind.{common_steps}
 use Rattle.std.proofs.lemmas.List.{take_all}
@@ -32,7 +32,7 @@ use Rattle.transcript_commands.specs.declared.refusal.Refusal.TheVariants.{Ends,
 use Rattle.transcript_commands.specs.Begun.{BeginsBy, EndsBeginning, HasBegun, StopsBy, fault_by, session_of}
 use Rattle.transcript_commands.specs.Load.{FileNames, OverFiles}
 use Rattle.transcript_commands.proofs.Files.{files_goal, files_map}
-use Rattle.command_words.specs.Words.{AreOptions, Command, Options, may_repeat, resume}
+use Rattle.command_words.specs.Words.{AreOptions, Command, Options, may_repeat, resume, serve}
 use Rattle.wf_server.specs.Runs.{HasRun}
 use Rattle.transcript_audit.proofs.Batches.{last_start}
 use Rattle.wf_server.specs.Sessions.{ReadsFor, Served, Setting, handed_in}
@@ -316,6 +316,16 @@ begun_there files names options b over =
     (λ x stops. absurd cc)
     (λ p cut transcript begun. (session_of p options.lanes options.rounds cut, (cut, (transcript, begun)))) over
 
+-- and it has a lane
+pub lanes_there : (files : List ℕ → Filed) (names : FileNames) (options : Options) (b : Beginning) → 0 < options.lanes
+    → OverFiles files names options.lanes (StopsBy (Ok b)) (λ p cut transcript. BeginsBy (session_of p options.lanes options.rounds cut) cut transcript (Ok b))
+    → 0 < b.desk.lanes
+lanes_there files names options b some over =
+    files_goal files names options.lanes (StopsBy (Ok b)) (λ p cut transcript. BeginsBy (session_of p options.lanes options.rounds cut) cut transcript (Ok b))
+    (0 < b.desk.lanes)
+    (λ x stops. absurd cc)
+    (λ p cut transcript begun. subst (λ n. 0 < n) (sym begun.lanes) some) over
+
 went_orderly : (s : Session) (cut : Cut) (n : ℕ) (r : Run) → Served (setting_behind s n) (next_input cut) PIECE r.before r.after r.told r.fault →
     r.load_faults_after ≡ r.load_faults → IsOrderly r
 went_orderly s cut n r served loads =
@@ -392,6 +402,11 @@ pub served_usage : (set : Setting) (first : Cut) (room : ℕ) (before after : St
     Served set first room before after told ending → ending ≡ fault.Usage → ⊥
 served_usage set first room before after told ending served is = subst (ReadsFor before.input after.input room (handed_in first told)) is served.reads
 
+-- where no request may be answered again over several lanes, there are no rounds
+no_rounds : (b : Bool) (n : ℕ) → b ≡ true → (b && nat_lt 0 n) ≡ false → n ≡ 0
+no_rounds true n is never = let none : nat_lt 0 n ≡ false = never in grind (arith, common_steps)
+no_rounds false n is never = absurd cc
+
 -- on threads
 pub threaded : {A : Type 0} (command : Option Command) (names : FileNames) (options : Options) (r : Run) →
     command ≡ Some (resume names.policy names.requests names.transcript options)
@@ -400,7 +415,9 @@ pub threaded : {A : Type 0} (command : Option Command) (names : FileNames) (opti
 threaded command names options r is lanes resumes =
     subst (λ c. HasRun (may_repeat c) c r) (sym is)
     (inr (resumes (nat_lt 1 options.lanes && nat_lt 0 options.rounds) (λ never. inr (no_rounds (nat_lt 1 options.lanes) options.rounds lanes never))))
-  where
-    no_rounds : (b : Bool) (n : ℕ) → b ≡ true → (b && nat_lt 0 n) ≡ false → n ≡ 0
-    no_rounds true n is never = let none : nat_lt 0 n ≡ false = never in grind (arith, common_steps)
-    no_rounds false n is never = absurd cc
+
+-- and the session of a policy answers each request once
+pub served_once : {A : Type 0} (command : Option Command) (policy : List ℕ) (options : Options) → command ≡ Some (serve policy options)
+    → nat_lt 1 options.lanes ≡ true → (options.rounds ≡ 0 → A) → may_repeat command ≡ false → A
+served_once command policy options is lanes once never =
+    once (no_rounds (nat_lt 1 options.lanes) options.rounds lanes (ap may_repeat (sym is) ∙ never))

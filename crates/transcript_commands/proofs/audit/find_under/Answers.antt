@@ -1,4 +1,4 @@
-use Rattle.std.proofs.Common.{subst}
+use Rattle.std.proofs.Common.{ap, subst}
 use Rattle.std.specs.Prelude.{IfOk}
 use Rattle.run_record.specs.Fault.{fault_in}
 use Rattle.run_record.specs.declared.fault.RunFault.TheVariants.{NoMemory}
@@ -8,6 +8,12 @@ use Rattle.transcript_commands.proofs.Endings.{loads_end, reads_end}
 use Rattle.transcript_commands.proofs.Loaded.{finds_under, jobs_there, no_jobs}
 use Rattle.transcript_commands.proofs.Runs.{unread_after}
 use Rattle.transcript_commands.proofs.audit.find_under.Goals as goal
+
+pub audit_input-requires-clause-going : goal.audit_input-requires-clause-going
+audit_input-requires-clause-going g c = ap (λ (a : AuditShape). a.fault) c.in_ok-auditor.ensures
+
+pub audit_input-requires-clause-first : goal.audit_input-requires-clause-first
+audit_input-requires-clause-first g c = ap (λ (a : AuditShape). a.entries) c.in_ok-auditor.ensures
 
 pub returns-in_err-batch-clause-finds : goal.returns-in_err-batch-clause-finds
 returns-in_err-batch-clause-finds g c =

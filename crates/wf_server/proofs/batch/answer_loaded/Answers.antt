@@ -1,8 +1,18 @@
 use Rattle.std.proofs.Common.{arith, refl}
 use Rattle.wf_server.specs.Batches.{told_of}
 use Rattle.std.proofs.lemmas.Grind.{common_steps}
-use Rattle.wf_server.proofs.BatchLaws.{added_on, begins_grown, jobs_grown, loaded_answers, setting_grown}
+use Rattle.wf_server.proofs.BatchLaws.{added_on, begins_grown, grown_past, jobs_grown, loaded_answers, setting_grown, some_behind}
 use Rattle.wf_server.proofs.batch.answer_loaded.Goals as goal
+
+pub entries_after-requires : goal.entries_after-requires
+entries_after-requires g c =
+    grown_past c.args.desk c.serve_jobs-served.result c.len-done.result _ c.serve_jobs-served.ensures.grown (grind (arith, common_steps))
+    (grind (arith, common_steps))
+
+pub returns-clause-some : goal.returns-clause-some
+returns-clause-some g c =
+    some_behind c.serve_jobs-served.result c.len-done.result c.entries_after.result.now c.write_entries-written.result (grind (arith, common_steps))
+    c.write_entries-written.ensures.some
 
 pub returns-clause-on : goal.returns-clause-on
 returns-clause-on g c = record {

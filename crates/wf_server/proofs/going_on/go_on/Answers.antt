@@ -1,6 +1,7 @@
-use Rattle.std.proofs.Common.{◌<◌, refl, sym, ap, subst}
+use Rattle.std.proofs.Common.{◌<◌, refl, sym, ap, subst, ◌∙◌}
 use Rattle.line_reader.specs.BatchReader.{BatchReaderShape}
 use Rattle.line_reader.specs.Jobs.{next_input}
+use Rattle.run_record.specs.Fault.{status_of}
 use Rattle.run_record.specs.Report.{told_by}
 use Rattle.run_record.specs.Run.{Streams}
 use Rattle.transcript_commands.specs.declared.start.TheConstants.{PIECE}
@@ -116,6 +117,9 @@ returns-clause-served g c s cut transcript h =
     (served_begun s cut transcript c.args.beginning d PIECE before mid told fault h c.histories_keep_completable.ensures c.histories_are_exact.ensures
     c.answer_requests-served.ensures.on.setting refl
     c.report_of.ensures.sound.legal serves)
+
+pub returns-clause-status : goal.returns-clause-status
+returns-clause-status g c = c.report_of.ensures.status ∙ sym (ap status_of c.report_of.ensures.fault)
 
 pub returns-clause-behind : goal.returns-clause-behind
 returns-clause-behind g c =

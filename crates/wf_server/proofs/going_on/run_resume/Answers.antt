@@ -2,7 +2,7 @@ use Rattle.std.proofs.Common.{inl, inr, refl}
 use Rattle.transcript_commands.specs.Load.{FileNames}
 use Rattle.transcript_commands.specs.Start.{names_in}
 use Rattle.wf_server.specs.GoingOn.{options_by}
-use Rattle.wf_server.proofs.ResumeLaws.{all_refused, begun_there, gone_on, refused_usage, served_usage}
+use Rattle.wf_server.proofs.ResumeLaws.{all_refused, begun_there, gone_on, lanes_there, refused_usage, served_usage}
 use Rattle.wf_server.proofs.going_on.run_resume.Goals as goal
 
 pub begin-requires-clause-within : goal.begin-requires-clause-within
@@ -11,6 +11,11 @@ begin-requires-clause-within g c = record {
   few_lanes = c.requires.options.lanes;
   few_rounds = c.requires.options.rounds;
 }
+
+pub go_on-requires-clause-some : goal.go_on-requires-clause-some
+go_on-requires-clause-some g c =
+    let names : FileNames = names_in c.args.earlier in
+    lanes_there (g.F.Shelf.file c.args.shelf.now) names (options_by c.args.earlier) c.in-Ok.beginning c.requires.options.some c.in-Ok.ensures.begins
 
 pub go_on-requires-clause-begun : goal.go_on-requires-clause-begun
 go_on-requires-clause-begun g c =

@@ -1,11 +1,26 @@
-use Rattle.std.proofs.Common.{ap, sym, ◌∙◌}
+use Rattle.std.proofs.Common.{ap, subst, sym, ◌∙◌}
 use Rattle.wf_board.specs.Boards.{state_on}
-use Rattle.transcript_audit.specs.Auditor.{state_now}
-use Rattle.transcript_audit.proofs.Entering.{edits_few, state_next}
+use Rattle.transcript_audit.specs.Auditor.{ComesNext, state_now}
+use Rattle.transcript_audit.specs.Keeping.{entry_next}
+use Rattle.transcript_audit.proofs.Entering.{board_stays, edits_few, state_next, step_next}
 use Rattle.transcript_audit.proofs.auditor.Auditor.enter_step.Goals as goal
 
 pub admit-requires-clause-few : goal.admit-requires-clause-few
 admit-requires-clause-few g c = edits_few c.self.inside.board c.self.inside.record.audit c.self.invariant c.number-few.ensures.few
+
+pub add-requires-clause-next : goal.add-requires-clause-next
+add-requires-clause-next g c =
+    subst (λ a. ComesNext a (entry_next a c.args.job.now c.args.reply)) (sym (c.reserve.ensures.same ∙ c.self.view_is))
+    (step_next c.args.self.now c.self.inside.board c.args.job.now c.args.reply (c.self.invariant ∙ ap state_now c.self.view_is) c.requires.next
+    c.requires.once c.in_ok-admit.ensures.step)
+
+pub invariant_of-self-in_err-admit : goal.invariant_of-self-in_err-admit
+invariant_of-self-in_err-admit g c =
+    board_stays c.self.inside.board c.admit.new.self _ c.args.job.now.ask c.verdict_for-verdict.result c.args.reply c.in_err-admit.field-0.0
+    c.in_err-admit.ensures (c.self.invariant ∙ ap state_now (sym c.reserve.ensures.same))
+
+pub invariant_of-self : goal.invariant_of-self
+invariant_of-self g c = c.self.invariant ∙ ap state_now (sym c.reserve.ensures.same)
 
 pub invariant_of-self-2 : goal.invariant_of-self-2
 invariant_of-self-2 g c =
