@@ -25,7 +25,8 @@ use Rattle.wf_desk.specs.declared.schedule.Mark.TheVariants.{NoJob, Served}
 use Rattle.wf_desk.specs.declared.schedule.Solved.{Solved}
 use Rattle.wf_desk.specs.Desks.{DeskShape, HasAdded, IsSoundDesk, served, state_after_first}
 use Rattle.wf_desk.specs.Commits.{HasCommitted, HasServed, IsTask, job_of_task, with_loss}
-use Rattle.wf_desk.specs.Schedules.{AreEventsOf, HasDone, HasDoneAll, HasGoneOn, HasGrown, Standing, held_by, lane_answers, lane_left, lane_of, mark_of, no_tasks}
+use Rattle.wf_desk.specs.Schedules.{AreEventsOf, HasDone, HasDoneAll, HasGoneOn, HasGrown, Standing, held_by, lane_answers}
+use Rattle.wf_desk.specs.Schedules.{lane_left, lane_of, mark_of, no_tasks}
 use Rattle.wf_desk.specs.Holding.{AreHeld, IsHeld, standing}
 
 -- ---- more entries
