@@ -173,19 +173,9 @@ fn enrol_among(members: &mut Shared<Members>, u: UserId, r: RoleId) -> Result<()
     if members.get().has(u, r) {
         return Err(RosterFault::Already);
     }
-    match put_in(members, u, r) {
-        Ok(()) => Ok(()),
-        Err(_) => Err(RosterFault::NoMemory),
-    }
-}
-
-fn put_in(members: &mut Shared<Members>, u: UserId, r: RoleId) -> Result<(), AllocError>
-    requires user { u < USER_LIMIT }
-    requires role { r < ROLE_LIMIT }
-    ensures put { OnOk result (members.new ≡ set.insert members.old (u, r)) }
-    ensures unchanged { OnErr result (members.new ≡ members.old) }
-{
-    let own = members.edit()?;
+    let Ok(own) = members.edit() else {
+        return Err(RosterFault::NoMemory);
+    };
     own.insert(u, r);
     Ok(())
 }
@@ -201,19 +191,9 @@ fn dismiss_among(members: &mut Shared<Members>, u: UserId, r: RoleId) -> Result<
     if !members.get().has(u, r) {
         return Err(RosterFault::Absent);
     }
-    match take_out(members, u, r) {
-        Ok(()) => Ok(()),
-        Err(_) => Err(RosterFault::NoMemory),
-    }
-}
-
-fn take_out(members: &mut Shared<Members>, u: UserId, r: RoleId) -> Result<(), AllocError>
-    requires user { u < USER_LIMIT }
-    requires role { r < ROLE_LIMIT }
-    ensures taken { OnOk result (members.new ≡ set.remove members.old (u, r)) }
-    ensures unchanged { OnErr result (members.new ≡ members.old) }
-{
-    let own = members.edit()?;
+    let Ok(own) = members.edit() else {
+        return Err(RosterFault::NoMemory);
+    };
     own.remove(u, r);
     Ok(())
 }
