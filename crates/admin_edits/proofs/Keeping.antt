@@ -6,7 +6,7 @@ use Rattle.std.proofs.Math.ListN.{length-set}
 use Rattle.std.proofs.lemmas.List.Quantifiers.{position-Some}
 use Rattle.std.specs.Cmp.Lexicographic.{pointwise}
 use Rattle.std.specs.Prelude.{nat_eq}
-use Rattle.std.specs.FinSet as set
+use Rattle.basics.specs.Pairs.{AllPairs, Pairs}
 use Rattle.basics.specs.Reading.{◌>>=◌, check, or_fault}
 use Rattle.basics.proofs.Booleans.{lt_back}
 use Rattle.wf_names.specs.Table.{place_of}
@@ -14,7 +14,7 @@ use Rattle.wf_names.specs.declared.limits.TheConstants.{FLOW_LIMIT, USER_LIMIT}
 use Rattle.user_relations.specs.Relations.{known_names, pairs_of}
 use Rattle.policy_book.specs.Shapes.{PolicyShape, WorkflowShape}
 use Rattle.policy_book.specs.Facts.{IsSoundPolicy, IsSoundWorkflow}
-use Rattle.policy_book.specs.Policies.{flow_at, problem_of, with_flow}
+use Rattle.policy_book.specs.Policies.{flow_at, problem_of, with_flow, with_pairs, with_roster}
 use Rattle.policy_book.specs.Plans.{IsWithin}
 use Rattle.policy_book.specs.Stored.{IsStoredPolicy}
 use Rattle.policy_book.proofs.Keeping.{all_inserted, all_removed, pairs_of_users, sound_forbidden, sound_permitted, stored_with_flow, stored_with_pairs}
@@ -94,6 +94,22 @@ sound_with_flow : (p : PolicyShape) (f : ℕ) (w : WorkflowShape) → IsSoundPol
 sound_with_flow p f w sound within new =
     (stored_with_flow p.roster p.relations (record { names = p.flow_names; limit = FLOW_LIMIT }) p.flows p.admin (stored p sound) f w within new).sound
 
+sound_with_members : (p : PolicyShape) (members : Pairs) → IsSoundPolicy p → IsSoundPolicy (with_roster p (record p.roster { members = members }))
+sound_with_members p members sound = record {
+  users = sound.users;
+  roles = sound.roles;
+  admin = sound.admin;
+  named = sound.named;
+  few = sound.few;
+  related = sound.related;
+  flows = sound.flows;
+}
+
+sound_with_pairs : (p : PolicyShape) (rho : ℕ) (pairs : Pairs) → IsSoundPolicy p →
+    AllPairs (λ u v. (u < length p.roster.users) × (v < length p.roster.users)) pairs → IsSoundPolicy (with_pairs p rho pairs)
+sound_with_pairs p rho pairs sound within =
+    (stored_with_pairs p.roster p.relations (record { names = p.flow_names; limit = FLOW_LIMIT }) p.flows p.admin (stored p sound) rho pairs within).sound
+
 -- a test that passes, and the rest
 checked : {B F : Type 0} (b : Bool) (fault : F) (next : Result B F) (x : B) → (check b fault >>= (λ (_ : Unit {0}). next)) ≡ Ok x → (b ≡ true) × (next ≡ Ok x)
 checked true fault next x e = (refl, e)
@@ -107,45 +123,16 @@ pub changes_keep_policies_sound : ChangesKeepPoliciesSound
 changes_keep_policies_sound p (amend.AddUser name) sound is fine =
     let room = lt_back _ _ (passed (nat_lt (length p.roster.users) USER_LIMIT) EditCause.Full (checked _ _ _ _ fine).1) in
     (stored_with_user p.roster p.relations (record { names = p.flow_names; limit = FLOW_LIMIT }) p.flows p.admin (stored p sound) name room).sound
-changes_keep_policies_sound p (amend.Leave u) sound is fine = record {
-  users = sound.users;
-  roles = sound.roles;
-  admin = sound.admin;
-  named =
-      sound.named;
-  few = sound.few;
-  related = sound.related;
-  flows = sound.flows;
-}
-changes_keep_policies_sound p (amend.Enrol u r) sound is fine = record {
-  users = sound.users;
-  roles = sound.roles;
-  admin = sound.admin;
-  named =
-      sound.named;
-  few = sound.few;
-  related = sound.related;
-  flows = sound.flows;
-}
-changes_keep_policies_sound p (amend.Dismiss u r) sound is fine = record {
-  users = sound.users;
-  roles = sound.roles;
-  admin = sound.admin;
-  named =
-      sound.named;
-  few = sound.few;
-  related = sound.related;
-  flows = sound.flows;
-}
+changes_keep_policies_sound p (amend.Leave u) sound is fine = sound_with_members p _ sound
+changes_keep_policies_sound p (amend.Enrol u r) sound is fine = sound_with_members p _ sound
+changes_keep_policies_sound p (amend.Dismiss u r) sound is fine = sound_with_members p _ sound
 changes_keep_policies_sound p (amend.Relate rho u v) sound is fine =
-    (stored_with_pairs p.roster p.relations (record { names = p.flow_names; limit = FLOW_LIMIT }) p.flows p.admin
-    (stored p sound) rho (set.insert (pairs_of p.relations rho) (u, v))
+    sound_with_pairs p rho _ sound
     (all_inserted (length p.roster.users) (pairs_of p.relations rho) u v (pairs_of_users (length p.roster.users) p.relations rho sound.related) is.first
-    is.second)).sound
+    is.second)
 changes_keep_policies_sound p (amend.Unrelate rho u v) sound is fine =
-    (stored_with_pairs p.roster p.relations (record { names = p.flow_names; limit = FLOW_LIMIT }) p.flows p.admin
-    (stored p sound) rho (set.remove (pairs_of p.relations rho) (u, v))
-    (all_removed (length p.roster.users) (pairs_of p.relations rho) u v (pairs_of_users (length p.roster.users) p.relations rho sound.related))).sound
+    sound_with_pairs p rho _ sound
+    (all_removed (length p.roster.users) (pairs_of p.relations rho) u v (pairs_of_users (length p.roster.users) p.relations rho sound.related))
 changes_keep_policies_sound p (amend.Permit f r s) sound is fine =
     sound_with_flow p f _ sound is.flow (sound_permitted (length p.roster.roles) (length p.relations) r s (flow_at p f) is.role (sound.flows f is.flow))
 changes_keep_policies_sound p (amend.Forbid f r s) sound is fine =

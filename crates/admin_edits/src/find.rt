@@ -1,5 +1,5 @@
 //! The numbers for the names of an edit.
-ghost use Rattle.std.specs.Prelude.{◌≡◌, ◌<◌, length, Err, IfOk, MatchResult, Ok};
+ghost use Rattle.std.specs.Prelude.{◌≡◌, ◌<◌, length, Err, IfOk, MatchResult, Ok, true, false};
 ghost use Rattle.basics.specs.Reading.{check, or_fault};
 ghost use Rattle.policy_book.specs.Policies.{flow_at};
 ghost use Rattle.user_relations.specs.Relations.{known_names};
@@ -7,7 +7,7 @@ ghost use Rattle.wf_names.specs.Table.{place_of};
 ghost use Rattle.wf_talk.specs.declared.edit.Edit.TheVariants as edit;
 ghost use Rattle.admin_edits.specs.declared.amendment.Amendment.TheVariants as amend;
 ghost use Rattle.admin_edits.specs.Edits.{found, is_admin};
-ghost use Rattle.admin_edits.specs.Found.{AreMember, ArePair, ArePermit, IsKnownChange};
+ghost use Rattle.admin_edits.specs.Found.{AreMember, ArePermit, IsKnownChange};
 
 use crate::{Amendment, EditCause};
 use policy_book::Policy;
@@ -36,12 +36,12 @@ pub(crate) fn find(p: &Policy, e: &Edit) -> Result<Amendment, EditCause>
             first,
             relation,
             second,
-        } => relating(p, first, relation, second),
+        } => find_pair(p, relation, first, second, true),
         Edit::Unrelate {
             first,
             relation,
             second,
-        } => unrelating(p, first, relation, second),
+        } => find_pair(p, relation, first, second, false),
         Edit::Permit { flow, role, step } => {
             let (flow, step, role) = find_permit(p, flow, step, role)?;
             Ok(Amendment::Permit { flow, role, step })
@@ -71,63 +71,36 @@ fn find_member(p: &Policy, user: &Name, role: &Name) -> Result<(UserId, RoleId),
     Ok((user, role))
 }
 
-/// The pair of users that a relation gains.
-fn relating(
-    p: &Policy,
-    first: &Name,
-    relation: &Name,
-    second: &Name,
-) -> Result<Amendment, EditCause>
-    ensures found { result ≡ found p.now (edit.Relate first.now relation.now second.now) }
-    ensures within { IfOk result (IsKnownChange p.now) }
-{
-    let (relation, first, second) = find_pair(p, relation, first, second)?;
-    Ok(Amendment::Relate {
-        relation,
-        first,
-        second,
-    })
-}
-
-/// The pair of users that a relation loses.
-fn unrelating(
-    p: &Policy,
-    first: &Name,
-    relation: &Name,
-    second: &Name,
-) -> Result<Amendment, EditCause>
-    ensures found { result ≡ found p.now (edit.Unrelate first.now relation.now second.now) }
-    ensures within { IfOk result (IsKnownChange p.now) }
-{
-    let (relation, first, second) = find_pair(p, relation, first, second)?;
-    Ok(Amendment::Unrelate {
-        relation,
-        first,
-        second,
-    })
-}
-
-/// A relation and two users.
+/// The pair of users that a relation gains or loses.
 fn find_pair(
     p: &Policy,
     relation: &Name,
     first: &Name,
     second: &Name,
-) -> Result<(RelId, UserId, UserId), EditCause>
-    ensures relate { MatchResult result
-        (λ x. found p.now (edit.Relate first.now relation.now second.now)
-        ≡ Ok (amend.Relate x.0 x.1 x.2))
-        (λ e. found p.now (edit.Relate first.now relation.now second.now) ≡ Err e) }
-    ensures unrelate { MatchResult result
-        (λ x. found p.now (edit.Unrelate first.now relation.now second.now)
-        ≡ Ok (amend.Unrelate x.0 x.1 x.2))
-        (λ e. found p.now (edit.Unrelate first.now relation.now second.now) ≡ Err e) }
-    ensures within { IfOk result (λ x. ArePair p.now x.1 x.2) }
+    gains: bool,
+) -> Result<Amendment, EditCause>
+    ensures relate { gains ≡ true
+        → result ≡ found p.now (edit.Relate first.now relation.now second.now) }
+    ensures unrelate { gains ≡ false
+        → result ≡ found p.now (edit.Unrelate first.now relation.now second.now) }
+    ensures within { IfOk result (IsKnownChange p.now) }
 {
     let relation = find_relation(p, relation)?;
     let first = find_user(p, first)?;
     let second = find_user(p, second)?;
-    Ok((relation, first, second))
+    if gains {
+        Ok(Amendment::Relate {
+            relation,
+            first,
+            second,
+        })
+    } else {
+        Ok(Amendment::Unrelate {
+            relation,
+            first,
+            second,
+        })
+    }
 }
 
 /// A workflow, one of its steps, and a role.
