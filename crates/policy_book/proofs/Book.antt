@@ -1,14 +1,20 @@
 -- What a policy keeps, with what is kept beside.
-use Rattle.std.proofs.Common.{◌≡◌, ℕ, ◌++◌, List, length, take, refl, sym, ap, ◌∙◌}
+use Rattle.std.proofs.Common.{◌≡◌, ℕ, ◌<◌, ◌++◌, List, length, take, slice_index_or, slice_set, refl, sym, ap, subst, ◌∙◌, arith}
+use Rattle.std.proofs.lemmas.List.{get_or_default}
 use Rattle.std.proofs.Math.Seq.{take-append_seam}
 use Rattle.basics.specs.Pairs.{Pairs}
 use Rattle.wf_names.specs.Table.{Table}
 use Rattle.rbac_state.specs.Rosters.{RosterShape}
 use Rattle.user_relations.specs.Relations.{RelationShape}
-use Rattle.policy_book.specs.Shapes.{WorkflowShape}
-use Rattle.policy_book.specs.Stored.{IsStoredPolicy}
-use Rattle.policy_book.specs.Duties.{AreSettled, DutyShape, IsBook}
-use Rattle.policy_book.proofs.Rows.{DiffersAt, kept_settled}
+use Rattle.workflow_schema.specs.Flows.{FlowShape}
+use Rattle.wf_names.specs.UserSets.{has_user}
+use Rattle.policy_book.specs.Shapes.{PolicyShape, WorkflowShape}
+use Rattle.policy_book.specs.Policies.{flow_at, no_workflow}
+use Rattle.policy_book.specs.Facts.{IsSoundWorkflow}
+use Rattle.policy_book.specs.Stored.{IsStoredPolicy, shape_of}
+use Rattle.policy_book.specs.Duties.{AreSettled, DutyShape, IsBook, may_do}
+use Rattle.policy_book.proofs.Keeping.{sound_at, stored_with_flow}
+use Rattle.policy_book.proofs.Rows.{DiffersAt, PermitsAt, kept_settled, kept_with_permits}
 
 -- what was written into a whole list
 pub whole : (n : ℕ) (xs ys : List DutyShape) → length xs ≡ n → take n (xs ++ ys) ≡ xs
@@ -32,7 +38,7 @@ stored_with_members roster m rs names flows admin old = record {
 }
 
 -- a membership of one user more or less, where the user is put right
-pub book_settled : (roster : RosterShape) (m : Pairs) (rs : List RelationShape) (names : Table) (flows : List WorkflowShape) (admin u r : ℕ)
+book_settled : (roster : RosterShape) (m : Pairs) (rs : List RelationShape) (names : Table) (flows : List WorkflowShape) (admin u r : ℕ)
     (ds es : List DutyShape)
     → IsBook roster rs names flows admin ds → DiffersAt u r roster (record roster { members = m }) → AreSettled (record roster { members = m }) flows u r ds es
     → IsBook (record roster { members = m }) rs names flows admin es
@@ -40,3 +46,42 @@ book_settled roster m rs names flows admin u r ds es old differs settled = recor
   stored = stored_with_members roster m rs names flows admin old.stored;
   kept = kept_settled roster (record roster { members = m }) flows u r ds es refl differs old.kept settled;
 }
+
+-- the book after a change of one user's roles, as it is written into lists that were seen under other names
+pub book_after : (roster after : RosterShape) (m : Pairs) (rs : List RelationShape) (names : Table) (flows ws : List WorkflowShape) (admin u r n : ℕ)
+    (ds old new rest : List DutyShape)
+    → after ≡ record roster { members = m } → ws ≡ flows → old ≡ ds → AreSettled after ws u r old new → length old ≡ n
+    → IsBook roster rs names flows admin ds → DiffersAt u r roster (record roster { members = m }) → IsBook after rs names flows admin (take n (new ++ rest))
+book_after roster after m rs names flows ws admin u r n ds old new rest changed seen there settled long book differs =
+    let now : AreSettled (record roster { members = m }) flows u r ds new =
+    subst (λ (x : RosterShape). AreSettled x flows u r ds new) changed
+    (subst (λ (xs : List WorkflowShape). AreSettled after xs u r ds new) seen (subst (λ (xs : List DutyShape). AreSettled after ws u r xs new) there settled)) in
+    subst (λ (xs : List DutyShape). IsBook after rs names flows admin xs) (sym (whole n new rest (settled.count ∙ long)))
+    (subst (λ (x : RosterShape). IsBook x rs names flows admin new) (sym changed) (book_settled roster m rs names flows admin u r ds new book differs now))
+
+-- other permissions for one step of a workflow, whose row is made anew
+pub book_with_permits : (p : PolicyShape) (roster : RosterShape) (rs : List RelationShape) (names : Table) (flows : List WorkflowShape) (admin : ℕ)
+    (ds : List DutyShape) (g f s : ℕ) (w seen : WorkflowShape) (d : DutyShape) (permits : Pairs) (changed : FlowShape) (row : List ℕ)
+    → shape_of roster rs names flows admin ≡ p → f ≡ g → g < length p.flows → s < length (flow_at p g).flow.steps
+    → w ≡ seen → seen ≡ slice_index_or flows f seen → d ≡ slice_index_or ds f d
+    → changed ≡ record w.flow { permits = permits } → ((u : ℕ) → has_user row u ≡ may_do roster changed s u) → PermitsAt s w.flow permits
+    → (IsSoundWorkflow (length roster.roles) (length rs) w →
+    IsSoundWorkflow (length roster.roles) (length rs) (record w { flow = record w.flow { permits = permits } }))
+    → IsBook roster rs names flows admin ds
+    → IsBook roster rs names (slice_set flows f (record w { flow = changed })) admin (slice_set ds f (record d { rows = slice_set d.rows s row }))
+book_with_permits p roster rs names flows admin ds g f s w seen d permits changed row view number there asked here at kept_at made told others sound book =
+    let as_many = ap (λ (x : PolicyShape). length x.flows) view in
+    let within : f < length flows = omega (arith, as_many, number, there) in
+    let w_is : w ≡ slice_index_or flows f w = here ∙ at ∙ get_or_default flows f seen w within in
+    let step : s < length w.flow.steps =
+    subst (λ (x : WorkflowShape). s < length x.flow.steps) (sym (w_is ∙ get_or_default flows f w no_workflow within))
+    (subst (λ (x : PolicyShape). s < length (flow_at x f).flow.steps) (sym view)
+    (subst (λ (n : ℕ). s < length (flow_at p n).flow.steps) (sym number) asked)) in
+    let before = subst (IsSoundWorkflow (length roster.roles) (length rs)) (sym here) (sound_at roster rs names flows admin book.stored f seen within at) in
+    subst (λ (x : FlowShape). ((u : ℕ) → has_user row u ≡ may_do roster x s u) →
+    IsBook roster rs names (slice_set flows f (record w { flow = x })) admin (slice_set ds f (record d { rows = slice_set d.rows s row })))
+    (sym made)
+    (λ right. record {
+      stored = stored_with_flow roster rs names flows admin book.stored f _ within (sound before);
+      kept = kept_with_permits roster flows ds f s w d permits row within step book.kept w_is kept_at others right;
+    }) told
