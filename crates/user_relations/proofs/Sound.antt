@@ -15,6 +15,8 @@ use Rattle.wf_names.specs.Table.{place_of}
 use Rattle.wf_names.specs.declared.limits.TheConstants.{USER_LIMIT, RELATION_LIMIT, PAIR_LIMIT}
 use Rattle.user_relations.specs.declared.RelationFault.{RelationFault}
 use Rattle.user_relations.specs.declared.RelationFault.TheVariants.{Already, Full}
+use Rattle.user_relations.specs.declared.kinds.Relation.{Relation}
+use Rattle.user_relations.specs.View.{shapes}
 use Rattle.user_relations.specs.Relations.{RelationShape, RelationKind, listed, complement, kind_of, has_list, is_listed, complemented, complement_of}
 use Rattle.user_relations.specs.Relations.{listed_pairs, pairs_of, known_names, change_kind, with_kind}
 use Rattle.user_relations.specs.Kinds.{AnswersFault, put_fault, take_fault, relate_fault, unrelate_fault}
@@ -28,8 +30,16 @@ abbrev AreUsers : ℕ → ℕ → Type 0
 AreUsers u v = (u < USER_LIMIT) × (v < USER_LIMIT)
 
 -- a list that was written through a slice
-pub written_back : {X : Type 0} (new old : List X) (n : ℕ) → n ≡ length old → length new ≡ length old → take n (new ++ drop (length new) old) ≡ new
+written_back : {X : Type 0} (new old : List X) (n : ℕ) → n ≡ length old → length new ≡ length old → take n (new ++ drop (length new) old) ≡ new
 written_back new old n e same = ap (λ k. take k (new ++ drop (length new) old)) (e ∙ sym same) ∙ take-append_seam new (drop (length new) old)
+
+-- relations that were written so are sound, where what was written is
+pub sound_back : (old given new : List Relation) (n : ℕ) → given ≡ old → length given ≡ n → length new ≡ length given → AreSoundRelations (shapes old) →
+    (AreSoundRelations (shapes given) → AreSoundRelations (shapes new)) → AreSoundRelations (shapes (take n (new ++ drop (length new) old)))
+sound_back old given new n is long same before after =
+    let count = ap length is in
+    subst (λ (ds : List Relation). AreSoundRelations (shapes ds)) (sym (written_back new old n (sym long ∙ count) (same ∙ count)))
+    (after (subst (λ (ds : List Relation). AreSoundRelations (shapes ds)) (sym is) before))
 
 names_kept : (rs : List RelationShape) (n : ℕ) (k : RelationKind) → map (λ r. r.name) (change_kind rs n k) ≡ map (λ r. r.name) rs
 names_kept [] n k = refl

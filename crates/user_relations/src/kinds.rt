@@ -302,22 +302,14 @@ fn put_pair(kind: &mut Kind, u: UserId, v: UserId) -> Result<(), RelationFault>
     let Kind::Listed(pairs) = kind else {
         return Err(RelationFault::Fixed);
     };
-    match insert_into(pairs, u, v) {
-        Ok(()) => Ok(()),
+    // others may have a share of the pairs
+    let Ok(own) = pairs.edit() else {
+        return Err(RelationFault::NoMemory);
+    };
+    match own.insert(u, v) {
+        Ok(_) => Ok(()),
         Err(_) => Err(RelationFault::NoMemory),
     }
-}
-
-// Puts a pair in, where others may have a share of the pairs.
-fn insert_into(pairs: &mut Shared<UserPairs>, u: UserId, v: UserId) -> Result<(), AllocError>
-    requires first { u < USER_LIMIT }
-    requires second { v < USER_LIMIT }
-    ensures inserted { OnOk result (pairs.new ≡ set.insert pairs.old (u, v)) }
-    ensures unchanged { OnErr result (pairs.new ≡ pairs.old) }
-{
-    let own = pairs.edit()?;
-    own.insert(u, v)?;
-    Ok(())
 }
 
 pub(crate) fn unrelate(
@@ -351,20 +343,14 @@ fn take_pair(kind: &mut Kind, u: UserId, v: UserId) -> Result<(), RelationFault>
     let Kind::Listed(pairs) = kind else {
         return Err(RelationFault::Fixed);
     };
-    match remove_from(pairs, u, v) {
-        Ok(()) => Ok(()),
+    // others may have a share of the pairs
+    let Ok(own) = pairs.edit() else {
+        return Err(RelationFault::NoMemory);
+    };
+    match own.remove(u, v) {
+        Ok(_) => Ok(()),
         Err(_) => Err(RelationFault::NoMemory),
     }
-}
-
-// Takes a pair out, where others may have a share of the pairs.
-fn remove_from(pairs: &mut Shared<UserPairs>, u: UserId, v: UserId) -> Result<(), AllocError>
-    ensures removed { OnOk result (pairs.new ≡ set.remove pairs.old (u, v)) }
-    ensures unchanged { OnErr result (pairs.new ≡ pairs.old) }
-{
-    let own = pairs.edit()?;
-    own.remove(u, v)?;
-    Ok(())
 }
 
 /// The number of the relation with a name.
