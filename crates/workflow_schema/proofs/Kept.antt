@@ -4,7 +4,7 @@ use Rattle.std.specs.Bool.{IsTrue}
 use Rattle.std.specs.FinSet as set
 use Rattle.basics.specs.Pairs.{Pairs}
 use Rattle.wf_names.specs.declared.limits.TheConstants.{ROLE_LIMIT, STEP_LIMIT}
-use Rattle.workflow_schema.specs.Tables.{table_has}
+use Rattle.workflow_schema.specs.Tables.{permitted_by, table_has}
 use Rattle.workflow_schema.specs.Flows.{FlowShape, Precedes, is_before, is_count, IsFlow}
 use Rattle.workflow_schema.specs.Stored.{IsStoredFlow}
 use Rattle.basics.proofs.Booleans.{or_cases, and_both, eq_back, le_back}
@@ -23,47 +23,37 @@ tells_chains f s t answer kept is =
     in
     (λ h. before_is_chain f.order s t (sym is ∙ h), λ r. is ∙ chain_is_before f.order s t below r)
 
+-- other permissions of steps of the workflow to roles
+keeps_rows : (steps : List (List ℕ)) (order : Pairs) (later old rows : List ℕ) → IsStoredFlow steps order later old →
+    ((r s : ℕ) → set.contains (permitted_by rows) (r, s) ≡ true → (r < ROLE_LIMIT) × (s < length steps)) → length rows ≡ length old →
+    IsStoredFlow steps order later rows
+keeps_rows steps order later old rows kept known whole = record {
+  flow = record { counted = kept.flow.counted; orders = kept.flow.orders; acyclic = kept.flow.acyclic; permitted = record { each = known } };
+  closed = kept.closed;
+  rows = whole ∙ kept.rows;
+}
+
 pub keeps_permitted :
     (steps : List (List ℕ)) (order : Pairs) (later old rows : List ℕ) (r s : ℕ) → IsStoredFlow steps order later old →
     ((a b : ℕ) → table_has rows a b ≡ ((nat_eq a s && nat_eq b r) || table_has old a b)) →
     r < ROLE_LIMIT → s < length steps → length rows ≡ length old → IsStoredFlow steps order later rows
-keeps_permitted steps order later old rows r s kept h role step whole = record {
-  flow = record {
-    counted = kept.flow.counted;
-    orders = kept.flow.orders;
-    acyclic = kept.flow.acyclic;
-    permitted = record {
-      each = λ a b found.
-          elim (or_cases (nat_eq b s && nat_eq a r) (table_has old b a) (sym (h b a) ∙ sym (permitted_by-has rows a b) ∙ found)) [
-            | inl e ↦
-                let both = and_both (nat_eq b s) (nat_eq a r) e in
-                let same_step = eq_back b s both.0 in
-                let same_role = eq_back a r both.1 in
-                (omega arith, omega arith)
-            | inr e ↦ kept.flow.permitted.each a b (permitted_by-has old a b ∙ e)
-          ];
-    };
-  };
-  closed = kept.closed;
-  rows = whole ∙ kept.rows;
-}
+keeps_permitted steps order later old rows r s kept h role step whole =
+    keeps_rows steps order later old rows kept (λ a b found.
+    elim (or_cases (nat_eq b s && nat_eq a r) (table_has old b a) (sym (h b a) ∙ sym (permitted_by-has rows a b) ∙ found)) [
+      | inl e ↦
+          let both = and_both (nat_eq b s) (nat_eq a r) e in
+          let same_step = eq_back b s both.0 in
+          let same_role = eq_back a r both.1 in
+          (omega arith, omega arith)
+      | inr e ↦ kept.flow.permitted.each a b (permitted_by-has old a b ∙ e)
+    ]) whole
 
 pub keeps_forbidden :
     (steps : List (List ℕ)) (order : Pairs) (later old rows : List ℕ) (r s : ℕ) → IsStoredFlow steps order later old →
     ((a b : ℕ) → table_has rows a b ≡ (not (nat_eq a s && nat_eq b r) && table_has old a b)) →
     length rows ≡ length old → IsStoredFlow steps order later rows
-keeps_forbidden steps order later old rows r s kept h whole = record {
-  flow = record {
-    counted = kept.flow.counted;
-    orders = kept.flow.orders;
-    acyclic = kept.flow.acyclic;
-    permitted = record {
-      each = λ a b found.
-          kept.flow.permitted.each a b
-          (permitted_by-has old a b ∙
-          (and_both (not (nat_eq b s && nat_eq a r)) (table_has old b a) (sym (h b a) ∙ sym (permitted_by-has rows a b) ∙ found)).1);
-    };
-  };
-  closed = kept.closed;
-  rows = whole ∙ kept.rows;
-}
+keeps_forbidden steps order later old rows r s kept h whole =
+    keeps_rows steps order later old rows kept (λ a b found.
+    kept.flow.permitted.each a b
+    (permitted_by-has old a b ∙
+    (and_both (not (nat_eq b s && nat_eq a r)) (table_has old b a) (sym (h b a) ∙ sym (permitted_by-has rows a b) ∙ found)).1)) whole
