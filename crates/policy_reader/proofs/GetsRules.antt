@@ -15,7 +15,7 @@ use Rattle.constraint_forms.specs.declared.rule.Rule.{Rule}
 use Rattle.constraint_forms.specs.declared.rule.Rule.TheVariants as rule
 use Rattle.constraint_forms.proofs.Members.{none_member}
 use Rattle.policy_book.specs.Facts.{AreSoundRules, HasMembers, IsSoundRule, IsWithinGroup}
-use Rattle.basics.specs.Reading.{check, or_fault}
+use Rattle.basics.specs.Reading.{◌>>=◌, check, or_fault}
 use Rattle.policy_reader.specs.declared.fault.PolicyKind.TheVariants as kind
 use Rattle.policy_reader.specs.declared.fault.PolicyPart.TheVariants.{Flows}
 use Rattle.policy_reader.specs.declared.format.Format.{Format}
@@ -33,7 +33,6 @@ use Rattle.policy_reader.proofs.RuleLists.{push_sound}
 -- ---- relations and steps
 
 relation_within : (f : ℕ) (relations : List RelationShape) (d : Data) → Gets (λ n. n < length relations + 2) (relation_in f relations d)
-unfolding relation_in
 relation_within f relations d =
     after (λ n. n < length relations + 2) (text_in Flows f d) (λ text. number_in Flows f (known_names relations) text)
     (λ text. weaker (λ n. n < length (known_names relations)) (λ n. n < length relations + 2) (number_in Flows f (known_names relations) text)
@@ -186,14 +185,19 @@ grouping_read rule_form f relations steps ms le =
     (λ g h. record { known = known; group = h; step = lt }))))
 
 -- a rule that names such a step and group, and reads such a relation
-grouped_sound : (steps relations : ℕ) (g : ℕ × (List Bool × ℕ)) (r : Rule) → ((s : ℕ) → names r s ≡ ((s == g.1.1) || is_member g.1.0 s))
-    → ((x : ℕ) → reads r x ≡ (x == g.0))
-    → HasMembers r → IsGrouping steps relations g → IsSoundRule steps relations r
-grouped_sound steps relations g r named read some h = record {
-  names = λ s here. group_named steps g.1.1 g.1.0 s h.step h.group.below (sym (named s) ∙ here);
-  known = λ x here. only g.0 (relations + 2) x h.known (sym (read x) ∙ here);
-  members = some;
-}
+grouped_form : (rule_form : Form) (made : ℕ × (List Bool × ℕ) → Rule) (f : ℕ) (relations : List RelationShape) (steps : List (List ℕ)) (ms : Members)
+    → length steps ≤ STEP_LIMIT → ((g : ℕ × (List Bool × ℕ)) (s : ℕ) → names (made g) s ≡ ((s == g.1.1) || is_member g.1.0 s))
+    → ((g : ℕ × (List Bool × ℕ)) (x : ℕ) → reads (made g) x ≡ (x == g.0))
+    → ((g : ℕ × (List Bool × ℕ)) → any_from 0 g.1.0 (λ _. true) ≡ true → HasMembers (made g))
+    → Gets (IsSoundRule (length steps) (length relations)) (grouped_in rule_form f relations steps ms >>= (λ g. Ok (made g)))
+grouped_form rule_form made f relations steps ms le named read some =
+    and_so (IsGrouping (length steps) (length relations)) (IsSoundRule (length steps) (length relations)) (grouped_in rule_form f relations steps ms)
+    (λ g. Ok (made g)) (grouping_read rule_form f relations steps ms le)
+    (λ g h. record {
+      names = λ s here. group_named (length steps) g.1.1 g.1.0 s h.step h.group.below (sym (named g s) ∙ here);
+      known = λ x here. only g.0 (length relations + 2) x h.known (sym (read g x) ∙ here);
+      members = some g (some_step (length steps) g.1.0 h.group);
+    })
 
 counting_read : (rule_form : Form) (f : ℕ) (steps : List (List ℕ)) (ms : Members) → length steps ≤ STEP_LIMIT
     → Gets (λ c. IsWithinGroup c.0 c.1 × HasStepsBelow (length steps) c.1) (counting_in rule_form f steps ms)
@@ -205,34 +209,36 @@ counting_read rule_form f steps ms le =
     (λ g h. and_so (λ l. (0 < l) × (l ≤ count_members g)) P (limit_at f (count_members g) ms) (λ l. Ok (l, g)) (limit_there f (count_members g) ms)
     (λ l within. (within, h.below))))
 
+-- a rule that names such a group, and reads no relation
+counting_form : (rule_form : Form) (made : ℕ × List Bool → Rule) (f : ℕ) (relations : List RelationShape) (steps : List (List ℕ)) (ms : Members)
+    → length steps ≤ STEP_LIMIT → ((c : ℕ × List Bool) (s : ℕ) → names (made c) s ≡ is_member c.1 s)
+    → ((c : ℕ × List Bool) (x : ℕ) → reads (made c) x ≡ false) → ((c : ℕ × List Bool) → IsWithinGroup c.0 c.1 → HasMembers (made c))
+    → Gets (IsSoundRule (length steps) (length relations)) (counting_in rule_form f steps ms >>= (λ c. Ok (made c)))
+counting_form rule_form made f relations steps ms le named read some =
+    and_so (λ c. IsWithinGroup c.0 c.1 × HasStepsBelow (length steps) c.1) (IsSoundRule (length steps) (length relations))
+    (counting_in rule_form f steps ms) (λ c. Ok (made c)) (counting_read rule_form f steps ms le)
+    (λ c h. record {
+      names = λ s here. h.1 s (sym (named c s) ∙ here);
+      known = λ x here. let no = read c x in absurd (cc);
+      members = some c h.0;
+    })
+
 form_sound : (rule_form : Form) (f : ℕ) (relations : List RelationShape) (steps : List (List ℕ)) (ms : Members) → length steps ≤ STEP_LIMIT
     → Gets (IsSoundRule (length steps) (length relations)) (rule_of_form rule_form f relations steps ms)
 unfolding rule_of_form
 form_sound form.Pair f relations steps ms le = pair_sound f relations steps ms
 form_sound form.SomeOf f relations steps ms le =
-    and_so (IsGrouping (length steps) (length relations)) (IsSoundRule (length steps) (length relations)) (grouped_in form.SomeOf f relations steps ms)
-    (λ g. Ok (rule.SomeOf g.0 g.1.0 g.1.1)) (grouping_read form.SomeOf f relations steps ms le)
-    (λ g h. grouped_sound (length steps) (length relations) g (rule.SomeOf g.0 g.1.0 g.1.1) (λ s. refl) (λ x. refl) (some_step (length steps) g.1.0 h.group) h)
+    grouped_form form.SomeOf (λ g. rule.SomeOf g.0 g.1.0 g.1.1) f relations steps ms le (λ g s. refl) (λ g x. refl) (λ g some. some)
 form_sound form.AllOf f relations steps ms le =
-    and_so (IsGrouping (length steps) (length relations)) (IsSoundRule (length steps) (length relations)) (grouped_in form.AllOf f relations steps ms)
-    (λ g. Ok (rule.AllOf g.0 g.1.0 g.1.1)) (grouping_read form.AllOf f relations steps ms le)
-    (λ g h. grouped_sound (length steps) (length relations) g (rule.AllOf g.0 g.1.0 g.1.1) (λ s. refl) (λ x. refl) (some_step (length steps) g.1.0 h.group) h)
+    grouped_form form.AllOf (λ g. rule.AllOf g.0 g.1.0 g.1.1) f relations steps ms le (λ g s. refl) (λ g x. refl) (λ g some. some)
 form_sound form.SomeTo f relations steps ms le =
-    and_so (IsGrouping (length steps) (length relations)) (IsSoundRule (length steps) (length relations)) (grouped_in form.SomeTo f relations steps ms)
-    (λ g. Ok (rule.SomeTo g.0 g.1.1 g.1.0)) (grouping_read form.SomeTo f relations steps ms le)
-    (λ g h. grouped_sound (length steps) (length relations) g (rule.SomeTo g.0 g.1.1 g.1.0) (λ s. refl) (λ x. refl) (some_step (length steps) g.1.0 h.group) h)
+    grouped_form form.SomeTo (λ g. rule.SomeTo g.0 g.1.1 g.1.0) f relations steps ms le (λ g s. refl) (λ g x. refl) (λ g some. some)
 form_sound form.AllTo f relations steps ms le =
-    and_so (IsGrouping (length steps) (length relations)) (IsSoundRule (length steps) (length relations)) (grouped_in form.AllTo f relations steps ms)
-    (λ g. Ok (rule.AllTo g.0 g.1.1 g.1.0)) (grouping_read form.AllTo f relations steps ms le)
-    (λ g h. grouped_sound (length steps) (length relations) g (rule.AllTo g.0 g.1.1 g.1.0) (λ s. refl) (λ x. refl) (some_step (length steps) g.1.0 h.group) h)
+    grouped_form form.AllTo (λ g. rule.AllTo g.0 g.1.1 g.1.0) f relations steps ms le (λ g s. refl) (λ g x. refl) (λ g some. some)
 form_sound form.AtMost f relations steps ms le =
-    and_so (λ c. IsWithinGroup c.0 c.1 × HasStepsBelow (length steps) c.1) (IsSoundRule (length steps) (length relations))
-    (counting_in form.AtMost f steps ms) (λ g. Ok (rule.AtMost g.0 g.1)) (counting_read form.AtMost f steps ms le)
-    (λ g h. record { names = λ s here. h.1 s here; known = λ r here. absurd (cc); members = h.0 })
+    counting_form form.AtMost (λ c. rule.AtMost c.0 c.1) f relations steps ms le (λ c s. refl) (λ c x. refl) (λ c within. within)
 form_sound form.AtLeast f relations steps ms le =
-    and_so (λ c. IsWithinGroup c.0 c.1 × HasStepsBelow (length steps) c.1) (IsSoundRule (length steps) (length relations))
-    (counting_in form.AtLeast f steps ms) (λ g. Ok (rule.AtLeast g.0 g.1)) (counting_read form.AtLeast f steps ms le)
-    (λ g h. record { names = λ s here. h.1 s here; known = λ r here. absurd (cc); members = h.0 })
+    counting_form form.AtLeast (λ c. rule.AtLeast c.0 c.1) f relations steps ms le (λ c s. refl) (λ c x. refl) (λ c within. within)
 
 rule_sound : (format : Format) (f : ℕ) (relations : List RelationShape) (steps : List (List ℕ)) (d : Data) → length steps ≤ STEP_LIMIT
     → Gets (IsSoundRule (length steps) (length relations)) (rule_in format f relations steps d)

@@ -1,12 +1,15 @@
 -- The rules of a workflow are read from what they are written as.
-use Rattle.std.proofs.Common.{◌≡◌, ℕ, zero, suc, ◌+◌, ◌<◌, ◌≤◌, Bool, true, false, cond, nat_eq, List, [], ◌∷◌, ◌++◌, length, map, refl, sym, ap, ◌∙◌, arith}
-use Rattle.std.proofs.Common.{codes, Some, Ok, slice_set, slice_get, replicate}
+use Rattle.std.proofs.Common.{◌≡◌, ℕ, zero, suc, ◌+◌, ◌<◌, ◌≤◌, Bool, true, false, ◌||◌, cond, nat_eq, List, [], ◌∷◌, ◌++◌, length, map, refl, sym, ap, ◌∙◌}
+use Rattle.std.proofs.Common.{arith, codes, Some, Ok, slice_set, slice_get, replicate}
 use Rattle.constraint_forms.specs.declared.rule.Rule.TheVariants as rule
 use Rattle.policy_reader.proofs.Prints.{length-map, not_true, or_left, or_right, eq_same, each, string, Members, get_member, AreNames, STEP_LIMIT, RULE_LIMIT}
 use Rattle.policy_reader.proofs.Prints.{RelationShape, known_names, is_member, Rule, IsSoundRule, AreSoundRules, Flows, name_at, names_where, chosen, rule_data}
 use Rattle.policy_reader.proofs.Prints.{rules_data, HasFlags, HaveFlags, Format, form_of, knows_form, le_yes}
 use Rattle.constraint_forms.specs.Assign.{no_steps}
 use Rattle.constraint_forms.specs.Rules.{any_from, count_members}
+use Rattle.policy_reader.specs.Forms.{form_keys}
+use Rattle.policy_reader.specs.declared.form.Form.{Form}
+use Rattle.policy_reader.specs.declared.form.Form.TheVariants as form
 use Rattle.policy_reader.specs.Parts.{value_at, array_in, table_in, text_in, named_in, once, no_others, known_key}
 use Rattle.policy_reader.specs.Rules.{relation_in, step_in, next_member, group_in, relation_at, step_at, group_at, limit_at, limit_in, key_in, keys_in}
 use Rattle.policy_reader.specs.Rules.{counting_keys_in, counting_in, pair_in, grouped_in, form_in, rule_of_form, rule_in, next_rule, rules_in, rules_of}
@@ -103,17 +106,41 @@ module _ (f : ℕ) (steps : List (List ℕ)) (named : AreNames steps) where
 
   module _ (relations : List RelationShape) (related : AreNames (known_names relations)) where
     relation_again : (rho : ℕ) → rho < length relations + 2 → relation_in f relations (string (name_at (known_names relations) rho)) ≡ Ok rho
-    unfolding relation_in text_in
+    unfolding text_in
     relation_again rho lt = number_back Flows f (known_names relations) rho related (omega (arith, lt, length-map relations (λ r. r.name)))
 
     step_again : (s : ℕ) → s < length steps → step_in f steps (string (name_at steps s)) ≡ Ok s
     unfolding step_in named_in text_in
     step_again s lt = number_back Flows f steps s named lt
 
+    -- a relation, a group of steps and a step are read from what a rule over them is written as
+    grouped_again : (rule_form : Form) (rho : ℕ) (g : List Bool) (s : ℕ) → form_keys rule_form ≡ form_keys form.SomeOf → rho < length relations + 2
+        → ((x : ℕ) → (nat_eq x s || is_member g x) ≡ true → x < length steps) → length g ≡ STEP_LIMIT → any_from 0 g (λ _. true) ≡ true →
+        grouped_in rule_form f relations steps (grouped_members rule_form relations steps rho g s) ≡ Ok (rho, (g, s))
+    unfolding grouped_in keys_in key_in relation_at step_at group_at value_at no_others known_key grouped_members
+    grouped_again rule_form rho g s keys known names flags some = rw (
+      keys,
+      relation_again rho known,
+      step_again s (names s (or_left (nat_eq s s) _ (eq_same s))),
+      group_again g flags (λ x here. names x (or_right (nat_eq x s) _ here)) some,
+    ) refl
+
+    -- and so are a number of users and a group
+    counting_again : (rule_form : Form) (limit : ℕ) (g : List Bool) → form_keys rule_form ≡ form_keys form.AtMost
+        → ((x : ℕ) → is_member g x ≡ true → x < length steps) → length g ≡ STEP_LIMIT → 0 < limit → limit ≤ count_members g →
+        counting_in rule_form f steps (counting_members rule_form steps limit g) ≡ Ok (limit, g)
+    unfolding counting_in counting_keys_in key_in group_at limit_at limit_in value_at no_others known_key counting_members
+    counting_again rule_form limit g keys names flags some most = rw (
+      keys,
+      group_again g flags names (some_of_count 0 g (omega (arith, some, most))),
+      le_yes 1 limit (omega (arith, some)),
+      le_yes limit (count_members g) most,
+    ) refl
+
     rule_again : (format : Format) (r : Rule) → IsSoundRule (length steps) (length relations) r → HasFlags r → knows_form format (form_of r) ≡ true → rule_in
         format f relations steps (rule_data relations steps r) ≡ Ok r
-    unfolding rule_in form_in rule_of_form keys_in key_in relation_at step_at group_at limit_at limit_in counting_keys_in counting_in pair_in grouped_in
-        value_at table_in no_others known_key rule_members grouped_members counting_members
+    unfolding rule_in form_in rule_of_form pair_in keys_in key_in relation_at step_at value_at table_in no_others known_key rule_members grouped_members
+        counting_members
     rule_again format (rule.Pair rho s t) h flags known = rw (
       known,
       relation_again rho (h.known rho (eq_same rho)),
@@ -122,51 +149,17 @@ module _ (f : ℕ) (steps : List (List ℕ)) (named : AreNames steps) where
       step_again t (h.names t (or_right (nat_eq t s) _ (eq_same t))),
     ) refl
     rule_again format (rule.SomeOf rho g s) h flags known =
-        rw (
-          known,
-          relation_again rho (h.known rho (eq_same rho)),
-          step_again s (h.names s (or_left (nat_eq s s) _ (eq_same s))),
-          group_again
-              g flags (λ x here. h.names x (or_right (nat_eq x s) _ here)) h.members,
-        ) refl
+        rw (known, grouped_again form.SomeOf rho g s refl (h.known rho (eq_same rho)) h.names flags h.members) refl
     rule_again format (rule.AllOf rho g s) h flags known =
-        rw (
-          known,
-          relation_again rho (h.known rho (eq_same rho)),
-          step_again s (h.names s (or_left (nat_eq s s) _ (eq_same s))),
-          group_again
-              g flags (λ x here. h.names x (or_right (nat_eq x s) _ here)) h.members,
-        ) refl
+        rw (known, grouped_again form.AllOf rho g s refl (h.known rho (eq_same rho)) h.names flags h.members) refl
     rule_again format (rule.SomeTo rho s g) h flags known =
-        rw (
-          known,
-          relation_again rho (h.known rho (eq_same rho)),
-          step_again s (h.names s (or_left (nat_eq s s) _ (eq_same s))),
-          group_again
-              g flags (λ x here. h.names x (or_right (nat_eq x s) _ here)) h.members,
-        ) refl
+        rw (known, grouped_again form.SomeTo rho g s refl (h.known rho (eq_same rho)) h.names flags h.members) refl
     rule_again format (rule.AllTo rho s g) h flags known =
-        rw (
-          known,
-          relation_again rho (h.known rho (eq_same rho)),
-          step_again s (h.names s (or_left (nat_eq s s) _ (eq_same s))),
-          group_again
-              g flags (λ x here. h.names x (or_right (nat_eq x s) _ here)) h.members,
-        ) refl
+        rw (known, grouped_again form.AllTo rho g s refl (h.known rho (eq_same rho)) h.names flags h.members) refl
     rule_again format (rule.AtMost limit g) h flags known =
-        rw (
-          known,
-          group_again g flags h.names (some_of_count 0 g (omega (arith, h.members.0, h.members.1))),
-          le_yes 1 limit (omega (arith, h.members.0)),
-          le_yes limit (count_members g) h.members.1,
-        ) refl
+        rw (known, counting_again form.AtMost limit g refl h.names flags h.members.0 h.members.1) refl
     rule_again format (rule.AtLeast limit g) h flags known =
-        rw (
-          known,
-          group_again g flags h.names (some_of_count 0 g (omega (arith, h.members.0, h.members.1))),
-          le_yes 1 limit (omega (arith, h.members.0)),
-          le_yes limit (count_members g) h.members.1,
-        ) refl
+        rw (known, counting_again form.AtLeast limit g refl h.names flags h.members.0 h.members.1) refl
 
     rule_step : (format : Format) (rules : List Rule) → AreSoundRules (length steps) (length relations) rules → HaveFlags rules → HaveForms format rules →
         (before : List Rule) (r : Rule) (after : List Rule) → rules ≡ before ++ r ∷ after

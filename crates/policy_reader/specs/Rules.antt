@@ -21,7 +21,7 @@ use Rattle.policy_reader.specs.Parts.{items, value_at, text_in, array_in, table_
 use Rattle.policy_reader.specs.Parts.{at_least_one, number_in, named_in, said, once, no_others}
 
 -- the relation that a value names: `same`, `other` or a declared one
-unfoldable pub relation_in : ℕ → List RelationShape → Data → Reading ℕ
+abbrev pub relation_in : ℕ → List RelationShape → Data → Reading ℕ
 relation_in f relations d = do
   text ← text_in Flows f d
   number_in Flows f (known_names relations) text

@@ -114,7 +114,7 @@ fn add_workflow(
 }
 
 /// Reads the rules of a workflow and adds it with them under its name.
-#[tactic(auto, unfolding(crate::specs::Flows::ruled_in), using(workflow_schema::proofs::Kept::few_steps))]
+#[tactic(auto, unfolding(crate::specs::Flows::ruled_in))]
 fn add_ruled(
     alloc: Global,
     format: Format,
@@ -186,10 +186,8 @@ fn next_flow(
 {
     let number = policy.flows().len() as u32;
     let name = name_of(key, PolicyPart::Flows, number)?;
-    match table_of(value, PolicyPart::Flows, number) {
-        Ok(table) => add_workflow(alloc, format, policy, name, table),
-        Err(fault) => Err(fault),
-    }
+    let table = table_of(value, PolicyPart::Flows, number)?;
+    add_workflow(alloc, format, policy, name, table)
 }
 
 fn all_flows(
@@ -226,8 +224,6 @@ pub(crate) fn read_flows(
         (spec.flows_in today format policy.old (table_view file.now)) }
     ensures printable { OnOk result (IsPrintable policy.new) }
 {
-    match entries_at(FLOW_LIMIT as usize, file, "flows", PolicyPart::Flows, 0) {
-        Ok(flows) => all_flows(alloc, format, policy, flows),
-        Err(fault) => Err(fault),
-    }
+    let flows = entries_at(FLOW_LIMIT as usize, file, "flows", PolicyPart::Flows, 0)?;
+    all_flows(alloc, format, policy, flows)
 }

@@ -118,7 +118,7 @@ pub(crate) fn read_user_pairs(
 }
 
 // Puts the next pair of declared users in.
-#[tactic(auto, unfolding(crate::specs::Parts::next_pair, crate::specs::Parts::once), using(basics::specs::PairLaws::all_insert))]
+#[tactic(auto, unfolding(crate::specs::Parts::next_pair, crate::specs::Parts::once))]
 fn next_user_pair(
     users: &NameTable,
     pairs: &mut UserPairs,
@@ -165,7 +165,7 @@ pub(crate) fn read_step_pairs(
 }
 
 // Puts the next pair of declared steps in.
-#[tactic(auto, unfolding(crate::specs::Parts::next_pair, crate::specs::Parts::once), using(basics::specs::PairLaws::all_insert))]
+#[tactic(auto, unfolding(crate::specs::Parts::next_pair, crate::specs::Parts::once))]
 fn next_step_pair(
     steps: &NameTable,
     pairs: &mut StepPairs,

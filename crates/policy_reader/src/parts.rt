@@ -51,10 +51,12 @@ pub(crate) fn text_of(value: &Value, part: PolicyPart, index: u32) -> Result<&st
 }
 
 /// The array that a value has to be.
-#[tactic(auto, unfolding(crate::specs::Parts::array_in))]
+#[tactic(auto, unfolding(crate::specs::Parts::array_in), using(crate::proofs::Counts::count_items))]
 pub(crate) fn array_of(value: &Value, part: PolicyPart, index: u32) -> Result<&Array, ReadFault>
-    ensures { Gives fault_of (λ v. array_view v.now) result
+    ensures read { Gives fault_of (λ v. array_view v.now) result
         (parts.array_in part index (view value.now)) }
+    ensures count { IfOk result (λ v. length (parts.items (array_view v.now))
+        ≡ length v.now.items) }
 {
     match value.as_array() {
         Some(items) => Ok(items),
@@ -65,8 +67,10 @@ pub(crate) fn array_of(value: &Value, part: PolicyPart, index: u32) -> Result<&A
 /// The table that a value has to be.
 #[tactic(auto, unfolding(crate::specs::Parts::table_in))]
 pub(crate) fn table_of(value: &Value, part: PolicyPart, index: u32) -> Result<&Table, ReadFault>
-    ensures { Gives fault_of (λ t. table_view t.now) result
+    ensures read { Gives fault_of (λ t. table_view t.now) result
         (parts.table_in part index (view value.now)) }
+    ensures count { IfOk result (λ t. length (parts.entries (table_view t.now))
+        ≡ length t.now.entries) }
 {
     match value.as_table() {
         Some(members) => Ok(members),
@@ -111,28 +115,30 @@ pub(crate) fn table_at<'t>(
     part: PolicyPart,
     index: u32,
 ) -> Result<&'t Table, ReadFault>
-    ensures { Gives fault_of (λ v. table_view v.now) result
+    ensures read { Gives fault_of (λ v. table_view v.now) result
         (parts.table_at part index key.now (table_view table.now)) }
+    ensures count { IfOk result (λ v. length (parts.entries (table_view v.now))
+        ≡ length v.now.entries) }
 {
     let value = value_at(table, key, part, index)?;
     table_of(value, part, index)
 }
 
 /// A count that may neither be 0 nor pass a limit.
-#[tactic(auto, unfolding(crate::specs::Parts::count_in, crate::specs::Parts::at_least_one, crate::specs::Parts::at_most))]
+#[tactic(auto, unfolding(crate::specs::Parts::count_in))]
 fn counted(limit: usize, count: usize, part: PolicyPart, index: u32) -> Result<(), ReadFault>
     ensures read { Gives fault_of (λ u. u) result (parts.count_in part index limit count) }
     ensures some { OnOk result (0 < count) }
     ensures few { OnOk result (count ≤ limit) }
 {
-    if count == 0 {
-        return Err(refuse(PolicyKind::Empty, part, index));
+    match at_least_one(count, part, index) {
+        Ok(()) => at_most(limit, count, part, index),
+        Err(fault) => Err(fault),
     }
-    at_most(limit, count, part, index)
 }
 
 /// The array at a key, of at least one item and at most `limit`.
-#[tactic(auto, unfolding(crate::specs::Parts::items_at, crate::specs::Parts::array_at), using(crate::proofs::Counts::count_items))]
+#[tactic(auto, unfolding(crate::specs::Parts::items_at, crate::specs::Parts::array_at))]
 pub(crate) fn items_at<'t>(
     limit: usize,
     table: &'t Table,
@@ -147,14 +153,12 @@ pub(crate) fn items_at<'t>(
 {
     let value = value_at(table, key, part, index)?;
     let items = array_of(value, part, index)?;
-    match counted(limit, items.len(), part, index) {
-        Ok(()) => Ok(items),
-        Err(fault) => Err(fault),
-    }
+    counted(limit, items.len(), part, index)?;
+    Ok(items)
 }
 
 /// The table at a key, of at least one entry and at most `limit`.
-#[tactic(auto, unfolding(crate::specs::Parts::entries_at), using(crate::proofs::Counts::count_entries))]
+#[tactic(auto, unfolding(crate::specs::Parts::entries_at))]
 pub(crate) fn entries_at<'t>(
     limit: usize,
     table: &'t Table,
@@ -168,10 +172,8 @@ pub(crate) fn entries_at<'t>(
     ensures few { IfOk result (λ t. length t.now.entries ≤ limit) }
 {
     let entries = table_at(table, key, part, index)?;
-    match counted(limit, entries.len(), part, index) {
-        Ok(()) => Ok(entries),
-        Err(fault) => Err(fault),
-    }
+    counted(limit, entries.len(), part, index)?;
+    Ok(entries)
 }
 
 /// The name that a text has to be.
@@ -228,10 +230,8 @@ pub(crate) fn named_of(
         (parts.named_in part index names.now.names (view value.now)) }
     ensures within { IfOk result (λ n. n < length names.now.names) }
 {
-    match text_of(value, part, index) {
-        Ok(text) => number_of(names, text, part, index),
-        Err(fault) => Err(fault),
-    }
+    let text = text_of(value, part, index)?;
+    number_of(names, text, part, index)
 }
 
 /// The fault of a value that stands twice.

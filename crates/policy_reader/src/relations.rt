@@ -33,7 +33,7 @@ use user_relations::{Kind, Relation, Relations, UserPairs};
 use wf_names::{Name, NameTable, PAIR_LIMIT, RELATION_LIMIT, RelId};
 
 /// Reads the pairs of a listed relation.
-#[tactic(auto, unfolding(crate::specs::Relations::listed_in), using(crate::proofs::Counts::count_items))]
+#[tactic(auto, unfolding(crate::specs::Relations::listed_in))]
 fn listed_of(
     alloc: Global,
     users: &NameTable,
@@ -47,19 +47,24 @@ fn listed_of(
     ensures users { IfOk result (AreBelow (length users.now.names)) }
 {
     let items = array_of(value, PolicyPart::Relations, number)?;
-    match at_most(PAIR_LIMIT, items.len(), PolicyPart::Relations, number) {
-        Ok(()) => read_user_pairs(alloc, users, items, PolicyPart::Relations, number),
-        Err(fault) => Err(fault),
-    }
+    at_most(PAIR_LIMIT, items.len(), PolicyPart::Relations, number)?;
+    read_user_pairs(alloc, users, items, PolicyPart::Relations, number)
+}
+
+/// Whether a table has one entry.
+#[tactic(auto, using(crate::proofs::Counts::count_entries))]
+fn has_one(table: &Table) -> bool
+    ensures { result ≡ spec.has_one (table_view table.now) }
+{
+    table.len() == 1
 }
 
 /// Whether a value is that of a complement.
-#[tactic(auto, using(crate::proofs::Counts::count_entries))]
 fn is_complement(value: &Value) -> bool
     ensures { result ≡ spec.is_complement (view value.now) }
 {
     match value.as_table() {
-        Some(table) => table.len() == 1 && find(table, "complement").is_some(),
+        Some(table) => has_one(table) && find(table, "complement").is_some(),
         None => false,
     }
 }
@@ -119,7 +124,7 @@ fn listed_kind(
 }
 
 /// Reads what a relation is.
-#[tactic(auto, unfolding(crate::specs::Relations::kind_in), using(crate::proofs::Counts::count_entries))]
+#[tactic(auto, unfolding(crate::specs::Relations::kind_in))]
 fn kind_of(
     alloc: Global,
     users: &NameTable,
@@ -135,7 +140,7 @@ fn kind_of(
         (entries (table_view all.now))
         (spec.is_complement_table (table_view table.now)) (kind_view k)) }
 {
-    if table.len() != 1 {
+    if !has_one(table) {
         return Err(refuse(PolicyKind::Shape, PolicyPart::Relations, number));
     }
     if let Some(value) = find(table, "pairs") {
@@ -144,10 +149,8 @@ fn kind_of(
     let Some(value) = find(table, "complement") else {
         return Err(refuse(PolicyKind::Shape, PolicyPart::Relations, number));
     };
-    match complement_of(all, number, value) {
-        Ok(rho) => Ok(Kind::Complement(rho)),
-        Err(fault) => Err(fault),
-    }
+    let rho = complement_of(all, number, value)?;
+    Ok(Kind::Complement(rho))
 }
 
 /// Reads what a value says that a relation is.
@@ -166,10 +169,8 @@ fn kind_at(
     ensures kept { IfOk result (λ k. IsReadKind (length users.now.names)
         (entries (table_view all.now)) (spec.is_complement (view value.now)) (kind_view k)) }
 {
-    match table_of(value, PolicyPart::Relations, number) {
-        Ok(table) => kind_of(alloc, users, all, number, table),
-        Err(fault) => Err(fault),
-    }
+    let table = table_of(value, PolicyPart::Relations, number)?;
+    kind_of(alloc, users, all, number, table)
 }
 
 fn push_relation(relations: &mut Vec<Relation>, name: Name, kind: Kind) -> Result<(), ReadFault>
@@ -198,7 +199,7 @@ fn free_name(text: &str, number: u32) -> Result<Name, ReadFault>
 }
 
 /// Reads the next relation.
-#[tactic(auto, unfolding(crate::specs::Relations::next_relation), using(crate::proofs::Relating::names_push))]
+#[tactic(auto, unfolding(crate::specs::Relations::next_relation))]
 fn next_relation(
     alloc: Global,
     users: &NameTable,
@@ -257,7 +258,7 @@ fn all_relations(
     Ok(())
 }
 
-#[tactic(auto, unfolding(crate::specs::Relations::relations_in), using(crate::proofs::Counts::count_entries))]
+#[tactic(auto, unfolding(crate::specs::Relations::relations_in))]
 fn relations_in(alloc: Global, users: &NameTable, value: &Value) -> Result<Relations, ReadFault>
     requires users { length users.now.names ≤ USER_LIMIT }
     ensures read { Gives fault_of (λ r. r) result
@@ -266,10 +267,8 @@ fn relations_in(alloc: Global, users: &NameTable, value: &Value) -> Result<Relat
     ensures ascend { IfOk result (λ r. Ascend (names_of r)) }
 {
     let all = table_of(value, PolicyPart::Relations, 0)?;
-    match at_most(RELATION_LIMIT as usize, all.len(), PolicyPart::Relations, 0) {
-        Ok(()) => relations_of(alloc, users, all),
-        Err(fault) => Err(fault),
-    }
+    at_most(RELATION_LIMIT as usize, all.len(), PolicyPart::Relations, 0)?;
+    relations_of(alloc, users, all)
 }
 
 /// Reads the relations of a table of them.
@@ -290,7 +289,7 @@ fn relations_of(alloc: Global, users: &NameTable, all: &Table) -> Result<Relatio
 }
 
 /// Reads the relations of a policy file.
-#[tactic(auto, unfolding(crate::specs::Relations::relations_of), using(crate::proofs::Relating::related_none, crate::proofs::Relating::ascend_none))]
+#[tactic(auto, unfolding(crate::specs::Relations::relations_of))]
 pub(crate) fn read_relations(
     alloc: Global,
     users: &NameTable,

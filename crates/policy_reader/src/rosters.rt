@@ -125,10 +125,8 @@ fn next_user(roster: &mut Roster, key: &str, value: &Value) -> Result<(), ReadFa
 {
     let number = roster.users().len() as u32;
     let u = add_user(roster, key, number)?;
-    match array_of(value, PolicyPart::Users, number) {
-        Ok(held) => all_held(roster, u, held),
-        Err(fault) => Err(fault),
-    }
+    let held = array_of(value, PolicyPart::Users, number)?;
+    all_held(roster, u, held)
 }
 
 /// A roster of the roles in a file, without users.
@@ -156,10 +154,8 @@ pub(crate) fn read_users(roster: &mut Roster, file: &Table) -> Result<(), ReadFa
     ensures roles { OnOk result (roster.new.roles ≡ roster.old.roles) }
     ensures ascend { OnOk result (Ascend roster.new.users) }
 {
-    match entries_at(USER_LIMIT as usize, file, "users", PolicyPart::Users, 0) {
-        Ok(users) => all_users(roster, users),
-        Err(fault) => Err(fault),
-    }
+    let users = entries_at(USER_LIMIT as usize, file, "users", PolicyPart::Users, 0)?;
+    all_users(roster, users)
 }
 
 fn all_users(roster: &mut Roster, users: &Table) -> Result<(), ReadFault>

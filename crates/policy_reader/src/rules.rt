@@ -27,7 +27,7 @@ use user_relations::Relations;
 use wf_names::{Name, NameTable, RULE_LIMIT, RelId, StepId};
 
 /// The relation that is named in a table.
-#[tactic(auto, unfolding(crate::specs::Rules::relation_at, crate::specs::Rules::relation_in, crate::specs::Parts::number_in))]
+#[tactic(auto, unfolding(crate::specs::Rules::relation_at, crate::specs::Parts::number_in))]
 fn relation_at(table: &Table, relations: &Relations, flow: u32) -> Result<RelId, ReadFault>
     ensures read { Gives fault_of (λ rho. rho) result
         (spec.relation_at flow relations.now (table_view table.now)) }
@@ -53,10 +53,8 @@ fn step_at(table: &Table, key: &str, steps: &NameTable, flow: u32) -> Result<Ste
     ensures within { IfOk result (λ s. s < length steps.now.names) }
 {
     let value = value_at(table, key, PolicyPart::Flows, flow)?;
-    match named_of(steps, value, PolicyPart::Flows, flow) {
-        Ok(number) => Ok(StepId(number as u8)),
-        Err(fault) => Err(fault),
-    }
+    let number = named_of(steps, value, PolicyPart::Flows, flow)?;
+    Ok(StepId(number as u8))
 }
 
 /// Puts the next step into a group.
@@ -84,7 +82,7 @@ fn next_member(
 }
 
 /// The group in a table.
-#[tactic(auto, unfolding(crate::specs::Rules::group_at, crate::specs::Rules::group_in), using(crate::proofs::Counts::count_items))]
+#[tactic(auto, unfolding(crate::specs::Rules::group_at, crate::specs::Rules::group_in))]
 fn group_at(table: &Table, steps: &NameTable, flow: u32) -> Result<StepSet, ReadFault>
     requires few { length steps.now.names ≤ STEP_LIMIT }
     ensures read { Gives fault_of (λ g. g) result
@@ -94,10 +92,8 @@ fn group_at(table: &Table, steps: &NameTable, flow: u32) -> Result<StepSet, Read
 {
     let value = value_at(table, "group", PolicyPart::Flows, flow)?;
     let items = array_of(value, PolicyPart::Flows, flow)?;
-    match at_least_one(items.len(), PolicyPart::Flows, flow) {
-        Ok(()) => all_members(steps, items, flow),
-        Err(fault) => Err(fault),
-    }
+    at_least_one(items.len(), PolicyPart::Flows, flow)?;
+    all_members(steps, items, flow)
 }
 
 fn all_members(steps: &NameTable, items: &[Value], flow: u32) -> Result<StepSet, ReadFault>
@@ -132,10 +128,8 @@ fn check_keys(
 {
     value_at(table, "relation", PolicyPart::Flows, flow)?;
     value_at(table, first, PolicyPart::Flows, flow)?;
-    match value_at(table, second, PolicyPart::Flows, flow) {
-        Ok(_) => no_others(table, form.keys(), PolicyPart::Flows, flow),
-        Err(fault) => Err(fault),
-    }
+    value_at(table, second, PolicyPart::Flows, flow)?;
+    no_others(table, form.keys(), PolicyPart::Flows, flow)
 }
 
 /// The rule over two steps in a table.
@@ -208,10 +202,8 @@ fn check_counting_keys(form: Form, table: &Table, flow: u32) -> Result<(), ReadF
         (spec.counting_keys_in form flow (table_view table.now)) }
 {
     value_at(table, "group", PolicyPart::Flows, flow)?;
-    match value_at(table, "limit", PolicyPart::Flows, flow) {
-        Ok(_) => no_others(table, form.keys(), PolicyPart::Flows, flow),
-        Err(fault) => Err(fault),
-    }
+    value_at(table, "limit", PolicyPart::Flows, flow)?;
+    no_others(table, form.keys(), PolicyPart::Flows, flow)
 }
 
 /// The number of users and the group of steps in a table.
@@ -338,10 +330,8 @@ fn rule_of(
 {
     let table = table_of(value, PolicyPart::Flows, flow)?;
     let form = value_at(table, "form", PolicyPart::Flows, flow)?;
-    match form_of(format, form, flow) {
-        Ok(form) => rule_of_form(form, table, relations, steps, flow),
-        Err(fault) => Err(fault),
-    }
+    let form = form_of(format, form, flow)?;
+    rule_of_form(form, table, relations, steps, flow)
 }
 
 /// Adds the next rule.
@@ -403,7 +393,7 @@ fn all_rules(
 }
 
 /// Reads the rules of a workflow's table.
-#[tactic(auto, unfolding(crate::specs::Rules::rules_of, crate::specs::Rules::rules_in), using(crate::proofs::Counts::count_items))]
+#[tactic(auto, unfolding(crate::specs::Rules::rules_of, crate::specs::Rules::rules_in))]
 pub(crate) fn read_rules(
     alloc: Global,
     format: Format,
@@ -422,8 +412,6 @@ pub(crate) fn read_rules(
         return Ok(Rules::new(alloc));
     };
     let items = array_of(value, PolicyPart::Flows, flow)?;
-    match at_most(RULE_LIMIT, items.len(), PolicyPart::Flows, flow) {
-        Ok(()) => all_rules(alloc, format, items, relations, steps, flow),
-        Err(fault) => Err(fault),
-    }
+    at_most(RULE_LIMIT, items.len(), PolicyPart::Flows, flow)?;
+    all_rules(alloc, format, items, relations, steps, flow)
 }

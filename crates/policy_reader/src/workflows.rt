@@ -36,10 +36,8 @@ pub(crate) fn read_steps(alloc: Global, table: &Table, flow: u32) -> Result<Name
         (spec.steps_named today flow (table_view table.now)) }
     ensures counted { IfOk result (λ t. is_count (length t.names) ≡ true) }
 {
-    match items_at(STEP_LIMIT, table, "steps", PolicyPart::Flows, flow) {
-        Ok(items) => all_steps(alloc, items, flow),
-        Err(fault) => Err(fault),
-    }
+    let items = items_at(STEP_LIMIT, table, "steps", PolicyPart::Flows, flow)?;
+    all_steps(alloc, items, flow)
 }
 
 fn all_steps(alloc: Global, items: &[Value], flow: u32) -> Result<NameTable, ReadFault>
@@ -58,7 +56,7 @@ fn all_steps(alloc: Global, items: &[Value], flow: u32) -> Result<NameTable, Rea
 }
 
 /// Reads the pairs of a workflow's order.
-#[tactic(auto, unfolding(crate::specs::Flows::order_pairs, crate::specs::Flows::order_in), using(basics::specs::PairLaws::all_empty, workflow_schema::proofs::Kept::few_steps))]
+#[tactic(auto, unfolding(crate::specs::Flows::order_pairs, crate::specs::Flows::order_in))]
 pub(crate) fn read_order(
     steps: &NameTable,
     table: &Table,
@@ -118,7 +116,7 @@ fn flow_fault(steps: &NameTable, fault: FlowFault, flow: u32) -> ReadFault
 }
 
 /// Permits a step to the next role.
-#[tactic(auto, unfolding(crate::specs::Flows::next_permitted, crate::specs::Parts::once), using(crate::proofs::Orders::permits_insert))]
+#[tactic(auto, unfolding(crate::specs::Flows::next_permitted, crate::specs::Parts::once))]
 fn next_permitted(
     made: &mut Flow,
     roles: &NameTable,
@@ -167,7 +165,7 @@ fn all_permitted(
 }
 
 /// Permits the next step to its roles.
-#[tactic(auto, unfolding(crate::specs::Flows::next_permit), using(workflow_schema::proofs::Kept::few_steps))]
+#[tactic(auto, unfolding(crate::specs::Flows::next_permit))]
 fn next_permit(
     made: &mut Flow,
     roles: &NameTable,
@@ -183,10 +181,8 @@ fn next_permit(
     ensures roles { OnOk result (PermitsRolesBelow (length roles.now.names) made.new) }
 {
     let number = number_of(made.steps(), key, PolicyPart::Flows, flow)?;
-    match array_of(value, PolicyPart::Flows, flow) {
-        Ok(items) => all_permitted(made, roles, StepId(number as u8), items, flow),
-        Err(fault) => Err(fault),
-    }
+    let items = array_of(value, PolicyPart::Flows, flow)?;
+    all_permitted(made, roles, StepId(number as u8), items, flow)
 }
 
 fn all_permits(
@@ -225,8 +221,6 @@ pub(crate) fn read_permits(
     ensures steps { OnOk result (made.new.steps ≡ made.old.steps) }
     ensures roles { OnOk result (PermitsRolesBelow (length roles.now.names) made.new) }
 {
-    match table_at(table, "permit", PolicyPart::Flows, flow) {
-        Ok(permits) => all_permits(made, roles, permits, flow),
-        Err(fault) => Err(fault),
-    }
+    let permits = table_at(table, "permit", PolicyPart::Flows, flow)?;
+    all_permits(made, roles, permits, flow)
 }

@@ -1,5 +1,5 @@
 use Rattle.policy_reader.proofs.Relating.{table_told}
 use Rattle.policy_reader.proofs.relations.kind_at.Goals as goal
 
-pub returns-in-Ok-clause-kept : goal.returns-in-Ok-clause-kept
-returns-in-Ok-clause-kept c = rw (table_told _ _ _ _ c.in-Ok.ensures) c.kind_of.ensures.kept
+pub returns-clause-kept : goal.returns-clause-kept
+returns-clause-kept c = rw (table_told _ _ _ _ c.in_ok-table.ensures.read) c.kind_of.ensures.kept
