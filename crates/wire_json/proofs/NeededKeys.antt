@@ -75,16 +75,19 @@ pub edit_fault : (r : Row Edit) (keys : List (List ℕ)) (result : Result Edit B
     → IsErrAnd result (λ e. e ≡ b) → Gives Some (λ e. e) result (edit_by r d)
 edit_fault r keys result d b same h is = handed_on result (edit_by r d) b is (rw (same, h) refl)
 
-pub request_fault : (others keys : List (List ℕ)) (is : Data → Request) (d : Data) (ms : Members) (b : Bad) → keys_read d keys ≡ Err b
-    → request_by others keys is d ms ≡ Err b
+pub key_missing : (others keys : List (List ℕ)) (is : Data → Request) (d : Data) (ms : Members) (result : Result Request Bad) (b : Bad)
+    → keys_read d keys ≡ Err b → IsErrAnd result (λ e. e ≡ b) → Gives Some (λ r. r) result (request_by others keys is d ms)
 unfolding request_by
-request_fault others keys is d ms b h = ap (λ r. r >>= (λ _. check (has_only (others ++ keys) ms) Extra >>= (λ _. Ok (is d)))) h
+key_missing others keys is d ms result b h same =
+    handed_on result (request_by others keys is d ms) b same (ap (λ r. r >>= (λ _. check (has_only (others ++ keys) ms) Extra >>= (λ _. Ok (is d)))) h)
 
-pub request_extra : (others keys : List (List ℕ)) (is : Data → Request) (d : Data) (ms : Members) (b : Bad) → keys_read d keys ≡ Ok tt
-    → check (has_only (others ++ keys) ms) Extra ≡ Err b → request_by others keys is d ms ≡ Err b
+pub key_extra : (others keys : List (List ℕ)) (is : Data → Request) (d : Data) (ms : Members) (result : Result Request Bad) (b : Bad)
+    → keys_read d keys ≡ Ok tt → check (has_only (others ++ keys) ms) Extra ≡ Err b → IsErrAnd result (λ e. e ≡ b)
+    → Gives Some (λ r. r) result (request_by others keys is d ms)
 unfolding request_by
-request_extra others keys is d ms b h k =
-    ap (λ r. r >>= (λ _. check (has_only (others ++ keys) ms) Extra >>= (λ _. Ok (is d)))) h ∙ ap (λ r. r >>= (λ _. Ok (is d))) k
+key_extra others keys is d ms result b h k same =
+    handed_on result (request_by others keys is d ms) b same
+    (ap (λ r. r >>= (λ _. check (has_only (others ++ keys) ms) Extra >>= (λ _. Ok (is d)))) h ∙ ap (λ r. r >>= (λ _. Ok (is d))) k)
 
 pub request_read : (others keys : List (List ℕ)) (is : Data → Request) (d : Data) (ms : Members) (u : Unit {0}) (r : Request) → keys_read d keys ≡ Ok tt
     → check (has_only (others ++ keys) ms) Extra ≡ Ok u → is d ≡ r → request_by others keys is d ms ≡ Ok r
