@@ -16,19 +16,15 @@ use Rattle.policy_book.specs.Plans.{Problem, IsWithin}
 use Rattle.policy_book.specs.Twins.{are_twins, is_one_of}
 use Rattle.policy_book.specs.Refuting.{refutes, all_refute, have_users, authorised_users, passing, mentions, any_mentions, is_unassigned}
 use Rattle.certificate_check.specs.Walks.{AreUsersBelow, begins_with, tree_users, kid_user_onto}
-use Rattle.basics.proofs.Booleans.{and_both, or_cases, or_right}
+use Rattle.basics.proofs.Booleans.{and_both, or-false, or_cases, or_right}
 use Rattle.certificate_check.proofs.Assigned.{given, either}
 use Rattle.policy_book.proofs.Passing.{passing_at}
 
 -- ---- mentions
 
-or_none : (b c : Bool) → (b || c) ≡ ((b || false) || c)
-or_none true c = refl
-or_none false c = refl
-
 onto_mentions : (rules : List Rule) (s : ℕ) (kid : Kid) (u : ℕ) (rest : Kids) →
     any_mentions rules s (kid_onto kid u rest) ≡ (any_mentions rules s (kid_onto kid u no_kids) || any_mentions rules s rest)
-onto_mentions rules s (Tree_kid t) u rest = or_none (mentions rules s (shape_of t)) (any_mentions rules s rest)
+onto_mentions rules s (Tree_kid t) u rest = ap (λ b. b || any_mentions rules s rest) (sym (or-false (mentions rules s (shape_of t))))
 onto_mentions rules s (Twin v) u rest = refl
 
 -- the branches from a place on mention a step: the one there or one behind it
@@ -71,7 +67,7 @@ refutes_at p a done s bs i b below is =
 -- ---- users with trees
 
 onto_one : (kid : Kid) (u : ℕ) (users : List ℕ) (x : ℕ) → is_one_of (kid_user_onto kid u users) x ≡ (is_one_of (kid_user_onto kid u []) x || is_one_of users x)
-onto_one (Tree_kid t) u users x = or_none (u == x) (is_one_of users x)
+onto_one (Tree_kid t) u users x = ap (λ b. b || is_one_of users x) (sym (or-false (u == x)))
 onto_one (Twin v) u users x = refl
 
 -- one more branch: it is the user's and has a tree, or one before it

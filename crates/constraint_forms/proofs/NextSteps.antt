@@ -1,10 +1,11 @@
 -- The steps of a set one after the other, and those of two sets.
-use Rattle.std.proofs.Common.{◌≡◌, ℕ, zero, suc, max, ◌+◌, ◌-◌, ◌/◌, ◌%◌, ◌^◌, ◌<◌, ◌≤◌, false, ◌||◌, nat_eq, slice_index_or, refl, sym, ap, ◌∙◌, inl, inr}
+use Rattle.std.proofs.Common.{◌≡◌, ℕ, max, ◌+◌, ◌-◌, ◌/◌, ◌%◌, ◌^◌, ◌<◌, ◌≤◌, false, ◌||◌, nat_eq, slice_index_or, sym, ap, ◌∙◌, inl, inr}
 use Rattle.std.proofs.Common.{arith, bit_or}
 use Rattle.std.specs.Int.{bit_at, w32, trailing_zeros}
 use Rattle.std.proofs.lemmas.Nat.{shr-shr, shr_le}
 use Rattle.std.proofs.lemmas.Nat.Bits.{bit_at-zero, bit_at_above, bit_at-trailing_zeros, bit_at_or, bit_at-lt}
 use Rattle.std.proofs.lemmas.Bool.{cases_lt}
+use Rattle.std.proofs.lemmas.Bool.Decides.{nat_tests}
 use Rattle.wf_names.specs.declared.limits.TheConstants.{STEP_LIMIT}
 use Rattle.constraint_forms.specs.Flags.{flags_of}
 use Rattle.constraint_forms.specs.Assign.{IsNextStep}
@@ -49,13 +50,7 @@ next_from w k fits some =
     }
 
 some_bit : (a b : ℕ) → a < 2 → b < 2 → nat_eq (max a b) 1 ≡ (nat_eq a 1 || nat_eq b 1)
-some_bit zero zero h k = refl
-some_bit zero (suc zero) h k = refl
-some_bit zero (suc (suc b)) h k = absurd (omega (arith, k))
-some_bit (suc zero) zero h k = refl
-some_bit (suc zero) (suc zero) h k = refl
-some_bit (suc zero) (suc (suc b)) h k = absurd (omega (arith, k))
-some_bit (suc (suc a)) b h k = absurd (omega (arith, h))
+some_bit a b h k = grind (arith, nat_tests)
 
 -- the flags of either word
 pub flags_of-or : (n v w s : ℕ) →

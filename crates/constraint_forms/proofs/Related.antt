@@ -26,11 +26,13 @@ pub stay_before : (related : Relating) (rho users u v : ℕ) (b t : Bool) → (b
 stay_before related rho users u v b t below is =
     and_same b t _ (λ e. is ∙ ap (λ l. l && related rho u v) (lt_yes u users (below e)) ∙ twice_not (related rho u v))
 
--- the users who stay are those to whom v is related
-pub stay_after : (related : Relating) (back : Bool) (rho users u v : ℕ) (b t : Bool) → (b ≡ true → u < users) →
-    t ≡ (nat_lt u users && turned (not back) related rho u v) → (b && t) ≡ (b && not (are_unrelated (turned back related) rho (Some v) (Some u)))
-stay_after related true rho users u v b t below is = stay_before related rho users u v b t below is
-stay_after related false rho users u v b t below is = stay_before (turned true related) rho users u v b t below is
+-- read the other way round, the two change places
+pub other_way : (related : Relating) (back : Bool) (rho u : ℕ) (o : Option ℕ) →
+    are_unrelated (turned (not back) related) rho (Some u) o ≡ are_unrelated (turned back related) rho o (Some u)
+other_way related true rho u (Some v) = refl
+other_way related true rho u None = refl
+other_way related false rho u (Some v) = refl
+other_way related false rho u None = refl
 
 -- ---- with a step given to a user
 

@@ -178,7 +178,7 @@ fn keep_related<R: RelatedRows>(
     match (x == asked.s, y == asked.s) {
         (true, true) => keep_related_to_self(rows, rho, asked.users, set),
         (true, false) => keep_ahead(rows, rho, back, v, asked.users, set),
-        (false, true) => keep_after(rows, rho, back, u, asked.users, set),
+        (false, true) => keep_ahead(rows, rho, !back, u, asked.users, set),
         (false, false) => {
             if is_unrelated(rows, rho, back, u, v) {
                 *set = UserSet::empty();
@@ -187,7 +187,8 @@ fn keep_related<R: RelatedRows>(
     }
 }
 
-// Keeps the users who are related to a user, if there is one.
+// Keeps the users who are related to a user, if there is one; read back, those to whom the user is
+// related.
 fn keep_ahead<R: RelatedRows>(
     rows: &R,
     rho: RelId,
@@ -203,25 +204,6 @@ fn keep_ahead<R: RelatedRows>(
 {
     if let Some(v) = v {
         set.meet(&related_to(rows, rho, back, v, users));
-    }
-}
-
-// Keeps the users to whom a user is related, if there is one.
-fn keep_after<R: RelatedRows>(
-    rows: &R,
-    rho: RelId,
-    back: bool,
-    v: Option<UserId>,
-    users: u16,
-    set: &mut UserSet,
-)
-    requires users { users ≤ USER_LIMIT }
-    requires below { IsBelow users set.old }
-    ensures { (u : ℕ) → has_user set.new u ≡ (has_user set.old u
-        && not (are_unrelated (turned back (R.related rows.now)) rho v (Some u))) }
-{
-    if let Some(v) = v {
-        set.meet(&related_to(rows, rho, !back, v, users));
     }
 }
 

@@ -29,7 +29,7 @@ use Rattle.wf_board.specs.Steps.{Answers, IsReplyTo, IsStep, state_after_decisio
 use Rattle.wf_board.specs.Views.{AreStranded, AreThose, IsWorkOf, item_of, steps_from, steps_of}
 use Rattle.wf_board.proofs.Faring.{Fares}
 use Rattle.wf_board.proofs.Told.{HoldsOf, then_holds, unless_holds, unless_tells}
-use Rattle.entry_laws.proofs.Numbers.{EachOf, IsOpenIn, open_found}
+use Rattle.entry_laws.proofs.Numbers.{EachOf, HasRoom, IsOpenIn, decided_room, open_found}
 use Rattle.entry_laws.proofs.Parts.{case_few}
 use Rattle.entry_laws.proofs.Replies.{IsReached}
 use Rattle.entry_laws.proofs.Roles.{decision_decides}
@@ -75,35 +75,6 @@ finished_opens t c = at (list_all is_finished (finished_case c t).states) c.phas
 
 -- ---- steps
 
--- a case is opened only where fewer are open
-abbrev HasPlace : Book → Deed → Type 0
-HasPlace b (deed.Open f) = length (open_cases b.cases) < OPEN_CASE_LIMIT
-HasPlace b given = Unit {0}
-
-place_left : (b : Book) → is_full b ≡ false → length (open_cases b.cases) < OPEN_CASE_LIMIT
-place_left b free =
-    let few = (or_false (nat_le OPEN_CASE_LIMIT (count_open b.cases)) (nat_le CASE_LIMIT b.ever) free).0 in
-    let same : length (open_cases b.cases) ≡ count_open b.cases = length-filter (λ (e : Numbered). is_open e.case) b.cases in
-    grind arith
-
-place_of : (b : Book) (given : Deed) → cause_full b given ≡ None → HasPlace b given
-place_of b (deed.Open f) none = place_left b (not_yes (is_full b) (unless_tells (not (is_full b)) denial.Full none))
-place_of b (deed.Claim n c t u) none = tt
-place_of b (deed.Finish n c t u) none = tt
-place_of b (deed.GiveBack n c t u) none = tt
-place_of b (deed.Release n c t) none = tt
-place_of b (deed.Withdraw n) none = tt
-place_of b (deed.Change a) none = tt
-place_of b (deed.Show c) none = tt
-place_of b (deed.Work u) none = tt
-place_of b (deed.WhatIf a) none = tt
-place_of b (deed.TurnAway bad) none = tt
-
-decided_place : (b : Book) (what : Ask) → HoldsOf (HasPlace b) (decision_of b what)
-decided_place b what =
-    then_holds (λ _. Unit {0}) (HasPlace b) (decision_aside b what) _ (always (decision_aside b what))
-    (λ given _. unless_holds (HasPlace b) given (cause_full b given) (place_of b given))
-
 one_more : (cases : List Numbered) (e : Numbered) → length (open_cases cases) < OPEN_CASE_LIMIT → length (open_cases (cases ++ e ∷ [])) ≤ OPEN_CASE_LIMIT
 one_more cases e room =
     let split : length (open_cases (cases ++ e ∷ [])) ≡ length (open_cases cases) + length (open_cases (e ∷ [])) =
@@ -118,8 +89,8 @@ no_more : (s : State) (n : ℕ) (change : CaseShape → CaseShape) → OpensNone
     length (open_cases (with_case_changed n change s.book.cases)) ≤ OPEN_CASE_LIMIT
 no_more s n change opens few = omega (arith, few, changed_no_more n change s.book.cases opens)
 
-deed_open : (s : State) (given : Deed) (answer : Reply) → HasFewOpen s → HasPlace s.book given → HasFewOpen (state_after_deed s given answer)
-deed_open s (deed.Open f) (reply.Opened n plan) few room = one_more s.book.cases _ room
+deed_open : (s : State) (given : Deed) (answer : Reply) → HasFewOpen s → HasRoom s.book given → HasFewOpen (state_after_deed s given answer)
+deed_open s (deed.Open f) (reply.Opened n plan) few room = one_more s.book.cases _ room.0
 deed_open s (deed.Claim n c t u) (reply.Granted plan) few room = no_more s n (λ x. with_state x t (Held u)) (λ x is. is) few
 deed_open s (deed.Finish n c t u) (reply.Finished done) few room = no_more s n (λ x. finished_case x t) (finished_opens t) few
 deed_open s (deed.GiveBack n c t u) reply.Returned few room = no_more s n (λ x. with_state x t Free) (λ x is. is) few
@@ -128,13 +99,13 @@ deed_open s (deed.Withdraw n) reply.Withdrawn few room = no_more s n (λ x. with
 deed_open s (deed.Change a) (reply.Edited number) few room = few
 deed_open s given answer few room = few
 
-decision_open : (s : State) (decision : Result Deed Denial) (answer : Reply) → HasFewOpen s → HoldsOf (HasPlace s.book) decision →
+decision_open : (s : State) (decision : Result Deed Denial) (answer : Reply) → HasFewOpen s → HoldsOf (HasRoom s.book) decision →
     HasFewOpen (state_after_decision s decision answer)
 decision_open s (Ok given) answer few room = deed_open s given answer few room
 decision_open s (Err d) answer few room = few
 
 pub step_open : (s : State) (what : Ask) (answer : Reply) → HasFewOpen s → HasFewOpen (state_after_step s what answer)
-step_open s what answer few = decision_open s (decision_of s.book what) answer few (decided_place s.book what)
+step_open s what answer few = decision_open s (decision_of s.book what) answer few (decided_room s.book what)
 
 -- ---- lists
 

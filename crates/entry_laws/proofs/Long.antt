@@ -22,13 +22,10 @@ use Rattle.wire_json.specs.Entries.{single}
 use Rattle.wire_json.specs.Lengths.{HasSmallRules, HaveSmallRules}
 use Rattle.wire_json.specs.Replies.{entry_text, reply_data, strands_data}
 use Rattle.wire_json.specs.Trees.{tree_data}
-use Rattle.wire_json.proofs.Lengths.{tree_texts_are_short}
+use Rattle.wire_json.proofs.Lengths.{around, framed, framed_two, tree_texts_are_short}
 use Rattle.entry_reader.specs.Lines.{IsEntry}
 use Rattle.entry_reader.specs.Within.{AreKids, IsReply, IsTree}
 use Rattle.entry_laws.specs.Laws.{HasNameForms, TreesFitLines, is_by_tree}
-
-around : (a x b : List ℕ) → length (a ++ (x ++ b)) ≡ length a + (length x + length b)
-around a x b = length-append a (x ++ b) ∙ ap (λ n. length a + n) (length-append x b)
 
 -- ---- a tree
 
@@ -54,46 +51,26 @@ tree_long p f tree names is small =
 
 denied_long : (d : Data) → length (compact_text (single (codes "denied") d)) ≡ 11 + length (compact_text d)
 unfolding escape_byte
-denied_long d =
-    let parts : length (compact_text (single (codes "denied") d)) ≡ 10 + (length (compact_text d) + 1) =
-    around (codes "{\"denied\":") (compact_text d) (codes "}") in
-    omega (arith, parts)
+denied_long d = framed (codes "{\"denied\":") (compact_text d)
 
 unsatisfiable_long : (d : Data) → length (compact_text (single (codes "unsatisfiable") d)) ≡ 18 + length (compact_text d)
 unfolding escape_byte
-unsatisfiable_long d =
-    let parts : length (compact_text (single (codes "unsatisfiable") d)) ≡ 17 + (length (compact_text d) + 1) =
-    around (codes "{\"unsatisfiable\":") (compact_text d) (codes "}") in
-    omega (arith, parts)
+unsatisfiable_long d = framed (codes "{\"unsatisfiable\":") (compact_text d)
 
 stranded_long : (d : Data) → length (compact_text (single (codes "stranded") d)) ≡ 13 + length (compact_text d)
 unfolding escape_byte
-stranded_long d =
-    let parts : length (compact_text (single (codes "stranded") d)) ≡ 12 + (length (compact_text d) + 1) =
-    around (codes "{\"stranded\":") (compact_text d) (codes "}") in
-    omega (arith, parts)
+stranded_long d = framed (codes "{\"stranded\":") (compact_text d)
 
 strands_long : (d : Data) → length (compact_text (single (codes "strands") d)) ≡ 12 + length (compact_text d)
 unfolding escape_byte
-strands_long d =
-    let parts : length (compact_text (single (codes "strands") d)) ≡ 11 + (length (compact_text d) + 1) =
-    around (codes "{\"strands\":") (compact_text d) (codes "}") in
-    omega (arith, parts)
+strands_long d = framed (codes "{\"strands\":") (compact_text d)
 
 -- the case beside the tree
-case_long : (number tree : List ℕ) → length (codes "{\"case\":" ++ (number ++ (codes ",\"tree\":" ++ (tree ++ codes "}")))) ≡ 17 + (length number + length tree)
-case_long number tree =
-    let outer = around (codes "{\"case\":") number (codes ",\"tree\":" ++ (tree ++ codes "}")) in
-    let inner = around (codes ",\"tree\":") tree (codes "}") in
-    let first : length (codes "{\"case\":") ≡ 8 = refl in
-    let second : length (codes ",\"tree\":") ≡ 8 = refl in
-    let last : length (codes "}") ≡ 1 = refl in
-    omega (arith, outer, inner, first, second, last)
-
 beside_long : (n : ℕ) (d : Data) → n ≤ CASE_NUMBER_LIMIT → length (compact_text (strands_data n d)) ≤ 22 + length (compact_text d)
 unfolding escape_byte
 beside_long n d known =
-    let parts : length (compact_text (strands_data n d)) ≡ 17 + (length (decimal n) + length (compact_text d)) = case_long (decimal n) (compact_text d) in
+    let parts : length (compact_text (strands_data n d)) ≡ 17 + (length (decimal n) + length (compact_text d)) =
+    framed_two (codes "{\"case\":") (codes ",\"tree\":") (decimal n) (compact_text d) in
     omega (arith, parts, length-decimal-le 5 n (omega arith) (omega (arith, known)) (omega (arith, known)))
 
 -- a reply that denies by a tree
@@ -122,13 +99,12 @@ entry_long at lane line given =
     let one = around (codes "{\"at\":") at (codes ",\"lane\":" ++ (lane ++ (codes ",\"line\":" ++ (line ++ (codes ",\"reply\":" ++ (given ++ codes "}")))))) in
     let two = around (codes ",\"lane\":") lane (codes ",\"line\":" ++ (line ++ (codes ",\"reply\":" ++ (given ++ codes "}")))) in
     let three = around (codes ",\"line\":") line (codes ",\"reply\":" ++ (given ++ codes "}")) in
-    let four = around (codes ",\"reply\":") given (codes "}") in
+    let four = framed (codes ",\"reply\":") given in
     let a : length (codes "{\"at\":") ≡ 6 = refl in
     let b : length (codes ",\"lane\":") ≡ 8 = refl in
     let c : length (codes ",\"line\":") ≡ 8 = refl in
     let d : length (codes ",\"reply\":") ≡ 9 = refl in
-    let e : length (codes "}") ≡ 1 = refl in
-    omega (arith, one, two, three, four, a, b, c, d, e)
+    omega (arith, one, two, three, four, a, b, c, d)
 
 -- an entry whose reply is no longer than one with a tree is no longer than a line of an audit
 pub entry_fits : (p : PolicyShape) (flows : ℕ → Option ℕ) (e : Entry) → IsEntry p flows e → length (compact_text (reply_data p e.reply)) ≤ 16200100 →

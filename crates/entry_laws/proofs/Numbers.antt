@@ -2,6 +2,7 @@
 use Rattle.std.proofs.Common.{◌≡◌, ℕ, suc, ◌+◌, ◌<◌, ◌≤◌, Bool, true, false, not, nat_eq, nat_le, List, [], ◌∷◌, ◌++◌, length, None, Some, Result, Ok, Err}
 use Rattle.std.proofs.Common.{if◌then◌else◌, refl, sym, ap, subst, ◌∙◌, arith}
 use Rattle.std.specs.Option.{option_map}
+use Rattle.std.proofs.lemmas.List.Sums.{length-filter}
 use Rattle.basics.proofs.Booleans.{eq_other, or_false, not_yes}
 use Rattle.wf_names.specs.declared.limits.TheConstants.{CASE_LIMIT, OPEN_CASE_LIMIT}
 use Rattle.case_record.specs.Cases.{is_open}
@@ -30,14 +31,17 @@ pub record AreSerial (b : Book) : Type 0 where
 -- ---- steps
 
 -- a case is opened only where there is room for it
-abbrev HasRoom : Book → Deed → Type 0
-HasRoom b (deed.Open f) = b.ever < CASE_LIMIT
+abbrev pub HasRoom : Book → Deed → Type 0
+HasRoom b (deed.Open f) = (length (open_cases b.cases) < OPEN_CASE_LIMIT) × (b.ever < CASE_LIMIT)
 HasRoom b given = Unit {0}
 
-room_left : (b : Book) → is_full b ≡ false → b.ever < CASE_LIMIT
+room_left : (b : Book) → is_full b ≡ false → (length (open_cases b.cases) < OPEN_CASE_LIMIT) × (b.ever < CASE_LIMIT)
 room_left b free =
-    let few = (or_false (nat_le OPEN_CASE_LIMIT (count_open b.cases)) (nat_le CASE_LIMIT b.ever) free).1 in
-    grind arith
+    let few = or_false (nat_le OPEN_CASE_LIMIT (count_open b.cases)) (nat_le CASE_LIMIT b.ever) free in
+    let few_open : nat_le OPEN_CASE_LIMIT (count_open b.cases) ≡ false = few.0 in
+    let ever : nat_le CASE_LIMIT b.ever ≡ false = few.1 in
+    let same : length (open_cases b.cases) ≡ count_open b.cases = length-filter (λ (e : Numbered). is_open e.case) b.cases in
+    (grind arith, grind arith)
 
 room_of : (b : Book) (given : Deed) → cause_full b given ≡ None → HasRoom b given
 room_of b (deed.Open f) none = room_left b (not_yes (is_full b) (unless_tells (not (is_full b)) denial.Full none))
@@ -52,14 +56,14 @@ room_of b (deed.Work u) none = tt
 room_of b (deed.WhatIf a) none = tt
 room_of b (deed.TurnAway bad) none = tt
 
-decided_room : (b : Book) (what : Ask) → HoldsOf (HasRoom b) (decision_of b what)
+pub decided_room : (b : Book) (what : Ask) → HoldsOf (HasRoom b) (decision_of b what)
 decided_room b what =
     then_holds (λ _. Unit {0}) (HasRoom b) (decision_aside b what) _ (always (decision_aside b what))
     (λ given _. unless_holds (HasRoom b) given (cause_full b given) (room_of b given))
 
 deed_within : (s : State) (given : Deed) (answer : Reply) → s.book.ever ≤ CASE_LIMIT → HasRoom s.book given →
     (state_after_deed s given answer).book.ever ≤ CASE_LIMIT
-deed_within s (deed.Open f) (reply.Opened n plan) few room = omega (arith, room)
+deed_within s (deed.Open f) (reply.Opened n plan) few room = omega (arith, room.1)
 deed_within s (deed.Claim n c t u) (reply.Granted plan) few room = few
 deed_within s (deed.Finish n c t u) (reply.Finished done) few room = few
 deed_within s (deed.GiveBack n c t u) reply.Returned few room = few

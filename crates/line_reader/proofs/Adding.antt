@@ -1,9 +1,8 @@
 -- The user whom an edit of an input adds has a name of a name's form.
 use Rattle.std.proofs.Common.{refl, subst}
-use Rattle.std.specs.Prelude.{◌≡◌, ℕ, nat_eq, Bool, true, false, List, [], ◌∷◌, ◌++◌, Option, Some, None, is_some, unwrap_or, codes, option_map}
+use Rattle.std.specs.Prelude.{◌≡◌, ℕ, nat_eq, Bool, true, false, List, [], ◌∷◌, ◌++◌, Option, Some, None, is_some, unwrap_or, codes}
 use Rattle.std.specs.Prelude.{option_and_then, Result, Ok, Err, IsTrue, if◌then◌else◌}
 use Rattle.std.specs.List.{find}
-use Rattle.std.specs.Option.{option_or}
 use Rattle.std.specs.Cmp.Lexicographic.{pointwise}
 use Rattle.serde_json.specs.Data.{Data, Members}
 use Rattle.serde_json.specs.Find.{as_object}
@@ -17,9 +16,10 @@ use Rattle.wf_talk.specs.declared.request.Bad.{Bad}
 use Rattle.wf_talk.specs.declared.request.Bad.TheVariants.{Syntax, Object, Do, Lane, Key, Extra}
 use Rattle.wire_json.specs.declared.request.Asked.{Asked}
 use Rattle.wire_json.specs.Values.{value_of}
-use Rattle.wire_json.specs.Requests.{Row, Reading, rows, edits, row_of, by, user, the_name, text_at, lane_at, has_form, has_only, request_by, asked_by}
-use Rattle.wire_json.specs.Requests.{change_by, what_if_by, what_if_in, reading_of, request_in, asked, asked_of}
+use Rattle.wire_json.specs.Requests.{Row, Reading, rows, edits, row_of, by, user, the_name, text_at, lane_at, has_form, has_only, request_by}
+use Rattle.wire_json.specs.Requests.{what_if_by, what_if_in, reading_of, request_in, asked, asked_of}
 use Rattle.line_reader.specs.Laws.{AddsNamed, IsNamedEdit}
+use Rattle.line_reader.proofs.Readings.{AreAll, read_so}
 
 -- ---- rows
 
@@ -100,40 +100,14 @@ what_if_adding d ms = at_row (or_fault (option_and_then (row_of edits) (text_at 
     at_row (Ok x) = by_adding (codes "do" ∷ codes "lane" ∷ codes "edit" ∷ []) (by ∷ x.keys) (λ y. WhatIf (the_name by y) (x.is y)) (λ y is. tt) d ms
     at_row (Err b) = tt
 
-abbrev AllAdding : Option Reading → Type 0
-AllAdding None = Unit {0}
-AllAdding (Some read) = ReadsAdding read
-
-mapped_adding : {A : Type 0} (by_row : Row A → Reading) (found : Option (Row A)) → ((r : Row A) → found ≡ Some r → ReadsAdding (by_row r)) →
-    AllAdding (option_map by_row found)
-mapped_adding by_row None h = tt
-mapped_adding by_row (Some r) h = h r refl
-
-or_else_adding : (first second : Option Reading) → AllAdding first → AllAdding second → AllAdding (option_or first second)
-or_else_adding None second h g = g
-or_else_adding (Some read) second h g = h
-
-if_adding : (b : Bool) (read : Reading) (others : Option Reading) → ReadsAdding read → AllAdding others → AllAdding (if b then Some read else others)
-if_adding true read others h g = h
-if_adding false read others h g = g
-
-word_adding : (word : List ℕ) → AllAdding (reading_of word)
-word_adding word =
-    if_adding (pointwise nat_eq word (codes "what_if")) what_if_in
-    (option_or (option_map asked_by (row_of rows word)) (option_map change_by (row_of edits word))) what_if_adding
-    (or_else_adding (option_map asked_by (row_of rows word)) (option_map change_by (row_of edits word))
-    (mapped_adding asked_by (row_of rows word) (λ r is. by_adding (codes "do" ∷ codes "lane" ∷ []) r.keys r.is
-    (λ d have. find_row IsPlainRow (λ y. pointwise nat_eq word y.word) rows r rows_plain is d)))
-    (mapped_adding change_by (row_of edits word) (λ r is. by_adding (codes "do" ∷ codes "lane" ∷ []) (by ∷ r.keys) (λ d. Change (the_name by d) (r.is d))
-    (λ d have. find_row IsEditRow (λ y. pointwise nat_eq word y.word) edits r edits_named is d have))))
-
-found_adding : (o : Option Reading) (read : Reading) → AllAdding o → or_fault o Do ≡ Ok read → ReadsAdding read
-found_adding None read h e = cc
-found_adding (Some x) read h e = let same : x ≡ read = cc in subst ReadsAdding same h
-
-text_adding : (o : Option (List ℕ)) (read : Reading) → or_fault (option_and_then reading_of o) Do ≡ Ok read → ReadsAdding read
-text_adding None read e = cc
-text_adding (Some word) read e = found_adding (reading_of word) read (word_adding word) e
+all_adding : AreAll ReadsAdding
+all_adding = record {
+  asked = λ word r is. by_adding (codes "do" ∷ codes "lane" ∷ []) r.keys r.is
+  (λ d have. find_row IsPlainRow (λ y. pointwise nat_eq word y.word) rows r rows_plain is d);
+  changed = λ word r is. by_adding (codes "do" ∷ codes "lane" ∷ []) (by ∷ r.keys) (λ d. Change (the_name by d) (r.is d))
+  (λ d have. find_row IsEditRow (λ y. pointwise nat_eq word y.word) edits r edits_named is d have);
+  what_if = what_if_adding;
+}
 
 -- ---- a line
 
@@ -157,7 +131,7 @@ in_adding lanes d =
     then_adding (or_fault (option_and_then reading_of (text_at (codes "do") d)) Do)
     (λ read. or_fault (lane_at lanes d) Lane >>= (λ lane. with_lane lane (read d ms))) (λ read is_read.
     then_adding (or_fault (lane_at lanes d) Lane) (λ lane. with_lane lane (read d ms)) (λ lane is_lane.
-    lane_adding lane (read d ms) (text_adding (text_at (codes "do") d) read is_read d ms))))
+    lane_adding lane (read d ms) (read_so ReadsAdding all_adding (text_at (codes "do") d) read is_read d ms))))
 
 pub line_adding : (lanes : ℕ) (line : List ℕ) → AddsNamed (asked_of lanes line).ask
 unfolding asked_of

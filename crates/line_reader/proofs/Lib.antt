@@ -2,6 +2,7 @@ pub mod FirstLines
 mod Going
 pub mod CutLaws
 mod WholeLines
+mod Readings
 pub mod Adding
 pub mod Order
 mod Named

@@ -2,6 +2,7 @@
 use Rattle.std.proofs.Common.{◌⊎◌, inl, inr, None, Some, refl, sym, ap, subst, ◌∙◌, arith}
 use Rattle.std.specs.Prelude.{◌≡◌, ℕ, suc, ◌+◌, ◌==◌, ◌<◌, ◌≤◌, nat_lt, Bool, true, false, not, ◌&&◌, List, [], ◌∷◌, ◌++◌, length, take, is_some, if◌then◌else◌}
 use Rattle.std.proofs.lemmas.Grind.{common_steps}
+use Rattle.basics.proofs.Booleans.{bool_cases}
 use Rattle.std.proofs.lemmas.List.{append_assoc, append-nil, length-append}
 use Rattle.std.proofs.Math.Seq.{take-append_seam}
 use Rattle.wf_names.specs.declared.limits.TheConstants.{LINE_LIMIT, SESSION_LINE_LIMIT}
@@ -13,10 +14,6 @@ use Rattle.line_reader.specs.Jobs.{Cut, start_from, without_cr, end_batch, end_f
 use Rattle.line_reader.proofs.CutLaws.{stopped}
 use Rattle.line_reader.proofs.Batches.{HasRuns, batches_are, runs_all, runs_start}
 use Rattle.line_reader.specs.Lines.{AreJobsOfLines, AreWithin, IsWithinLimits, JobsAreOfLines, MeetsLimit, StopsAt, job_at, jobs_of_lines, text_of}
-
-bool_cases : (b : Bool) → (b ≡ true) ⊎ (b ≡ false)
-bool_cases true = inl refl
-bool_cases false = inr refl
 
 -- ---- a line without its LF
 

@@ -1,9 +1,8 @@
 -- The key that a bad line lacks has the form of a name.
 use Rattle.std.proofs.Common.{refl, subst}
 use Rattle.std.specs.Prelude.{◌≡◌, ℕ, ◌==◌, ◌+◌, nat_lt, nat_le, Bool, true, false, ◌&&◌, List, [], ◌∷◌, ◌++◌, length, Option, Some, None, is_some, codes}
-use Rattle.std.specs.Prelude.{nat_eq, option_map, option_and_then, Result, Ok, Err, if◌then◌else◌}
+use Rattle.std.specs.Prelude.{nat_eq, option_and_then, Result, Ok, Err, if◌then◌else◌}
 use Rattle.std.specs.List.{list_all, find}
-use Rattle.std.specs.Option.{option_or}
 use Rattle.std.specs.Cmp.Lexicographic.{pointwise}
 use Rattle.serde_json.specs.Data.{Data, Members}
 use Rattle.serde_json.specs.Find.{as_object}
@@ -26,6 +25,7 @@ use Rattle.wf_talk.specs.Jobs.{IsNamedAsk, IsNamedBad}
 use Rattle.line_reader.specs.Laws.{AddsNamed, AreNamedJobs, JobsAreNamed}
 use Rattle.line_reader.specs.Naming.{JobsStayNamed}
 use Rattle.line_reader.proofs.Adding.{line_adding}
+use Rattle.line_reader.proofs.Readings.{AreAll, read_so}
 
 -- ---- requests
 
@@ -130,39 +130,12 @@ what_if_named d ms =
     named_edit None r e = cc
     named_edit (Some word) r e = of_word (row_of edits word) r (λ x is. find_named (λ y. pointwise nat_eq word y.word) edits x edits_named is) e
 
--- where something is read, it is so
-abbrev AllNamed : Option Reading → Type 0
-AllNamed None = Unit {0}
-AllNamed (Some read) = ReadsNamed read
-
-mapped_named : {A : Type 0} (by_row : Row A → Reading) (found : Option (Row A)) → ((r : Row A) → found ≡ Some r → ReadsNamed (by_row r)) →
-    AllNamed (option_map by_row found)
-mapped_named by_row None h = tt
-mapped_named by_row (Some r) h = h r refl
-
-or_else_named : (first second : Option Reading) → AllNamed first → AllNamed second → AllNamed (option_or first second)
-or_else_named None second h g = g
-or_else_named (Some read) second h g = h
-
-if_named : (b : Bool) (read : Reading) (others : Option Reading) → ReadsNamed read → AllNamed others → AllNamed (if b then Some read else others)
-if_named true read others h g = h
-if_named false read others h g = g
-
-word_named : (word : List ℕ) → AllNamed (reading_of word)
-word_named word =
-    if_named (pointwise nat_eq word (codes "what_if")) what_if_in
-    (option_or (option_map asked_by (row_of rows word)) (option_map change_by (row_of edits word))) what_if_named
-    (or_else_named (option_map asked_by (row_of rows word)) (option_map change_by (row_of edits word))
-    (mapped_named asked_by (row_of rows word) (λ r is. asked_named r (find_named (λ y. pointwise nat_eq word y.word) rows r rows_named is)))
-    (mapped_named change_by (row_of edits word) (λ r is. change_named r (find_named (λ y. pointwise nat_eq word y.word) edits r edits_named is))))
-
-found_named : (o : Option Reading) (read : Reading) → AllNamed o → or_fault o Do ≡ Ok read → ReadsNamed read
-found_named None read h e = cc
-found_named (Some x) read h e = let same : x ≡ read = cc in subst ReadsNamed same h
-
-text_named : (o : Option (List ℕ)) (read : Reading) → or_fault (option_and_then reading_of o) Do ≡ Ok read → ReadsNamed read
-text_named None read e = cc
-text_named (Some word) read e = found_named (reading_of word) read (word_named word) e
+all_named : AreAll ReadsNamed
+all_named = record {
+  asked = λ word r is. asked_named r (find_named (λ y. pointwise nat_eq word y.word) rows r rows_named is);
+  changed = λ word r is. change_named r (find_named (λ y. pointwise nat_eq word y.word) edits r edits_named is);
+  what_if = what_if_named;
+}
 
 then_asked : {A : Type 0} (r : Result A Bad) (next : A → Result Asked Bad) → IsNamed r → ((a : A) → r ≡ Ok a → IsNamedAsk (asked (next a)).ask)
     → IsNamedAsk (asked (r >>= next)).ask
@@ -185,7 +158,7 @@ in_named lanes d =
     (or_named (option_and_then reading_of (text_at (codes "do") d)) Do tt) (λ read is_read.
     then_asked (or_fault (lane_at lanes d) Lane) (λ lane. with_lane lane (read d ms)) (or_named (lane_at lanes d) Lane tt) (λ lane is_lane.
     then_asked (read d ms) (λ request. Ok (record { lane = lane; ask = ask.Request request }))
-    (text_named (text_at (codes "do") d) read is_read d ms) (λ request is_request. tt))))
+    (read_so ReadsNamed all_named (text_at (codes "do") d) read is_read d ms) (λ request is_request. tt))))
 
 line_named : (lanes : ℕ) (line : List ℕ) → IsNamedAsk (asked_of lanes line).ask
 unfolding asked_of

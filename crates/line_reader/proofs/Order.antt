@@ -1,7 +1,8 @@
 -- The jobs of every input are in order.
-use Rattle.std.proofs.Common.{◌⊎◌, inl, inr, nat_eq, None, refl, sym, subst, ◌∙◌, arith}
-use Rattle.std.specs.Prelude.{◌≡◌, ℕ, ◌+◌, ◌==◌, ◌<◌, ◌≤◌, nat_lt, nat_le, Bool, true, false, List, [], ◌∷◌, ◌++◌, length, is_some}
+use Rattle.std.proofs.Common.{inl, inr, nat_eq, None, refl, sym, subst, ◌∙◌, arith}
+use Rattle.std.specs.Prelude.{◌≡◌, ℕ, ◌+◌, ◌==◌, ◌<◌, ◌≤◌, nat_lt, nat_le, Bool, true, List, [], ◌∷◌, ◌++◌, length, is_some}
 use Rattle.std.proofs.lemmas.Grind.{common_steps}
+use Rattle.basics.proofs.Booleans.{bool_cases}
 use Rattle.std.proofs.lemmas.List.{append-nil, length-append}
 use Rattle.wf_names.specs.declared.limits.TheConstants.{LINE_LIMIT, SESSION_LINE_LIMIT, BATCH_LINE_LIMIT}
 use Rattle.wf_talk.specs.declared.job.Job.{Job}
@@ -260,10 +261,6 @@ in_order_end lanes c h =
     })
 
 -- ---- another input
-
-bool_cases : (b : Bool) → (b ≡ true) ⊎ (b ≡ false)
-bool_cases true = inl refl
-bool_cases false = inr refl
 
 next_empty : (c : Cut) → c.stop ≡ None → length c.line ≡ 0 → next_input (end_batch (flush true c)) ≡ record (end_batch c) { line = [] }
 unfolding flush end_batch

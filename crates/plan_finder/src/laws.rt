@@ -251,6 +251,6 @@ fn follow_some_related(
     if state.is_open(law.step) {
         keep_step(state, work, law.step)
     } else {
-        keep_block(state, work, state.home(law.step), changed)
+        keep_block(state, work.spare.row(0), state.home(law.step), changed)
     }
 }

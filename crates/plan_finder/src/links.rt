@@ -70,13 +70,13 @@ pub(crate) fn make_related(
     match (state.is_open(x), state.is_open(s)) {
         (true, true) => true,
         (true, false) => {
-            !reach_back(problem, link, state, work, s, x, changed) || keep_step(state, work, x)
+            !reach(problem, link.turned(), state, work, s, x, changed) || keep_step(state, work, x)
         }
         (false, true) => {
-            !reach_ahead(problem, link, state, work, x, s, changed) || keep_step(state, work, s)
+            !reach(problem, link, state, work, x, s, changed) || keep_step(state, work, s)
         }
         (false, false) if state.home(x) == state.home(s) => {
-            keep_own(link, state, state.home(x), changed)
+            keep_block(state, link.own.row(0), state.home(x), changed)
         }
         (false, false) => make_blocks_related(problem, link, state, work, x, s, changed),
     }
@@ -92,18 +92,18 @@ fn make_blocks_related(
     s: u8,
     changed: &mut Changed,
 ) -> bool {
-    let ahead = reach_ahead(problem, link, state, work, x, s, changed);
-    if ahead && !keep_block(state, work, state.home(s), changed) {
+    let ahead = reach(problem, link, state, work, x, s, changed);
+    if ahead && !keep_block(state, work.spare.row(0), state.home(s), changed) {
         return false;
     }
-    !reach_back(problem, link, state, work, s, x, changed)
-        || keep_block(state, work, state.home(x), changed)
+    !reach(problem, link.turned(), state, work, s, x, changed)
+        || keep_block(state, work.spare.row(0), state.home(x), changed)
 }
 
 // Into the spare row go those to whom some user of a step's block is related, of the users of
 // another step at least. Tells whether that was done: where the block did not change, the other
 // step has been left those alone before.
-fn reach_ahead(
+fn reach(
     problem: &Problem,
     link: Link<'_>,
     state: &State,
@@ -139,43 +139,13 @@ pub(crate) fn add_ahead(
 ) {
     let from = state.block(state.home(x));
     spend_on(problem, from, work);
-    let rows = link.rows(false);
     unite(
         work.spare.row_mut(0),
         from,
-        rows,
+        link.ahead,
         link.places,
         users_of(state, to),
     );
-}
-
-// Into the spare row go those who are related to some user of a step's block, of the users of
-// another step at least. Tells whether that was done, as above.
-fn reach_back(
-    problem: &Problem,
-    link: Link<'_>,
-    state: &State,
-    work: &mut Work,
-    s: u8,
-    to: u8,
-    changed: &Changed,
-) -> bool {
-    let home = state.home(s);
-    let from = state.block(home);
-    spend_on(problem, from, work);
-    if !changed.has(home) {
-        return false;
-    }
-    clear(work.spare.row_mut(0));
-    let rows = link.rows(true);
-    unite(
-        work.spare.row_mut(0),
-        from,
-        rows,
-        link.places,
-        users_of(state, to),
-    );
-    true
 }
 
 // Puts the rows of the users of a row in, until all who are wanted are in.
@@ -200,18 +170,9 @@ pub(crate) fn keep_step(state: &mut State, work: &Work, s: u8) -> bool {
     !keep(state.step_mut(s), work.spare.row(0)).none
 }
 
-/// A block keeps the users of the spare row. Tells whether one is left.
-pub(crate) fn keep_block(state: &mut State, work: &Work, b: u8, changed: &mut Changed) -> bool {
-    let kept = keep(state.block_mut(b), work.spare.row(0));
-    if kept.changed {
-        changed.blocks |= bit(b);
-    }
-    !kept.none
-}
-
-// A block keeps the users who are related to themselves. Tells whether one is left.
-fn keep_own(link: Link<'_>, state: &mut State, b: u8, changed: &mut Changed) -> bool {
-    let kept = keep(state.block_mut(b), link.own.row(0));
+/// A block keeps the users of a row. Tells whether one is left.
+pub(crate) fn keep_block(state: &mut State, row: &[u64], b: u8, changed: &mut Changed) -> bool {
+    let kept = keep(state.block_mut(b), row);
     if kept.changed {
         changed.blocks |= bit(b);
     }

@@ -60,7 +60,7 @@ impl Law {
 #[derive(Clone, Copy)]
 pub(crate) struct Link<'r> {
     pub(crate) places: &'r [u16],
-    ahead: &'r Rows,
+    pub(crate) ahead: &'r Rows,
     back: &'r Rows,
     pub(crate) own: &'r Rows,
 }
@@ -76,9 +76,13 @@ impl<'r> Link<'r> {
         self.back.row(place_of(self.places, u))
     }
 
-    /// The rows of those to whom users are related, or of those who are related to them.
-    pub(crate) fn rows(&self, back: bool) -> &'r Rows {
-        if back { self.back } else { self.ahead }
+    /// The rows of the relation read the other way round.
+    pub(crate) fn turned(self) -> Link<'r> {
+        Link {
+            ahead: self.back,
+            back: self.ahead,
+            ..self
+        }
     }
 }
 
@@ -133,21 +137,13 @@ pub(crate) struct Relation {
 impl Relation {
     // Its rows, as they are or read back.
     fn link(&self, back: bool) -> Link<'_> {
-        if back {
-            Link {
-                places: &self.places,
-                ahead: &self.back,
-                back: &self.ahead,
-                own: &self.own,
-            }
-        } else {
-            Link {
-                places: &self.places,
-                ahead: &self.ahead,
-                back: &self.back,
-                own: &self.own,
-            }
-        }
+        let link = Link {
+            places: &self.places,
+            ahead: &self.ahead,
+            back: &self.back,
+            own: &self.own,
+        };
+        if back { link.turned() } else { link }
     }
 }
 

@@ -87,14 +87,6 @@ impl Rows {
     }
 }
 
-// The lesser of the lengths of two rows.
-fn lesser(a: usize, b: usize) -> usize
-    ensures in_first { result ≤ a }
-    ensures in_second { result ≤ b }
-{
-    if a < b { a } else { b }
-}
-
 /// Takes all users out.
 pub(crate) fn clear(row: &mut [u64]) {
     for word in row.iter_mut() {
@@ -104,7 +96,7 @@ pub(crate) fn clear(row: &mut [u64]) {
 
 /// Makes a row the same as another.
 pub(crate) fn put(row: &mut [u64], other: &[u64]) {
-    for at in 0..lesser(row.len(), other.len()) {
+    for at in 0..row.len().min(other.len()) {
         row[at] = other[at];
     }
 }
@@ -118,7 +110,7 @@ pub(crate) fn put_all(words: &mut [u64], others: &[u64]) {
 
 /// Makes a row those of another one who are not in it.
 pub(crate) fn turn(row: &mut [u64], everyone: &[u64]) {
-    for at in 0..lesser(row.len(), everyone.len()) {
+    for at in 0..row.len().min(everyone.len()) {
         row[at] = everyone[at] & !row[at];
     }
 }
@@ -139,7 +131,7 @@ pub(crate) fn add_first(row: &mut [u64], users: u16) {
 /// Keeps the users of another row alone, and tells whether somebody went.
 pub(crate) fn meet(row: &mut [u64], other: &[u64]) -> bool {
     let mut changed = false;
-    for at in 0..lesser(row.len(), other.len()) {
+    for at in 0..row.len().min(other.len()) {
         let left = row[at] & other[at];
         if left != row[at] {
             changed = true;
@@ -162,7 +154,7 @@ pub(crate) struct Kept {
 pub(crate) fn keep(row: &mut [u64], other: &[u64]) -> Kept {
     let mut gone = 0u64;
     let mut stay = 0u64;
-    for at in 0..lesser(row.len(), other.len()) {
+    for at in 0..row.len().min(other.len()) {
         let left = row[at] & other[at];
         gone |= left ^ row[at];
         stay |= left;
@@ -177,7 +169,7 @@ pub(crate) fn keep(row: &mut [u64], other: &[u64]) -> Kept {
 /// Puts the users of another row in, and tells whether somebody of a third one is still not in.
 pub(crate) fn join_wants(row: &mut [u64], other: &[u64], wanted: &[u64]) -> bool {
     let mut wants = 0u64;
-    for at in 0..lesser(row.len(), lesser(other.len(), wanted.len())) {
+    for at in 0..row.len().min(other.len()).min(wanted.len()) {
         row[at] |= other[at];
         wants |= wanted[at] & !row[at];
     }
@@ -186,21 +178,21 @@ pub(crate) fn join_wants(row: &mut [u64], other: &[u64], wanted: &[u64]) -> bool
 
 /// Puts the users of another row in.
 pub(crate) fn join(row: &mut [u64], other: &[u64]) {
-    for at in 0..lesser(row.len(), other.len()) {
+    for at in 0..row.len().min(other.len()) {
         row[at] |= other[at];
     }
 }
 
 /// Takes the users of another row out.
 pub(crate) fn strike(row: &mut [u64], other: &[u64]) {
-    for at in 0..lesser(row.len(), other.len()) {
+    for at in 0..row.len().min(other.len()) {
         row[at] &= !other[at];
     }
 }
 
 /// Whether two rows have a user in common.
 pub(crate) fn meets(row: &[u64], other: &[u64]) -> bool {
-    for at in 0..lesser(row.len(), other.len()) {
+    for at in 0..row.len().min(other.len()) {
         if row[at] & other[at] != 0 {
             return true;
         }
@@ -210,7 +202,7 @@ pub(crate) fn meets(row: &[u64], other: &[u64]) -> bool {
 
 /// Whether a row has a user who is not in another.
 pub(crate) fn exceeds(row: &[u64], other: &[u64]) -> bool {
-    for at in 0..lesser(row.len(), other.len()) {
+    for at in 0..row.len().min(other.len()) {
         if row[at] & !other[at] != 0 {
             return true;
         }
@@ -252,7 +244,7 @@ pub(crate) fn has_many(row: &[u64], least: u32) -> bool {
 /// How many users two rows have in common.
 pub(crate) fn count_common(row: &[u64], other: &[u64]) -> u32 {
     let mut users = 0u32;
-    for at in 0..lesser(row.len(), other.len()) {
+    for at in 0..row.len().min(other.len()) {
         users = users.saturating_add((row[at] & other[at]).count_ones());
     }
     users
@@ -297,7 +289,7 @@ pub(crate) fn nth_user(row: &[u64], place: u32) -> Option<u16> {
 
 /// A user who is in just one of two rows, other than these two.
 pub(crate) fn first_apart(row: &[u64], other: &[u64], u: u16, v: u16) -> Option<u16> {
-    for at in 0..lesser(row.len(), other.len()) {
+    for at in 0..row.len().min(other.len()) {
         let left = (row[at] ^ other[at]) & !word_of(at, u) & !word_of(at, v);
         if left != 0 {
             return Some(user_at(at, left.trailing_zeros()));
@@ -308,7 +300,7 @@ pub(crate) fn first_apart(row: &[u64], other: &[u64], u: u16, v: u16) -> Option<
 
 /// Writes a number to the place of each user who is in the first row and not in the second.
 pub(crate) fn number_struck(before: &[u64], after: &[u64], numbers: &mut [u8], number: u8) {
-    for at in 0..lesser(before.len(), after.len()) {
+    for at in 0..before.len().min(after.len()) {
         let mut struck = before[at] & !after[at];
         for _ in 0..64u8 {
             if struck == 0 {

@@ -1,6 +1,7 @@
 -- Which plans are whole without some users.
 use Rattle.std.proofs.Common.{◌≡◌, refl, sym, ap, ◌∙◌, ℕ, zero, suc, ◌+◌, ◌<◌, ◌≤◌, Bool, true, false, not, ◌&&◌, ◌||◌, ◌==◌, List, [], ◌∷◌, ◌++◌}
 use Rattle.std.proofs.Common.{length, ◌⊎◌, inl, inr, arith, subst}
+use Rattle.std.proofs.Math.Bool.{or_assoc}
 use Rattle.std.proofs.lemmas.Bool.{false≢true, eqb-true}
 use Rattle.basics.proofs.Booleans.{or_cases, or_left, or_right, not_true, not_yes, not_false, differ, bool_cases, or-false}
 use Rattle.constraint_forms.specs.Assign.{planned}
@@ -8,7 +9,7 @@ use Rattle.policy_book.specs.Twins.{all_below, is_one_of}
 use Rattle.certificate_check.proofs.Below.{all_pass, each_passes}
 use Rattle.resilience_check.specs.Covering.{is_whole, leaves_some}
 use Rattle.resilience_check.specs.Lists.{CanBreak, IsWholeIn, Withstands}
-use Rattle.resilience_check.proofs.Ones.{either_of_three, one_append, one_beside, one_here, removed, length-removed, stays_one, was_one}
+use Rattle.resilience_check.proofs.Ones.{one_append, one_beside, one_here, removed, length-removed, stays_one, was_one}
 
 -- the first that fails before others do, where not all pass
 both_not : (a b : Bool) → (a && b) ≡ false → b ≡ true → a ≡ false
@@ -93,4 +94,4 @@ broken_by plans away k most u low broken = record {
 pub leaves_append : (plans : List (List ℕ)) (plan a : List ℕ) → leaves_some (plans ++ plan ∷ []) a ≡ (leaves_some plans a || is_whole a plan)
 leaves_append [] plan a = or-false (is_whole a plan)
 leaves_append (q ∷ plans) plan a = ap (λ b. is_whole a q || b) (leaves_append plans plan a)
-    ∙ either_of_three (is_whole a q) (leaves_some plans a) (is_whole a plan)
+    ∙ sym (or_assoc (is_whole a q) (leaves_some plans a) (is_whole a plan))

@@ -9,7 +9,7 @@ use Rattle.std.specs.declared.cmp.Ordering.{Ordering}
 use Rattle.std.specs.declared.cmp.Ordering.TheVariants.{Less, Equal, Greater}
 use Rattle.basics.specs.Pairs.{Pairs, pair_cmp, AllPairs}
 use Rattle.basics.specs.PairLaws.{pair_cmp_total, pair_cmp-IsAntisymmetric}
-use Rattle.basics.proofs.Booleans.{and_same, lt_yes}
+use Rattle.basics.proofs.Booleans.{and_same, lt_yes, or-false}
 use Rattle.rbac_state.specs.Rosters.{RosterShape, IsSoundRoster}
 use Rattle.policy_book.specs.Twins.{is_one_of}
 use Rattle.resilience_check.specs.Left.{members_without}
@@ -79,10 +79,6 @@ both_not true true b = refl
 both_not true false b = refl
 both_not false a b = refl
 
-or_no : (a : Bool) → (a || false) ≡ a
-or_no true = refl
-or_no false = refl
-
 -- one more user is absent
 pub one_more_absent : (absent : List ℕ) (u : ℕ) (members : Pairs) → set.retain (members_without absent members)
     (λ q. not (u == q.0)) ≡ members_without (absent ++ u ∷ []) members
@@ -90,7 +86,7 @@ one_more_absent absent u members = same_members _ _ (λ x y.
     contains_kept (λ q. not (u == q.0)) (members_without absent members) (x, y)
     ∙ ap (λ c. c && not (u == x)) (contains_kept (λ q. not (is_one_of absent q.0)) members (x, y))
     ∙ both_not (set.contains members (x, y)) (is_one_of absent x) (u == x)
-    ∙ ap (λ o. set.contains members (x, y) && not (is_one_of absent x || o)) (sym (or_no (u == x)))
+    ∙ ap (λ o. set.contains members (x, y) && not (is_one_of absent x || o)) (sym (or-false (u == x)))
     ∙ ap (λ o. set.contains members (x, y) && not o) (sym (one_append absent (u ∷ []) x))
     ∙ sym (contains_kept (λ q. not (is_one_of (absent ++ u ∷ []) q.0)) members (x, y)))
 

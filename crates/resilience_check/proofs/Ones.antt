@@ -1,17 +1,14 @@
 -- Who is one of some users.
 use Rattle.std.proofs.Common.{◌≡◌, refl, sym, ap, ◌∙◌, ℕ, zero, suc, ◌+◌, ◌<◌, Bool, true, false, ◌||◌, ◌==◌, List, [], ◌∷◌, ◌++◌}
 use Rattle.std.proofs.Common.{length, cond, get_or, ◌⊎◌, inl, inr, arith}
+use Rattle.std.proofs.Math.Bool.{or_assoc}
 use Rattle.std.proofs.lemmas.Bool.{false≢true, eqb-true}
 use Rattle.basics.proofs.Booleans.{or_cases, or_left, or_right, eq_is, eq_same}
 use Rattle.policy_book.specs.Twins.{is_one_of}
 
-pub either_of_three : (a b c : Bool) → (a || (b || c)) ≡ ((a || b) || c)
-either_of_three true b c = refl
-either_of_three false b c = refl
-
 pub one_append : (xs ys : List ℕ) (u : ℕ) → is_one_of (xs ++ ys) u ≡ (is_one_of xs u || is_one_of ys u)
 one_append [] ys u = refl
-one_append (x ∷ xs) ys u = ap (λ b. (x == u) || b) (one_append xs ys u) ∙ either_of_three (x == u) (is_one_of xs u) (is_one_of ys u)
+one_append (x ∷ xs) ys u = ap (λ b. (x == u) || b) (one_append xs ys u) ∙ sym (or_assoc (x == u) (is_one_of xs u) (is_one_of ys u))
 
 pub one_here : (u : ℕ) (us : List ℕ) → is_one_of (u ∷ us) u ≡ true
 one_here u us = or_left (u == u) (is_one_of us u) (eq_same u)

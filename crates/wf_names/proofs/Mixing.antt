@@ -84,3 +84,5 @@ mixed_next f n old by into within m =
       ];
       above = λ i h. get_or-set_other into n i x 0 (λ e. absurd (omega (arith, h, e))) ∙ m.above i (omega (arith, h));
     }
+
+pub ruleset mixing = (mixed_on, mixed_next, mixed_all)

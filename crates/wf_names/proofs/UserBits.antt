@@ -1,11 +1,12 @@
 -- How the users of a set change with its words.
-use Rattle.std.proofs.Common.{◌≡◌, ℕ, zero, suc, min, max, ◌+◌, ◌*◌, ◌/◌, ◌%◌, ◌^◌, ◌<◌, ◌≤◌, Bool, true, false, not, ◌&&◌, ◌||◌, nat_eq, List, length}
+use Rattle.std.proofs.Common.{◌≡◌, ℕ, min, max, ◌+◌, ◌*◌, ◌/◌, ◌%◌, ◌^◌, ◌<◌, ◌≤◌, Bool, true, false, not, ◌&&◌, ◌||◌, nat_eq, List, length}
 use Rattle.std.proofs.Common.{get_or, set, slice_index_or, slice_set, cond, refl, sym, ap, subst, ◌∙◌, inl, inr, arith, bit_and, bit_or, get_or-set_same}
 use Rattle.std.proofs.Common.{get_or-set_other}
 use Rattle.std.specs.Int.{bit_at, bit_not, w64}
 use Rattle.std.proofs.lemmas.Nat.Bits.{bit_at_set_same, bit_at_set_other, bit_at_clear_same, bit_at_clear_other, bit_at_and, bit_at_or, bit_at_xor, bit_at-lt}
 use Rattle.std.proofs.lemmas.Nat.Bits.{bit_at-zero}
 use Rattle.std.proofs.lemmas.Bool.{cases_eq, cases_lt, eq-eqb, ne_eqb}
+use Rattle.std.proofs.lemmas.Bool.Decides.{nat_tests}
 use Rattle.std.proofs.lemmas.List.{get_or_past}
 use Rattle.std.proofs.lemmas.Simd.{length-zip2, get_or-zip2}
 use Rattle.std.specs.Simd.Lanes.{zip2}
@@ -69,31 +70,13 @@ taken_out words u v within =
     ∙ cond_and (nat_eq v u) (has_user words v)
 
 both_bits : (a b : ℕ) → a < 2 → b < 2 → nat_eq (min a b) 1 ≡ (nat_eq a 1 && nat_eq b 1)
-both_bits zero zero h k = refl
-both_bits zero (suc zero) h k = refl
-both_bits zero (suc (suc b)) h k = absurd (omega (arith, k))
-both_bits (suc zero) zero h k = refl
-both_bits (suc zero) (suc zero) h k = refl
-both_bits (suc zero) (suc (suc b)) h k = absurd (omega (arith, k))
-both_bits (suc (suc a)) b h k = absurd (omega (arith, h))
+both_bits a b h k = grind (arith, nat_tests)
 
 some_bit : (a b : ℕ) → a < 2 → b < 2 → nat_eq (max a b) 1 ≡ (nat_eq a 1 || nat_eq b 1)
-some_bit zero zero h k = refl
-some_bit zero (suc zero) h k = refl
-some_bit zero (suc (suc b)) h k = absurd (omega (arith, k))
-some_bit (suc zero) zero h k = refl
-some_bit (suc zero) (suc zero) h k = refl
-some_bit (suc zero) (suc (suc b)) h k = absurd (omega (arith, k))
-some_bit (suc (suc a)) b h k = absurd (omega (arith, h))
+some_bit a b h k = grind (arith, nat_tests)
 
 own_bit : (a b : ℕ) → a < 2 → b < 2 → nat_eq ((a + min a b) % 2) 1 ≡ (nat_eq a 1 && not (nat_eq b 1))
-own_bit zero zero h k = refl
-own_bit zero (suc zero) h k = refl
-own_bit zero (suc (suc b)) h k = absurd (omega (arith, k))
-own_bit (suc zero) zero h k = refl
-own_bit (suc zero) (suc zero) h k = refl
-own_bit (suc zero) (suc (suc b)) h k = absurd (omega (arith, k))
-own_bit (suc (suc a)) b h k = absurd (omega (arith, h))
+own_bit a b h k = grind (arith, nat_tests)
 
 bit_of_both : (a b k : ℕ) → has_bit (bit_and a b) k ≡ (has_bit a k && has_bit b k)
 bit_of_both a b k = ap (λ x. nat_eq x 1) (bit_at_and a b k) ∙ both_bits _ _ (bit_at-lt a k) (bit_at-lt b k)

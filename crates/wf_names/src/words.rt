@@ -10,6 +10,7 @@ use std::simd::prelude::*;
 const LANES: usize = 8;
 
 /// Keeps in each word the bits that are also in the word of `by` at its place.
+#[tactic(auto, using(crate::proofs::Mixing::mixing))]
 pub fn meet_words(into: &mut [u64], by: &[u64])
     requires { length into.old ≡ length by.now }
     ensures { into.new ≡ zip2 bit_and into.old by.now }
@@ -35,6 +36,7 @@ fn meet_lanes(into: &mut [u64], by: &[u64], at: usize)
 }
 
 /// Keeps in each word the bits that are not in the word of `by` at its place.
+#[tactic(auto, using(crate::proofs::Mixing::mixing))]
 pub fn strike_words(into: &mut [u64], by: &[u64])
     requires { length into.old ≡ length by.now }
     ensures { into.new ≡ zip2 minus into.old by.now }
@@ -59,6 +61,7 @@ fn strike_lanes(into: &mut [u64], by: &[u64], at: usize)
 }
 
 /// Puts into each word the bits of the word of `by` at its place.
+#[tactic(auto, using(crate::proofs::Mixing::mixing))]
 pub fn join_words(into: &mut [u64], by: &[u64])
     requires { length into.old ≡ length by.now }
     ensures { into.new ≡ zip2 bit_or into.old by.now }

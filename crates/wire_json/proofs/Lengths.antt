@@ -21,8 +21,19 @@ use Rattle.wire_json.proofs.Texts.{name_stays}
 
 -- ---- lists
 
-around : (a x b : List ℕ) → length (a ++ (x ++ b)) ≡ length a + (length x + length b)
+pub around : (a x b : List ℕ) → length (a ++ (x ++ b)) ≡ length a + (length x + length b)
 around a x b = length-append a (x ++ b) ∙ ap (λ n. length a + n) (length-append x b)
+
+-- a text between what opens an object and what closes it
+pub framed : (front text : List ℕ) → length (front ++ (text ++ codes "}")) ≡ suc (length front) + length text
+framed front text =
+    let parts : length (front ++ (text ++ codes "}")) ≡ length front + (length text + 1) = around front text (codes "}") in
+    omega (arith, parts)
+
+-- two texts there, with what parts them
+pub framed_two : (front between a b : List ℕ) →
+    length (front ++ (a ++ (between ++ (b ++ codes "}")))) ≡ suc (length front + length between) + (length a + length b)
+framed_two front between a b = omega (arith, around front a (between ++ (b ++ codes "}")), framed between b)
 
 -- ---- names
 
@@ -54,34 +65,24 @@ named_short names n known = at (there_or_not names n)
 holder_short : (p : PolicyShape) (f s : ℕ) → AreNames (flow_at p f).flow.steps → length (compact_text (tree_data p f (holder s))) ≤ 62
 unfolding escape_byte
 holder_short p f s steps =
-    let parts : length (compact_text (tree_data p f (holder s))) ≡ 10 + (length (compact_text (step_data p f s)) + 1) =
-    around (codes "{\"holder\":") (compact_text (step_data p f s)) (codes "}") in
+    let parts : length (compact_text (tree_data p f (holder s))) ≡ 11 + length (compact_text (step_data p f s)) =
+    framed (codes "{\"holder\":") (compact_text (step_data p f s)) in
     omega (arith, parts, named_short (flow_at p f).flow.steps s steps)
 
 rule_short : (p : PolicyShape) (f k : ℕ) → k < 2 ^ 8 → length (compact_text (tree_data p f (rule k))) ≤ 62
 unfolding escape_byte
 rule_short p f k small =
-    let parts : length (compact_text (tree_data p f (rule k))) ≡ 8 + (length (decimal k) + 1) = around (codes "{\"rule\":") (decimal k) (codes "}") in
+    let parts : length (compact_text (tree_data p f (rule k))) ≡ 9 + length (decimal k) = framed (codes "{\"rule\":") (decimal k) in
     omega (arith, parts, length-decimal-le 3 k (omega arith) (omega (arith, small)) (omega (arith, small)))
 
 twin_short : (p : PolicyShape) (v : ℕ) → AreNames p.roster.users → length (compact_text (single (codes "twin") (user_data p v))) ≤ 51
 unfolding escape_byte
 twin_short p v users =
-    let parts : length (compact_text (single (codes "twin") (user_data p v))) ≡ 8 + (length (compact_text (user_data p v)) + 1) =
-    around (codes "{\"twin\":") (compact_text (user_data p v)) (codes "}") in
+    let parts : length (compact_text (single (codes "twin") (user_data p v))) ≡ 9 + length (compact_text (user_data p v)) =
+    framed (codes "{\"twin\":") (compact_text (user_data p v)) in
     omega (arith, parts, named_short p.roster.users v users)
 
 -- ---- nodes
-
--- a node whose branches have a text
-node_long : (step users : List ℕ) → length (codes "{\"step\":" ++ (step ++ (codes ",\"users\":" ++ (users ++ codes "}")))) ≡ 18 + (length step + length users)
-node_long step users =
-    let outer = around (codes "{\"step\":") step (codes ",\"users\":" ++ (users ++ codes "}")) in
-    let inner = around (codes ",\"users\":") users (codes "}") in
-    let first : length (codes "{\"step\":") ≡ 8 = refl in
-    let second : length (codes ",\"users\":") ≡ 9 = refl in
-    let last : length (codes "}") ≡ 1 = refl in
-    omega (arith, outer, inner, first, second, last)
 
 comma_short : (later : Bool) → length (comma_if later) ≤ 1
 comma_short true = omega arith
@@ -111,7 +112,7 @@ mutual
   tree_short p f users steps (node s kids) small =
       let parts : length (compact_text (tree_data p f (node s kids))) ≡
       18 + (length (compact_text (step_data p f s)) + length (compact_text (array (items_of (branches_data p f kids))))) =
-      node_long (compact_text (step_data p f s)) (compact_text (array (items_of (branches_data p f kids)))) in
+      framed_two (codes "{\"step\":") (codes ",\"users\":") (compact_text (step_data p f s)) (compact_text (array (items_of (branches_data p f kids)))) in
       let whole : length (compact_text (array (items_of (branches_data p f kids)))) ≡ suc (length (items_text false (items_of (branches_data p f kids)))) =
       refl in
       omega (arith, parts, whole, named_short (flow_at p f).flow.steps s steps, kids_short p f users steps kids small false)

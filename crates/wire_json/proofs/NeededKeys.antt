@@ -1,13 +1,16 @@
 -- The keys that a request or an edit needs, one after the other.
 use Rattle.std.proofs.Common.{◌≡◌, ℕ, List, [], ◌∷◌, ◌++◌, true, false, refl, ap, ◌∙◌, Result, Ok, Err, Option, Some, None}
-use Rattle.std.specs.Prelude.{is_some, unwrap_or, nat_eq}
+use Rattle.std.specs.Prelude.{is_some, unwrap_or, nat_eq, IsErrAnd}
 use Rattle.std.specs.Cmp.Lexicographic.{pointwise}
 use Rattle.serde_json.specs.Data.{Data, Members}
-use Rattle.basics.specs.Reading.{◌>>=◌, or_fault, check, each}
+use Rattle.basics.specs.Reading.{◌>>=◌, Gives, or_fault, check, each}
+use Rattle.wf_talk.specs.declared.edit.Edit.{Edit}
 use Rattle.wf_talk.specs.declared.request.Request.{Request}
 use Rattle.wf_talk.specs.declared.request.Bad.{Bad}
 use Rattle.wf_talk.specs.declared.request.Bad.TheVariants.{Key, Extra}
-use Rattle.wire_json.specs.Requests.{case, name_at_key, read_case, the_name, the_case, has_form, has_only, request_by}
+use Rattle.wire_json.specs.Requests.{Row, case, name_at_key, read_case, the_name, the_case, has_form, has_only, request_by}
+use Rattle.wire_json.specs.Words.{edit_by}
+use Rattle.wire_json.proofs.Keys.{handed_on}
 
 -- each key has its form, or the fault of the first that has not
 abbrev pub keys_read : Data → List (List ℕ) → Result (Unit {0}) Bad
@@ -39,6 +42,15 @@ pub name_there : (d : Data) (key : List ℕ) (keys : List (List ℕ)) (name : Li
     → or_fault (name_at_key key d) (Key key) ≡ Ok name → keys_read d (key ∷ keys) ≡ keys_read d keys
 name_there d key keys name other h = rw (other, one_there (name_at_key key d) key name h) refl
 
+pub two_there : (d : Data) (a b : List ℕ) (x y : List ℕ) → pointwise nat_eq a case ≡ false → pointwise nat_eq b case ≡ false
+    → or_fault (name_at_key a d) (Key a) ≡ Ok x → or_fault (name_at_key b d) (Key b) ≡ Ok y → keys_read d (a ∷ b ∷ []) ≡ Ok tt
+two_there d a b x y oa ob ha hb = name_there d a (b ∷ []) x oa ha ∙ name_there d b [] y ob hb
+
+pub three_there : (d : Data) (a b c : List ℕ) (x y z : List ℕ) → pointwise nat_eq a case ≡ false → pointwise nat_eq b case ≡ false
+    → pointwise nat_eq c case ≡ false → or_fault (name_at_key a d) (Key a) ≡ Ok x → or_fault (name_at_key b d) (Key b) ≡ Ok y
+    → or_fault (name_at_key c d) (Key c) ≡ Ok z → keys_read d (a ∷ b ∷ c ∷ []) ≡ Ok tt
+three_there d a b c x y z oa ob oc ha hb hc = name_there d a (b ∷ c ∷ []) x oa ha ∙ two_there d b c y z ob oc hb hc
+
 pub name_is : (d : Data) (key name : List ℕ) → or_fault (name_at_key key d) (Key key) ≡ Ok name → the_name key d ≡ name
 name_is d key name h = it_is (name_at_key key d) [] key name h
 
@@ -56,22 +68,26 @@ case_is d n h = it_is (read_case d) 0 case n h
 
 -- ---- what is read by the keys
 
-pub then_ok : {A : Type 0} (r : Result (Unit {0}) Bad) (x y : A) → r ≡ Ok tt → x ≡ y → (r >>= (λ _. Ok x)) ≡ Ok y
-then_ok r x y h is = ap (λ s. s >>= (λ _. Ok x)) h ∙ ap Ok is
+pub edit_read : (r : Row Edit) (keys : List (List ℕ)) (d : Data) (e : Edit) → r.keys ≡ keys → keys_read d keys ≡ Ok tt → r.is d ≡ e → edit_by r d ≡ Ok e
+edit_read r keys d e same h is = rw (same, h, is) refl
 
-pub then_fault : {A : Type 0} (r : Result (Unit {0}) Bad) (x : A) (b : Bad) → r ≡ Err b → (r >>= (λ _. Ok x)) ≡ Err b
-then_fault r x b h = ap (λ s. s >>= (λ _. Ok x)) h
+pub edit_fault : (r : Row Edit) (keys : List (List ℕ)) (result : Result Edit Bad) (d : Data) (b : Bad) → r.keys ≡ keys → keys_read d keys ≡ Err b
+    → IsErrAnd result (λ e. e ≡ b) → Gives Some (λ e. e) result (edit_by r d)
+edit_fault r keys result d b same h is = handed_on result (edit_by r d) b is (rw (same, h) refl)
 
-pub request_fault : (others keys : List (List ℕ)) (is : Data → Request) (d : Data) (ms : Members) (b : Bad) → keys_read d keys ≡ Err b
-    → request_by others keys is d ms ≡ Err b
+pub key_missing : (others keys : List (List ℕ)) (is : Data → Request) (d : Data) (ms : Members) (result : Result Request Bad) (b : Bad)
+    → keys_read d keys ≡ Err b → IsErrAnd result (λ e. e ≡ b) → Gives Some (λ r. r) result (request_by others keys is d ms)
 unfolding request_by
-request_fault others keys is d ms b h = ap (λ r. r >>= (λ _. check (has_only (others ++ keys) ms) Extra >>= (λ _. Ok (is d)))) h
+key_missing others keys is d ms result b h same =
+    handed_on result (request_by others keys is d ms) b same (ap (λ r. r >>= (λ _. check (has_only (others ++ keys) ms) Extra >>= (λ _. Ok (is d)))) h)
 
-pub request_extra : (others keys : List (List ℕ)) (is : Data → Request) (d : Data) (ms : Members) (b : Bad) → keys_read d keys ≡ Ok tt
-    → check (has_only (others ++ keys) ms) Extra ≡ Err b → request_by others keys is d ms ≡ Err b
+pub key_extra : (others keys : List (List ℕ)) (is : Data → Request) (d : Data) (ms : Members) (result : Result Request Bad) (b : Bad)
+    → keys_read d keys ≡ Ok tt → check (has_only (others ++ keys) ms) Extra ≡ Err b → IsErrAnd result (λ e. e ≡ b)
+    → Gives Some (λ r. r) result (request_by others keys is d ms)
 unfolding request_by
-request_extra others keys is d ms b h k =
-    ap (λ r. r >>= (λ _. check (has_only (others ++ keys) ms) Extra >>= (λ _. Ok (is d)))) h ∙ ap (λ r. r >>= (λ _. Ok (is d))) k
+key_extra others keys is d ms result b h k same =
+    handed_on result (request_by others keys is d ms) b same
+    (ap (λ r. r >>= (λ _. check (has_only (others ++ keys) ms) Extra >>= (λ _. Ok (is d)))) h ∙ ap (λ r. r >>= (λ _. Ok (is d))) k)
 
 pub request_read : (others keys : List (List ℕ)) (is : Data → Request) (d : Data) (ms : Members) (u : Unit {0}) (r : Request) → keys_read d keys ≡ Ok tt
     → check (has_only (others ++ keys) ms) Extra ≡ Ok u → is d ≡ r → request_by others keys is d ms ≡ Ok r

@@ -1,5 +1,5 @@
 //! Reading a request of a change of the policy, by the keys of its edit.
-ghost use Rattle.std.specs.Prelude.{Some, codes, option_and_then};
+ghost use Rattle.std.specs.Prelude.{Some, codes, option_and_then, if◌then◌else◌};
 ghost use Rattle.basics.specs.Reading.{Gives, or_fault};
 ghost use Rattle.wf_talk.specs.declared.request.Bad.TheVariants as bad;
 ghost use Rattle.wire_json.specs.Requests as read;
@@ -67,12 +67,12 @@ fn edit_in(word: EditWord, object: &Object<'_>) -> Result<Edit, Bad>
     match word {
         EditWord::AddUser => add_user_in(object),
         EditWord::Leave => leave_in(object),
-        EditWord::Enrol => enrol_in(object),
-        EditWord::Dismiss => dismiss_in(object),
-        EditWord::Relate => relate_in(object),
-        EditWord::Unrelate => unrelate_in(object),
-        EditWord::Permit => permit_in(object),
-        EditWord::Forbid => forbid_in(object),
+        EditWord::Enrol => member_in(true, object),
+        EditWord::Dismiss => member_in(false, object),
+        EditWord::Relate => pair_in(true, object),
+        EditWord::Unrelate => pair_in(false, object),
+        EditWord::Permit => permission_in(true, object),
+        EditWord::Forbid => permission_in(false, object),
         EditWord::Retire => retire_in(object),
     }
 }
@@ -97,82 +97,62 @@ fn leave_in(object: &Object<'_>) -> Result<Edit, Bad>
     Ok(Edit::Leave { user })
 }
 
-// To give a user a role.
+// To give a user a role, or to take it away.
 #[tactic(auto, unfolding(wf_names::specs::Names::is_name))]
-fn enrol_in(object: &Object<'_>) -> Result<Edit, Bad>
+fn member_in(enrols: bool, object: &Object<'_>) -> Result<Edit, Bad>
     ensures { Gives Some (λ e. e) result
-        (edit_by (row_of_edit EditWord.Enrol) (data_of object.now)) }
+        (edit_by (row_of_edit (if enrols then EditWord.Enrol else EditWord.Dismiss))
+        (data_of object.now)) }
 {
     let role = name_at(object, "role")?;
     let user = name_at(object, "user")?;
-    Ok(Edit::Enrol { role, user })
+    if enrols {
+        Ok(Edit::Enrol { role, user })
+    } else {
+        Ok(Edit::Dismiss { role, user })
+    }
 }
 
-// To take a role away from a user.
+// To put a pair of users into a relation, or to take it out.
 #[tactic(auto, unfolding(wf_names::specs::Names::is_name))]
-fn dismiss_in(object: &Object<'_>) -> Result<Edit, Bad>
+fn pair_in(relates: bool, object: &Object<'_>) -> Result<Edit, Bad>
     ensures { Gives Some (λ e. e) result
-        (edit_by (row_of_edit EditWord.Dismiss) (data_of object.now)) }
-{
-    let role = name_at(object, "role")?;
-    let user = name_at(object, "user")?;
-    Ok(Edit::Dismiss { role, user })
-}
-
-// To put a pair of users into a relation.
-#[tactic(auto, unfolding(wf_names::specs::Names::is_name))]
-fn relate_in(object: &Object<'_>) -> Result<Edit, Bad>
-    ensures { Gives Some (λ e. e) result
-        (edit_by (row_of_edit EditWord.Relate) (data_of object.now)) }
-{
-    let first = name_at(object, "first")?;
-    let relation = name_at(object, "relation")?;
-    let second = name_at(object, "second")?;
-    Ok(Edit::Relate {
-        first,
-        relation,
-        second,
-    })
-}
-
-// To take a pair of users out of a relation.
-#[tactic(auto, unfolding(wf_names::specs::Names::is_name))]
-fn unrelate_in(object: &Object<'_>) -> Result<Edit, Bad>
-    ensures { Gives Some (λ e. e) result (edit_by (row_of_edit EditWord.Unrelate)
+        (edit_by (row_of_edit (if relates then EditWord.Relate else EditWord.Unrelate))
         (data_of object.now)) }
 {
     let first = name_at(object, "first")?;
     let relation = name_at(object, "relation")?;
     let second = name_at(object, "second")?;
-    Ok(Edit::Unrelate {
-        first,
-        relation,
-        second,
-    })
+    if relates {
+        Ok(Edit::Relate {
+            first,
+            relation,
+            second,
+        })
+    } else {
+        Ok(Edit::Unrelate {
+            first,
+            relation,
+            second,
+        })
+    }
 }
 
-// To permit a step to a role.
+// To permit a step to a role, or to forbid it.
 #[tactic(auto, unfolding(wf_names::specs::Names::is_name))]
-fn permit_in(object: &Object<'_>) -> Result<Edit, Bad>
+fn permission_in(permits: bool, object: &Object<'_>) -> Result<Edit, Bad>
     ensures { Gives Some (λ e. e) result
-        (edit_by (row_of_edit EditWord.Permit) (data_of object.now)) }
+        (edit_by (row_of_edit (if permits then EditWord.Permit else EditWord.Forbid))
+        (data_of object.now)) }
 {
     let flow = name_at(object, "flow")?;
     let role = name_at(object, "role")?;
     let step = name_at(object, "step")?;
-    Ok(Edit::Permit { flow, role, step })
-}
-
-// To forbid a step to a role.
-#[tactic(auto, unfolding(wf_names::specs::Names::is_name))]
-fn forbid_in(object: &Object<'_>) -> Result<Edit, Bad>
-    ensures { Gives Some (λ e. e) result
-        (edit_by (row_of_edit EditWord.Forbid) (data_of object.now)) }
-{
-    let flow = name_at(object, "flow")?;
-    let role = name_at(object, "role")?;
-    let step = name_at(object, "step")?;
-    Ok(Edit::Forbid { flow, role, step })
+    if permits {
+        Ok(Edit::Permit { flow, role, step })
+    } else {
+        Ok(Edit::Forbid { flow, role, step })
+    }
 }
 
 // To open no more cases of a workflow.

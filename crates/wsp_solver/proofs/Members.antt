@@ -1,6 +1,7 @@
 -- Sets of steps with one more, and what trees mention.
 use Rattle.std.proofs.Common.{◌≡◌, ◌≢◌, refl, sym, ap, ◌∙◌, ℕ, ◌+◌, ◌<◌, ◌≤◌, Bool, true, false, ◌&&◌, ◌||◌, ◌==◌, nat_lt, List}
 use Rattle.std.proofs.Common.{length, slice_set, ◌⊎◌, inl, inr, eqb, leb, arith}
+use Rattle.std.proofs.Math.Bool.{or_assoc}
 use Rattle.std.proofs.lemmas.Bool.Decides.{eqb_tells, leb_tells}
 use Rattle.std.proofs.lemmas.List.{get_or-set_same, get_or-set_other, length-set}
 use Rattle.constraint_forms.specs.declared.rule.Rule.{Rule}
@@ -57,16 +58,12 @@ passing_more p rest n t = at (eqb_tells t n) (leb_tells n t)
         ∙ ap (λ b. (rest || false) || (p n && b)) apart.0 ∙ gone false rest (p n)
         ∙ ap (λ b. rest || (b && p t)) (sym (lt_no t (n + 1) (omega (arith, past.1, apart.1))))
 
-or_assoc : (a b c : Bool) → (a || (b || c)) ≡ ((a || b) || c)
-or_assoc true b c = refl
-or_assoc false b c = refl
-
 -- what branches and one more mention
 any_push : (rules : List Rule) (s u : ℕ) (t : Shape) (front : Kids) →
     any_mentions rules s (joined front (tree_kid u t no_kids)) ≡ (any_mentions rules s front || mentions rules s t)
 any_push rules s u t no_kids = or-false (mentions rules s t)
 any_push rules s u t (tree_kid v w kids) = ap (λ b. mentions rules s w || b) (any_push rules s u t kids) ∙
-    or_assoc (mentions rules s w) (any_mentions rules s kids) (mentions rules s t)
+    sym (or_assoc (mentions rules s w) (any_mentions rules s kids) (mentions rules s t))
 any_push rules s u t (twin_kid v w kids) = any_push rules s u t kids
 
 any_push_twin : (rules : List Rule) (s u v : ℕ) (front : Kids) → any_mentions rules s (joined front (twin_kid u v no_kids)) ≡ any_mentions rules s front

@@ -1,8 +1,8 @@
-use Rattle.std.proofs.Common.{◌∙◌, Some, sym}
+use Rattle.std.proofs.Common.{◌∙◌, Some, not, ◌&&◌, sym, ap}
 use Rattle.wf_names.specs.UserSets.{has_user}
 use Rattle.constraint_forms.specs.Rules.{are_unrelated, turned}
 use Rattle.constraint_forms.proofs.Counted.{all_left, nobody_left}
-use Rattle.constraint_forms.proofs.Related.{at_other, at_step, left_by, left_by_itself, step_in}
+use Rattle.constraint_forms.proofs.Related.{at_other, at_step, left_by, left_by_itself, other_way, step_in}
 use Rattle.constraint_forms.proofs.kept.keep_related.Goals as goal
 
 pub returns-in-true-true : goal.returns-in-true-true
@@ -28,7 +28,8 @@ returns-in-false-true g c = λ u.
     let a = c.args.asked.now.given in
     let s = c.args.asked.now.s in
     let within = step_in a s _ c.requires.step c.at-u.ensures.len in
-    c.keep_after.ensures u
+    c.keep_ahead-in-false-true.ensures u
+    ∙ ap (λ t. has_user c.args.set.now u && not t) (other_way (g.R.Holds.related c.args.rows.now) c.args.back c.args.rho u c.at-u.result)
     ∙ left_by a s u within (turned c.args.back (g.R.Holds.related c.args.rows.now)) c.args.rho c.args.x c.args.y (has_user c.args.set.now u)
     c.at-u.result (Some u) (at_other a s u within c.args.x c.in-false-true.ensures ∙ sym c.at-u.ensures.user)
     (at_step a s u within c.args.y c.in-false-true.ensures')

@@ -1,50 +1,46 @@
 use Rattle.std.proofs.Common.{[], ◌∷◌, refl, ◌∙◌}
-use Rattle.std.specs.Prelude.{codes}
-use Rattle.wf_talk.specs.declared.request.Request.TheVariants.{Release}
-use Rattle.wire_json.specs.Objects.{data_of, members_in}
-use Rattle.wire_json.specs.Requests.{by, case, step, the_case, the_name}
-use Rattle.wire_json.proofs.Keys.{handed_on}
-use Rattle.wire_json.proofs.NeededKeys.{name_missing, name_there, name_is, case_missing, case_there, case_is, request_fault, request_extra, request_read}
+use Rattle.wire_json.specs.Objects.{data_of}
+use Rattle.wire_json.specs.Requests.{by, case, step}
+use Rattle.wire_json.proofs.NeededKeys.{name_missing, name_there, name_is, case_missing, case_there, case_is, key_missing, key_extra, request_read}
 use Rattle.wire_json.proofs.request.release_in.Goals as goal
 
 pub returns-in_err-by : goal.returns-in_err-by
 returns-in_err-by c =
     let d = data_of c.args.object.now in
-    handed_on c.from_residual.result _ c.in_err-by.field-0.0 c.from_residual.ensures.1
-    (request_fault (codes "do" ∷ codes "lane" ∷ []) (by ∷ case ∷ step ∷ []) (λ d. Release (the_name by d) (the_case d) (the_name step d)) d (members_in d) _
-    (name_missing d by (case ∷ step ∷ []) _ refl c.in_err-by.ensures))
+    key_missing _ _ _ d _ c.from_residual.result _
+    (name_missing d by (case ∷ step ∷ []) _ refl c.in_err-by.ensures)
+    c.from_residual.ensures.1
 
 pub returns-in_err-case : goal.returns-in_err-case
 returns-in_err-case c =
     let d = data_of c.args.object.now in
-    handed_on c.from_residual-in_err-case.result _ c.in_err-case.field-0.0 c.from_residual-in_err-case.ensures.1
-    (request_fault (codes "do" ∷ codes "lane" ∷ []) (by ∷ case ∷ step ∷ []) (λ d. Release (the_name by d) (the_case d) (the_name step d)) d (members_in d) _
+    key_missing _ _ _ d _ c.from_residual-in_err-case.result _
     (name_there d by (case ∷ step ∷ []) _ refl c.in_ok-by.ensures
-    ∙ case_missing d (step ∷ []) _ c.in_err-case.ensures))
+    ∙ case_missing d (step ∷ []) _ c.in_err-case.ensures)
+    c.from_residual-in_err-case.ensures.1
 
 pub returns-in_err-step : goal.returns-in_err-step
 returns-in_err-step c =
     let d = data_of c.args.object.now in
-    handed_on c.from_residual-in_err-step.result _ c.in_err-step.field-0.0 c.from_residual-in_err-step.ensures.1
-    (request_fault (codes "do" ∷ codes "lane" ∷ []) (by ∷ case ∷ step ∷ []) (λ d. Release (the_name by d) (the_case d) (the_name step d)) d (members_in d) _
+    key_missing _ _ _ d _ c.from_residual-in_err-step.result _
     (name_there d by (case ∷ step ∷ []) _ refl c.in_ok-by.ensures
     ∙ case_there d (step ∷ []) _ c.in_ok-case.ensures
-    ∙ name_missing d step [] _ refl c.in_err-step.ensures))
+    ∙ name_missing d step [] _ refl c.in_err-step.ensures)
+    c.from_residual-in_err-step.ensures.1
 
 pub returns-in_err-no_others : goal.returns-in_err-no_others
 returns-in_err-no_others c =
     let d = data_of c.args.object.now in
-    handed_on c.from_residual-in_err-no_others.result _ c.in_err-no_others.field-0.0 c.from_residual-in_err-no_others.ensures.1
-    (request_extra (codes "do" ∷ codes "lane" ∷ []) (by ∷ case ∷ step ∷ []) (λ d. Release (the_name by d) (the_case d) (the_name step d)) d (members_in d) _
+    key_extra _ _ _ d _ c.from_residual-in_err-no_others.result _
     (name_there d by (case ∷ step ∷ []) _ refl c.in_ok-by.ensures
     ∙ case_there d (step ∷ []) _ c.in_ok-case.ensures
     ∙ name_there d step [] _ refl c.in_ok-step.ensures)
-    c.in_err-no_others.ensures)
+    c.in_err-no_others.ensures c.from_residual-in_err-no_others.ensures.1
 
 pub returns : goal.returns
 returns c =
     let d = data_of c.args.object.now in
-    request_read (codes "do" ∷ codes "lane" ∷ []) (by ∷ case ∷ step ∷ []) (λ d. Release (the_name by d) (the_case d) (the_name step d)) d (members_in d) _ _
+    request_read _ _ _ d _ _ _
     (name_there d by (case ∷ step ∷ []) _ refl c.in_ok-by.ensures
     ∙ case_there d (step ∷ []) _ c.in_ok-case.ensures
     ∙ name_there d step [] _ refl c.in_ok-step.ensures)

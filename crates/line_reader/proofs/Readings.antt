@@ -1,0 +1,51 @@
+-- What holds of each reading of a request holds of the reading of a word.
+use Rattle.std.proofs.Common.{refl, subst}
+use Rattle.std.specs.Prelude.{◌≡◌, ℕ, nat_eq, Bool, true, false, List, Option, Some, None, codes, option_map, option_and_then, Ok, if◌then◌else◌}
+use Rattle.std.specs.Option.{option_or}
+use Rattle.std.specs.Cmp.Lexicographic.{pointwise}
+use Rattle.basics.specs.Reading.{or_fault}
+use Rattle.wf_talk.specs.declared.edit.Edit.{Edit}
+use Rattle.wf_talk.specs.declared.request.Request.{Request}
+use Rattle.wf_talk.specs.declared.request.Bad.TheVariants.{Do}
+use Rattle.wire_json.specs.Requests.{Row, Reading, rows, edits, row_of, asked_by, change_by, what_if_in, reading_of}
+
+-- where something is read, it is so
+abbrev Each : (Reading → Type 0) → Option Reading → Type 0
+Each is_so None = Unit {0}
+Each is_so (Some read) = is_so read
+
+mapped : {A : Type 0} (is_so : Reading → Type 0) (by_row : Row A → Reading) (found : Option (Row A)) → ((r : Row A) → found ≡ Some r → is_so (by_row r)) →
+    Each is_so (option_map by_row found)
+mapped is_so by_row None h = tt
+mapped is_so by_row (Some r) h = h r refl
+
+or_else : (is_so : Reading → Type 0) (first second : Option Reading) → Each is_so first → Each is_so second → Each is_so (option_or first second)
+or_else is_so None second h g = g
+or_else is_so (Some read) second h g = h
+
+if_so : (is_so : Reading → Type 0) (b : Bool) (read : Reading) (others : Option Reading) → is_so read → Each is_so others →
+    Each is_so (if b then Some read else others)
+if_so is_so true read others h g = h
+if_so is_so false read others h g = g
+
+-- what each reading of a request is: that of a request by its row, of an edit by its row, and of what an edit would strand
+pub record AreAll (is_so : Reading → Type 0) : Type 0 where
+  pub asked : (word : List ℕ) (r : Row Request) → row_of rows word ≡ Some r → is_so (asked_by r)
+  pub changed : (word : List ℕ) (r : Row Edit) → row_of edits word ≡ Some r → is_so (change_by r)
+  pub what_if : is_so what_if_in
+
+each_word : (is_so : Reading → Type 0) → AreAll is_so → (word : List ℕ) → Each is_so (reading_of word)
+each_word is_so all word =
+    if_so is_so (pointwise nat_eq word (codes "what_if")) what_if_in
+    (option_or (option_map asked_by (row_of rows word)) (option_map change_by (row_of edits word))) all.what_if
+    (or_else is_so (option_map asked_by (row_of rows word)) (option_map change_by (row_of edits word))
+    (mapped is_so asked_by (row_of rows word) (all.asked word)) (mapped is_so change_by (row_of edits word) (all.changed word)))
+
+found_so : (is_so : Reading → Type 0) (o : Option Reading) (read : Reading) → Each is_so o → or_fault o Do ≡ Ok read → is_so read
+found_so is_so None read h e = cc
+found_so is_so (Some x) read h e = let same : x ≡ read = cc in subst is_so same h
+
+pub read_so : (is_so : Reading → Type 0) → AreAll is_so → (o : Option (List ℕ)) (read : Reading) → or_fault (option_and_then reading_of o) Do ≡ Ok read →
+    is_so read
+read_so is_so all None read e = cc
+read_so is_so all (Some word) read e = found_so is_so (reading_of word) read (each_word is_so all word) e
