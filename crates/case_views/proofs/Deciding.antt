@@ -91,59 +91,42 @@ what_if_decides b a (Err e) v found is = unfound_is (DecidesWhatIf b a) e v is t
 
 -- a verdict on an opening
 pub decides_open : (b : Book) (f : ℕ) (v : Verdict) → DecidesFor (problem_of b.policy f) no_users no_steps v → DecidesDeed b (deed.Open f) v
-decides_open b f verdict.Nothing h = absurd h
-decides_open b f (verdict.View v) h = absurd h
-decides_open b f (verdict.Edited edition) h = absurd h
-decides_open b f (verdict.Strands m tree) h = absurd h
 decides_open b f verdict.NoMemory h = record { fits = tt; nothing = λ e. cc; something = λ e same. cc }
 decides_open b f verdict.OverBudget h = record { fits = tt; nothing = λ e. cc; something = λ e same. cc }
 decides_open b f (verdict.Plan plan) h = record { fits = h; nothing = λ e. cc; something = λ e same. cc }
 decides_open b f (verdict.Refuted tree) h = record { fits = h; nothing = λ e. cc; something = λ e same. cc }
+decides_open b f v h = absurd h
 
 -- a verdict on a claim
 pub decides_claim : (b : Book) (n : ℕ) (c : CaseShape) (t u : ℕ) (v : Verdict) →
     DecidesFor (problem_of b.policy c.flow) (assigned_with c t u) (finished_of c) v → DecidesDeed b (deed.Claim n c t u) v
-decides_claim b n c t u verdict.Nothing h = absurd h
-decides_claim b n c t u (verdict.View v) h = absurd h
-decides_claim b n c t u (verdict.Edited edition) h = absurd h
-decides_claim b n c t u (verdict.Strands m tree) h = absurd h
 decides_claim b n c t u verdict.NoMemory h = record { fits = tt; nothing = λ e. cc; something = λ e same. cc }
 decides_claim b n c t u verdict.OverBudget h = record { fits = tt; nothing = λ e. cc; something = λ e same. cc }
 decides_claim b n c t u (verdict.Plan plan) h = record { fits = h; nothing = λ e. cc; something = λ e same. cc }
 decides_claim b n c t u (verdict.Refuted tree) h = record { fits = h; nothing = λ e. cc; something = λ e same. cc }
+decides_claim b n c t u v h = absurd h
 
 -- a verdict on a change of the policy
 pub decides_change : (b : Book) (a : Amendment) (v : Verdict) → DecidesChange b a v → DecidesDeed b (deed.Change a) v
-decides_change b a verdict.Nothing h = absurd h
-decides_change b a (verdict.View v) h = absurd h
 decides_change b a verdict.NoMemory h = record { fits = tt; nothing = λ e. cc; something = λ e same. cc }
 decides_change b a verdict.OverBudget h = record { fits = tt; nothing = λ e. cc; something = λ e same. cc }
-decides_change b a (verdict.Plan plan) h = absurd h
-decides_change b a (verdict.Refuted tree) h = absurd h
 decides_change b a (verdict.Edited edition) h = record { fits = h; nothing = λ e. cc; something = λ e same. cc }
 decides_change b a (verdict.Strands n tree) h = record { fits = h; nothing = λ e. cc; something = λ e same. cc }
+decides_change b a v h = absurd h
 
 -- a verdict on a user's work
 pub decides_work : (b : Book) (u : ℕ) (v : Verdict) → DecidesWork b u v → DecidesDeed b (deed.Work u) v
-decides_work b u verdict.Nothing h = absurd h
 decides_work b u verdict.NoMemory h = record { fits = tt; nothing = λ e. cc; something = λ e same. cc }
 decides_work b u verdict.OverBudget h = record { fits = tt; nothing = λ e. cc; something = λ e same. cc }
-decides_work b u (verdict.Plan plan) h = absurd h
-decides_work b u (verdict.Refuted tree) h = absurd h
-decides_work b u (verdict.Edited edition) h = absurd h
-decides_work b u (verdict.Strands n tree) h = absurd h
 decides_work b u (verdict.View v) h = record { fits = h; nothing = λ e. cc; something = λ e same. cc }
+decides_work b u v h = absurd h
 
 -- a verdict on what a change would strand
 pub decides_what_if : (b : Book) (a : Amendment) (v : Verdict) → DecidesWhatIf b a v → DecidesDeed b (deed.WhatIf a) v
-decides_what_if b a verdict.Nothing h = absurd h
 decides_what_if b a verdict.NoMemory h = record { fits = tt; nothing = λ e. cc; something = λ e same. cc }
 decides_what_if b a verdict.OverBudget h = record { fits = tt; nothing = λ e. cc; something = λ e same. cc }
-decides_what_if b a (verdict.Plan plan) h = absurd h
-decides_what_if b a (verdict.Refuted tree) h = absurd h
-decides_what_if b a (verdict.Edited edition) h = absurd h
-decides_what_if b a (verdict.Strands n tree) h = absurd h
 decides_what_if b a (verdict.View v) h = record { fits = h; nothing = λ e. cc; something = λ e same. cc }
+decides_what_if b a v h = absurd h
 
 listed_needs_none : (reading : Result Deed Denial) → takes_memory reading ≡ true → needs_verdict reading ≡ false
 listed_needs_none (Ok given) h = cc

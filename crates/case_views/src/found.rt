@@ -58,30 +58,11 @@ pub(crate) fn outcome_with(
 {
     match plan_with(p, case, kept, step, user) {
         Some(plan) => Ok(Outcome::Plan(plan)),
-        None => outcome_by_search(alloc, p, case, kept, step, user),
+        None => {
+            let assigned = assigned_with(case, step, user);
+            solve_for_entry(alloc, p, case.flow(), &assigned, &case.finished())
+        }
     }
-}
-
-// What a search finds for a case with one of its steps given to a user.
-fn outcome_by_search(
-    alloc: Global,
-    p: &Policy,
-    case: &Case,
-    kept: &Plan,
-    step: StepId,
-    user: UserId,
-) -> Result<Outcome, Unfound>
-    requires known { IsOfPolicy p.now case.now }
-    requires valid { IsPlanOf p.now case.now kept.now }
-    requires step { step < length case.now.states }
-    requires user { user < length p.now.roster.users }
-    ensures { IfOk result (HasSolved (problem_of p.now case.now.flow)
-        (assigned_with case.now step user)
-        (finished_of case.now)) }
-{
-    let _ = kept;
-    let assigned = assigned_with(case, step, user);
-    solve_for_entry(alloc, p, case.flow(), &assigned, &case.finished())
 }
 
 /// A plan for a case with one of its steps given to a user, with no search: the one that is kept
@@ -104,24 +85,14 @@ pub(crate) fn plan_with(
     if kept.at(step) == user {
         return Some(*kept);
     }
-    match moved_plan(p, case.flow(), kept, step, user) {
+    let flow = case.flow();
+    match moved_plan(p, flow, kept, step, user) {
         Some(plan) => Some(plan),
-        None => plan_beside(p, case, kept, step, user),
+        None => {
+            let assigned = assigned_with(case, step, user);
+            plan_near(p, flow, &assigned, &case.finished(), kept)
+        }
     }
-}
-
-// A plan for a case with one of its steps given to a user, near the one that is kept for it.
-fn plan_beside(p: &Policy, case: &Case, kept: &Plan, step: StepId, user: UserId) -> Option<Plan>
-    requires known { IsOfPolicy p.now case.now }
-    requires valid { IsPlanOf p.now case.now kept.now }
-    requires step { step < length case.now.states }
-    requires user { user < length p.now.roster.users }
-    ensures { IfSome result (IsValidPlan (problem_of p.now case.now.flow)
-        (assigned_with case.now step user)
-        (finished_of case.now)) }
-{
-    let assigned = assigned_with(case, step, user);
-    plan_near(p, case.flow(), &assigned, &case.finished(), kept)
 }
 
 /// A plan for a fresh case of a workflow near another, if one is valid.

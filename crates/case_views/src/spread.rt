@@ -10,7 +10,7 @@ ghost use Rattle.wf_board.specs.Kept.{ArePlanned};
 ghost use Rattle.wf_board.specs.States.{open_cases};
 ghost use Rattle.wf_board.specs.Views.{AreStranded, IsWorkOf};
 ghost use Rattle.case_views.specs.Deciding.{DecidesChange, DecidesWhatIf, DecidesWork, IsLeft};
-ghost use Rattle.case_views.specs.Listing.{AreStrandedIn, IsLeftAt, list_of, open_in};
+ghost use Rattle.case_views.specs.Listing.{IsLeftAt, list_of, open_in};
 
 use crate::decider::{near_plan, no_verdict, verdict_on, verdict_without, what_if_view, work_view};
 use crate::edit_decider::{Left, add_part, edition_of};
@@ -119,26 +119,10 @@ fn edited<R: Threads + Sync>(
     ensures { IfOk result (DecidesChange (book_of p.now cases.now) a.now) }
 {
     let after = amended(p, *a)?;
-    let left = left_open(rt, alloc, p, a, &after, cases.rows())?;
+    let rows = cases.rows();
+    let parts = left_parts(rt, alloc, p, a, &after, rows)?;
+    let left = left_of(alloc, rows, &parts)?;
     Ok(edition_of(alloc, after, left)?)
-}
-
-// What the changed policy leaves the open cases among these rows.
-fn left_open<R: Threads + Sync>(
-    rt: &R,
-    alloc: Global,
-    p: &Policy,
-    a: &Amendment,
-    after: &Policy,
-    rows: &[Row],
-) -> Result<Left, Unfound>
-    requires allowed { IsAllowed p.now a.now }
-    requires after { after.now ≡ amended p.now a.now }
-    requires kept { ArePlanned p.now rows.now }
-    ensures { IfOk result (IsLeft after.now (open_in rows.now)) }
-{
-    let parts = left_parts(rt, alloc, p, a, after, rows)?;
-    Ok(left_of(alloc, rows, &parts)?)
 }
 
 // What is left of the open cases among these rows, where this is left of each.
@@ -226,24 +210,7 @@ fn spread_stranded<R: Threads + Sync>(
         (open_cases (book_of p.now cases.now).cases)) }
 {
     let after = amended(p, *a)?;
-    stranded_open(rt, alloc, p, a, &after, cases.rows())
-}
-
-// The open cases among these rows that the changed policy strands.
-fn stranded_open<R: Threads + Sync>(
-    rt: &R,
-    alloc: Global,
-    p: &Policy,
-    a: &Amendment,
-    after: &Policy,
-    rows: &[Row],
-) -> Result<CaseList, Unfound>
-    requires allowed { IsAllowed p.now a.now }
-    requires after { after.now ≡ amended p.now a.now }
-    requires kept { ArePlanned p.now rows.now }
-    ensures { IfOk result (AreStrandedIn after.now rows.now) }
-{
-    let parts = stranded_parts(rt, alloc, p, a, after, rows)?;
+    let parts = stranded_parts(rt, alloc, p, a, &after, cases.rows())?;
     Ok(joined_cases(alloc, &parts)?)
 }
 

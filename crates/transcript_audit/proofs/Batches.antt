@@ -219,7 +219,7 @@ first_ends ends total k lead known =
 
 -- ---- lanes
 
-rest_of_lanes : (lanes n : ℕ) (jobs : List Job) → AreOfLanes lanes jobs → AreOfLanes lanes (drop n jobs)
+pub rest_of_lanes : (lanes n : ℕ) (jobs : List Job) → AreOfLanes lanes jobs → AreOfLanes lanes (drop n jobs)
 rest_of_lanes lanes zero jobs of_lanes = of_lanes
 rest_of_lanes lanes (suc n) [] of_lanes = tt
 rest_of_lanes lanes (suc n) (j ∷ js) of_lanes = rest_of_lanes lanes n js of_lanes.1

@@ -22,7 +22,7 @@ use Rattle.transcript_audit.specs.Auditor.{state_now, with_entry}
 use Rattle.transcript_audit.specs.Laws.{AuditIsExact, PartIsExact}
 use Rattle.transcript_audit.specs.Keeping.{IsBatchOf, IsSoundAudit}
 use Rattle.transcript_audit.proofs.Batches.{batch_there, end_is, end_read, start_is}
-use Rattle.transcript_audit.proofs.Parts.{fills_part}
+use Rattle.transcript_audit.proofs.Parts.{fills_part, map_rest}
 use Rattle.transcript_audit.proofs.Sound.{sound_more, sound_start, whole_at_end}
 
 -- with several more entries
@@ -122,11 +122,6 @@ part_at (suc s) (suc e) (x ∷ xs) y ys begun short = part_at s e xs y ys (omega
 get_behind : {A : Type 0} (xs ys : List A) (y : A) → slice_get (xs ++ y ∷ ys) (length xs) ≡ Some y
 get_behind [] ys y = refl
 get_behind (x ∷ xs) ys y = get_behind xs ys y
-
-map_rest : {A B : Type 0} (f : A → B) (n : ℕ) (xs : List A) → map f (drop n xs) ≡ drop n (map f xs)
-map_rest f zero xs = refl
-map_rest f (suc n) [] = refl
-map_rest f (suc n) (x ∷ xs) = map_rest f n xs
 
 -- what is known where an entry stands in a history that answers a part of the jobs
 record IsAmong (a : AuditShape) (e : Entry) (post : List Entry) : Type 0 where

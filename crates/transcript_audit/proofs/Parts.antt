@@ -1,18 +1,15 @@
 -- What an audit has taken so far answers a part of the jobs.
-use Rattle.std.proofs.Common.{◌≡◌, ℕ, zero, suc, ◌+◌, ◌<◌, ◌≤◌, inl, inr, nat_eq, nat_lt, List, [], ◌∷◌, ◌++◌, length, take, drop, map, slice_index_or, refl}
+use Rattle.std.proofs.Common.{◌≡◌, ℕ, zero, suc, ◌+◌, ◌<◌, ◌≤◌, inl, inr, nat_eq, nat_lt, List, [], ◌∷◌, length, take, drop, map, refl}
 use Rattle.std.proofs.Common.{sym, ap, subst, ◌∙◌, arith}
 use Rattle.std.proofs.lemmas.Grind.{common_steps}
-use Rattle.std.proofs.lemmas.List.{drop_all, length-map, length-take-le, take-take, take_all}
+use Rattle.std.proofs.lemmas.List.{length-map, length-take-le, take-take, take_all}
 use Rattle.basics.proofs.Booleans.{bool_cases, eq_back}
-use Rattle.wf_talk.specs.declared.entry.Entry.{Entry}
-use Rattle.wf_talk.specs.declared.job.Job.{Job}
 use Rattle.wf_board.specs.Histories.{BatchRests, EachAfter, RestsFrom, batch_end, batch_jobs, batch_start, job_of_entry, lane_jobs}
-use Rattle.line_reader.specs.Laws.{LeadTo}
 use Rattle.wf_desk.specs.Desks.{served_jobs}
 use Rattle.wf_desk.specs.Parts.{FillsPart, lane_answered, lane_asked}
 use Rattle.transcript_audit.specs.Auditor.{AuditShape}
-use Rattle.transcript_audit.specs.Keeping.{IsSoundAudit, end_of, jobs_in}
-use Rattle.transcript_audit.proofs.Batches.{end_read, ends_within, next_start, start_first, start_rises, start_within}
+use Rattle.transcript_audit.specs.Keeping.{IsSoundAudit, jobs_in}
+use Rattle.transcript_audit.proofs.Batches.{end_read, next_start, start_first, start_rises}
 use Rattle.transcript_audit.proofs.Sound.{within_end, within_jobs}
 
 -- a part that lies within the first items
@@ -31,12 +28,12 @@ part_past (suc s) (suc e) [] past = refl
 part_past zero (suc e) (x ∷ xs) past = absurd (omega (arith, past))
 part_past (suc s) (suc e) (x ∷ xs) past = part_past s e xs (omega (arith, past))
 
-map_first : {A B : Type 0} (f : A → B) (n : ℕ) (xs : List A) → map f (take n xs) ≡ take n (map f xs)
+pub map_first : {A B : Type 0} (f : A → B) (n : ℕ) (xs : List A) → map f (take n xs) ≡ take n (map f xs)
 map_first f zero xs = refl
 map_first f (suc n) [] = refl
 map_first f (suc n) (x ∷ xs) = ap (λ ys. f x ∷ ys) (map_first f n xs)
 
-map_rest : {A B : Type 0} (f : A → B) (n : ℕ) (xs : List A) → map f (drop n xs) ≡ drop n (map f xs)
+pub map_rest : {A B : Type 0} (f : A → B) (n : ℕ) (xs : List A) → map f (drop n xs) ≡ drop n (map f xs)
 map_rest f zero xs = refl
 map_rest f (suc n) [] = refl
 map_rest f (suc n) (x ∷ xs) = map_rest f n xs

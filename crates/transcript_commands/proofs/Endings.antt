@@ -3,8 +3,7 @@ use Rattle.std.proofs.Common.{◌≡◌, Result, Ok, Err}
 use Rattle.std.specs.Prelude.{IfErr, IsErrAnd}
 use Rattle.wf_outside.specs.Outside.{Filed, told, missing, untold}
 use Rattle.run_record.specs.declared.fault.RunFault.{RunFault}
-use Rattle.run_record.specs.declared.fault.RunFault.TheVariants.{Nothing, Found, Usage, Policy, Read, Write, Load, NoMemory, FileTooLong, LineTooLong}
-use Rattle.run_record.specs.declared.fault.RunFault.TheVariants.{TooManyLines, BadInput, TooLarge}
+use Rattle.run_record.specs.declared.fault.RunFault.TheVariants.{Policy, Read, Load, NoMemory, FileTooLong}
 use Rattle.run_record.specs.Fault.{fault_in}
 use Rattle.wf_commands.specs.Load.{IsLoadEnding}
 use Rattle.transcript_commands.specs.declared.finding.Finding.{Finding}
@@ -17,15 +16,7 @@ load_is Load ending = tt
 load_is FileTooLong ending = tt
 load_is (Policy e) ending = tt
 load_is NoMemory ending = tt
-load_is Nothing ending = absurd ending
-load_is Found ending = absurd ending
-load_is Usage ending = absurd ending
-load_is Read ending = absurd ending
-load_is Write ending = absurd ending
-load_is (LineTooLong line) ending = absurd ending
-load_is TooManyLines ending = absurd ending
-load_is (BadInput e) ending = absurd ending
-load_is TooLarge ending = absurd ending
+load_is fault ending = absurd ending
 
 load_without : (filed : Filed) (fault : RunFault) → IsLoadEnding fault → EndsWithout filed fault
 load_without untold fault ending = tt
@@ -41,17 +32,7 @@ loads_end filed (Err e) fault is ending = rw is (record { ending = load_is fault
 read_is : (fault : RunFault) → IsReadEnding fault → IsAuditEnding fault
 read_is Read ending = tt
 read_is NoMemory ending = tt
-read_is Load ending = absurd ending
-read_is FileTooLong ending = absurd ending
-read_is (Policy e) ending = absurd ending
-read_is Nothing ending = absurd ending
-read_is Found ending = absurd ending
-read_is Usage ending = absurd ending
-read_is Write ending = absurd ending
-read_is (LineTooLong line) ending = absurd ending
-read_is TooManyLines ending = absurd ending
-read_is (BadInput e) ending = absurd ending
-read_is TooLarge ending = absurd ending
+read_is fault ending = absurd ending
 
 -- the files are loaded
 pub reads_end : (filed : Filed) (result : Result Finding RunFault) → IfErr result IsReadEnding → EndsWithout filed (fault_in result) →

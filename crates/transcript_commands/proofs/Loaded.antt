@@ -10,11 +10,11 @@ use Rattle.line_reader.specs.Reader.{AreShort, lines_of}
 use Rattle.transcript_audit.specs.Auditor.{AuditShape, IsTranscript, audit_of}
 use Rattle.transcript_audit.specs.Laws.{AreOfSession}
 use Rattle.run_record.specs.declared.fault.RunFault.{RunFault}
-use Rattle.run_record.specs.declared.fault.RunFault.TheVariants.{Nothing, Found, Usage, Policy, Read, Write, Load, NoMemory, FileTooLong, LineTooLong}
-use Rattle.run_record.specs.declared.fault.RunFault.TheVariants.{TooManyLines, BadInput, TooLarge}
+use Rattle.run_record.specs.declared.fault.RunFault.TheVariants.{Policy, Read, Load, NoMemory, FileTooLong}
 use Rattle.wf_commands.specs.Once.{OverPolicy}
 use Rattle.wf_commands.specs.Load.{GivesPolicy, PolicyOf, IsLoadEnding}
 use Rattle.wf_commands.proofs.Loading.{answers_file}
+use Rattle.wf_commands.proofs.Telling.{policy_refused}
 use Rattle.transcript_commands.specs.declared.finding.Finding.{Finding}
 use Rattle.transcript_commands.specs.declared.finding.Finding.TheVariants.{Legal}
 use Rattle.transcript_commands.proofs.Legal.{legal_input}
@@ -57,16 +57,7 @@ finds_under exact p o i batch (Ok f) gives order found ending = audits_file exac
 finds_under exact p o i batch (Err Read) gives order found ending = tt
 finds_under exact p o i batch (Err NoMemory) gives order found ending = tt
 finds_under exact p o i batch (Err Load) gives order found ending = tt
-finds_under exact p o i batch (Err FileTooLong) gives order found ending = absurd ending
-finds_under exact p o i batch (Err (Policy e)) gives order found ending = absurd ending
-finds_under exact p o i batch (Err Nothing) gives order found ending = absurd ending
-finds_under exact p o i batch (Err Found) gives order found ending = absurd ending
-finds_under exact p o i batch (Err Usage) gives order found ending = absurd ending
-finds_under exact p o i batch (Err Write) gives order found ending = absurd ending
-finds_under exact p o i batch (Err (LineTooLong line)) gives order found ending = absurd ending
-finds_under exact p o i batch (Err TooManyLines) gives order found ending = absurd ending
-finds_under exact p o i batch (Err (BadInput e)) gives order found ending = absurd ending
-finds_under exact p o i batch (Err TooLarge) gives order found ending = absurd ending
+finds_under exact p o i batch result gives order found ending = absurd ending
 
 -- where there are jobs the file is not missing, and not too long
 pub jobs_there : (filed : Filed) (lanes : ℕ) (batch : Batch) (fault : RunFault) → GivesJobs filed lanes (Ok batch) → EndsWithout filed fault
@@ -92,15 +83,7 @@ finds_no_jobs p o i FileTooLong gives ending = requests_too_long p o i o.request
 finds_no_jobs p o i Load gives ending = tt
 finds_no_jobs p o i NoMemory gives ending = tt
 finds_no_jobs p o i (Policy e) gives ending = absurd (ends_otherwise o.requests o.lanes (Policy e) (λ file h. h) (λ is. cc) gives)
-finds_no_jobs p o i Nothing gives ending = absurd ending
-finds_no_jobs p o i Found gives ending = absurd ending
-finds_no_jobs p o i Usage gives ending = absurd ending
-finds_no_jobs p o i Read gives ending = absurd ending
-finds_no_jobs p o i Write gives ending = absurd ending
-finds_no_jobs p o i (LineTooLong line) gives ending = absurd ending
-finds_no_jobs p o i TooManyLines gives ending = absurd ending
-finds_no_jobs p o i (BadInput e) gives ending = absurd ending
-finds_no_jobs p o i TooLarge gives ending = absurd ending
+finds_no_jobs p o i fault gives ending = absurd ending
 
 pub no_jobs : (p : PolicyShape) (o : AuditOf) (i : Input) (result : Result Finding RunFault) (fault : RunFault) → IsErrAnd result (λ e. e ≡ fault)
     → GivesJobs o.requests o.lanes (Err fault) → IsLoadEnding fault → FindsAs (AuditsPolicy o i p) result
@@ -122,27 +105,11 @@ finds_file A untold p (Err fault) gives h = answers_file A untold p (Err fault) 
 finds_file A (told file) p (Ok f) gives h = finds_over A file p f gives h
 finds_file A (told file) p (Err fault) gives h = answers_file A (told file) p (Err fault) gives (λ file read. h)
 
-finds_none : (A : PolicyShape → RunFault → List ℕ → Type 0) (file : List ℕ) (fault : RunFault) → PolicyOf file (Err fault) → IsLoadEnding fault →
-    FindsAs (OverPolicy A file) (Err fault)
-finds_none A file FileTooLong gives ending = rw (lt-ltb POLICY_FILE_LIMIT (length file) gives) (refl, refl)
-finds_none A file (Policy e) gives ending = rw (le-ltb POLICY_FILE_LIMIT (length file) gives.0, gives.1) (refl, refl)
-finds_none A file Load gives ending = tt
-finds_none A file NoMemory gives ending = tt
-finds_none A file Nothing gives ending = absurd ending
-finds_none A file Found gives ending = absurd ending
-finds_none A file Usage gives ending = absurd ending
-finds_none A file Read gives ending = absurd ending
-finds_none A file Write gives ending = absurd ending
-finds_none A file (LineTooLong line) gives ending = absurd ending
-finds_none A file TooManyLines gives ending = absurd ending
-finds_none A file (BadInput e) gives ending = absurd ending
-finds_none A file TooLarge gives ending = absurd ending
-
 finds_no_policy : (A : PolicyShape → RunFault → List ℕ → Type 0) (f : Filed) (fault : RunFault) → GivesPolicy f (Err fault) → IsLoadEnding fault →
     FindsFile A f (Err fault)
-finds_no_policy A untold fault gives ending = (gives.0, finds_none A gives.0 fault gives.1 ending)
+finds_no_policy A untold fault gives ending = (gives.0, policy_refused A gives.0 fault gives.1 ending)
 finds_no_policy A missing fault gives ending = cc
-finds_no_policy A (told file) fault gives ending = finds_none A file fault gives ending
+finds_no_policy A (told file) fault gives ending = policy_refused A file fault gives ending
 
 pub no_policy : (A : PolicyShape → RunFault → List ℕ → Type 0) (f : Filed) (result : Result Finding RunFault) (fault : RunFault) →
     IsErrAnd result (λ e. e ≡ fault)

@@ -13,7 +13,9 @@ use Rattle.wf_desk.specs.Desks.{AnswersPart, AreOfLanes, served_jobs}
 use Rattle.wf_desk.proofs.DocketLaws.{first_of_lanes}
 use Rattle.wf_desk.specs.Parts.{FillsPart, lane_answered}
 use Rattle.transcript_audit.specs.Keeping.{IsBatchOf, end_of}
-use Rattle.transcript_audit.proofs.Batches.{batch_there, end_is, end_read, ends_within, last_start, read_behind, start_before_end, start_is}
+use Rattle.transcript_audit.proofs.Batches.{batch_there, end_is, end_read, ends_within, last_start, read_behind, rest_of_lanes, start_before_end}
+use Rattle.transcript_audit.proofs.Batches.{start_is}
+use Rattle.transcript_audit.proofs.Parts.{map_rest}
 use Rattle.transcript_commands.specs.Unserved.{end_at, jobs_between, start_at}
 
 -- there is a batch in which a place stands, or it stands behind the last
@@ -101,11 +103,6 @@ short_between ends n jobs lead within =
 
 -- ---- what of it is answered
 
-map_rest : {A B : Type 0} (f : A → B) (n : ℕ) (xs : List A) → map f (drop n xs) ≡ drop n (map f xs)
-map_rest f zero xs = refl
-map_rest f (suc n) [] = refl
-map_rest f (suc n) (x ∷ xs) = map_rest f n xs
-
 answered_here : (es : List Entry) (ends : List ℕ) (k lane : ℕ) → length es ≤ batch_end ends k →
     lane_answered es ends k lane ≡ served_jobs (batch_start ends k) es lane
 answered_here es ends k lane within =
@@ -156,11 +153,6 @@ answers_part es jobs ends lead part =
     ]))
 
 -- ---- lanes
-
-rest_of_lanes : (lanes n : ℕ) (jobs : List Job) → AreOfLanes lanes jobs → AreOfLanes lanes (drop n jobs)
-rest_of_lanes lanes zero jobs of_lanes = of_lanes
-rest_of_lanes lanes (suc n) [] of_lanes = tt
-rest_of_lanes lanes (suc n) (j ∷ js) of_lanes = rest_of_lanes lanes n js of_lanes.1
 
 -- each of the jobs between two places is of one of the lanes
 pub lanes_between : (lanes from end : ℕ) (jobs : List Job) → AreOfLanes lanes jobs → AreOfLanes lanes (jobs_between from end jobs)

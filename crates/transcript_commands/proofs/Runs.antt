@@ -29,15 +29,7 @@ unread Load left ending = refl
 unread FileTooLong left ending = refl
 unread (Policy e) left ending = refl
 unread NoMemory left ending = ([], nothing_taken left)
-unread Nothing left ending = absurd ending
-unread Found left ending = absurd ending
-unread Usage left ending = absurd ending
-unread Read left ending = absurd ending
-unread Write left ending = absurd ending
-unread (LineTooLong line) left ending = absurd ending
-unread TooManyLines left ending = absurd ending
-unread (BadInput e) left ending = absurd ending
-unread TooLarge left ending = absurd ending
+unread fault left ending = absurd ending
 
 pub unread_after : (result : Result Finding RunFault) (fault : RunFault) (left : Option (List ℕ)) → IsErrAnd result (λ e. e ≡ fault) → IsLoadEnding fault
     → ReadsAsAudit (fault_in result) left left
@@ -192,14 +184,7 @@ is_refusal FileTooLong ending = tt
 is_refusal (Policy e) ending = tt
 is_refusal Read ending = tt
 is_refusal NoMemory ending = tt
-is_refusal Nothing ending = absurd ending
-is_refusal Found ending = absurd ending
-is_refusal Usage ending = absurd ending
-is_refusal Write ending = absurd ending
-is_refusal (LineTooLong n) ending = absurd ending
-is_refusal TooManyLines ending = absurd ending
-is_refusal (BadInput e) ending = absurd ending
-is_refusal TooLarge ending = absurd ending
+is_refusal fault ending = absurd ending
 
 refused_early : (fault : RunFault) (before after : Option (List ℕ)) → IsAuditEnding fault → is_before_input fault ≡ true → ReadsAsAudit fault before after →
     after ≡ before
@@ -208,14 +193,7 @@ refused_early FileTooLong before after ending early reads = reads
 refused_early (Policy e) before after ending early reads = reads
 refused_early Read before after ending early reads = cc
 refused_early NoMemory before after ending early reads = cc
-refused_early Nothing before after ending early reads = absurd ending
-refused_early Found before after ending early reads = absurd ending
-refused_early Usage before after ending early reads = absurd ending
-refused_early Write before after ending early reads = absurd ending
-refused_early (LineTooLong n) before after ending early reads = absurd ending
-refused_early TooManyLines before after ending early reads = absurd ending
-refused_early (BadInput e) before after ending early reads = absurd ending
-refused_early TooLarge before after ending early reads = absurd ending
+refused_early fault before after ending early reads = absurd ending
 
 refused_file : (A : PolicyShape → RunFault → List ℕ → Type 0) (filed : Filed) (fault : RunFault) (before after : Option (List ℕ)) → IsAuditEnding fault →
     FindsFile A filed (Err fault)

@@ -1,5 +1,5 @@
 -- The batch in which a session stopped, and those before it.
-use Rattle.std.proofs.Common.{◌≡◌, ℕ, zero, suc, ◌+◌, ◌<◌, ◌≤◌, nat_le, nat_lt, true, false, inl, inr, List, [], ◌∷◌, ◌++◌, length, take, drop, map}
+use Rattle.std.proofs.Common.{◌≡◌, ℕ, suc, ◌+◌, ◌<◌, ◌≤◌, nat_le, nat_lt, true, false, inl, inr, List, [], ◌∷◌, ◌++◌, length, take, drop, map}
 use Rattle.std.proofs.Common.{slice_index_or, refl, sym, ap, subst, ◌∙◌, arith}
 use Rattle.std.proofs.Common.{◌⊎◌}
 use Rattle.std.proofs.lemmas.Bool.{le-ltb, lt-ltb}
@@ -14,6 +14,7 @@ use Rattle.wf_desk.specs.Parts.{FillsPart}
 use Rattle.line_reader.specs.Cutter.{ends_after}
 use Rattle.line_reader.specs.Laws.{LeadTo}
 use Rattle.transcript_audit.proofs.Batches.{first_ends, part_length, start_first as front_start, start_rises}
+use Rattle.transcript_audit.proofs.Parts.{map_first}
 use Rattle.transcript_commands.specs.Unserved.{end_at, jobs_between, start_at}
 use Rattle.transcript_commands.specs.Resumed.{GoesOnAt, Session}
 use Rattle.transcript_commands.proofs.Rests.{answers_part, bounds_order, bounds_within, lanes_between}
@@ -134,11 +135,6 @@ next_end before (x ∷ xs) total n lead begun within =
 
 -- ---- the batches before
 
-map_take : {A B : Type 0} (f : A → B) (n : ℕ) (xs : List A) → map f (take n xs) ≡ take n (map f xs)
-map_take f zero xs = refl
-map_take f (suc n) [] = refl
-map_take f (suc n) (x ∷ xs) = ap (λ ys. f x ∷ ys) (map_take f n xs)
-
 -- a batch before another one is the same among those before that one
 record IsEarlier (ends : List ℕ) (k i : ℕ) : Type 0 where
   start : batch_start (take k ends) i ≡ batch_start ends i
@@ -178,7 +174,7 @@ earlier_filled es jobs ends k lead part known begun =
           let lt : i < k = omega (arith, below, size) in
           let e = is_earlier ends (length jobs) k i lead lt known in
           let within = e.within in
-          ap (λ js. lane_jobs lane (batch_jobs (take k ends) i js)) (map_take job_of_entry from es)
+          ap (λ js. lane_jobs lane (batch_jobs (take k ends) i js)) (map_first job_of_entry from es)
           ∙ ap (lane_jobs lane) (front_batch ends k i (map job_of_entry es) e)
           ∙ part.batches i (omega (arith, lt, known)) (omega (arith, within, begun)) lane
           ∙ sym (ap (lane_jobs lane) (front_batch ends k i jobs e));

@@ -159,25 +159,11 @@ bare_aside b (deed.Claim n c s u) = bare_claim b.policy c s u
 bare_aside b (deed.Finish n c s u) = bare_unless (is_held_by u (state_at c s)) (denial.NotHeld (state_at c s)) refl
 bare_aside b (deed.GiveBack n c s u) = bare_unless (is_held_by u (state_at c s)) (denial.NotHeld (state_at c s)) refl
 bare_aside b (deed.Release n c s) = bare_unless (is_held (state_at c s)) (denial.NotHeld (state_at c s)) refl
-bare_aside b (deed.Withdraw n) = tt
-bare_aside b (deed.Change a) = tt
-bare_aside b (deed.Show c) = tt
-bare_aside b (deed.Work u) = tt
-bare_aside b (deed.WhatIf a) = tt
-bare_aside b (deed.TurnAway bad) = tt
+bare_aside b d = tt
 
 bare_full : (b : Book) (d : Deed) → IsBareCause (cause_full b d)
 bare_full b (deed.Open f) = bare_unless (not (is_full b)) denial.Full refl
-bare_full b (deed.Claim n c s u) = tt
-bare_full b (deed.Finish n c s u) = tt
-bare_full b (deed.GiveBack n c s u) = tt
-bare_full b (deed.Release n c s) = tt
-bare_full b (deed.Withdraw n) = tt
-bare_full b (deed.Change a) = tt
-bare_full b (deed.Show c) = tt
-bare_full b (deed.Work u) = tt
-bare_full b (deed.WhatIf a) = tt
-bare_full b (deed.TurnAway bad) = tt
+bare_full b d = tt
 
 bare_denied : (d : Deed) (o : Option Denial) → IsBareCause o → FaultOf IsBare (unless_denied d o)
 bare_denied d None is = tt

@@ -206,14 +206,8 @@ planned_live p rows planned = record {
 }
 
 pub planned_snap : (p : PolicyShape) (rows : List Row) (what : Ask) → ArePlanned p rows → ArePlanned p (snap_rows rows what)
-planned_snap p rows (ask.Request (request.OpenCase flow)) planned = none_planned p
 planned_snap p rows (ask.Request (request.Claim n step user)) planned = planned_only p rows n planned
-planned_snap p rows (ask.Request (request.Finish n step user)) planned = none_planned p
-planned_snap p rows (ask.Request (request.GiveBack n step user)) planned = none_planned p
-planned_snap p rows (ask.Request (request.Release by n step)) planned = none_planned p
-planned_snap p rows (ask.Request (request.Withdraw by n)) planned = none_planned p
 planned_snap p rows (ask.Request (request.Change by edit)) planned = planned_live p rows planned
-planned_snap p rows (ask.Request (request.Show n)) planned = none_planned p
 planned_snap p rows (ask.Request (request.Worklist user)) planned = planned_live p rows planned
 planned_snap p rows (ask.Request (request.WhatIf by edit)) planned = planned_live p rows planned
-planned_snap p rows (ask.Bad bad) planned = none_planned p
+planned_snap p rows what planned = none_planned p

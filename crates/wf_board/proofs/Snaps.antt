@@ -243,14 +243,12 @@ no_view b r v plain is = absurd is
 
 -- no plan and no tree is right for what rests on no plan
 pub plain_right : (b c : Book) (what : Ask) (v : Verdict) → IsAlwaysAside what → IsRight b what v → IsRight c what v
-plain_right b c what verdict.Nothing plain is = tt
-plain_right b c what verdict.NoMemory plain is = tt
-plain_right b c what verdict.OverBudget plain is = tt
 plain_right b c what (verdict.Plan plan) plain is = no_plan b (decision_aside b what) plan (plain b) is
 plain_right b c what (verdict.Refuted tree) plain is = no_tree b (decision_aside b what) tree (plain b) is
 plain_right b c what (verdict.Edited edition) plain is = no_edition b (decision_aside b what) edition (plain b) is
 plain_right b c what (verdict.Strands n tree) plain is = no_stranding b (decision_aside b what) n tree (plain b) is
 plain_right b c what (verdict.View v) plain is = no_view b (decision_aside b what) v (plain b) is
+plain_right b c what v plain is = tt
 
 -- ---- what is no edit and no view
 
@@ -327,9 +325,6 @@ view_same p xs ys m k r v may is = absurd is
 pub right_same : (p : PolicyShape) (xs ys : List Numbered) (m k : ℕ) (what : Ask) (v : Verdict) →
     decision_aside (with_cases p xs m) what ≡ decision_aside (with_cases p ys k) what →
     MayChange xs ys (decision_aside (with_cases p xs m) what) → IsRight (with_cases p xs m) what v → IsRight (with_cases p ys k) what v
-right_same p xs ys m k what verdict.Nothing same may is = tt
-right_same p xs ys m k what verdict.NoMemory same may is = tt
-right_same p xs ys m k what verdict.OverBudget same may is = tt
 right_same p xs ys m k what (verdict.Plan plan) same may is =
     subst (λ r. IsPlanFor (with_cases p ys k) r plan) same (plan_same p xs ys m k (decision_aside (with_cases p xs m) what) plan is)
 right_same p xs ys m k what (verdict.Refuted tree) same may is =
@@ -340,6 +335,7 @@ right_same p xs ys m k what (verdict.Strands n tree) same may is =
     subst (λ r. IsStrandingFor (with_cases p ys k) r n tree) same (stranding_same p xs ys m k (decision_aside (with_cases p xs m) what) n tree may is)
 right_same p xs ys m k what (verdict.View v) same may is =
     subst (λ r. IsViewFor (with_cases p ys k) r v) same (view_same p xs ys m k (decision_aside (with_cases p xs m) what) v may is)
+right_same p xs ys m k what v same may is = tt
 
 pub snaps_suffice : SnapsSuffice
 snaps_suffice b (ask.Request (request.OpenCase flow)) spare v is =

@@ -158,12 +158,10 @@ allowed_told b (deed.GiveBack n c t u) there =
     unless_holds (IsTold b) (deed.GiveBack n c t u) (cause_aside b (deed.GiveBack n c t u)) (λ none. (there, unless_tells _ _ none))
 allowed_told b (deed.Release n c t) there =
     unless_holds (IsTold b) (deed.Release n c t) (cause_aside b (deed.Release n c t)) (λ none. (there, unless_tells _ _ none))
-allowed_told b (deed.Withdraw n) there = (tt, tt)
 allowed_told b (deed.Change a) there = (there, tt)
-allowed_told b (deed.Show c) there = (tt, tt)
 allowed_told b (deed.Work u) there = (there, tt)
 allowed_told b (deed.WhatIf a) there = (there, tt)
-allowed_told b (deed.TurnAway bad) there = (tt, tt)
+allowed_told b given there = (tt, tt)
 
 pub aside_told : (b : Book) (what : Ask) → HoldsOf (IsTold b) (decision_aside b what)
 aside_told b what = then_holds (IsThere b) (IsTold b) (resolve b what) _ (resolve_there b what) (allowed_told b)

@@ -230,17 +230,10 @@ has_plan p a c plan found known valid =
 
 -- and the step that is forbidden
 pub names_step : (p : PolicyShape) (a : Amendment) (c : CaseShape) (plan : List ℕ) → IsKnownChange p a → IsPlanOf p c plan → NamesStep a c.flow plan
-names_step p (amend.AddUser name) c plan found valid = tt
-names_step p (amend.Leave u) c plan found valid = tt
-names_step p (amend.Enrol u r) c plan found valid = tt
-names_step p (amend.Dismiss u r) c plan found valid = tt
-names_step p (amend.Relate rho u v) c plan found valid = tt
-names_step p (amend.Unrelate rho u v) c plan found valid = tt
-names_step p (amend.Permit g r s) c plan found valid = tt
 names_step p (amend.Forbid g r s) c plan found valid = λ same.
     let steps : length (flow_at p c.flow).flow.steps ≡ length (flow_at p g).flow.steps = ap (λ (n : ℕ). length (flow_at p n).flow.steps) same in
     omega (arith, found.step, steps, valid.whole)
-names_step p (amend.Retire g) c plan found valid = tt
+names_step p a c plan found valid = tt
 
 -- ---- rows
 

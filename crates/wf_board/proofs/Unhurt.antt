@@ -28,14 +28,10 @@ use Rattle.wf_board.proofs.Planned.{planned_open}
 
 hurts_none : (p : PolicyShape) (a : Amendment) (f : ℕ) (finished : List Bool) (plan : List ℕ) → is_harmless a ≡ true → may_hurt p a f finished plan ≡ false
 hurts_none p (amend.AddUser name) f finished plan h = refl
-hurts_none p (amend.Leave u) f finished plan h = cc
 hurts_none p (amend.Enrol u r) f finished plan h = refl
-hurts_none p (amend.Dismiss u r) f finished plan h = cc
-hurts_none p (amend.Relate rho u v) f finished plan h = cc
-hurts_none p (amend.Unrelate rho u v) f finished plan h = cc
 hurts_none p (amend.Permit g r s) f finished plan h = refl
-hurts_none p (amend.Forbid g r s) f finished plan h = cc
 hurts_none p (amend.Retire g) f finished plan h = refl
+hurts_none p a f finished plan h = cc
 
 each_still : (P Q : Row → Type 0) (rows : List Row) → ((r : Row) → P r → Q r) → EachRow P rows → EachRow Q rows
 each_still P Q [] still each = tt

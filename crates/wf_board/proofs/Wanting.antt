@@ -33,17 +33,13 @@ plain_apart b what plain needs =
 
 -- a verdict is needed for an opening, a claim, an edit or a view over the open cases alone
 pub needs_rightly : (b : Book) (what : Ask) → needs_verdict (decision_of b what) ≡ true → may_lack_memory what ≡ true
-needs_rightly b (ask.Request (request.OpenCase flow)) needs = refl
-needs_rightly b (ask.Request (request.Claim n step user)) needs = refl
 needs_rightly b (ask.Request (request.Finish n step user)) needs = plain_apart b (ask.Request (request.Finish n step user)) (finish_plain n step user) needs
 needs_rightly b (ask.Request (request.GiveBack n step user)) needs = plain_apart b (ask.Request (request.GiveBack n step user)) (return_plain n step user) needs
 needs_rightly b (ask.Request (request.Release by n step)) needs = plain_apart b (ask.Request (request.Release by n step)) (release_plain by n step) needs
 needs_rightly b (ask.Request (request.Withdraw by n)) needs = plain_apart b (ask.Request (request.Withdraw by n)) (withdraw_plain by n) needs
-needs_rightly b (ask.Request (request.Change by edit)) needs = refl
 needs_rightly b (ask.Request (request.Show n)) needs = plain_apart b (ask.Request (request.Show n)) (show_plain n) needs
-needs_rightly b (ask.Request (request.Worklist user)) needs = refl
-needs_rightly b (ask.Request (request.WhatIf by edit)) needs = refl
 needs_rightly b (ask.Bad bad) needs = plain_apart b (ask.Bad bad) (λ a. refl) needs
+needs_rightly b what needs = refl
 
 -- ---- a list of roles
 
@@ -84,25 +80,11 @@ aside_none b (deed.Claim n c t u) other = absurd other
 aside_none b (deed.Finish n c t u) other = unless_none (deed.Finish n c t u) (is_held_by u (state_at c t)) _ refl
 aside_none b (deed.GiveBack n c t u) other = unless_none (deed.GiveBack n c t u) (is_held_by u (state_at c t)) _ refl
 aside_none b (deed.Release n c t) other = unless_none (deed.Release n c t) (is_held (state_at c t)) _ refl
-aside_none b (deed.Withdraw n) other = tt
-aside_none b (deed.Change a) other = tt
-aside_none b (deed.Show c) other = tt
-aside_none b (deed.Work u) other = tt
-aside_none b (deed.WhatIf a) other = tt
-aside_none b (deed.TurnAway bad) other = tt
+aside_none b given other = tt
 
 full_none : (b : Book) (given : Deed) → HasNoRoles (unless_denied given (cause_full b given))
 full_none b (deed.Open f) = unless_none (deed.Open f) _ _ refl
-full_none b (deed.Claim n c t u) = tt
-full_none b (deed.Finish n c t u) = tt
-full_none b (deed.GiveBack n c t u) = tt
-full_none b (deed.Release n c t) = tt
-full_none b (deed.Withdraw n) = tt
-full_none b (deed.Change a) = tt
-full_none b (deed.Show c) = tt
-full_none b (deed.Work u) = tt
-full_none b (deed.WhatIf a) = tt
-full_none b (deed.TurnAway bad) = tt
+full_none b given = tt
 
 -- what is another deed, if it is one
 abbrev IsOtherRead : Result Deed Denial → Type 0
@@ -138,8 +120,6 @@ none_apart (Err d) none takes = cc
 
 -- a list of roles is made for a claim alone
 pub roles_rightly : (b : Book) (what : Ask) → takes_memory (decision_of b what) ≡ true → may_lack_memory what ≡ true
-roles_rightly b (ask.Request (request.OpenCase flow)) takes = refl
-roles_rightly b (ask.Request (request.Claim n step user)) takes = refl
 roles_rightly b (ask.Request (request.Finish n step user)) takes =
     let what = ask.Request (request.Finish n step user) in
     none_apart (decision_of b what) (decided_none b what (other_step b deed.Finish n step user (λ c t u. tt))) takes
@@ -158,14 +138,12 @@ roles_rightly b (ask.Request (request.Withdraw by n)) takes =
     none_apart (decision_of b what)
     (decided_none b what (then_other (check (is_admin b.policy by) NotAdmin) _ (check_none (is_admin b.policy by) NotAdmin refl)
     (λ _. then_other (open_case_at b n) _ (open_none b n) (λ c. tt)))) takes
-roles_rightly b (ask.Request (request.Change by edit)) takes = refl
 roles_rightly b (ask.Request (request.Show n)) takes =
     let what = ask.Request (request.Show n) in
     none_apart (decision_of b what)
     (decided_none b what (then_other (or_fault (numbered_case b.cases n) NoCase) _ (or_none (numbered_case b.cases n) NoCase refl) (λ c. tt))) takes
-roles_rightly b (ask.Request (request.Worklist user)) takes = refl
-roles_rightly b (ask.Request (request.WhatIf by edit)) takes = refl
 roles_rightly b (ask.Bad bad) takes = none_apart (decision_of b (ask.Bad bad)) (decided_none b (ask.Bad bad) tt) takes
+roles_rightly b what takes = refl
 
 -- ---- a reply
 

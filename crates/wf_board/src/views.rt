@@ -52,31 +52,15 @@ pub(crate) fn admit_work(
     requires verdict { IsVerdictFor (book_of p.now cases.now) (deeds.Work user) verdict.now }
     ensures { HasAdmitted p.now cases.now cases.now (Ok (deeds.Work user)) reply.now result }
 {
-    match verdict {
-        Verdict::View(view) => admit_listed_work(p, cases, user, reply, view),
-        _ => unreachable!(),
-    }
-}
-
-/// Whether a reply lists the work of a user, as a view does.
-fn admit_listed_work(
-    p: &Policy,
-    cases: &Cases,
-    user: UserId,
-    reply: &Reply,
-    view: &View,
-) -> Result<(), AdmitFault>
-    requires kept { IsKept p.now cases.now }
-    requires given { reply.now ≢ replies.NoMemory }
-    requires view { IsViewFor (book_of p.now cases.now) (Ok (deeds.Work user)) view.now }
-    ensures { HasAdmitted p.now cases.now cases.now (Ok (deeds.Work user)) reply.now result }
-{
     let _ = p;
     let _ = cases;
     let _ = user;
-    match view {
-        View::Work(items) => when(is_work(reply, items.as_slice())),
-        View::WhatIf(_) => unreachable!(),
+    match verdict {
+        Verdict::View(view) => match view {
+            View::Work(items) => when(is_work(reply, items.as_slice())),
+            View::WhatIf(_) => unreachable!(),
+        },
+        _ => unreachable!(),
     }
 }
 
@@ -94,31 +78,15 @@ pub(crate) fn admit_what_if(
     requires verdict { IsVerdictFor (book_of p.now cases.now) (deeds.WhatIf a) verdict.now }
     ensures { HasAdmitted p.now cases.now cases.now (Ok (deeds.WhatIf a)) reply.now result }
 {
-    match verdict {
-        Verdict::View(view) => admit_listed_cases(p, cases, a, reply, view),
-        _ => unreachable!(),
-    }
-}
-
-/// Whether a reply lists the cases that a change would strand, as a view does.
-fn admit_listed_cases(
-    p: &Policy,
-    cases: &Cases,
-    a: Amendment,
-    reply: &Reply,
-    view: &View,
-) -> Result<(), AdmitFault>
-    requires kept { IsKept p.now cases.now }
-    requires given { reply.now ≢ replies.NoMemory }
-    requires view { IsViewFor (book_of p.now cases.now) (Ok (deeds.WhatIf a)) view.now }
-    ensures { HasAdmitted p.now cases.now cases.now (Ok (deeds.WhatIf a)) reply.now result }
-{
     let _ = p;
     let _ = cases;
     let _ = a;
-    match view {
-        View::WhatIf(stranded) => when(is_what_if(reply, stranded.as_slice())),
-        View::Work(_) => unreachable!(),
+    match verdict {
+        Verdict::View(view) => match view {
+            View::WhatIf(stranded) => when(is_what_if(reply, stranded.as_slice())),
+            View::Work(_) => unreachable!(),
+        },
+        _ => unreachable!(),
     }
 }
 

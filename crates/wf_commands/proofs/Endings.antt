@@ -15,21 +15,13 @@ loading_unanswered : (how : How) → EndsLoading how → EndsUnanswered how
 loading_unanswered ending.misfiled ends = tt
 loading_unanswered ending.unloaded ends = tt
 loading_unanswered ending.lacking ends = tt
-loading_unanswered ending.unasked ends = absurd ends
-loading_unanswered ending.answered ends = absurd ends
-loading_unanswered ending.refused ends = absurd ends
-loading_unanswered ending.unread ends = absurd ends
-loading_unanswered ending.unwritten ends = absurd ends
+loading_unanswered how ends = absurd ends
 
 no_reads : (how : How) (count : ℕ) → EndsLoading how → ReadsSoAlone how count count
 no_reads ending.misfiled count ends = refl
 no_reads ending.unloaded count ends = refl
 no_reads ending.lacking count ends = refl
-no_reads ending.unasked count ends = absurd ends
-no_reads ending.answered count ends = absurd ends
-no_reads ending.refused count ends = absurd ends
-no_reads ending.unread count ends = absurd ends
-no_reads ending.unwritten count ends = absurd ends
+no_reads how count ends = absurd ends
 
 pub unloaded_ending : {A : Type 0} (result : Result A RunFault) (fault : RunFault) → IsErrAnd result (λ e. e ≡ fault)
     → IsLoadEnding fault → IfErr result IsCommandEnding
@@ -57,21 +49,13 @@ answering_unanswered : (how : How) → EndsAnswering how → EndsUnanswered how
 answering_unanswered ending.refused ends = tt
 answering_unanswered ending.unread ends = tt
 answering_unanswered ending.lacking ends = tt
-answering_unanswered ending.unasked ends = absurd ends
-answering_unanswered ending.answered ends = absurd ends
-answering_unanswered ending.misfiled ends = absurd ends
-answering_unanswered ending.unloaded ends = absurd ends
-answering_unanswered ending.unwritten ends = absurd ends
+answering_unanswered how ends = absurd ends
 
 no_loads : (how : How) (before after : ℕ) → EndsAnswering how → after ≡ before → LoadsSo how before after
 no_loads ending.refused before after ends same = same
 no_loads ending.unread before after ends same = same
 no_loads ending.lacking before after ends same = same
-no_loads ending.unasked before after ends same = absurd ends
-no_loads ending.answered before after ends same = absurd ends
-no_loads ending.misfiled before after ends same = absurd ends
-no_loads ending.unloaded before after ends same = absurd ends
-no_loads ending.unwritten before after ends same = absurd ends
+no_loads how before after ends same = absurd ends
 
 pub loaded_ending : {A : Type 0} (result : Result A RunFault) → IfErr result IsAnswerEnding → IfErr result IsCommandEnding
 loaded_ending (Ok a) ends = tt

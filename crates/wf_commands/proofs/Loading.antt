@@ -13,7 +13,7 @@ use Rattle.policy_reader.specs.Files.{policy_of_file}
 use Rattle.run_record.specs.declared.fault.RunFault.{RunFault}
 use Rattle.run_record.specs.declared.fault.RunFault.TheVariants.{Load, NoMemory, FileTooLong}
 use Rattle.run_record.specs.declared.fault.RunFault.TheVariants as ending
-use Rattle.run_record.specs.Fault.{How, unasked, answered, misfiled, refused, unloaded, unread, unwritten, lacking, how_of}
+use Rattle.run_record.specs.Fault.{How, unloaded, unread, lacking, how_of}
 use Rattle.wf_commands.specs.declared.answer.Answer.{Answer}
 use Rattle.wf_commands.specs.Once.{OverPolicy}
 use Rattle.wf_commands.specs.Answer.{AnswersAs, AnswersFile, RefusesSo}
@@ -58,16 +58,7 @@ unloaded_file : (file : List ℕ) (fault : RunFault) → BytesOf POLICY_FILE_LIM
 unloaded_file file FileTooLong gives = gives
 unloaded_file file Load gives = gives
 unloaded_file file NoMemory gives = gives
-unloaded_file file ending.Nothing gives = absurd gives
-unloaded_file file ending.Found gives = absurd gives
-unloaded_file file ending.Usage gives = absurd gives
-unloaded_file file (ending.Policy e) gives = absurd gives
-unloaded_file file ending.Read gives = absurd gives
-unloaded_file file ending.Write gives = absurd gives
-unloaded_file file (ending.LineTooLong line) gives = absurd gives
-unloaded_file file ending.TooManyLines gives = absurd gives
-unloaded_file file (ending.BadInput e) gives = absurd gives
-unloaded_file file ending.TooLarge gives = absurd gives
+unloaded_file file fault gives = absurd gives
 
 unloaded_gives : (f : Filed) (fault : RunFault) → GivesBytes POLICY_FILE_LIMIT f (Err fault) → GivesPolicy f (Err fault)
 unloaded_gives untold fault gives = (gives.0, unloaded_file gives.0 fault gives.1)
@@ -93,11 +84,7 @@ over_refusal : (A : PolicyShape → RunFault → List ℕ → Type 0) (file : Li
 over_refusal A file p unloaded fault within read h = tt
 over_refusal A file p unread fault within read h = tt
 over_refusal A file p lacking fault within read h = tt
-over_refusal A file p unasked fault within read h = over A file p _ _ within read h
-over_refusal A file p answered fault within read h = over A file p _ _ within read h
-over_refusal A file p misfiled fault within read h = over A file p _ _ within read h
-over_refusal A file p refused fault within read h = over A file p _ _ within read h
-over_refusal A file p unwritten fault within read h = over A file p _ _ within read h
+over_refusal A file p how fault within read h = over A file p _ _ within read h
 
 over_result : (A : PolicyShape → RunFault → List ℕ → Type 0) (file : List ℕ) (p : PolicyShape) (result : Result Answer RunFault)
     → length file ≤ POLICY_FILE_LIMIT → policy_of_file file ≡ Ok p → AnswersAs (A p) result → AnswersAs (OverPolicy A file) result

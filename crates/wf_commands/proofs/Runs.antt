@@ -23,11 +23,7 @@ unread_so : (limit : ℕ) (how : How) (fault : RunFault) (left : Option (List �
 unread_so limit ending.misfiled fault left ends = refl
 unread_so limit ending.unloaded fault left ends = refl
 unread_so limit ending.lacking fault left ends = nothing_at_most left _
-unread_so limit ending.unasked fault left ends = absurd ends
-unread_so limit ending.answered fault left ends = absurd ends
-unread_so limit ending.refused fault left ends = absurd ends
-unread_so limit ending.unread fault left ends = absurd ends
-unread_so limit ending.unwritten fault left ends = absurd ends
+unread_so limit how fault left ends = absurd ends
 
 -- where no policy was loaded nothing is read
 pub unread : (limit : Option ℕ) (fault : RunFault) (left : Option (List ℕ)) → IsLoadEnding fault → ReadsInput limit fault left left
@@ -41,9 +37,7 @@ unread_after limit (Err e) fault left is ends = rw is (unread limit fault left e
 
 early_so : (limit : ℕ) (when : When) (before after : Option (List ℕ)) → is_early when ≡ true → ReadsUpTo limit when before after → after ≡ before
 early_so limit ending.early before after is reads = reads
-early_so limit ending.midway before after is reads = cc
-early_so limit ending.overlong before after is reads = cc
-early_so limit ending.late before after is reads = cc
+early_so limit when before after is reads = cc
 
 pub early_unread : (limit : Option ℕ) (fault : RunFault) (before after : Option (List ℕ))
     → is_before_input fault ≡ true → ReadsInput limit fault before after → after ≡ before
@@ -53,41 +47,28 @@ early_unread (Some limit) fault before after is reads = early_so limit (when_of 
 -- ---- an ending without an answer
 
 no_writes_so : (how : How) (before after : ℕ) → EndsUnanswered how → after ≡ before → ending.WritesSo how before after
-no_writes_so ending.misfiled before after ends same = same
-no_writes_so ending.refused before after ends same = same
-no_writes_so ending.unloaded before after ends same = same
-no_writes_so ending.unread before after ends same = same
-no_writes_so ending.lacking before after ends same = same
 no_writes_so ending.unasked before after ends same = absurd ends
 no_writes_so ending.answered before after ends same = absurd ends
 no_writes_so ending.unwritten before after ends same = absurd ends
+no_writes_so how before after ends same = same
 
 pub no_writes : (fault : RunFault) (before after : ℕ) → IsCommandEnding fault → after ≡ before → CountsWrites fault before after
 no_writes fault before after ends same = no_writes_so (how_of fault) before after ends same
 
 own_reads_so : (how : How) (before after : ℕ) → ReadsSoAlone how before after → ReadsSo how before after
-own_reads_so ending.unasked before after counts = counts
-own_reads_so ending.answered before after counts = counts
-own_reads_so ending.misfiled before after counts = counts
-own_reads_so ending.refused before after counts = counts
-own_reads_so ending.unloaded before after counts = counts
-own_reads_so ending.unread before after counts = counts
 own_reads_so ending.unwritten before after counts = omega arith
 own_reads_so ending.lacking before after counts = omega arith
+own_reads_so how before after counts = counts
 
 -- where all is read before it is answered, reads are counted as in every run
 pub own_reads : (fault : RunFault) (before after : ℕ) → CountsReadsAlone fault before after → CountsReads fault before after
 own_reads fault before after counts = own_reads_so (how_of fault) before after counts
 
 quiet_so : (how : How) (before after : Option (List ℕ)) → EndsUnanswered how → after ≡ before → WritesBy how before after
-quiet_so ending.misfiled before after ends same = same
-quiet_so ending.refused before after ends same = same
-quiet_so ending.unloaded before after ends same = same
-quiet_so ending.unread before after ends same = same
-quiet_so ending.lacking before after ends same = same
 quiet_so ending.unasked before after ends same = absurd ends
 quiet_so ending.answered before after ends same = absurd ends
 quiet_so ending.unwritten before after ends same = absurd ends
+quiet_so how before after ends same = same
 
 pub quiet_refused : (fault : RunFault) (before after : Option (List ℕ)) → IsCommandEnding fault → after ≡ before → IsQuiet fault before after
 quiet_refused fault before after ends same = quiet_so (how_of fault) before after ends same
@@ -96,12 +77,10 @@ ends_so : (A : RunFault → List ℕ → Type 0) (how : How) (fault : RunFault) 
     → EndsUnanswered how → RefusesSo how A fault → after ≡ before → EndsSo how A before after fault
 ends_so A ending.misfiled fault before after ends h same = ([], h, same ∙ sym (nothing_put before))
 ends_so A ending.refused fault before after ends h same = ([], h, same ∙ sym (nothing_put before))
-ends_so A ending.unloaded fault before after ends h same = same
-ends_so A ending.unread fault before after ends h same = same
-ends_so A ending.lacking fault before after ends h same = same
 ends_so A ending.unasked fault before after ends h same = absurd ends
 ends_so A ending.answered fault before after ends h same = absurd ends
 ends_so A ending.unwritten fault before after ends h same = absurd ends
+ends_so A how fault before after ends h same = same
 
 pub ends_refused : (A : RunFault → List ℕ → Type 0) (before after : Option (List ℕ)) (fault : RunFault)
     → IsCommandEnding fault → AnswersAs A (Err fault) → after ≡ before → Ends A before after fault

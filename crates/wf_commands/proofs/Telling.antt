@@ -17,8 +17,8 @@ use Rattle.cnf_export.specs.Text.{dimacs_text}
 use Rattle.run_record.specs.declared.fault.RunFault.{RunFault}
 use Rattle.run_record.specs.declared.fault.RunFault.TheVariants.{Nothing, Found, Usage, Policy, Read, Write, Load, NoMemory, FileTooLong, LineTooLong}
 use Rattle.run_record.specs.declared.fault.RunFault.TheVariants.{TooManyLines, BadInput, TooLarge}
-use Rattle.run_record.specs.declared.fault.InputFault.TheVariants.{NoFlow, Syntax, Length, NoUser, Model}
-use Rattle.run_record.specs.Fault.{How, unasked, answered, misfiled, refused, unloaded, unread, unwritten, lacking, how_of}
+use Rattle.run_record.specs.declared.fault.InputFault.TheVariants.{Model}
+use Rattle.run_record.specs.Fault.{How, unloaded, unread, lacking, how_of}
 use Rattle.wf_commands.specs.declared.answer.Answer.{Answer}
 use Rattle.wf_commands.specs.Answer.{ending_with, AnswersAs, AnswersFile, RefusesSo}
 use Rattle.wf_commands.specs.Input.{number_named}
@@ -39,11 +39,7 @@ pub refuses_by : (A B : RunFault → List ℕ → Type 0) (how : How) (fault : R
 refuses_by A B unloaded fault to h = tt
 refuses_by A B unread fault to h = tt
 refuses_by A B lacking fault to h = tt
-refuses_by A B unasked fault to h = to h
-refuses_by A B answered fault to h = to h
-refuses_by A B misfiled fault to h = to h
-refuses_by A B refused fault to h = to h
-refuses_by A B unwritten fault to h = to h
+refuses_by A B how fault to h = to h
 
 -- answers in one sense are answers in another
 pub answers_by : (A B : RunFault → List ℕ → Type 0) (result : Result Answer RunFault) → ((fault : RunFault) (text : List ℕ) → A fault text → B fault text)
@@ -112,17 +108,7 @@ pub large_refused : (p : PolicyShape) (f : ℕ) (c : Case) (A : RunFault → Lis
     → RefusesSo (how_of fault) (UnlessLarge p f c A) fault
 large_refused p f c A TooLarge given = many_literals p f c A given
 large_refused p f c A NoMemory given = tt
-large_refused p f c A Nothing given = absurd given
-large_refused p f c A Found given = absurd given
-large_refused p f c A Usage given = absurd given
-large_refused p f c A (Policy e) given = absurd given
-large_refused p f c A Read given = absurd given
-large_refused p f c A Write given = absurd given
-large_refused p f c A Load given = absurd given
-large_refused p f c A FileTooLong given = absurd given
-large_refused p f c A (LineTooLong line) given = absurd given
-large_refused p f c A TooManyLines given = absurd given
-large_refused p f c A (BadInput e) given = absurd given
+large_refused p f c A fault given = absurd given
 
 clauses_written : (p : PolicyShape) (f : ℕ) (c : Case) (e : EncoderShape) → SatisfiableIsCompletable → AreSound (problem_of p f) → IsCaseOf (problem_of p f) c
     → GivesEncoder p f c (Ok e) → TellsClauses p f c Nothing (dimacs_text e.variables e.all)
@@ -181,21 +167,14 @@ encodes_file A untold p (Err fault) gives h = answers_file A untold p (Err fault
 encodes_file A (told file) p (Ok e) gives h = over A file p e gives h
 encodes_file A (told file) p (Err fault) gives h = answers_file A (told file) p (Err fault) gives (λ file read. h)
 
-policy_refused : (A : PolicyShape → RunFault → List ℕ → Type 0) (file : List ℕ) (fault : RunFault) → PolicyOf file (Err fault) → IsLoadEnding fault
+-- no policy was there
+pub policy_refused : (A : PolicyShape → RunFault → List ℕ → Type 0) (file : List ℕ) (fault : RunFault) → PolicyOf file (Err fault) → IsLoadEnding fault
     → RefusesSo (how_of fault) (OverPolicy A file) fault
 policy_refused A file FileTooLong gives ending = rw (lt-ltb POLICY_FILE_LIMIT (length file) gives) (refl, refl)
 policy_refused A file (Policy e) gives ending = rw (le-ltb POLICY_FILE_LIMIT (length file) gives.0, gives.1) (refl, refl)
 policy_refused A file Load gives ending = tt
 policy_refused A file NoMemory gives ending = tt
-policy_refused A file Nothing gives ending = absurd ending
-policy_refused A file Found gives ending = absurd ending
-policy_refused A file Usage gives ending = absurd ending
-policy_refused A file Read gives ending = absurd ending
-policy_refused A file Write gives ending = absurd ending
-policy_refused A file (LineTooLong line) gives ending = absurd ending
-policy_refused A file TooManyLines gives ending = absurd ending
-policy_refused A file (BadInput e) gives ending = absurd ending
-policy_refused A file TooLarge gives ending = absurd ending
+policy_refused A file fault gives ending = absurd ending
 
 encodes_none : (A : PolicyShape → RunFault → List ℕ → Type 0) (f : Filed) (fault : RunFault) → GivesPolicy f (Err fault) → IsLoadEnding fault
     → EncodesFile A f (Err fault)
@@ -233,21 +212,7 @@ word_refused : (p : PolicyShape) (f : ℕ) (c : Case) (text : List ℕ) (fault :
     → RefusesSo (how_of fault) (ReadsModel p f text c) fault
 word_refused p f c text (BadInput (Model k)) given = rw given (refl, refl)
 word_refused p f c text NoMemory given = tt
-word_refused p f c text (BadInput NoFlow) given = absurd given
-word_refused p f c text (BadInput Syntax) given = absurd given
-word_refused p f c text (BadInput Length) given = absurd given
-word_refused p f c text (BadInput (NoUser i)) given = absurd given
-word_refused p f c text Nothing given = absurd given
-word_refused p f c text Found given = absurd given
-word_refused p f c text Usage given = absurd given
-word_refused p f c text (Policy e) given = absurd given
-word_refused p f c text Read given = absurd given
-word_refused p f c text Write given = absurd given
-word_refused p f c text Load given = absurd given
-word_refused p f c text FileTooLong given = absurd given
-word_refused p f c text (LineTooLong line) given = absurd given
-word_refused p f c text TooManyLines given = absurd given
-word_refused p f c text TooLarge given = absurd given
+word_refused p f c text fault given = absurd given
 
 -- the clauses are too large
 pub answers_large : (p : PolicyShape) (f : ℕ) (c : Case) (A : RunFault → List ℕ → Type 0) (result : Result Answer RunFault) (fault : RunFault)
@@ -303,15 +268,7 @@ model_refused A filed FileTooLong gives ending = model_too_long A filed gives
 model_refused A filed Load gives ending = tt
 model_refused A filed NoMemory gives ending = tt
 model_refused A filed (Policy e) gives ending = absurd (no_policy_there filed MODEL_FILE_LIMIT (Policy e) (λ file h. h) (λ is. cc) gives)
-model_refused A filed Nothing gives ending = absurd ending
-model_refused A filed Found gives ending = absurd ending
-model_refused A filed Usage gives ending = absurd ending
-model_refused A filed Read gives ending = absurd ending
-model_refused A filed Write gives ending = absurd ending
-model_refused A filed (LineTooLong line) gives ending = absurd ending
-model_refused A filed TooManyLines gives ending = absurd ending
-model_refused A filed (BadInput e) gives ending = absurd ending
-model_refused A filed TooLarge gives ending = absurd ending
+model_refused A filed fault gives ending = absurd ending
 
 abbrev ModelOf : PolicyShape → ℕ → List ℕ → Case → RunFault → List ℕ → Type 0
 ModelOf p f model c fault text = UnlessLarge p f c (ReadsModel p f model c) fault text

@@ -21,28 +21,35 @@ use Rattle.wf_server.specs.Ways.{setting_of}
 use Rattle.wf_server.specs.declared.batch.Answered.{Answered}
 use Rattle.wf_server.specs.Batches.{told_of, AnswersTo, HasAnsweredPart, HasLoaded, IsBatchAdded, IsBatch, IsWriteEnding}
 use Rattle.wf_server.specs.Files.{FileTo, IsToldTo}
+use Rattle.wf_server.proofs.SessionLaws.{lanes_of}
 
 -- ---- one batch
 
--- where the next batch of a file begins and ends
-pub record IsNext (jobs : List Job) (ends : List ℕ) (count start stop : ℕ) : Type 0 where
+-- the next batch of a file that is in order, and where it begins and ends
+pub record IsNext (lanes : ℕ) (jobs : List Job) (ends : List ℕ) (count start stop : ℕ) : Type 0 where
+  pub in_order : AreInOrder lanes jobs ends
+  pub known : count < length ends
   pub begins : start ≡ batch_start ends count
   pub closes : stop ≡ batch_start ends (count + 1)
   pub end_here : slice_index_or ends count 0 ≡ stop
   pub order : start < stop
   pub within : stop ≤ length jobs
 
-pub is_next : (lanes : ℕ) (jobs : List Job) (ends : List ℕ) (count : ℕ) (told : Told) → AreInOrder lanes jobs ends → count < length ends →
-    IsToldTo jobs ends count told
-    → IsNext jobs ends count (length told.jobs) (slice_index_or ends count 0)
-is_next lanes jobs ends count told order known is =
+-- it comes next at a desk that is served on
+pub is_next : (d e : DeskShape) (jobs : List Job) (ends : List ℕ) (count size : ℕ) (told : Told) → setting_of e ≡ setting_of d → AreInOrder d.lanes jobs ends →
+    count < size → size ≡ length ends → IsToldTo jobs ends count told
+    → IsNext e.lanes jobs ends count (length told.jobs) (slice_index_or ends count 0)
+is_next d e jobs ends count size told same order test whole is =
     let lead = order.ends in
+    let known : count < length ends = omega (arith, test, whole) in
     let begun = start_within ends (length jobs) count lead (omega (arith, known)) in
     let begins : length told.jobs ≡ batch_start ends count = ap length is.all_jobs ∙ length-take-le (batch_start ends count) jobs begun in
     let ahead = start_ahead ends (length jobs) count lead known in
     let last = end_read ends count known in
     let inside = ends_within ends (length jobs) count lead (omega (arith, known)) in
     record {
+      in_order = subst (λ n. AreInOrder n jobs ends) (sym (lanes_of d e same)) order;
+      known = known;
       begins = begins;
       closes = sym (next_start ends count known ∙ last);
       end_here = refl;
@@ -51,31 +58,30 @@ is_next lanes jobs ends count told order known is =
     }
 
 -- its jobs are a batch
-pub file_batch : (lanes : ℕ) (jobs : List Job) (ends : List ℕ) (count start stop : ℕ) → AreInOrder lanes jobs ends → count < length ends →
-    IsNext jobs ends count start stop
-    → IsBatch lanes start (jobs_between start stop jobs)
-file_batch lanes jobs ends count start stop order known next =
+pub file_batch : (lanes : ℕ) (jobs : List Job) (ends : List ℕ) (count start stop : ℕ) → IsNext lanes jobs ends count start stop →
+    IsBatch lanes start (jobs_between start stop jobs)
+file_batch lanes jobs ends count start stop next =
     let above = next.order in
     let within = next.within in
     let begins = next.begins in
     let here = next.end_here in
     let size = part_length start stop jobs (omega (arith, above)) within in
-    let near = near_from 0 ends (length jobs) count order.ends known in
-    let few = order.few in
+    let near = near_from 0 ends (length jobs) count next.in_order.ends next.known in
+    let few = next.in_order.few in
     record {
       few = omega (arith, size, within, few);
       short = omega (arith, size, near, begins, here);
-      of_lanes = lanes_between lanes start stop jobs order.of_lanes;
+      of_lanes = lanes_between lanes start stop jobs next.in_order.of_lanes;
     }
 
 -- and are told
 pub told_more : (lanes : ℕ) (jobs : List Job) (ends : List ℕ) (count : ℕ) (before after : Told) (batch : List Job) (start stop : ℕ) →
-    AreInOrder lanes jobs ends → count < length ends
-    → IsToldTo jobs ends count before → IsNext jobs ends count start stop → start ≡ length before.jobs → batch ≡ jobs_between start stop jobs →
+    IsToldTo jobs ends count before → IsNext lanes jobs ends count start stop → start ≡ length before.jobs → batch ≡ jobs_between start stop jobs →
     IsBatchAdded before batch after
     → IsToldTo jobs ends (count + 1) after
-told_more lanes jobs ends count before after batch start stop order known is next begins same added =
+told_more lanes jobs ends count before after batch start stop is next begins same added =
     let above = next.order in
+    let known = next.known in
     let within = next.within in
     let size = part_length start stop jobs (omega (arith, above)) within in
     let some : nat_lt 0 (length (jobs_between start stop jobs)) ≡ true = lt-ltb 0 (length (jobs_between start stop jobs)) (omega (arith, size, above)) in
@@ -100,32 +106,31 @@ told_some before after batch added some = let size = ap length added.jobs in ome
 
 pub file_fails : (lanes : ℕ) (jobs : List Job) (ends : List ℕ) (count : ℕ) (held aft : Option (List ℕ)) (before after : Told) (d : DeskShape)
     (batch : List Job) (start stop : ℕ) (ending : RunFault)
-    → AreInOrder lanes jobs ends → count < length ends → IsToldTo jobs ends count before → IsNext jobs ends count start stop → start ≡ length before.jobs →
-    batch ≡ jobs_between start stop jobs
+    → IsToldTo jobs ends count before → IsNext lanes jobs ends count start stop → start ≡ length before.jobs → batch ≡ jobs_between start stop jobs
     → AnswersTo held aft before batch d after (Err ending) → IsWriteEnding ending → FileTo held aft jobs ends d after (Err ending)
-file_fails lanes jobs ends count held aft before after d batch start stop fault.Write order known is next begins same answers end =
+file_fails lanes jobs ends count held aft before after d batch start stop fault.Write is next begins same answers end =
     let above = next.order in
     let size = part_length start stop jobs (omega (arith, above)) next.within in
     let same_size = ap length same in (
       record {
         count = count + 1;
-        to = told_more lanes jobs ends count before after batch start stop order known is next begins same answers.0;
+        to = told_more lanes jobs ends count before after batch start stop is next begins same answers.0;
         some = λ _. told_some before after batch answers.0 (omega (arith, size, above, same_size));
       },
       answers.1,
     )
-file_fails lanes jobs ends count held aft before after d batch start stop fault.NoMemory order known is next begins same answers end = (
+file_fails lanes jobs ends count held aft before after d batch start stop fault.NoMemory is next begins same answers end = (
   elim answers.0 [
     | inl stays ↦ record { count = count; to = subst (λ (t : Told). IsToldTo jobs ends count t) (sym stays) is; some = λ other. absurd cc }
     | inr added ↦ record {
       count = count + 1;
-      to = told_more lanes jobs ends count before after batch start stop order known is next begins same added;
+      to = told_more lanes jobs ends count before after batch start stop is next begins same added;
       some = λ other. absurd cc;
     }
   ],
   answers.1,
 )
-file_fails lanes jobs ends count held aft before after d batch start stop ending order known is next begins same answers end = absurd end
+file_fails lanes jobs ends count held aft before after d batch start stop ending is next begins same answers end = absurd end
 
 -- ---- the batch at the desk
 

@@ -65,15 +65,10 @@ without_below n (suc k) u members below = all_remove (λ v r. v < n) (without_ro
 -- no change gives a role to anybody but a user whom there is
 pub amended_below : (p : PolicyShape) (a : Amendment) → edits.IsKnownChange p a → AreMembersBelow (length p.roster.users) p.roster.members
     → AreMembersBelow (length p.roster.users) (amended p a).roster.members
-amended_below p (amend.AddUser name) found below = below
 amended_below p (amend.Leave u) found below = without_below (length p.roster.users) (length p.roster.roles) u p.roster.members below
 amended_below p (amend.Enrol u r) found below = all_insert (λ v w. v < length p.roster.users) p.roster.members u r found.user below
 amended_below p (amend.Dismiss u r) found below = all_remove (λ v w. v < length p.roster.users) p.roster.members u r below
-amended_below p (amend.Relate rho u v) found below = below
-amended_below p (amend.Unrelate rho u v) found below = below
-amended_below p (amend.Permit f r s) found below = below
-amended_below p (amend.Forbid f r s) found below = below
-amended_below p (amend.Retire f) found below = below
+amended_below p a found below = below
 
 more_below : (m n : ℕ) (members : Pairs) → m ≤ n → AreMembersBelow m members → AreMembersBelow n members
 more_below m n members few below = record { each = λ u r has. let known = below.each u r has in omega (arith, few, known) }

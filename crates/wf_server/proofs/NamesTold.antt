@@ -142,25 +142,11 @@ cause_so s q (deed.Claim n c t u) keeps of = claim_so s.book.policy q c t u keep
 cause_so s q (deed.Finish n c t u) keeps of = unless_so (IsToldAlike s.book.policy q) _ (denial.NotHeld (state_at c t)) (held_so s.book.policy q c t keeps of)
 cause_so s q (deed.GiveBack n c t u) keeps of = unless_so (IsToldAlike s.book.policy q) _ (denial.NotHeld (state_at c t)) (held_so s.book.policy q c t keeps of)
 cause_so s q (deed.Release n c t) keeps of = unless_so (IsToldAlike s.book.policy q) _ (denial.NotHeld (state_at c t)) (held_so s.book.policy q c t keeps of)
-cause_so s q (deed.Withdraw n) keeps of = tt
-cause_so s q (deed.Change a) keeps of = tt
-cause_so s q (deed.Show c) keeps of = tt
-cause_so s q (deed.Work u) keeps of = tt
-cause_so s q (deed.WhatIf a) keeps of = tt
-cause_so s q (deed.TurnAway bad) keeps of = tt
+cause_so s q given keeps of = tt
 
 full_so : (s : State) (q : PolicyShape) (given : Deed) → IsCauseSo (IsToldAlike s.book.policy q) (cause_full s.book given)
 full_so s q (deed.Open f) = unless_so (IsToldAlike s.book.policy q) _ denial.Full refl
-full_so s q (deed.Claim n c t u) = tt
-full_so s q (deed.Finish n c t u) = tt
-full_so s q (deed.GiveBack n c t u) = tt
-full_so s q (deed.Release n c t) = tt
-full_so s q (deed.Withdraw n) = tt
-full_so s q (deed.Change a) = tt
-full_so s q (deed.Show c) = tt
-full_so s q (deed.Work u) = tt
-full_so s q (deed.WhatIf a) = tt
-full_so s q (deed.TurnAway bad) = tt
+full_so s q given = tt
 
 -- what is decided is a deed of the policy, or a denial that is written alike
 pub decision_fares : (s : State) (q : PolicyShape) (what : Ask) → IsSoundState s → KeepsNames s.book.policy q

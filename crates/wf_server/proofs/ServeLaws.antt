@@ -1,14 +1,15 @@
 -- How a session stands over the file of its policy.
-use Rattle.std.proofs.Common.{◌≡◌, ℕ, List, false, Ok, Err, inl, inr, refl, sym, subst, arith}
+use Rattle.std.proofs.Common.{◌≡◌, ℕ, List, false, Result, Ok, Err, inl, inr, refl, sym, subst}
 use Rattle.wf_outside.specs.Outside.{Filed, told, missing, untold}
 use Rattle.policy_book.specs.Shapes.{PolicyShape}
 use Rattle.policy_reader.specs.File.{IsFilePolicy}
 use Rattle.run_record.specs.declared.fault.RunFault.{RunFault}
-use Rattle.run_record.specs.declared.fault.RunFault.TheVariants.{Nothing, Found, Usage, Policy, Read, Write, Load, NoMemory, FileTooLong, LineTooLong}
-use Rattle.run_record.specs.declared.fault.RunFault.TheVariants.{TooManyLines, BadInput, TooLarge}
-use Rattle.run_record.specs.Fault.{is_before_input, CountsLoads, CountsReads, CountsWrites}
+use Rattle.run_record.specs.declared.fault.RunFault.TheVariants.{Policy, Load, NoMemory, FileTooLong}
+use Rattle.run_record.specs.Fault.{is_before_input, CountsLoads, CountsReads}
 use Rattle.run_record.specs.Run.{Run, IsUntouched, OverFile}
 use Rattle.wf_commands.specs.Load.{GivesPolicy, IsLoadEnding, PolicyOf}
+use Rattle.wf_commands.proofs.Endings.{unloaded_ending, unloaded_reads}
+use Rattle.wf_commands.proofs.Runs.{no_writes, own_reads}
 use Rattle.wf_server.specs.declared.serve.TheConstants.{PIECE}
 use Rattle.line_reader.specs.Jobs.{start}
 use Rattle.wf_server.specs.Sessions.{Served}
@@ -24,15 +25,7 @@ ends_before file FileTooLong gives ending = gives
 ends_before file (Policy e) gives ending = gives
 ends_before file Load gives ending = gives
 ends_before file NoMemory gives ending = gives
-ends_before file Nothing gives ending = absurd ending
-ends_before file Found gives ending = absurd ending
-ends_before file Usage gives ending = absurd ending
-ends_before file Read gives ending = absurd ending
-ends_before file Write gives ending = absurd ending
-ends_before file (LineTooLong line) gives ending = absurd ending
-ends_before file TooManyLines gives ending = absurd ending
-ends_before file (BadInput e) gives ending = absurd ending
-ends_before file TooLarge gives ending = absurd ending
+ends_before file fault gives ending = absurd ending
 
 -- no policy was there
 pub not_served : (f : Filed) (options : Options) (r : Run) → GivesPolicy f (Err r.fault) → IsLoadEnding r.fault → IsUntouched r
@@ -40,36 +33,6 @@ pub not_served : (f : Filed) (options : Options) (r : Run) → GivesPolicy f (Er
 not_served untold options r gives ending nothing = (gives.0, inl (ends_before gives.0 r.fault gives.1 ending, nothing))
 not_served missing options r gives ending nothing = cc
 not_served (told file) options r gives ending nothing = inl (ends_before file r.fault gives ending, nothing)
-
-no_reads : (fault : RunFault) (n : ℕ) → IsLoadEnding fault → CountsReads fault n n
-no_reads FileTooLong n ending = refl
-no_reads (Policy e) n ending = refl
-no_reads Load n ending = refl
-no_reads NoMemory n ending = omega arith
-no_reads Nothing n ending = absurd ending
-no_reads Found n ending = absurd ending
-no_reads Usage n ending = absurd ending
-no_reads Read n ending = absurd ending
-no_reads Write n ending = absurd ending
-no_reads (LineTooLong line) n ending = absurd ending
-no_reads TooManyLines n ending = absurd ending
-no_reads (BadInput e) n ending = absurd ending
-no_reads TooLarge n ending = absurd ending
-
-no_writes : (fault : RunFault) (n : ℕ) → IsLoadEnding fault → CountsWrites fault n n
-no_writes FileTooLong n ending = refl
-no_writes (Policy e) n ending = refl
-no_writes Load n ending = refl
-no_writes NoMemory n ending = refl
-no_writes Nothing n ending = absurd ending
-no_writes Found n ending = absurd ending
-no_writes Usage n ending = absurd ending
-no_writes Read n ending = absurd ending
-no_writes Write n ending = absurd ending
-no_writes (LineTooLong line) n ending = absurd ending
-no_writes TooManyLines n ending = absurd ending
-no_writes (BadInput e) n ending = absurd ending
-no_writes TooLarge n ending = absurd ending
 
 -- and so the run ended
 pub refused_run : (policy : List ℕ) (options : Options) (r : Run) (fault : RunFault) → r.fault ≡ fault → GivesPolicy (r.files policy) (Err fault) →
@@ -80,14 +43,16 @@ pub refused_run : (policy : List ℕ) (options : Options) (r : Run) (fault : Run
 refused_run policy options r fault is gives ending nothing loads reads writes limits =
     let given : GivesPolicy (r.files policy) (Err r.fault) = subst (λ (x : RunFault). GivesPolicy (r.files policy) (Err x)) (sym is) gives in
     let ends : IsLoadEnding r.fault = subst IsLoadEnding (sym is) ending in
+    let asks : Result (Unit {0}) RunFault = Err r.fault in
     record {
       within = limits;
       serves = not_served (r.files policy) options r given ends nothing;
       orderly = record {
         early = λ early. nothing;
         loads = subst (λ (x : RunFault). CountsLoads x r.load_faults r.load_faults_after) (sym is) loads;
-        reads = subst (λ (n : ℕ). CountsReads r.fault r.before.read_faults n) (sym reads) (no_reads r.fault r.before.read_faults ends);
-        writes = subst (λ (n : ℕ). CountsWrites r.fault r.before.write_faults n) (sym writes) (no_writes r.fault r.before.write_faults ends);
+        reads = subst (CountsReads r.fault r.before.read_faults) (sym reads)
+            (own_reads r.fault _ _ (unloaded_reads asks r.fault r.before.read_faults refl ends));
+        writes = no_writes r.fault r.before.write_faults r.after.write_faults (unloaded_ending asks r.fault refl ends) writes;
       };
     }
 
@@ -104,15 +69,4 @@ is_served (told file) p options r gives sound served wants fits =
 -- a session does not end with a load fault
 pub loads_late : (fault : RunFault) (before after : ℕ) → is_before_input fault ≡ false → after ≡ before → CountsLoads fault before after
 loads_late Load before after late same = cc
-loads_late Nothing before after late same = same
-loads_late Found before after late same = same
-loads_late Usage before after late same = same
-loads_late (Policy e) before after late same = same
-loads_late Read before after late same = same
-loads_late Write before after late same = same
-loads_late NoMemory before after late same = same
-loads_late FileTooLong before after late same = same
-loads_late (LineTooLong line) before after late same = same
-loads_late TooManyLines before after late same = same
-loads_late (BadInput e) before after late same = same
-loads_late TooLarge before after late same = same
+loads_late fault before after late same = same

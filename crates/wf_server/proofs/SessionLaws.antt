@@ -35,11 +35,9 @@ use Rattle.wf_server.proofs.BatchLaws.{ends_some, writes_whole}
 
 -- no count of faults falls
 counts_le : (how : Paused) (before after : ℕ) → CountsPause how before after → before ≤ after
-counts_le paused.Batch before after counts = omega (arith, counts)
-counts_le paused.End before after counts = omega (arith, counts)
 counts_le paused.Failed before after counts = counts.0
-counts_le (paused.Stopped stop) before after counts = omega (arith, counts)
 counts_le paused.NoMemory before after counts = counts
+counts_le how before after counts = omega (arith, counts)
 
 -- each job of a part is of one of the lanes
 rest_of_lanes : (lanes : ℕ) (front jobs : List Job) → AreOfLanes lanes (front ++ jobs) → AreOfLanes lanes jobs
@@ -257,19 +255,13 @@ serves_kept set first room before after told ending sound keeps exact legal h = 
 -- a session ends with its own endings alone
 pub late_reads : (before after : Option (List ℕ)) (room : ℕ) (handed : Handed) (ending : RunFault) → ReadsFor before after room handed ending →
     is_before_input ending ≡ false
-late_reads before after room handed fault.Nothing h = refl
-late_reads before after room handed fault.Read h = refl
-late_reads before after room handed (fault.LineTooLong line) h = refl
-late_reads before after room handed fault.TooManyLines h = refl
-late_reads before after room handed fault.Write h = refl
-late_reads before after room handed fault.NoMemory h = refl
-late_reads before after room handed fault.Found h = refl
 late_reads before after room handed fault.Usage h = absurd h
 late_reads before after room handed (fault.Policy e) h = absurd h
 late_reads before after room handed fault.Load h = absurd h
 late_reads before after room handed fault.FileTooLong h = absurd h
 late_reads before after room handed (fault.BadInput e) h = absurd h
 late_reads before after room handed fault.TooLarge h = absurd h
+late_reads before after room handed ending h = refl
 
 pub serves_late : (set : Setting) (first : Cut) (room : ℕ) (before after : Streams) (told : Told) (ending : RunFault) →
     Serves set first room before after told ending → is_before_input ending ≡ false

@@ -1,6 +1,5 @@
 use Rattle.std.proofs.Common.{◌≡◌, ◌∙◌, ◌<◌, length, slice_index_or, refl, sym, subst, arith}
 use Rattle.std.proofs.lemmas.Grind.{common_steps}
-use Rattle.line_reader.specs.Laws.{AreInOrder}
 use Rattle.wf_desk.specs.Desks.{jobs_told}
 use Rattle.transcript_commands.specs.Unserved.{jobs_between}
 use Rattle.wf_server.specs.Batches.{told_of, IsBatch}
@@ -20,25 +19,15 @@ answering-init g c = record {
 
 pub jobs_between-batch-requires-clause-order : goal.jobs_between-batch-requires-clause-order
 jobs_between-batch-requires-clause-order g c =
-    let is = c.answering.invariant.told in
-    let d = c.answering.desk in
-    let jobs = c.args.file.now.jobs in
-    let ends = c.args.file.now.ends in
-    let order = subst (λ n. AreInOrder n jobs ends) (sym (lanes_of c.args.desk d c.answering.invariant.on.setting)) c.requires.file.order in
-    let known : c.answering.count < length ends = let test = c.answering-test.true in let size = c.len.ensures in omega (arith, test, size) in
-    let next = is_next d.lanes jobs ends c.answering.count (told_of d c.answering.told) order known is in
+    let next = is_next c.args.desk c.answering.desk _ _ _ _ _ c.answering.invariant.on.setting c.requires.file.order c.answering-test.true c.len.ensures
+    c.answering.invariant.told in
     let above = next.order in
     grind (arith, common_steps)
 
 pub jobs_between-batch-requires-clause-within : goal.jobs_between-batch-requires-clause-within
 jobs_between-batch-requires-clause-within g c =
-    let is = c.answering.invariant.told in
-    let d = c.answering.desk in
-    let jobs = c.args.file.now.jobs in
-    let ends = c.args.file.now.ends in
-    let order = subst (λ n. AreInOrder n jobs ends) (sym (lanes_of c.args.desk d c.answering.invariant.on.setting)) c.requires.file.order in
-    let known : c.answering.count < length ends = let test = c.answering-test.true in let size = c.len.ensures in omega (arith, test, size) in
-    let next = is_next d.lanes jobs ends c.answering.count (told_of d c.answering.told) order known is in
+    let next = is_next c.args.desk c.answering.desk _ _ _ _ _ c.answering.invariant.on.setting c.requires.file.order c.answering-test.true c.len.ensures
+    c.answering.invariant.told in
     let within = next.within in
     grind (arith, common_steps)
 
@@ -48,20 +37,18 @@ answer_batch-next-requires-clause-takes g c =
     let d = c.answering.desk in
     let jobs = c.args.file.now.jobs in
     let ends = c.args.file.now.ends in
-    let same = lanes_of c.args.desk d c.answering.invariant.on.setting in
-    let order = subst (λ n. AreInOrder n jobs ends) (sym same) c.requires.file.order in
-    let known : c.answering.count < length ends = let test = c.answering-test.true in let size = c.len.ensures in omega (arith, test, size) in
-    let next = is_next d.lanes jobs ends c.answering.count (told_of d c.answering.told) order known is in
+    let next = is_next c.args.desk d _ _ _ _ _ c.answering.invariant.on.setting c.requires.file.order c.answering-test.true c.len.ensures
+    c.answering.invariant.told in
     let batch : c.jobs_between-batch.result.now ≡ jobs_between (length (jobs_told c.answering.desk)) (slice_index_or ends c.answering.count 0) jobs =
     grind (arith, common_steps) in
     let answered = c.answering.invariant.answered c.requires.answered.0 c.requires.answered.1 in
     record {
-      some = subst (λ n. 0 < n) (sym same) c.requires.lanes;
+      some = subst (λ n. 0 < n) (sym (lanes_of c.args.desk d c.answering.invariant.on.setting)) c.requires.lanes;
       done = answered.done;
       whole = answered.fills.whole;
       follows =
           subst (λ js. IsBatch d.lanes (length (jobs_told c.answering.desk)) js) (sym batch)
-          (file_batch d.lanes jobs ends c.answering.count _ _ order known next);
+          (file_batch d.lanes jobs ends c.answering.count _ _ next);
     }
 
 pub answering-preserved : goal.answering-preserved
@@ -70,9 +57,8 @@ answering-preserved g c =
     let d = c.answering.desk in
     let jobs = c.args.file.now.jobs in
     let ends = c.args.file.now.ends in
-    let order = subst (λ n. AreInOrder n jobs ends) (sym (lanes_of c.args.desk d c.answering.invariant.on.setting)) c.requires.file.order in
-    let known : c.answering.count < length ends = let test = c.answering-test.true in let size = c.len.ensures in omega (arith, test, size) in
-    let next = is_next d.lanes jobs ends c.answering.count (told_of d c.answering.told) order known is in
+    let next = is_next c.args.desk d _ _ _ _ _ c.answering.invariant.on.setting c.requires.file.order c.answering-test.true c.len.ensures
+    c.answering.invariant.told in
     let batch : c.jobs_between-batch.result.now ≡ jobs_between (length (jobs_told c.answering.desk)) (slice_index_or ends c.answering.count 0) jobs =
     grind (arith, common_steps) in
     let e = c.answer_batch-next.result.0 in
@@ -80,7 +66,7 @@ answering-preserved g c =
     (c.answering.invariant.answered c.requires.answered.0 c.requires.answered.1)).0 in
     record {
       told = told_more d.lanes jobs ends c.answering.count (told_of d c.answering.told) (told_of e c.answer_batch-next.new.told)
-          c.jobs_between-batch.result.now _ _ order known is next refl batch added;
+          c.jobs_between-batch.result.now _ _ is next refl batch added;
       on = on_then _ c.args.desk d e c.answering.invariant.on c.answer_batch-next.ensures.on;
       answered = λ held answered. (rw c.in-Ok.is at c.answer_batch-next.ensures.answers held (c.answering.invariant.answered held answered)).1;
       faults = (rw c.in-Ok.is at c.answer_batch-next.ensures.counts) ∙ c.answering.invariant.faults;
@@ -96,14 +82,13 @@ returns-in-Err-clause-answers g c held answered =
     let d = c.answering.desk in
     let jobs = c.args.file.now.jobs in
     let ends = c.args.file.now.ends in
-    let order = subst (λ n. AreInOrder n jobs ends) (sym (lanes_of c.args.desk d c.answering.invariant.on.setting)) c.requires.file.order in
-    let known : c.answering.count < length ends = let test = c.answering-test.true in let size = c.len.ensures in omega (arith, test, size) in
-    let next = is_next d.lanes jobs ends c.answering.count (told_of d c.answering.told) order known is in
+    let next = is_next c.args.desk d _ _ _ _ _ c.answering.invariant.on.setting c.requires.file.order c.answering-test.true c.len.ensures
+    c.answering.invariant.told in
     let batch : c.jobs_between-batch.result.now ≡ jobs_between (length (jobs_told c.answering.desk)) (slice_index_or ends c.answering.count 0) jobs =
     grind (arith, common_steps) in
     file_fails d.lanes jobs ends c.answering.count held (g.K.Sink.held c.answer_batch-next.new.sink) (told_of d c.answering.told)
     (told_of c.answer_batch-next.result.0 c.answer_batch-next.new.told)
-    c.answer_batch-next.result.0 c.jobs_between-batch.result.now _ _ c.in-Err.fault order known is next refl batch
+    c.answer_batch-next.result.0 c.jobs_between-batch.result.now _ _ c.in-Err.fault is next refl batch
     (rw c.in-Err.is at c.answer_batch-next.ensures.answers held (c.answering.invariant.answered held answered))
     (rw c.in-Err.is at c.answer_batch-next.ensures.ending)
 

@@ -3,7 +3,7 @@ use Rattle.line_reader.specs.BatchReader.{BatchReaderShape}
 use Rattle.line_reader.specs.Jobs.{next_input}
 use Rattle.run_record.specs.Fault.{status_of}
 use Rattle.run_record.specs.Report.{told_by}
-use Rattle.run_record.specs.Run.{Streams}
+use Rattle.run_record.specs.Run.{streams_of}
 use Rattle.transcript_commands.specs.declared.start.TheConstants.{PIECE}
 use Rattle.wf_server.specs.Batches.{told_of}
 use Rattle.wf_server.proofs.ResumeLaws.{begun_lanes, begun_order, begun_told, served_begun, serving_begun, stops_begun}
@@ -36,25 +36,12 @@ serve_batches-requires-clause-lanes g c =
 
 pub serve_batches-requires-clause-serving : goal.serve_batches-requires-clause-serving
 serve_batches-requires-clause-serving g c =
-    let before : Streams = record {
-      input = g.S.Source.left c.args.source.now;
-      output = g.K.Sink.held c.args.sink.now;
-      read_faults =
-          g.S.Source.faults c.args.source.now;
-      write_faults = g.K.Sink.faults c.args.sink.now;
-    } in
-    let mid : Streams = record {
-      input = g.S.Source.left c.args.source.now;
-      output = g.K.Sink.held c.answer_requests-served.new.sink;
-      read_faults =
-          g.S.Source.faults c.args.source.now;
-      write_faults = g.K.Sink.faults c.answer_requests-served.new.sink;
-    } in
+    let before = streams_of g.S.Source.left g.S.Source.faults g.K.Sink.held g.K.Sink.faults c.args.source.now c.args.sink.now in
     let cut = c.requires.begun.1.0 in (
       next_input cut,
       (
         before,
-        serving_begun _ cut _ c.args.beginning before mid c.answer_requests-served.result.0
+        serving_begun _ cut _ c.args.beginning before _ c.answer_requests-served.result.0
             (told_of c.answer_requests-served.result.0 c.answer_requests-served.new.told)
             c.requires.begun.1.1.1 c.answer_requests-served.ensures.on.setting refl refl (rw c.in-Ok.is at c.answer_requests-served.ensures.counts)
             (rw c.in-Ok.is at c.answer_requests-served.ensures.answers),
@@ -63,27 +50,14 @@ serve_batches-requires-clause-serving g c =
 
 pub returns-in-Ok-clause-served : goal.returns-in-Ok-clause-served
 returns-in-Ok-clause-served g c s cut transcript h =
-    let before : Streams = record {
-      input = g.S.Source.left c.args.source.now;
-      output = g.K.Sink.held c.args.sink.now;
-      read_faults =
-          g.S.Source.faults c.args.source.now;
-      write_faults = g.K.Sink.faults c.args.sink.now;
-    } in
-    let mid : Streams = record {
-      input = g.S.Source.left c.args.source.now;
-      output = g.K.Sink.held c.answer_requests-served.new.sink;
-      read_faults =
-          g.S.Source.faults c.args.source.now;
-      write_faults = g.K.Sink.faults c.answer_requests-served.new.sink;
-    } in
-    let serving = serving_begun s cut transcript c.args.beginning before mid c.answer_requests-served.result.0
-    (told_of c.answer_requests-served.result.0 c.answer_requests-served.new.told)
-    h c.answer_requests-served.ensures.on.setting refl refl (rw c.in-Ok.is at c.answer_requests-served.ensures.counts)
+    let before = streams_of g.S.Source.left g.S.Source.faults g.K.Sink.held g.K.Sink.faults c.args.source.now c.args.sink.now in
+    let mid = streams_of g.S.Source.left g.S.Source.faults g.K.Sink.held g.K.Sink.faults c.args.source.now c.answer_requests-served.new.sink in
+    let d = c.answer_requests-served.result.0 in
+    let serving = serving_begun s cut transcript c.args.beginning before mid d (told_of d c.answer_requests-served.new.told) h
+    c.answer_requests-served.ensures.on.setting refl refl (rw c.in-Ok.is at c.answer_requests-served.ensures.counts)
     (rw c.in-Ok.is at c.answer_requests-served.ensures.answers) in
-    served_begun s cut transcript c.args.beginning c.answer_requests-served.result.0 c.args.beginning.reader.room before _ (told_by c.serve_batches.result)
-    c.serve_batches.result.fault
-    h c.histories_keep_completable.ensures c.histories_are_exact.ensures c.answer_requests-served.ensures.on.setting
+    served_begun s cut transcript c.args.beginning d c.args.beginning.reader.room before _ (told_by c.serve_batches.result) c.serve_batches.result.fault h
+    c.histories_keep_completable.ensures c.histories_are_exact.ensures c.answer_requests-served.ensures.on.setting
     (ap (λ (r : BatchReaderShape). r.room) h.reader) c.serve_batches.ensures.behind.legal
     (c.serve_batches.ensures.serves (next_input cut) before serving)
 
@@ -94,20 +68,8 @@ returns-in-Ok-clause-behind g c =
 
 pub returns-clause-served : goal.returns-clause-served
 returns-clause-served g c s cut transcript h =
-    let before : Streams = record {
-      input = g.S.Source.left c.args.source.now;
-      output = g.K.Sink.held c.args.sink.now;
-      read_faults =
-          g.S.Source.faults c.args.source.now;
-      write_faults = g.K.Sink.faults c.args.sink.now;
-    } in
-    let mid : Streams = record {
-      input = g.S.Source.left c.args.source.now;
-      output = g.K.Sink.held c.answer_requests-served.new.sink;
-      read_faults =
-          g.S.Source.faults c.args.source.now;
-      write_faults = g.K.Sink.faults c.answer_requests-served.new.sink;
-    } in
+    let before = streams_of g.S.Source.left g.S.Source.faults g.K.Sink.held g.K.Sink.faults c.args.source.now c.args.sink.now in
+    let mid = streams_of g.S.Source.left g.S.Source.faults g.K.Sink.held g.K.Sink.faults c.args.source.now c.answer_requests-served.new.sink in
     let d = c.answer_requests-served.result.0 in
     let told = told_of d c.answer_requests-served.new.told in
     let fault = c.in-Err.fault in

@@ -1,6 +1,6 @@
 use Rattle.std.proofs.Common.{◌≡◌, ℕ, drop, ap, refl, sym, subst}
 use Rattle.run_record.specs.Report.{told_by}
-use Rattle.run_record.specs.Run.{Streams}
+use Rattle.run_record.specs.Run.{streams_of}
 use Rattle.command_words.specs.Asked.{options_in}
 use Rattle.wf_board.specs.States.{opening_state}
 use Rattle.wf_board.specs.Histories.{AreAnsweredOnce, AreRightful, IsLegal}
@@ -16,62 +16,29 @@ use Rattle.wf_server.proofs.session.run_session.Goals as goal
 
 pub returns-in_default-clause-serves : goal.returns-in_default-clause-serves
 returns-in_default-clause-serves g c =
-    let streams : Streams = record {
-      input = g.S.Source.left c.args.source.now;
-      output = g.K.Sink.held c.args.sink.now;
-      read_faults =
-          g.S.Source.faults c.args.source.now;
-      write_faults = g.K.Sink.faults c.args.sink.now;
-    } in
-    bare_serves (setting c.args.policy (options_in c.args.options)) c.args.room streams (told_by c.bare_report.result) c.bare_report.result.fault refl
+    bare_serves (setting c.args.policy (options_in c.args.options)) c.args.room _ (told_by c.bare_report.result) c.bare_report.result.fault refl
     c.bare_report.ensures.told c.bare_report.ensures.fault
 
 pub returns-in_default-new-clause-serves : goal.returns-in_default-new-clause-serves
 returns-in_default-new-clause-serves g c =
-    let streams : Streams = record {
-      input = g.S.Source.left c.args.source.now;
-      output = g.K.Sink.held c.args.sink.now;
-      read_faults =
-          g.S.Source.faults c.args.source.now;
-      write_faults = g.K.Sink.faults c.args.sink.now;
-    } in
-    bare_serves (setting c.args.policy (options_in c.args.options)) c.args.room streams (told_by c.bare_report-in_default-new.result)
+    bare_serves (setting c.args.policy (options_in c.args.options)) c.args.room _ (told_by c.bare_report-in_default-new.result)
     c.bare_report-in_default-new.result.fault refl c.bare_report-in_default-new.ensures.told c.bare_report-in_default-new.ensures.fault
 
 pub serve_batches-requires-clause-serving : goal.serve_batches-requires-clause-serving
 serve_batches-requires-clause-serving g c =
-    let streams : Streams = record {
-      input = g.S.Source.left c.args.source.now;
-      output = g.K.Sink.held c.args.sink.now;
-      read_faults =
-          g.S.Source.faults c.args.source.now;
-      write_faults = g.K.Sink.faults c.args.sink.now;
-    } in
     let d = c.in-Ok.desk in (
       start d.lanes,
       (
-        streams,
-        session_begins streams c.in-Ok-new.reader d c.new-3.result c.args.policy c.args.options.lanes c.args.options.rounds c.args.room
+        _,
+        session_begins _ c.in-Ok-new.reader d c.new-3.result c.args.policy c.args.options.lanes c.args.options.rounds c.args.room
             c.jobs_are_in_order.ensures c.in-Ok.ensures.begins c.new-3.ensures.ends c.in-Ok-new.ensures,
       ),
     )
 
 pub returns-clause-serves : goal.returns-clause-serves
 returns-clause-serves g c =
-    let streams : Streams = record {
-      input = g.S.Source.left c.args.source.now;
-      output = g.K.Sink.held c.args.sink.now;
-      read_faults =
-          g.S.Source.faults c.args.source.now;
-      write_faults = g.K.Sink.faults c.args.sink.now;
-    } in
-    let after : Streams = record {
-      input = g.S.Source.left c.serve_batches.new.source;
-      output = g.K.Sink.held c.serve_batches.new.sink;
-      read_faults =
-          g.S.Source.faults c.serve_batches.new.source;
-      write_faults = g.K.Sink.faults c.serve_batches.new.sink;
-    } in
+    let streams = streams_of g.S.Source.left g.S.Source.faults g.K.Sink.held g.K.Sink.faults c.args.source.now c.args.sink.now in
+    let after = streams_of g.S.Source.left g.S.Source.faults g.K.Sink.held g.K.Sink.faults c.serve_batches.new.source c.serve_batches.new.sink in
     let d = c.in-Ok.desk in
     let new = c.in-Ok.ensures.begins in
     let told = told_by c.serve_batches.result in

@@ -1,5 +1,5 @@
 use Rattle.std.proofs.Common.{refl, sym, subst, ◌∙◌}
-use Rattle.run_record.specs.Run.{Streams}
+use Rattle.run_record.specs.Run.{streams_of}
 use Rattle.wf_server.specs.Sessions.{handed_in}
 use Rattle.wf_server.specs.Batches.{told_of, BatchEnds}
 use Rattle.wf_server.proofs.ServedOn.{pauses_on, same_on}
@@ -23,20 +23,7 @@ answer_batch-served-requires-clause-takes g c =
 
 pub returns-in-NoMemory-clause-batch : goal.returns-in-NoMemory-clause-batch
 returns-in-NoMemory-clause-batch g c first before serving =
-    memory_serves first c.next_batch-jobs.new.self.room before (record {
-      input = g.S.Source.left c.args.source.now;
-      output =
-          g.K.Sink.held c.args.sink.now;
-      read_faults = g.S.Source.faults c.args.source.now;
-      write_faults = g.K.Sink.faults c.args.sink.now;
-    })
-    (record {
-      input = g.S.Source.left c.next_batch-jobs.new.source;
-      output = g.K.Sink.held c.args.sink.now;
-      read_faults =
-          g.S.Source.faults c.next_batch-jobs.new.source;
-      write_faults = g.K.Sink.faults c.args.sink.now;
-    })
+    memory_serves first c.next_batch-jobs.new.self.room before _ _
     c.args.reader.now c.args.desk (told_of c.args.desk c.args.told.now) c.next_batch-jobs.result.paused serving
     (c.next_batch-jobs.ensures.up before.input (handed_in first (told_of c.args.desk c.args.told.now)) serving.read).0 refl
     c.next_batch-jobs.ensures.counts refl
@@ -47,12 +34,7 @@ returns-in-Ok-clause-batch g c first before serving =
     let e = c.answer_batch-served.result.0 in
     let told = told_of d c.args.told.now in
     let h = handed_in first told in
-    let after : Streams = (record {
-      input = g.S.Source.left c.next_batch-jobs.new.source;
-      output = g.K.Sink.held c.answer_batch-served.new.sink;
-      read_faults = g.S.Source.faults c.next_batch-jobs.new.source;
-      write_faults = g.K.Sink.faults c.answer_batch-served.new.sink;
-    }) in
+    let after = streams_of g.S.Source.left g.S.Source.faults g.K.Sink.held g.K.Sink.faults c.next_batch-jobs.new.source c.answer_batch-served.new.sink in
     let t = c.next_batch-jobs.new.self in
     let jobs = c.as_slice.result.now in
     let same = c.as_slice.ensures in
@@ -60,13 +42,7 @@ returns-in-Ok-clause-batch g c first before serving =
     let answers = rw c.in-Ok.is at c.answer_batch-served.ensures.answers before.output serving.answered in
     let writes = rw c.in-Ok.is at c.answer_batch-served.ensures.counts in
     subst (BatchEnds first before after t e (told_of e c.answer_batch-served.new.told)) (sym c.ending_after.ensures)
-    (done_ends first before (record {
-      input = g.S.Source.left c.args.source.now;
-      output = g.K.Sink.held c.args.sink.now;
-      read_faults =
-          g.S.Source.faults c.args.source.now;
-      write_faults = g.K.Sink.faults c.args.sink.now;
-    }) after
+    (done_ends first before _ after
     c.args.reader.now t d e told (told_of e c.answer_batch-served.new.told) jobs how serving c.answer_batch-served.ensures.on.setting
     (rw same (c.next_batch-jobs.ensures.reads before.input h serving.read))
     (λ batch. rw same (c.next_batch-jobs.ensures.goes_on batch before.input h serving.read))
@@ -85,20 +61,7 @@ returns-clause-batch g c first before serving =
     let ending = rw c.in-Err.is at c.answer_batch-served.ensures.ending in
     let writes = rw c.in-Err.is at c.answer_batch-served.ensures.counts in
     let up = c.next_batch-jobs.ensures.up before.input h serving.read in
-    fault_ends first c.next_batch-jobs.new.self.room before (record {
-      input = g.S.Source.left c.args.source.now;
-      output =
-          g.K.Sink.held c.args.sink.now;
-      read_faults = g.S.Source.faults c.args.source.now;
-      write_faults = g.K.Sink.faults c.args.sink.now;
-    })
-    (record {
-      input = g.S.Source.left c.next_batch-jobs.new.source;
-      output = g.K.Sink.held c.answer_batch-served.new.sink;
-      read_faults =
-          g.S.Source.faults c.next_batch-jobs.new.source;
-      write_faults = g.K.Sink.faults c.answer_batch-served.new.sink;
-    })
+    fault_ends first c.next_batch-jobs.new.self.room before _ _
     c.args.reader.now d e told (told_of e c.answer_batch-served.new.told) jobs how c.in-Err.fault serving c.answer_batch-served.ensures.on.setting
     (rw same (c.next_batch-jobs.ensures.reads before.input h serving.read)) c.in_default.not-NoMemory
     (rw same up.1) up.0 answers ending c.next_batch-jobs.ensures.counts writes

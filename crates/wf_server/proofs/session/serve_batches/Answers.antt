@@ -1,6 +1,6 @@
 use Rattle.std.proofs.Common.{ℕ, ◌<◌, ◌∙◌, refl, sym, subst}
 use Rattle.run_record.specs.Report.{told_by}
-use Rattle.run_record.specs.Run.{Streams}
+use Rattle.run_record.specs.Run.{streams_of}
 use Rattle.wf_server.specs.Sessions.{Setting}
 use Rattle.wf_server.specs.Batches.{told_of, Serves}
 use Rattle.wf_server.specs.Ways.{setting_of}
@@ -38,13 +38,7 @@ serving-smaller g c = (c.serve_batch-next.ensures.goes_on c.in-None.is).less
 
 pub returns-in-Some-clause-serves : goal.returns-in-Some-clause-serves
 returns-in-Some-clause-serves g c first before begun =
-    let after : Streams = record {
-      input = g.S.Source.left c.serve_batch-next.new.source;
-      output = g.K.Sink.held c.serve_batch-next.new.sink;
-      read_faults =
-          g.S.Source.faults c.serve_batch-next.new.source;
-      write_faults = g.K.Sink.faults c.serve_batch-next.new.sink;
-    } in
+    let after = streams_of g.S.Source.left g.S.Source.faults g.K.Sink.held g.K.Sink.faults c.serve_batch-next.new.source c.serve_batch-next.new.sink in
     let told = told_of c.serve_batch-next.result.0 c.serve_batch-next.new.told in
     let same = c.serve_batch-next.ensures.on.setting ∙ c.serving.invariant.on.setting in
     let served = rw c.in-Some.is at c.serve_batch-next.ensures.batch first before (c.serving.invariant.serving first before begun) in

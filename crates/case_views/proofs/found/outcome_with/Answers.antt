@@ -4,7 +4,7 @@ use Rattle.admin_edits.specs.ClaimCauses.{assigned_with}
 use Rattle.case_record.specs.Cases.{finished_of}
 use Rattle.case_views.proofs.Deciding.{search_assigned, search_within}
 use Rattle.case_views.proofs.Editing.{said_same}
-use Rattle.case_views.proofs.found.outcome_by_search.Goals as goal
+use Rattle.case_views.proofs.found.outcome_with.Goals as goal
 
 pub solve_for_entry-requires-clause-within : goal.solve_for_entry-requires-clause-within
 solve_for_entry-requires-clause-within c =
@@ -16,8 +16,8 @@ solve_for_entry-requires-clause-assigned c =
     rw (c.finished.ensures.value, c.assigned_with-assigned.ensures.given)
     (search_assigned c.args.case.now c.args.step c.args.user (omega (arith, c.assigned_with-assigned.ensures.len, c.assigned_with-assigned.ensures.within)))
 
-pub returns : goal.returns
-returns c =
+pub returns-in-None : goal.returns-in-None
+returns-in-None c =
     let k = c.args.case.now in
     said_same (λ q a d. IfOk c.solve_for_entry.result (HasSolved q a d)) c.args.p.now k.flow c.flow.result (assigned_with k c.args.step c.args.user)
     c.assigned_with-assigned.result (finished_of k) c.finished.result

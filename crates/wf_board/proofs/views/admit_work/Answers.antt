@@ -1,15 +1,17 @@
 use Rattle.std.proofs.Common.{◌≡◌, ◌↔◌, Ok, true, subst}
 use Rattle.wf_talk.specs.declared.reply.Reply.TheVariants as replies
 use Rattle.wf_board.specs.declared.deed.Deed.TheVariants as deeds
+use Rattle.wf_board.specs.Admission.{IsVerdictFor}
 use Rattle.wf_board.specs.Verdicts.{IsViewFor}
 use Rattle.wf_board.specs.Boards.{book_of}
 use Rattle.wf_board.proofs.Admission.{work_admitted}
-use Rattle.wf_board.proofs.views.admit_listed_work.Goals as goal
+use Rattle.wf_board.proofs.views.admit_work.Goals as goal
 
 pub returns : goal.returns
 returns c =
     let p = c.args.p.now in
     let t = c.args.cases.now in
-    let shown = subst (IsViewFor (book_of p t) (Ok (deeds.Work c.args.user))) c.in-Work.is c.requires.view in
+    let view = subst (IsVerdictFor (book_of p t) (deeds.Work c.args.user)) c.in-View.is c.requires.verdict in
+    let shown = subst (IsViewFor (book_of p t) (Ok (deeds.Work c.args.user))) c.in-Work.is view in
     work_admitted p t c.args.user c.in-Work.items c.args.reply.now c.is_work.result c.when.result c.requires.kept c.requires.given shown
     (subst (λ items. c.is_work.result ≡ true ↔ c.args.reply.now ≡ replies.Work items) c.as_slice.ensures c.is_work.ensures) c.when.ensures
