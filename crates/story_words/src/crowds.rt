@@ -1,5 +1,4 @@
 //! Steps that want more different users than there are for them.
-ghost use Rattle.std.specs.Prelude.{◌<◌, length};
 
 use crate::held::Held;
 use crate::names::{push_rules, push_users};
@@ -14,37 +13,31 @@ use wf_names::{RelId, StepId, USER_LIMIT, UserId, UserSet};
 pub(crate) fn push_crowd(
     alloc: Global,
     out: &mut String,
-    p: &Policy,
-    held: &Held,
+    held: &Held<'_>,
     steps: &[StepId],
-) -> Result<(), AllocError>
-    requires { held.now.flow < length p.now.flows }
-{
-    let all = steps_text(alloc, p, held.flow, steps)?;
+) -> Result<(), AllocError> {
+    let all = steps_text(alloc, held.policy, held.flow, steps)?;
     if steps.len() == 1 {
         return say(
             out,
             &["  In short: ", all.as_str(), " can be done by nobody.\n"],
         );
     }
-    push_short_of(alloc, out, p, held, steps, all.as_str())
+    push_short_of(alloc, out, held, steps, all.as_str())
 }
 
 // Adds that some steps, of these names, want more different users than there are for them.
 fn push_short_of(
     alloc: Global,
     out: &mut String,
-    p: &Policy,
-    held: &Held,
+    held: &Held<'_>,
     steps: &[StepId],
     names: &str,
-) -> Result<(), AllocError>
-    requires { held.now.flow < length p.now.flows }
-{
-    let (users, is_given) = takers(p, held, steps);
+) -> Result<(), AllocError> {
+    let (users, is_given) = takers(held, steps);
     push_wanted(out, names, steps.len(), users.count(), is_given)?;
-    push_users(alloc, out, p, &users, "and")?;
-    push_parting(alloc, out, p, held, steps)
+    push_users(alloc, out, held.policy, &users, "and")?;
+    push_parting(alloc, out, held, steps)
 }
 
 // Adds how many different users some steps want, and how few there are for them.
@@ -71,13 +64,10 @@ fn push_wanted(
 fn push_parting(
     alloc: Global,
     out: &mut String,
-    p: &Policy,
-    held: &Held,
+    held: &Held<'_>,
     steps: &[StepId],
-) -> Result<(), AllocError>
-    requires { held.now.flow < length p.now.flows }
-{
-    let rules = parting(alloc, p, held, steps)?;
+) -> Result<(), AllocError> {
+    let rules = parting(alloc, held, steps)?;
     if rules.as_slice().is_empty() {
         return out.push_str(".\n");
     }
@@ -87,9 +77,7 @@ fn push_parting(
 }
 
 // The users who have or may do one of the steps, and whether somebody has one.
-fn takers(p: &Policy, held: &Held, steps: &[StepId]) -> (UserSet, bool)
-    requires { held.now.flow < length p.now.flows }
-{
+fn takers(held: &Held<'_>, steps: &[StepId]) -> (UserSet, bool) {
     let (mut users, mut is_given) = (UserSet::empty(), false);
     for s in steps {
         match held.users.at(*s) {
@@ -97,21 +85,21 @@ fn takers(p: &Policy, held: &Held, steps: &[StepId]) -> (UserSet, bool)
                 users.insert(u);
                 is_given = true;
             }
-            _ => users.join(&p.authorised_users(held.flow, *s)),
+            _ => users.join(&held.policy.authorised_users(held.flow, *s)),
         }
     }
     (users, is_given)
 }
 
 // The numbers of the rules that want different users for two of the steps.
-fn parting(alloc: Global, p: &Policy, held: &Held, steps: &[StepId]) -> Result<RuleList, AllocError>
-    requires { held.now.flow < length p.now.flows }
-{
+fn parting(alloc: Global, held: &Held<'_>, steps: &[StepId]) -> Result<RuleList, AllocError> {
     let mut numbers = RuleList::new(alloc);
-    for k in 0..p.rules(held.flow).len() {
-        if parts(p, p.rules(held.flow).get(k), steps) {
-            numbers.push(k as u8)?;
+    let mut k = 0u8;
+    for rule in held.rules().as_slice() {
+        if parts(held.policy, rule, steps) {
+            numbers.push(k)?;
         }
+        k = k.saturating_add(1);
     }
     Ok(numbers)
 }

@@ -1,9 +1,8 @@
 //! Why a request was denied, in words.
-ghost use Rattle.std.specs.Prelude.{◌<◌, length};
 
 use crate::about::{asker, case_of, relation_asked, step_asked};
 use crate::facts::push_broken;
-use crate::held::{held_in, held_with, place_asked};
+use crate::held::{Held, held_asked, held_in, held_with, step_in};
 use crate::names::{
     push_large, push_number, push_roles, push_step, push_steps, push_user, push_users,
 };
@@ -69,7 +68,7 @@ fn push_rule(
     k: u8,
 ) -> Result<(), AllocError> {
     match held_with(p, cases, ask) {
-        Some(held) => push_broken(alloc, out, p, &held, k, " would be broken", true),
+        Some(held) => push_broken(alloc, out, &held, k, " would be broken", true),
         None => out.push_str("a rule would be broken"),
     }
 }
@@ -189,18 +188,16 @@ fn push_no_step(out: &mut String, p: &Policy, cases: &Cases, ask: &Ask) -> Resul
         return out.push_str("there is no such step");
     };
     match held_in(p, cases, case) {
-        Some(held) => push_own_steps(out, p, held.flow, step.as_str()),
+        Some(held) => push_own_steps(out, &held, step.as_str()),
         None => say(out, &["there is no step \"", step.as_str(), "\""]),
     }
 }
 
-fn push_own_steps(out: &mut String, p: &Policy, f: FlowId, step: &str) -> Result<(), AllocError>
-    requires { f < length p.now.flows }
-{
-    let flow = name_of(p.flows(), f.0 as u16);
+fn push_own_steps(out: &mut String, held: &Held<'_>, step: &str) -> Result<(), AllocError> {
+    let flow = name_of(held.policy.flows(), held.flow.0 as u16);
     let tail = "\"; its steps are ";
     say(out, &[text_of(&flow), " has no step \"", step, tail])?;
-    push_steps(out, p, f)
+    push_steps(out, held.steps())
 }
 
 // Adds who has the step.
@@ -214,16 +211,21 @@ fn push_taken(
     user: UserId,
 ) -> Result<(), AllocError> {
     push_user(out, p, user)?;
-    let is_finished = match place_asked(p, cases, ask) {
-        Some(place) => place.held.done.has(place.step),
-        None => false,
-    };
+    let is_finished = has_finished(p, cases, ask);
     match step_asked(ask) {
         Some((case, step)) if is_finished => {
             out.push_str(" has finished it")?;
             push_which(alloc, out, entries, case, Deed::Finish(step.as_str()))
         }
         _ => out.push_str(" holds it already"),
+    }
+}
+
+// Whether the step that is asked about is finished.
+fn has_finished(p: &Policy, cases: &Cases, ask: &Ask) -> bool {
+    match held_asked(p, cases, ask) {
+        Some(held) => step_in(&held, ask).is_some_and(|step| held.done.has(step)),
+        None => false,
     }
 }
 
@@ -258,9 +260,11 @@ fn push_takers(
     cases: &Cases,
     ask: &Ask,
 ) -> Result<(), AllocError> {
-    if let Some(place) = place_asked(p, cases, ask) {
-        let users = p.authorised_users(place.held.flow, place.step);
-        push_users(alloc, out, p, &users, "and")?;
+    if let Some(held) = held_asked(p, cases, ask) {
+        if let Some(step) = step_in(&held, ask) {
+            let users = held.policy.authorised_users(held.flow, step);
+            push_users(alloc, out, p, &users, "and")?;
+        }
     }
     out.push_str(")")
 }

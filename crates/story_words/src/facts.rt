@@ -1,5 +1,5 @@
 //! Who breaks a rule, and how.
-ghost use Rattle.std.specs.Prelude.{◌≡◌, ◌<◌, length, true, IfSome};
+ghost use Rattle.std.specs.Prelude.{◌≡◌, true, IfSome};
 ghost use Rattle.constraint_forms.specs.Assign.{user_at};
 ghost use Rattle.constraint_forms.specs.Rules.{are_unrelated, turned};
 ghost use Rattle.user_relations.specs.Relations.{is_related};
@@ -27,17 +27,14 @@ struct Wish {
 pub(crate) fn push_broken(
     alloc: Global,
     out: &mut String,
-    p: &Policy,
-    held: &Held,
+    held: &Held<'_>,
     k: u8,
     verb: &str,
     in_words: bool,
-) -> Result<(), AllocError>
-    requires { held.now.flow < length p.now.flows }
-{
+) -> Result<(), AllocError> {
     write!(out, "rule {k}")?;
-    match p.rules(held.flow).as_slice().get(k as usize) {
-        Some(rule) => push_verb(alloc, out, p, held, rule, verb, in_words),
+    match held.rules().as_slice().get(k as usize) {
+        Some(rule) => push_verb(alloc, out, held, rule, verb, in_words),
         None => out.push_str(verb),
     }
 }
@@ -45,36 +42,30 @@ pub(crate) fn push_broken(
 fn push_verb(
     alloc: Global,
     out: &mut String,
-    p: &Policy,
-    held: &Held,
+    held: &Held<'_>,
     rule: &Rule,
     verb: &str,
     in_words: bool,
-) -> Result<(), AllocError>
-    requires { held.now.flow < length p.now.flows }
-{
-    let is_broken = falsified(rule, p, &held.users);
+) -> Result<(), AllocError> {
+    let is_broken = falsified(rule, held.policy, &held.users);
     if in_words || !is_broken {
-        push_words(alloc, out, p, held, rule)?;
+        push_words(alloc, out, held, rule)?;
     }
     if !is_broken {
         return out.push_str(verb);
     }
     say(out, &[verb, ": "])?;
-    push_fact(alloc, out, p, held, rule)
+    push_fact(alloc, out, held, rule)
 }
 
 // Adds the words of a rule.
 fn push_words(
     alloc: Global,
     out: &mut String,
-    p: &Policy,
-    held: &Held,
+    held: &Held<'_>,
     rule: &Rule,
-) -> Result<(), AllocError>
-    requires { held.now.flow < length p.now.flows }
-{
-    let words = rule_text(alloc, p, held.flow, rule)?;
+) -> Result<(), AllocError> {
+    let words = rule_text(alloc, held.policy, held.flow, rule)?;
     say(out, &[" (", words.as_str(), ")"])
 }
 
@@ -82,28 +73,25 @@ fn push_words(
 fn push_fact(
     alloc: Global,
     out: &mut String,
-    p: &Policy,
-    held: &Held,
+    held: &Held<'_>,
     rule: &Rule,
-) -> Result<(), AllocError>
-    requires { held.now.flow < length p.now.flows }
-{
+) -> Result<(), AllocError> {
     match *rule {
-        Rule::Pair { rho, first, second } => { push_unrelated(out, p, held, rho, first, second) }
+        Rule::Pair { rho, first, second } => { push_unrelated(out, held, rho, first, second) }
         Rule::AllOf { rho, group, step } => {
-            push_one(out, p, held, &wish_of(rho, &group, step, false))
+            push_one(out, held, &wish_of(rho, &group, step, false))
         }
         Rule::AllTo { rho, step, group } => {
-            push_one(out, p, held, &wish_of(rho, &group, step, true))
+            push_one(out, held, &wish_of(rho, &group, step, true))
         }
         Rule::SomeOf { rho, group, step } => {
-            push_none(alloc, out, p, held, &wish_of(rho, &group, step, false))
+            push_none(alloc, out, held, &wish_of(rho, &group, step, false))
         }
         Rule::SomeTo { rho, step, group } => {
-            push_none(alloc, out, p, held, &wish_of(rho, &group, step, true))
+            push_none(alloc, out, held, &wish_of(rho, &group, step, true))
         }
-        Rule::AtMost { group, .. } => push_many(alloc, out, p, held, &group),
-        Rule::AtLeast { group, .. } => push_few(alloc, out, p, held, &group),
+        Rule::AtMost { group, .. } => push_many(alloc, out, held, &group),
+        Rule::AtLeast { group, .. } => push_few(alloc, out, held, &group),
     }
 }
 
@@ -119,24 +107,21 @@ fn wish_of(rho: RelId, group: &StepSet, step: StepId, back: bool) -> Wish {
 // Adds that the users of two steps are not related from the first to the second.
 fn push_unrelated(
     out: &mut String,
-    p: &Policy,
-    held: &Held,
+    held: &Held<'_>,
     rho: RelId,
     first: StepId,
     second: StepId,
-) -> Result<(), AllocError>
-    requires { held.now.flow < length p.now.flows }
-{
+) -> Result<(), AllocError> {
     let (Some(u), Some(v)) = (held.users.at(first), held.users.at(second)) else {
         return Ok(());
     };
-    let (users, steps) = (p.roster().users(), p.flow(held.flow).steps());
+    let (users, steps) = (held.policy.roster().users(), held.steps());
     let (u, v) = (name_of(users, u.0), name_of(users, v.0));
     let x = name_of(steps, first.0 as u16);
     let y = name_of(steps, second.0 as u16);
     push_pair(
         out,
-        p,
+        held.policy,
         rho,
         text_of(&u),
         text_of(&x),
@@ -199,12 +184,10 @@ fn listed_in(p: &Policy, rho: RelId) -> Option<(bool, Name)> {
 }
 
 // Adds the first member of a group whose user is not related to that of the step.
-fn push_one(out: &mut String, p: &Policy, held: &Held, wish: &Wish) -> Result<(), AllocError>
-    requires { held.now.flow < length p.now.flows }
-{
-    match first_unrelated(p, &held.users, wish) {
-        Some(x) if wish.back => push_unrelated(out, p, held, wish.rho, wish.step, x),
-        Some(x) => push_unrelated(out, p, held, wish.rho, x, wish.step),
+fn push_one(out: &mut String, held: &Held<'_>, wish: &Wish) -> Result<(), AllocError> {
+    match first_unrelated(held.policy, &held.users, wish) {
+        Some(x) if wish.back => push_unrelated(out, held, wish.rho, wish.step, x),
+        Some(x) => push_unrelated(out, held, wish.rho, x, wish.step),
         None => Ok(()),
     }
 }
@@ -239,25 +222,20 @@ fn is_unrelated(p: &Policy, users: &Assign, wish: &Wish, x: StepId) -> bool
 fn push_none(
     alloc: Global,
     out: &mut String,
-    p: &Policy,
-    held: &Held,
+    held: &Held<'_>,
     wish: &Wish,
-) -> Result<(), AllocError>
-    requires { held.now.flow < length p.now.flows }
-{
+) -> Result<(), AllocError> {
     let Some(w) = held.users.at(wish.step) else {
         return Ok(());
     };
     if wish.group.count() < 2 {
-        return push_one(out, p, held, wish);
+        return push_one(out, held, wish);
     }
-    let doer = name_of(p.roster().users(), w.0);
-    match listed_in(p, wish.rho) {
-        Some((lacks, name)) => push_lone(alloc, out, p, held, wish, lacks, name.as_str()),
-        None if wish.rho == RelId::SAME => {
-            push_neither(alloc, out, p, held, wish, text_of(&doer))
-        }
-        None => push_all(alloc, out, p, held, wish, text_of(&doer)),
+    let doer = name_of(held.policy.roster().users(), w.0);
+    match listed_in(held.policy, wish.rho) {
+        Some((lacks, name)) => push_lone(alloc, out, held, wish, lacks, name.as_str()),
+        None if wish.rho == RelId::SAME => { push_neither(alloc, out, held, wish, text_of(&doer)) }
+        None => push_all(alloc, out, held, wish, text_of(&doer)),
     }
 }
 
@@ -265,15 +243,12 @@ fn push_none(
 fn push_neither(
     alloc: Global,
     out: &mut String,
-    p: &Policy,
-    held: &Held,
+    held: &Held<'_>,
     wish: &Wish,
     doer: &str,
-) -> Result<(), AllocError>
-    requires { held.now.flow < length p.now.flows }
-{
-    let step = name_of(p.flow(held.flow).steps(), wish.step.0 as u16);
-    let others = group_text(alloc, p, held.flow, &wish.group, "nor")?;
+) -> Result<(), AllocError> {
+    let step = name_of(held.steps(), wish.step.0 as u16);
+    let others = group_text(alloc, held.policy, held.flow, &wish.group, "nor")?;
     let (step, others) = (text_of(&step), others.as_str());
     say(out, &[doer, " does ", step, ", and neither ", others])
 }
@@ -282,15 +257,12 @@ fn push_neither(
 fn push_all(
     alloc: Global,
     out: &mut String,
-    p: &Policy,
-    held: &Held,
+    held: &Held<'_>,
     wish: &Wish,
     doer: &str,
-) -> Result<(), AllocError>
-    requires { held.now.flow < length p.now.flows }
-{
+) -> Result<(), AllocError> {
     let all = joined(&wish.group, wish.step);
-    let all = group_text(alloc, p, held.flow, &all, "and")?;
+    let all = group_text(alloc, held.policy, held.flow, &all, "and")?;
     say(out, &[doer, " would do ", all.as_str()])
 }
 
@@ -299,14 +271,11 @@ fn push_all(
 fn push_lone(
     alloc: Global,
     out: &mut String,
-    p: &Policy,
-    held: &Held,
+    held: &Held<'_>,
     wish: &Wish,
     lacks: bool,
     name: &str,
-) -> Result<(), AllocError>
-    requires { held.now.flow < length p.now.flows }
-{
+) -> Result<(), AllocError> {
     let (front, last) = if lacks {
         ("", "and")
     } else {
@@ -317,8 +286,8 @@ fn push_lone(
     } else {
         " has \""
     };
-    let one = doers_text(alloc, p, held, &joined(&StepSet::empty(), wish.step), "and")?;
-    let others = doers_text(alloc, p, held, &wish.group, last)?;
+    let one = doers_text(alloc, held, &joined(&StepSet::empty(), wish.step), "and")?;
+    let others = doers_text(alloc, held, &wish.group, last)?;
     let (one, others) = (one.as_str(), others.as_str());
     if wish.back {
         push_has(out, "", one, verb, name, front, others)
@@ -352,50 +321,36 @@ fn joined(group: &StepSet, s: StepId) -> StepSet {
 // Who would do each step of a group.
 fn doers_text(
     alloc: Global,
-    p: &Policy,
-    held: &Held,
+    held: &Held<'_>,
     group: &StepSet,
     last: &str,
-) -> Result<String, AllocError>
-    requires { held.now.flow < length p.now.flows }
-{
+) -> Result<String, AllocError> {
     let mut text = String::new(alloc);
-    push_doers(&mut text, p, held, group, last)?;
+    push_doers(&mut text, held, group, last)?;
     Ok(text)
 }
 
 fn push_doers(
     out: &mut String,
-    p: &Policy,
-    held: &Held,
+    held: &Held<'_>,
     group: &StepSet,
     last: &str,
-) -> Result<(), AllocError>
-    requires { held.now.flow < length p.now.flows }
-{
+) -> Result<(), AllocError> {
     let count = group.count() as u32;
     let mut place = 0u32;
     for x in 0..group.limit() {
         if let (true, Some(u)) = (group.has(StepId(x as u8)), held.users.at(StepId(x as u8))) {
             push_gap(out, place, count, last)?;
-            push_doer(out, p, held, u, StepId(x as u8))?;
+            push_doer(out, held, u, StepId(x as u8))?;
             place = place.saturating_add(1);
         }
     }
     Ok(())
 }
 
-fn push_doer(
-    out: &mut String,
-    p: &Policy,
-    held: &Held,
-    u: UserId,
-    s: StepId,
-) -> Result<(), AllocError>
-    requires { held.now.flow < length p.now.flows }
-{
-    let user = name_of(p.roster().users(), u.0);
-    let step = name_of(p.flow(held.flow).steps(), s.0 as u16);
+fn push_doer(out: &mut String, held: &Held<'_>, u: UserId, s: StepId) -> Result<(), AllocError> {
+    let user = name_of(held.policy.roster().users(), u.0);
+    let step = name_of(held.steps(), s.0 as u16);
     say(out, &[text_of(&user), " (", text_of(&step), ")"])
 }
 
@@ -418,32 +373,26 @@ fn given_of(held: &Held, group: &StepSet) -> (StepSet, UserSet) {
 fn push_many(
     alloc: Global,
     out: &mut String,
-    p: &Policy,
-    held: &Held,
+    held: &Held<'_>,
     group: &StepSet,
-) -> Result<(), AllocError>
-    requires { held.now.flow < length p.now.flows }
-{
+) -> Result<(), AllocError> {
     let (steps, users) = given_of(held, group);
-    let steps = group_text(alloc, p, held.flow, &steps, "and")?;
+    let steps = group_text(alloc, held.policy, held.flow, &steps, "and")?;
     say(out, &[steps.as_str(), " would be done by "])?;
-    push_users(alloc, out, p, &users, "and")
+    push_users(alloc, out, held.policy, &users, "and")
 }
 
 // Adds that too few users are left for the steps of a group.
 fn push_few(
     alloc: Global,
     out: &mut String,
-    p: &Policy,
-    held: &Held,
+    held: &Held<'_>,
     group: &StepSet,
-) -> Result<(), AllocError>
-    requires { held.now.flow < length p.now.flows }
-{
+) -> Result<(), AllocError> {
     let (steps, users) = given_of(held, group);
     let open = group.count().saturating_sub(steps.count());
     let left = users.count().saturating_add(open as u32);
-    let all = group_text(alloc, p, held.flow, group, "and")?;
+    let all = group_text(alloc, held.policy, held.flow, group, "and")?;
     let people = if left == 1 {
         "person is"
     } else {

@@ -1,5 +1,5 @@
 //! Who would have which steps of a case.
-ghost use Rattle.std.specs.Prelude.{◌≡◌, ℕ, ◌<◌, Some, true, length, IfSome, IsTrue};
+ghost use Rattle.std.specs.Prelude.{◌≡◌, ℕ, ◌<◌, Some, true, length, IsTrue};
 ghost use Rattle.constraint_forms.specs.Assign.{is_member, user_at};
 ghost use Rattle.policy_book.specs.Plans.{AreAssigned, IsWithin};
 ghost use Rattle.policy_book.specs.Policies.{problem_of};
@@ -7,23 +7,31 @@ ghost use Rattle.policy_book.specs.Policies.{problem_of};
 use crate::about::step_asked;
 use constraint_forms::{Assign, StepSet};
 use grant_table::Cases;
-use policy_book::Policy;
-use wf_names::{CaseId, FlowId, Name, STEP_LIMIT, StepId, UserId};
+use policy_book::{Policy, Rules};
+use wf_names::{CaseId, FlowId, Name, NameTable, STEP_LIMIT, StepId, UserId};
 use wf_talk::{Ask, Request};
 
-/// Who has or would have which steps of a case, and which of them are finished.
+/// Who has or would have which steps of a case of one of a policy's workflows, and which of them
+/// are finished.
 #[derive(Clone, Copy)]
-pub(crate) struct Held {
+pub(crate) struct Held<'p> {
+    pub policy: &'p Policy,
     pub flow: FlowId,
     pub users: Assign,
     pub done: StepSet,
+    ghost known: { flow < length policy.now.flows },
 }
 
-/// A step of a case.
-#[derive(Clone, Copy)]
-pub(crate) struct Place {
-    pub held: Held,
-    pub step: StepId,
+impl<'p> Held<'p> {
+    /// The names of the workflow's steps.
+    pub(crate) fn steps(&self) -> &'p NameTable {
+        self.policy.flow(self.flow).steps()
+    }
+
+    /// The workflow's rules.
+    pub(crate) fn rules(&self) -> &'p Rules {
+        self.policy.rules(self.flow)
+    }
 }
 
 /// Whether a policy has a workflow.
@@ -34,62 +42,69 @@ pub(crate) fn is_flow(p: &Policy, f: FlowId) -> bool
 }
 
 /// Who has the steps of a case, if there is one of a workflow of the policy.
-pub(crate) fn held_in(p: &Policy, cases: &Cases, c: CaseId) -> Option<Held>
-    ensures { IfSome result (λ h. h.flow < length p.now.flows) }
-{
-    match cases.case(c) {
-        Some(case) if is_flow(p, case.flow()) => Some(Held {
-            flow: case.flow(),
-            users: case.assigned(),
-            done: case.finished(),
-        }),
-        _ => None,
+pub(crate) fn held_in<'p>(p: &'p Policy, cases: &Cases, c: CaseId) -> Option<Held<'p>> {
+    let case = cases.case(c)?;
+    held_as(p, case.flow(), case.assigned(), case.finished())
+}
+
+/// These users and finished steps, if the policy has the workflow.
+pub(crate) fn held_as<'p>(
+    policy: &'p Policy,
+    flow: FlowId,
+    users: Assign,
+    done: StepSet,
+) -> Option<Held<'p>> {
+    if !is_flow(policy, flow) {
+        return None;
     }
+    Some(Held {
+        policy,
+        flow,
+        users,
+        done,
+    })
 }
 
-/// The step that is asked about, if it is one of a case.
-pub(crate) fn place_asked(p: &Policy, cases: &Cases, ask: &Ask) -> Option<Place>
-    ensures { IfSome result (λ place. place.held.flow < length p.now.flows) }
-{
-    let (case, name) = step_asked(ask)?;
-    let held = held_in(p, cases, case)?;
-    let step = find_step(p, held.flow, &name)?;
-    Some(Place { held, step })
+/// Who has the steps of the case whose step is asked about.
+pub(crate) fn held_asked<'p>(p: &'p Policy, cases: &Cases, ask: &Ask) -> Option<Held<'p>> {
+    let (case, _) = step_asked(ask)?;
+    held_in(p, cases, case)
 }
 
-// The step of a workflow with a name.
-fn find_step(p: &Policy, f: FlowId, name: &Name) -> Option<StepId>
-    requires { f < length p.now.flows }
-{
-    match p.flow(f).steps().find(name) {
+/// The step that is asked about, if the workflow has one of that name.
+pub(crate) fn step_in(held: &Held<'_>, ask: &Ask) -> Option<StepId> {
+    let (_, name) = step_asked(ask)?;
+    match held.steps().find(&name) {
         Some(s) if (s as usize) < STEP_LIMIT => Some(StepId(s as u8)),
         _ => None,
     }
 }
 
 /// Who has the steps of a case, and with them what is claimed, as if who claims it had it.
-pub(crate) fn held_with(p: &Policy, cases: &Cases, ask: &Ask) -> Option<Held>
-    ensures { IfSome result (λ h. h.flow < length p.now.flows) }
-{
-    let Ask::Request(Request::Claim { user, .. }) = ask else {
-        return None;
-    };
-    let place = place_asked(p, cases, ask)?;
-    match p.roster().users().find(user) {
-        Some(u) => Some(given(&place.held, place.step, UserId(u))),
+pub(crate) fn held_with<'p>(p: &'p Policy, cases: &Cases, ask: &Ask) -> Option<Held<'p>> {
+    match held_asked(p, cases, ask) {
+        Some(held) => held_claimed(&held, ask),
         None => None,
     }
 }
 
+fn held_claimed<'p>(held: &Held<'p>, ask: &Ask) -> Option<Held<'p>> {
+    let Ask::Request(Request::Claim { user, .. }) = ask else {
+        return None;
+    };
+    let step = step_in(held, ask)?;
+    let user = held.policy.roster().users().find(user)?;
+    Some(given(held, step, UserId(user)))
+}
+
 /// The same, with a step given to a user; no step from the limit on is.
-pub(crate) fn given(held: &Held, s: StepId, u: UserId) -> Held
-    ensures { result.flow ≡ held.now.flow }
-{
+pub(crate) fn given<'p>(held: &Held<'p>, s: StepId, u: UserId) -> Held<'p> {
     let mut users = held.users;
     if (s.0 as usize) < STEP_LIMIT {
         users = users.with(s, u);
     }
     Held {
+        policy: held.policy,
         flow: held.flow,
         users,
         done: held.done,
@@ -97,12 +112,12 @@ pub(crate) fn given(held: &Held, s: StepId, u: UserId) -> Held
 }
 
 /// Whether steps of the workflow alone are given, to users of the policy, and each finished one is.
-pub(crate) fn fits(p: &Policy, held: &Held) -> bool
-    requires { held.now.flow < length p.now.flows }
-    ensures within { result ≡ true → IsWithin (problem_of p.now held.now.flow) held.now.users }
+pub(crate) fn fits(held: &Held<'_>) -> bool
+    ensures within { result ≡ true
+        → IsWithin (problem_of held.now.policy.now held.now.flow) held.now.users }
     ensures given { result ≡ true → AreAssigned held.now.done held.now.users }
 {
-    is_within(p, held.flow, &held.users) && are_given(&held.done, &held.users)
+    is_within(held.policy, held.flow, &held.users) && are_given(&held.done, &held.users)
 }
 
 fn is_within(p: &Policy, f: FlowId, a: &Assign) -> bool

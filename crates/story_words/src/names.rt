@@ -53,10 +53,7 @@ pub(crate) fn push_step(
 }
 
 /// Adds the names of all steps of a workflow.
-pub(crate) fn push_steps(out: &mut String, p: &Policy, f: FlowId) -> Result<(), AllocError>
-    requires { f < length p.now.flows }
-{
-    let steps = p.flow(f).steps();
+pub(crate) fn push_steps(out: &mut String, steps: &NameTable) -> Result<(), AllocError> {
     for s in 0..steps.len() {
         push_gap(out, s as u32, steps.len() as u32, "and")?;
         push_name(out, steps, s)?;

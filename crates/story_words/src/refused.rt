@@ -1,7 +1,6 @@
 //! Why nobody could finish a case after what was denied.
-ghost use Rattle.std.specs.Prelude.{◌<◌, length};
 
-use crate::held::{Held, held_in, held_with, is_flow};
+use crate::held::{Held, held_as, held_in, held_with};
 use crate::trees::push_short;
 use crate::why::push_why;
 use admin_edits::{EditFault, apply};
@@ -44,16 +43,14 @@ pub(crate) fn push_refused(
 ) -> Result<(), AllocError> {
     match &entry.reply {
         Reply::Denied(Denial::Unsatisfiable { flow, tree }) => {
-            let held = Held {
-                flow: *flow,
-                users: Assign::empty(),
-                done: StepSet::empty(),
-            };
-            push_told(alloc, out, p, &held, tree.get(), telling)
+            match held_as(p, *flow, Assign::empty(), StepSet::empty()) {
+                Some(held) => push_told(alloc, out, &held, tree.get(), telling),
+                None => Ok(()),
+            }
         }
         Reply::Denied(Denial::Stranded { tree, .. }) => {
             match held_with(p, cases, &entry.ask) {
-                Some(held) => push_told(alloc, out, p, &held, tree.get(), telling),
+                Some(held) => push_told(alloc, out, &held, tree.get(), telling),
                 None => Ok(()),
             }
         }
@@ -90,7 +87,7 @@ fn push_after(
         return Ok(());
     };
     match held_in(after, cases, *case) {
-        Some(held) => push_told(alloc, out, after, &held, tree.get(), telling),
+        Some(held) => push_told(alloc, out, &held, tree.get(), telling),
         None => Ok(()),
     }
 }
@@ -110,16 +107,12 @@ fn edited(p: &Policy, ask: &Ask) -> Result<Option<Policy>, AllocError> {
 fn push_told(
     alloc: Global,
     out: &mut String,
-    p: &Policy,
-    held: &Held,
+    held: &Held<'_>,
     tree: &Tree,
     telling: Telling,
 ) -> Result<(), AllocError> {
-    if !is_flow(p, held.flow) {
-        return Ok(());
-    }
     match telling {
-        Telling::InLine => push_short(alloc, out, p, held, tree),
-        Telling::InLines => push_why(alloc, out, p, held, tree),
+        Telling::InLine => push_short(alloc, out, held, tree),
+        Telling::InLines => push_why(alloc, out, held, tree),
     }
 }

@@ -1,8 +1,7 @@
 //! Why nobody can finish a case, as a tree tells it.
-ghost use Rattle.std.specs.Prelude.{◌≡◌, ◌<◌, length};
 
 use crate::facts::push_broken;
-use crate::held::{Held, given, is_flow};
+use crate::held::{Held, given};
 use crate::names::{push_step, push_user, push_users};
 use plain_words::say;
 use policy_book::Policy;
@@ -16,12 +15,11 @@ pub(crate) fn push_tree(
     alloc: Global,
     out: &mut String,
     indent: &str,
-    p: &Policy,
-    held: &Held,
+    held: &Held<'_>,
     tree: &Tree,
 ) -> Result<(), AllocError> {
     out.push_str(indent)?;
-    push_node(alloc, out, indent, p, held, tree)
+    push_node(alloc, out, indent, held, tree)
 }
 
 // Adds what a tree says behind what stands in the line, and the lines below it.
@@ -30,28 +28,24 @@ fn push_node(
     alloc: Global,
     out: &mut String,
     indent: &str,
-    p: &Policy,
-    held: &Held,
+    held: &Held<'_>,
     tree: &Tree,
 ) -> Result<(), AllocError> {
-    if !is_flow(p, held.flow) {
-        return Ok(());
-    }
     match tree {
         Tree::Holder(s) => {
-            push_holder(out, p, held, *s)?;
+            push_holder(out, held, *s)?;
             out.push_str(".\n")
         }
         Tree::Rule(k) => {
-            push_broken(alloc, out, p, held, *k, " is broken", false)?;
+            push_broken(alloc, out, held, *k, " is broken", false)?;
             out.push_str(".\n")
         }
         Tree::Step(s, branches) => {
             let branches = branches.as_slice();
-            push_choice(alloc, out, p, held, *s, branches)?;
+            push_choice(alloc, out, held, *s, branches)?;
             out.push_str(".\n")?;
-            push_leaves(alloc, out, indent, p, held, *s, branches)?;
-            push_branches(alloc, out, indent, p, held, *s, branches)
+            push_leaves(alloc, out, indent, held, *s, branches)?;
+            push_branches(alloc, out, indent, held, *s, branches)
         }
     }
 }
@@ -62,13 +56,12 @@ fn push_branches(
     alloc: Global,
     out: &mut String,
     indent: &str,
-    p: &Policy,
-    held: &Held,
+    held: &Held<'_>,
     s: StepId,
     branches: &[Branch],
 ) -> Result<(), AllocError> {
     'branches: for branch in branches {
-        push_branch(alloc, out, indent, p, held, s, branch)?;
+        push_branch(alloc, out, indent, held, s, branch)?;
     }
     Ok(())
 }
@@ -78,8 +71,7 @@ fn push_branch(
     alloc: Global,
     out: &mut String,
     indent: &str,
-    p: &Policy,
-    held: &Held,
+    held: &Held<'_>,
     s: StepId,
     branch: &Branch,
 ) -> Result<(), AllocError> {
@@ -87,13 +79,13 @@ fn push_branch(
         Kid::Tree(Tree::Rule(_)) => Ok(()),
         Kid::Tree(tree) => {
             say(out, &[indent, "- If "])?;
-            push_user(out, p, branch.user)?;
+            push_user(out, held.policy, branch.user)?;
             out.push_str(" does it, ")?;
             let next = given(held, s, branch.user);
             let deeper = format!(in alloc; "{indent}  ")?;
-            push_node(alloc, out, deeper.as_str(), p, &next, tree)
+            push_node(alloc, out, deeper.as_str(), &next, tree)
         }
-        Kid::Twin(twin) => push_twin(out, indent, p, branch.user, *twin),
+        Kid::Twin(twin) => push_twin(out, indent, held.policy, branch.user, *twin),
     }
 }
 
@@ -118,18 +110,15 @@ fn push_leaves(
     alloc: Global,
     out: &mut String,
     indent: &str,
-    p: &Policy,
-    held: &Held,
+    held: &Held<'_>,
     s: StepId,
     branches: &[Branch],
-) -> Result<(), AllocError>
-    requires { held.now.flow < length p.now.flows }
-{
+) -> Result<(), AllocError> {
     for k in 0..RULE_LIMIT {
         let users = users_of(branches, Some(k as u8));
         if users.count() > 0 {
             say(out, &[indent, "- "])?;
-            push_leaf(alloc, out, p, held, s, k as u8, &users)?;
+            push_leaf(alloc, out, held, s, k as u8, &users)?;
             out.push_str(".\n")?;
         }
     }
@@ -140,21 +129,18 @@ fn push_leaves(
 fn push_leaf(
     alloc: Global,
     out: &mut String,
-    p: &Policy,
-    held: &Held,
+    held: &Held<'_>,
     s: StepId,
     k: u8,
     users: &UserSet,
-) -> Result<(), AllocError>
-    requires { held.now.flow < length p.now.flows }
-{
+) -> Result<(), AllocError> {
     out.push_str("If ")?;
-    push_users(alloc, out, p, users, "or")?;
+    push_users(alloc, out, held.policy, users, "or")?;
     out.push_str(" does it, ")?;
     match users.next(0) {
         Some(u) => {
             let next = given(held, s, u);
-            push_broken(alloc, out, p, &next, k, " is broken", false)
+            push_broken(alloc, out, &next, k, " is broken", false)
         }
         None => Ok(()),
     }
@@ -180,37 +166,27 @@ fn users_of(branches: &[Branch], rule: Option<u8>) -> UserSet {
 fn push_choice(
     alloc: Global,
     out: &mut String,
-    p: &Policy,
-    held: &Held,
+    held: &Held<'_>,
     s: StepId,
     branches: &[Branch],
-) -> Result<(), AllocError>
-    requires { held.now.flow < length p.now.flows }
-{
-    push_step(out, p, held.flow, s)?;
+) -> Result<(), AllocError> {
+    push_step(out, held.policy, held.flow, s)?;
     out.push_str(" can be done by ")?;
     let users = users_of(branches, None);
     if users.count() == 0 {
         return out.push_str("nobody");
     }
-    push_users(alloc, out, p, &users, "and")?;
+    push_users(alloc, out, held.policy, &users, "and")?;
     out.push_str(" alone")
 }
 
 /// Adds that who has a step may no longer do it.
-pub(crate) fn push_holder(
-    out: &mut String,
-    p: &Policy,
-    held: &Held,
-    s: StepId,
-) -> Result<(), AllocError>
-    requires { held.now.flow < length p.now.flows }
-{
+pub(crate) fn push_holder(out: &mut String, held: &Held<'_>, s: StepId) -> Result<(), AllocError> {
     if let Some(u) = held.users.at(s) {
-        push_user(out, p, u)?;
+        push_user(out, held.policy, u)?;
     }
     out.push_str(" holds ")?;
-    push_step(out, p, held.flow, s)?;
+    push_step(out, held.policy, held.flow, s)?;
     out.push_str(" and is no longer allowed to do it")
 }
 
@@ -218,22 +194,19 @@ pub(crate) fn push_holder(
 pub(crate) fn push_short(
     alloc: Global,
     out: &mut String,
-    p: &Policy,
-    held: &Held,
+    held: &Held<'_>,
     tree: &Tree,
-) -> Result<(), AllocError>
-    requires { held.now.flow < length p.now.flows }
-{
+) -> Result<(), AllocError> {
     match tree {
         Tree::Holder(s) => {
             out.push_str(". ")?;
-            push_holder(out, p, held, *s)
+            push_holder(out, held, *s)
         }
         Tree::Rule(k) => {
             out.push_str(". ")?;
-            push_broken(alloc, out, p, held, *k, " is broken", false)
+            push_broken(alloc, out, held, *k, " is broken", false)
         }
-        Tree::Step(s, branches) => push_short_node(alloc, out, p, held, *s, branches.as_slice()),
+        Tree::Step(s, branches) => push_short_node(alloc, out, held, *s, branches.as_slice()),
     }
 }
 
@@ -241,17 +214,14 @@ pub(crate) fn push_short(
 fn push_short_node(
     alloc: Global,
     out: &mut String,
-    p: &Policy,
-    held: &Held,
+    held: &Held<'_>,
     s: StepId,
     branches: &[Branch],
-) -> Result<(), AllocError>
-    requires { held.now.flow < length p.now.flows }
-{
+) -> Result<(), AllocError> {
     match branches {
         [] => {
             out.push_str(". ")?;
-            push_choice(alloc, out, p, held, s, branches)
+            push_choice(alloc, out, held, s, branches)
         }
         [
             Branch {
@@ -265,9 +235,9 @@ fn push_short_node(
                 return Ok(());
             }
             out.push_str(". ")?;
-            push_choice(alloc, out, p, held, s, branches)?;
+            push_choice(alloc, out, held, s, branches)?;
             out.push_str(". ")?;
-            push_leaf(alloc, out, p, held, s, *k, &users)
+            push_leaf(alloc, out, held, s, *k, &users)
         }
         _ => Ok(()),
     }

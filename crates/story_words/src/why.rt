@@ -1,5 +1,4 @@
 //! Why nobody can finish a case, in lines: a tree, or what is shorter.
-ghost use Rattle.std.specs.Prelude.{◌<◌, length};
 
 use crate::crowds::push_crowd;
 use crate::held::{Held, fits};
@@ -7,7 +6,6 @@ use crate::names::push_rules;
 use crate::trees::{push_holder, push_tree};
 use constraint_forms::Rule;
 use plain_words::rule_text;
-use policy_book::Policy;
 use refutation_tree::Tree;
 use rule_core::{Why, why_of};
 use std::alloc::{AllocError, Global};
@@ -21,19 +19,16 @@ const MOST_NODES: u64 = 40;
 pub(crate) fn push_why(
     alloc: Global,
     out: &mut String,
-    p: &Policy,
-    held: &Held,
+    held: &Held<'_>,
     tree: &Tree,
-) -> Result<(), AllocError>
-    requires { held.now.flow < length p.now.flows }
-{
-    if !fits(p, held) {
-        return push_small(alloc, out, p, held, tree);
+) -> Result<(), AllocError> {
+    if !fits(held) {
+        return push_small(alloc, out, held, tree);
     }
-    match why_of(alloc, p, held.flow, &held.users, &held.done)? {
-        Why::Crowd(steps) => push_crowd(alloc, out, p, held, steps.as_slice()),
-        Why::Clash(rules) => push_clash(alloc, out, p, held, tree, rules.as_slice()),
-        Why::Plan(_) => push_small(alloc, out, p, held, tree),
+    match why_of(alloc, held.policy, held.flow, &held.users, &held.done)? {
+        Why::Crowd(steps) => push_crowd(alloc, out, held, steps.as_slice()),
+        Why::Clash(rules) => push_clash(alloc, out, held, tree, rules.as_slice()),
+        Why::Plan(_) => push_small(alloc, out, held, tree),
     }
 }
 
@@ -41,36 +36,30 @@ pub(crate) fn push_why(
 fn push_small(
     alloc: Global,
     out: &mut String,
-    p: &Policy,
-    held: &Held,
+    held: &Held<'_>,
     tree: &Tree,
-) -> Result<(), AllocError>
-    requires { held.now.flow < length p.now.flows }
-{
+) -> Result<(), AllocError> {
     if tree.nodes() > MOST_NODES {
         return Ok(());
     }
-    push_tree(alloc, out, "  ", p, held, tree)
+    push_tree(alloc, out, "  ", held, tree)
 }
 
 // Adds a small tree, or else the words of the rules; and that they cannot be met together.
 fn push_clash(
     alloc: Global,
     out: &mut String,
-    p: &Policy,
-    held: &Held,
+    held: &Held<'_>,
     tree: &Tree,
     rules: &[u8],
-) -> Result<(), AllocError>
-    requires { held.now.flow < length p.now.flows }
-{
+) -> Result<(), AllocError> {
     if rules.is_empty() {
-        return push_blameless(out, p, held);
+        return push_blameless(out, held);
     }
     if tree.nodes() > MOST_NODES {
-        push_rule_lines(alloc, out, p, held, rules)?;
+        push_rule_lines(alloc, out, held, rules)?;
     } else {
-        push_tree(alloc, out, "  ", p, held, tree)?;
+        push_tree(alloc, out, "  ", held, tree)?;
     }
     push_rules(alloc, out, "Rule", rules)?;
     out.push_str(match rules.len() {
@@ -84,15 +73,12 @@ fn push_clash(
 fn push_rule_lines(
     alloc: Global,
     out: &mut String,
-    p: &Policy,
-    held: &Held,
+    held: &Held<'_>,
     rules: &[u8],
-) -> Result<(), AllocError>
-    requires { held.now.flow < length p.now.flows }
-{
+) -> Result<(), AllocError> {
     for k in rules {
-        if let Some(rule) = p.rules(held.flow).as_slice().get(*k as usize) {
-            push_rule_line(alloc, out, p, held, rule, *k)?;
+        if let Some(rule) = held.rules().as_slice().get(*k as usize) {
+            push_rule_line(alloc, out, held, rule, *k)?;
         }
     }
     Ok(())
@@ -101,27 +87,22 @@ fn push_rule_lines(
 fn push_rule_line(
     alloc: Global,
     out: &mut String,
-    p: &Policy,
-    held: &Held,
+    held: &Held<'_>,
     rule: &Rule,
     k: u8,
-) -> Result<(), AllocError>
-    requires { held.now.flow < length p.now.flows }
-{
-    let words = rule_text(alloc, p, held.flow, rule)?;
+) -> Result<(), AllocError> {
+    let words = rule_text(alloc, held.policy, held.flow, rule)?;
     write!(out, "  rule {k}: {words}\n")
 }
 
 // Adds that no rule is to blame, and who has lost a step.
-fn push_blameless(out: &mut String, p: &Policy, held: &Held) -> Result<(), AllocError>
-    requires { held.now.flow < length p.now.flows }
-{
+fn push_blameless(out: &mut String, held: &Held<'_>) -> Result<(), AllocError> {
     out.push_str("  No rule is to blame: ")?;
     for s in 0..STEP_LIMIT {
         let step = StepId(s as u8);
         if let (false, Some(u)) = (held.done.has(step), held.users.at(step)) {
-            if !p.authorised_users(held.flow, step).has(u) {
-                push_holder(out, p, held, step)?;
+            if !held.policy.authorised_users(held.flow, step).has(u) {
+                push_holder(out, held, step)?;
                 return out.push_str(".\n");
             }
         }
