@@ -38,7 +38,8 @@ pub book_after : (roster after : RosterShape) (m : Pairs) (rs : List RelationSha
 book_after roster after m rs names flows ws admin u r n ds old new rest changed seen there settled long book differs =
     let now : AreSettled (record roster { members = m }) flows u r ds new =
     subst (λ (x : RosterShape). AreSettled x flows u r ds new) changed
-    (subst (λ (xs : List WorkflowShape). AreSettled after xs u r ds new) seen (subst (λ (xs : List DutyShape). AreSettled after ws u r xs new) there settled)) in
+    (subst (λ (xs : List WorkflowShape). AreSettled after xs u r ds new) seen
+    (subst (λ (xs : List DutyShape). AreSettled after ws u r xs new) there settled)) in
     subst (λ (xs : List DutyShape). IsBook after rs names flows admin xs) (sym (whole n new rest (settled.count ∙ long)))
     (subst (λ (x : RosterShape). IsBook x rs names flows admin new) (sym changed) (book_settled roster m rs names flows admin u r ds new book differs now))
 
