@@ -18,7 +18,7 @@ use Rattle.policy_book.specs.Policies.{flow_at, problem_of, with_flow, with_pair
 use Rattle.policy_book.specs.Plans.{IsWithin}
 use Rattle.policy_book.specs.Stored.{IsStoredPolicy}
 use Rattle.policy_book.proofs.Keeping.{all_inserted, all_removed, pairs_of_users, sound_forbidden, sound_permitted, stored_with_flow, stored_with_pairs}
-use Rattle.policy_book.proofs.Keeping.{stored_with_user}
+use Rattle.policy_book.proofs.Keeping.{stored_with_members, stored_with_user}
 use Rattle.wf_talk.specs.declared.edit.Edit.{Edit}
 use Rattle.wf_talk.specs.declared.edit.Edit.TheVariants as edit
 use Rattle.wf_talk.specs.declared.edit.Missing.TheVariants.{Flow, Step, Relation, User, Role}
@@ -95,15 +95,8 @@ sound_with_flow p f w sound within new =
     (stored_with_flow p.roster p.relations (record { names = p.flow_names; limit = FLOW_LIMIT }) p.flows p.admin (stored p sound) f w within new).sound
 
 sound_with_members : (p : PolicyShape) (members : Pairs) → IsSoundPolicy p → IsSoundPolicy (with_roster p (record p.roster { members = members }))
-sound_with_members p members sound = record {
-  users = sound.users;
-  roles = sound.roles;
-  admin = sound.admin;
-  named = sound.named;
-  few = sound.few;
-  related = sound.related;
-  flows = sound.flows;
-}
+sound_with_members p members sound =
+    (stored_with_members p.roster p.relations (record { names = p.flow_names; limit = FLOW_LIMIT }) p.flows p.admin (stored p sound) members).sound
 
 sound_with_pairs : (p : PolicyShape) (rho : ℕ) (pairs : Pairs) → IsSoundPolicy p →
     AllPairs (λ u v. (u < length p.roster.users) × (v < length p.roster.users)) pairs → IsSoundPolicy (with_pairs p rho pairs)

@@ -2,40 +2,23 @@
 use Rattle.std.proofs.Common.{◌≡◌, ℕ, ◌<◌, ◌++◌, List, length, take, slice_index_or, slice_set, refl, sym, ap, subst, ◌∙◌, arith}
 use Rattle.std.proofs.lemmas.List.{get_or_default}
 use Rattle.std.proofs.Math.Seq.{take-append_seam}
-use Rattle.basics.specs.Pairs.{Pairs}
+use Rattle.basics.specs.Pairs.{AllPairs, Pairs}
 use Rattle.wf_names.specs.Table.{Table}
 use Rattle.rbac_state.specs.Rosters.{RosterShape}
-use Rattle.user_relations.specs.Relations.{RelationShape}
+use Rattle.user_relations.specs.Relations.{RelationShape, listed, with_kind}
 use Rattle.workflow_schema.specs.Flows.{FlowShape}
 use Rattle.wf_names.specs.UserSets.{has_user}
 use Rattle.policy_book.specs.Shapes.{PolicyShape, WorkflowShape}
 use Rattle.policy_book.specs.Policies.{flow_at, no_workflow}
 use Rattle.policy_book.specs.Facts.{IsSoundWorkflow}
-use Rattle.policy_book.specs.Stored.{IsStoredPolicy, shape_of}
+use Rattle.policy_book.specs.Stored.{shape_of}
 use Rattle.policy_book.specs.Duties.{AreSettled, DutyShape, IsBook, may_do}
-use Rattle.policy_book.proofs.Keeping.{sound_at, stored_with_flow}
+use Rattle.policy_book.proofs.Keeping.{sound_at, stored_with_flow, stored_with_members, stored_with_pairs}
 use Rattle.policy_book.proofs.Rows.{DiffersAt, PermitsAt, kept_settled, kept_with_permits}
 
 -- what was written into a whole list
 pub whole : (n : ℕ) (xs ys : List DutyShape) → length xs ≡ n → take n (xs ++ ys) ≡ xs
 whole n xs ys long = ap (λ k. take k (xs ++ ys)) (sym long) ∙ take-append_seam xs ys
-
--- other memberships
-stored_with_members : (roster : RosterShape) (m : Pairs) (rs : List RelationShape) (names : Table) (flows : List WorkflowShape) (admin : ℕ) →
-    IsStoredPolicy roster rs names flows admin
-    → IsStoredPolicy (record roster { members = m }) rs names flows admin
-stored_with_members roster m rs names flows admin old = record {
-  limit = old.limit;
-  sound = record {
-    users = old.sound.users;
-    roles = old.sound.roles;
-    admin = old.sound.admin;
-    named = old.sound.named;
-    few = old.sound.few;
-    related = old.sound.related;
-    flows = old.sound.flows;
-  };
-}
 
 -- a membership of one user more or less, where the user is put right
 book_settled : (roster : RosterShape) (m : Pairs) (rs : List RelationShape) (names : Table) (flows : List WorkflowShape) (admin u r : ℕ)
@@ -43,7 +26,7 @@ book_settled : (roster : RosterShape) (m : Pairs) (rs : List RelationShape) (nam
     → IsBook roster rs names flows admin ds → DiffersAt u r roster (record roster { members = m }) → AreSettled (record roster { members = m }) flows u r ds es
     → IsBook (record roster { members = m }) rs names flows admin es
 book_settled roster m rs names flows admin u r ds es old differs settled = record {
-  stored = stored_with_members roster m rs names flows admin old.stored;
+  stored = stored_with_members roster rs names flows admin old.stored m;
   kept = kept_settled roster (record roster { members = m }) flows u r ds es refl differs old.kept settled;
 }
 
@@ -55,7 +38,8 @@ pub book_after : (roster after : RosterShape) (m : Pairs) (rs : List RelationSha
 book_after roster after m rs names flows ws admin u r n ds old new rest changed seen there settled long book differs =
     let now : AreSettled (record roster { members = m }) flows u r ds new =
     subst (λ (x : RosterShape). AreSettled x flows u r ds new) changed
-    (subst (λ (xs : List WorkflowShape). AreSettled after xs u r ds new) seen (subst (λ (xs : List DutyShape). AreSettled after ws u r xs new) there settled)) in
+    (subst (λ (xs : List WorkflowShape). AreSettled after xs u r ds new) seen
+    (subst (λ (xs : List DutyShape). AreSettled after ws u r xs new) there settled)) in
     subst (λ (xs : List DutyShape). IsBook after rs names flows admin xs) (sym (whole n new rest (settled.count ∙ long)))
     (subst (λ (x : RosterShape). IsBook x rs names flows admin new) (sym changed) (book_settled roster m rs names flows admin u r ds new book differs now))
 
@@ -85,3 +69,11 @@ book_with_permits p roster rs names flows admin ds g f s w seen d permits change
       stored = stored_with_flow roster rs names flows admin book.stored f _ within (sound before);
       kept = kept_with_permits roster flows ds f s w d permits row within step book.kept w_is kept_at others right;
     }) told
+
+-- other pairs of users in one relation
+pub book_with_pairs : (roster : RosterShape) (rs after : List RelationShape) (names : Table) (flows : List WorkflowShape) (admin rho : ℕ)
+    (ds : List DutyShape) (pairs : Pairs) → after ≡ with_kind rs rho (listed pairs)
+    → AllPairs (λ u v. (u < length roster.users) × (v < length roster.users)) pairs → IsBook roster rs names flows admin ds →
+    IsBook roster after names flows admin ds
+book_with_pairs roster rs after names flows admin rho ds pairs changed within book =
+    rw changed (record { stored = stored_with_pairs roster rs names flows admin book.stored rho pairs within; kept = book.kept })

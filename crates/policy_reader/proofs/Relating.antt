@@ -72,11 +72,6 @@ kept_none users all = record { names = ((refl, tt), (tt, tt)); kinds = no_kind }
 
 -- ---- the last relation
 
-pub related_none : (users : ℕ) → AreOfUsers users []
-related_none users zero pairs e = cc
-related_none users (suc zero) pairs e = cc
-related_none users (suc (suc n)) pairs e = cc
-
 pub ascend_none : Ascend []
 unfolding IsStrictlySortedBy
 ascend_none = tt

@@ -2,7 +2,8 @@ use Rattle.std.proofs.Common.{◌<◌, ap, length, arith}
 use Rattle.std.specs.FinSet as set
 use Rattle.policy_book.specs.Shapes.{PolicyShape}
 use Rattle.user_relations.specs.Relations.{pairs_of}
-use Rattle.policy_book.proofs.Keeping.{stored_with_pairs, pairs_of_users, all_inserted}
+use Rattle.policy_book.proofs.Book.{book_with_pairs}
+use Rattle.policy_book.proofs.Keeping.{pairs_of_users, all_inserted}
 use Rattle.policy_book.proofs.policy.Policy.relate.Goals as goal
 use Rattle.policy_book.proofs.policy.Policy.relate.Goals.{in-Ok, in-Err}
 
@@ -25,11 +26,8 @@ invariant_of-self c =
     let before = pairs_of_users (length c.self.inside.roster.users) rs c.args.rho c.self.invariant.stored.sound.related in
     let after = all_inserted (length c.self.inside.roster.users) (pairs_of rs c.args.rho) c.args.u c.args.v before first second in
     elim c.match-relate.branch [
-      | in-Ok w ↦ rw w.in-Ok.ensures.related
-          (record {
-            stored = stored_with_pairs c.self.inside.roster rs c.self.inside.names c.self.inside.flows.items c.self.inside.admin
-                c.self.invariant.stored c.args.rho (set.insert (pairs_of rs c.args.rho) (c.args.u, c.args.v)) after;
-            kept = c.self.invariant.kept;
-          })
+      | in-Ok w ↦
+          book_with_pairs c.self.inside.roster rs c.relate.new.self c.self.inside.names c.self.inside.flows.items c.self.inside.admin c.args.rho
+          c.self.inside.duties.items (set.insert (pairs_of rs c.args.rho) (c.args.u, c.args.v)) w.in-Ok.ensures.related after c.self.invariant
       | in-Err w ↦ rw w.in-Err.ensures.unchanged c.self.invariant
     ]

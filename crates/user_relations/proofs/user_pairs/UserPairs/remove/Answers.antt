@@ -1,11 +1,9 @@
-use Rattle.std.proofs.Common.{◌∙◌, ◌==◌, ◌&&◌, ◌-◌, ap, sym, subst, length, List, arith, false}
+use Rattle.std.proofs.Common.{◌∙◌, ◌==◌, ◌&&◌, ap, sym, length, arith, false}
 use Rattle.std.specs.FinSet as set
 use Rattle.basics.specs.PairLaws.{pair_cmp_total, pair_cmp-IsAntisymmetric, remove_absent}
 use Rattle.basics.specs.Tables.{set_of_remove}
 use Rattle.wf_names.specs.declared.limits.TheConstants.{USER_LIMIT}
-use Rattle.user_relations.specs.declared.blocks.Block.{Block}
-use Rattle.user_relations.specs.Rows.{row_bit, written, pairs_in, AreRows}
-use Rattle.std.specs.Vec.{with_items}
+use Rattle.user_relations.specs.Rows.{row_bit, written, pairs_in}
 use Rattle.std.proofs.lemmas.List.{with_items_is}
 use Rattle.user_relations.proofs.RowBits.{taken_is}
 use Rattle.user_relations.proofs.RowSets.{rows_taken, some_pair, held_within}
@@ -32,19 +30,17 @@ invariant_of-self-2 c =
     let v = c.args.v in
     let ahead = c.self.inside.ahead in
     let behind = c.self.inside.behind in
-    let new_ahead = with_items_is ahead c.write.new.ahead (c.write.auto.ahead ∙ c.deref_mut.ensures.len) in
-    let new_behind = with_items_is behind c.write.new.behind (c.write.auto.behind ∙ c.deref_mut-2.ensures.len) in
     let here = ap (λ s. set.contains s (u, v)) c.self.view_is ∙ sym c.has.ensures ∙ c.if-not-has.false in
-    let rows = rows_taken ahead.items behind.items c.write.new.ahead c.write.new.behind c.self.inside.count u v c.self.invariant
+    rw (
+      with_items_is ahead c.write.new.ahead (c.write.auto.ahead ∙ c.deref_mut.ensures.len),
+      with_items_is behind c.write.new.behind (c.write.auto.behind ∙ c.deref_mut-2.ensures.len),
+    ) (rows_taken ahead.items behind.items c.write.new.ahead c.write.new.behind c.self.inside.count u v c.self.invariant
     (c.write.auto.ahead ∙ ap length c.deref_mut.ensures.value) (c.write.auto.behind ∙ ap length c.deref_mut-2.ensures.value)
     here
     (λ x y. c.in_ok-write.ensures.ahead x y ∙ ap (λ bs. written false (x == u && y == v) (row_bit bs x y)) c.deref_mut.ensures.value ∙
     taken_is (x == u && y == v) (row_bit c.self.inside.ahead.items x y))
     (λ y x. c.in_ok-write.ensures.behind y x ∙ ap (λ bs. written false (y == v && x == u) (row_bit bs y x)) c.deref_mut-2.ensures.value ∙
-    taken_is (y == v && x == u) (row_bit c.self.inside.behind.items y x))
-    in
-    subst (λ (bs : List Block). AreRows bs (with_items behind c.write.new.behind).items (c.self.inside.count - 1)) (sym new_ahead)
-    (subst (λ (bs : List Block). AreRows c.write.new.ahead bs (c.self.inside.count - 1)) (sym new_behind) rows)
+    taken_is (y == v && x == u) (row_bit c.self.inside.behind.items y x)))
 
 pub returns-clause-removed : goal.returns-clause-removed
 returns-clause-removed c =
