@@ -215,3 +215,5 @@ all_left_end p group from k s left len below none before =
 pub ruleset any_walk = (any_end, any_go, any_stop)
 
 pub ruleset all_walk = (all_end, all_go, all_stop)
+
+pub ruleset members_walk = (free_end, users_end)
