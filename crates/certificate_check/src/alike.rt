@@ -35,7 +35,8 @@ fn have_no_step(a: &Assign, u: UserId, v: UserId) -> bool
     has_no_step(a, u) && has_no_step(a, v)
 }
 
-fn has_no_step(a: &Assign, u: UserId) -> bool
+/// Whether no step is given to a user.
+pub fn has_no_step(a: &Assign, u: UserId) -> bool
     ensures { result ≡ has_no_step a.now u }
 {
     'steps: for s in 0..STEP_LIMIT {

@@ -7,7 +7,7 @@ mod moved;
 mod plan;
 mod tree;
 
-pub use alike::{are_related_alike, twins};
+pub use alike::{are_related_alike, has_no_step, twins};
 pub use moved::moved_plan;
 pub use plan::{PlanFault, check_plan, is_valid_plan};
 pub use tree::{check_tree, mentions};

@@ -1,5 +1,5 @@
 -- Flags in rows, and what the model that says a plan says.
-use Rattle.std.proofs.Common.{◌≡◌, refl, sym, ap, subst, ◌∙◌, ℕ, zero, suc, ◌+◌, ◌*◌, ◌-◌, ◌<◌, ◌≤◌, Bool, true, false, ◌==◌, nat_eq, nat_le, nat_lt, List, []}
+use Rattle.std.proofs.Common.{◌≡◌, refl, sym, ap, subst, ◌∙◌, ℕ, zero, suc, ◌+◌, ◌*◌, ◌-◌, ◌<◌, Bool, true, false, ◌==◌, nat_eq, nat_le, nat_lt, List, []}
 use Rattle.std.proofs.Common.{◌∷◌, ◌++◌, map, length, slice_index_or, Option, ◌⊎◌, inl, inr, arith, append_assoc, suc-mul, cond}
 use Rattle.std.specs.List.{flat_map}
 use Rattle.basics.proofs.Booleans.{bool_cases, differ, eq_back, eq_is}
@@ -95,10 +95,6 @@ count_none test = refl
 pub count_next : (test : ℕ → Bool) (n : ℕ) → count_below (suc n) test ≡ count_below n test + cond (test n) 1 0
 unfolding count_below
 count_next test n = refl
-
-pub one_at_most : (b : Bool) → cond b 1 0 ≤ 1
-one_at_most true = omega arith
-one_at_most false = omega arith
 
 -- ---- what the flags say
 

@@ -67,29 +67,21 @@ pub all_added : (g : ℕ → ℤ) (test : ℕ → Bool) (into : List ℤ) (k n :
 all_added g test into k n none = sym (append-nil into) ∙ ap (λ us. into ++ map g us) (sym (none_passing test k n none))
 
 -- one more is looked at
-pub one_looked_at : {A : Type 0} (f : ℕ → List A) (test : ℕ → Bool) (into after : List A) (t n : ℕ) → t < n → (test t ≡ true → after ≡ into ++ f t) →
-    (test t ≡ false → after ≡ into) →
-    after ++ flat_map f (passing test (t + 1) (n - (t + 1))) ≡ into ++ flat_map f (passing test t (n - t))
-one_looked_at f test into after t n below added kept = at (test t) refl ∙ ap (λ us. into ++ flat_map f us) (sym (passing_at test t n below))
-  where
-    rest : List ℕ
-    rest = passing test (t + 1) (n - (t + 1))
+-- a number that passes is listed, by what it comes to
+pub listed_one : {A : Type 0} (list : List ℕ → List A) (one : List A) (test : ℕ → Bool) (into after : List A) (t n : ℕ) →
+    ((us : List ℕ) → list (t ∷ us) ≡ one ++ list us) → t < n → test t ≡ true → after ≡ into ++ one →
+    after ++ list (passing test (t + 1) (n - (t + 1))) ≡ into ++ list (passing test t (n - t))
+listed_one list one test into after t n more below passes added =
+    let rest : List ℕ = passing test (t + 1) (n - (t + 1)) in
+    ap (λ ls. ls ++ list rest) added ∙ append_assoc into one (list rest)
+    ∙ ap (λ ls. into ++ ls) (sym (ap list (passing_at test t n below ∙ ap (λ b. cond b (t ∷ rest) rest) passes) ∙ more rest))
 
-    at : (b : Bool) → test t ≡ b → after ++ flat_map f rest ≡ into ++ flat_map f (cond b (t ∷ rest) rest)
-    at true is = ap (λ ls. ls ++ flat_map f rest) (added is) ∙ append_assoc into (f t) (flat_map f rest)
-    at false is = ap (λ ls. ls ++ flat_map f rest) (kept is)
-
-pub one_mapped : {A : Type 0} (f : ℕ → A) (test : ℕ → Bool) (into after : List A) (t n : ℕ) → t < n → (test t ≡ true → after ≡ into ++ f t ∷ []) →
-    (test t ≡ false → after ≡ into) →
-    after ++ map f (passing test (t + 1) (n - (t + 1))) ≡ into ++ map f (passing test t (n - t))
-one_mapped {A} f test into after t n below added kept = at (test t) refl ∙ ap (λ us. into ++ map f us) (sym (passing_at test t n below))
-  where
-    rest : List ℕ
-    rest = passing test (t + 1) (n - (t + 1))
-
-    at : (b : Bool) → test t ≡ b → after ++ map f rest ≡ into ++ map f (cond b (t ∷ rest) rest)
-    at true is = ap (λ ls. ls ++ map f rest) (added is) ∙ append_assoc into (f t ∷ []) (map f rest)
-    at false is = ap (λ ls. ls ++ map f rest) (kept is)
+-- one that does not pass is not
+pub listed_none : {A : Type 0} (list : List ℕ → List A) (test : ℕ → Bool) (into after : List A) (t n : ℕ) → t < n → test t ≡ false → after ≡ into →
+    after ++ list (passing test (t + 1) (n - (t + 1))) ≡ into ++ list (passing test t (n - t))
+listed_none list test into after t n below fails kept =
+    let rest : List ℕ = passing test (t + 1) (n - (t + 1)) in
+    ap (λ ls. ls ++ list rest) kept ∙ ap (λ us. into ++ list us) (sym (passing_at test t n below ∙ ap (λ b. cond b (t ∷ rest) rest) fails))
 
 pub numbers_at : (k n : ℕ) → k < n → numbers k (n - k) ≡ k ∷ numbers (k + 1) (n - (k + 1))
 numbers_at k n below = let more : n - k ≡ suc (n - (k + 1)) = omega arith in ap (numbers k) more

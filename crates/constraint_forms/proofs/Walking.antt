@@ -211,3 +211,9 @@ pub all_left_end : (p : ℕ → Bool) (group : List Bool) (from : ℕ) (k s left
     → ((t : ℕ) → from ≤ t → is_member group t ≡ false) → (k || (s && not (all_from from (drop from group) p))) ≡ left → k ≡ left
 all_left_end p group from k s left len below none before =
     nobody k s ∙ ap (λ b. k || (s && not b)) (sym (all_end p group from len below none)) ∙ before
+
+pub ruleset any_walk = (any_end, any_go, any_stop)
+
+pub ruleset all_walk = (all_end, all_go, all_stop)
+
+pub ruleset members_walk = (free_end, users_end)

@@ -11,6 +11,7 @@ use crate::{Assign, Plan, StepSet};
 use wf_names::{StepId, USER_LIMIT, UserId, UserSet};
 
 /// How many users the members have.
+#[tactic(auto, using(crate::proofs::Walking::members_walk))]
 pub(crate) fn count_users(a: &Assign, group: &StepSet) -> usize
     ensures users { result ≡ different (users_from 0 group.now (user_at a.now)) }
     ensures few { result ≤ STEP_LIMIT }
@@ -39,6 +40,7 @@ fn is_last(a: &Assign, group: &StepSet, s: StepId) -> bool
 }
 
 // Whether a member from a step on has a user.
+#[tactic(auto, using(crate::proofs::Walking::members_walk))]
 fn is_user_from(a: &Assign, group: &StepSet, first: u8, u: UserId) -> bool
     requires { first ≤ STEP_LIMIT }
     ensures { result ≡ is_among (users_from first (drop first group.now) (user_at a.now)) u }
@@ -64,6 +66,7 @@ fn is_user(user: Option<UserId>, u: UserId) -> bool
 }
 
 /// How many members are free.
+#[tactic(auto, using(crate::proofs::Walking::members_walk))]
 pub(crate) fn count_free(a: &Assign, group: &StepSet) -> usize
     ensures free { result ≡ free_from 0 group.now (user_at a.now) }
     ensures few { result ≤ STEP_LIMIT }
@@ -80,6 +83,7 @@ pub(crate) fn count_free(a: &Assign, group: &StepSet) -> usize
 }
 
 /// The users of the members, those below the limit of users.
+#[tactic(auto, using(crate::proofs::Walking::members_walk))]
 pub(crate) fn users_of(a: &Assign, group: &StepSet) -> UserSet
     ensures { (u : ℕ) → u < USER_LIMIT
         → has_user result u ≡ is_among (users_from 0 group.now (user_at a.now)) u }

@@ -86,6 +86,7 @@ fn count_planned(plan: &Plan, group: &StepSet) -> usize
 }
 
 // Whether some member is assigned and unrelated to the step.
+#[tactic(auto, using(crate::proofs::Walking::any_walk))]
 fn any_unrelated<H: Holds>(
     h: &H,
     rho: RelId,
@@ -109,6 +110,7 @@ fn any_unrelated<H: Holds>(
 }
 
 // Whether every member is assigned and unrelated to the step.
+#[tactic(auto, using(crate::proofs::Walking::all_walk))]
 fn all_unrelated<H: Holds>(
     h: &H,
     rho: RelId,
@@ -132,6 +134,7 @@ fn all_unrelated<H: Holds>(
 }
 
 // Whether the user of some member is related to v.
+#[tactic(auto, using(crate::proofs::Walking::any_walk))]
 fn any_related<H: Holds>(
     h: &H,
     rho: RelId,
@@ -155,6 +158,7 @@ fn any_related<H: Holds>(
 }
 
 // Whether the user of every member is related to v.
+#[tactic(auto, using(crate::proofs::Walking::all_walk))]
 fn all_related<H: Holds>(
     h: &H,
     rho: RelId,

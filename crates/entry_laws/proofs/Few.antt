@@ -1,13 +1,11 @@
 -- No more cases are open than the limit, and a reply lists no more than there can be.
-use Rattle.std.proofs.Common.{◌≡◌, ℕ, zero, suc, ◌+◌, ◌*◌, ◌<◌, ◌≤◌, Bool, true, false, not, nat_eq, nat_le, List, [], ◌∷◌, ◌++◌, length, None, Result, Ok, Err}
+use Rattle.std.proofs.Common.{◌≡◌, ℕ, zero, suc, ◌+◌, ◌*◌, ◌<◌, ◌≤◌, Bool, true, false, nat_eq, List, [], ◌∷◌, ◌++◌, length, Result, Ok, Err}
 use Rattle.std.proofs.Common.{inl, inr, if◌then◌else◌, refl, sym, ap, subst, ◌∙◌, arith}
 use Rattle.std.specs.List.{list_all}
 use Rattle.std.proofs.lemmas.List.{length-append}
 use Rattle.std.proofs.lemmas.List.Elements.{filter-append}
-use Rattle.std.proofs.lemmas.List.Sums.{length-filter}
-use Rattle.basics.proofs.Booleans.{or_false, not_yes}
 use Rattle.wf_names.specs.States.{is_finished, is_live}
-use Rattle.wf_names.specs.declared.limits.TheConstants.{CASE_LIMIT, OPEN_CASE_LIMIT, STEP_LIMIT}
+use Rattle.wf_names.specs.declared.limits.TheConstants.{OPEN_CASE_LIMIT, STEP_LIMIT}
 use Rattle.wf_names.specs.declared.states.Phase.{Phase}
 use Rattle.wf_names.specs.declared.states.Phase.TheVariants.{Done, Withdrawn}
 use Rattle.wf_names.specs.declared.states.StepState.TheVariants.{Free, Held}
@@ -20,15 +18,14 @@ use Rattle.wf_talk.specs.declared.reply.Denial.{Denial}
 use Rattle.wf_talk.specs.declared.reply.Denial.TheVariants as denial
 use Rattle.policy_book.specs.Shapes.{PolicyShape}
 use Rattle.admin_edits.specs.Edits.{amended}
-use Rattle.admin_edits.proofs.Keeping.{always}
 use Rattle.wf_board.specs.declared.deed.Deed.{Deed}
 use Rattle.wf_board.specs.declared.deed.Deed.TheVariants as deed
-use Rattle.wf_board.specs.States.{Book, Numbered, State, is_full, open_cases, count_open, with_case_changed}
-use Rattle.wf_board.specs.Decisions.{cause_full, decision_aside, decision_of}
+use Rattle.wf_board.specs.States.{Numbered, State, open_cases, with_case_changed}
+use Rattle.wf_board.specs.Decisions.{decision_of}
 use Rattle.wf_board.specs.Steps.{Answers, IsReplyTo, IsStep, state_after_decision, state_after_deed, state_after_step}
 use Rattle.wf_board.specs.Views.{AreStranded, AreThose, IsWorkOf, item_of, steps_from, steps_of}
 use Rattle.wf_board.proofs.Faring.{Fares}
-use Rattle.wf_board.proofs.Told.{HoldsOf, then_holds, unless_holds, unless_tells}
+use Rattle.wf_board.proofs.Told.{HoldsOf}
 use Rattle.entry_laws.proofs.Numbers.{EachOf, HasRoom, IsOpenIn, decided_room, open_found}
 use Rattle.entry_laws.proofs.Parts.{case_few}
 use Rattle.entry_laws.proofs.Replies.{IsReached}

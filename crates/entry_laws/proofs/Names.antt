@@ -22,6 +22,7 @@ use Rattle.wf_talk.specs.declared.reply.Reply.{Reply}
 use Rattle.wf_talk.specs.declared.reply.Reply.TheVariants as reply
 use Rattle.wf_talk.specs.declared.reply.Denial.{Denial}
 use Rattle.wf_talk.specs.declared.reply.Denial.TheVariants as denial
+use Rattle.wf_talk.specs.declared.edit.Missing.{Missing}
 use Rattle.wf_talk.specs.declared.edit.Missing.TheVariants as missing
 use Rattle.user_relations.specs.Relations.{known_names}
 use Rattle.case_record.specs.Cases.{CaseShape}
@@ -126,46 +127,39 @@ then_same : {B C F : Type 0} (P : B → Type 0) (x : B) (r : Result C F) → P x
 then_same P x (Ok y) is = is
 then_same P x (Err fault) is = tt
 
+two_found : {F : Type 0} (r : Result ℕ F) (s : ℕ → Result ℕ F) (made : ℕ → ℕ → Amendment) → ((x y : ℕ) → IsNamedChange (made x y)) →
+    HoldsOf IsNamedChange (r >>= (λ x. s x >>= (λ y. Ok (made x y))))
+two_found r s made named =
+    then_any IsNamedChange r (λ x. s x >>= (λ y. Ok (made x y))) (λ x. then_any IsNamedChange (s x) (λ y. Ok (made x y)) (named x))
+
+three_found : {F : Type 0} (r : Result ℕ F) (s : ℕ → Result ℕ F) (t : Result ℕ F) (made : ℕ → ℕ → ℕ → Amendment) →
+    ((x y z : ℕ) → IsNamedChange (made x y z)) → HoldsOf IsNamedChange (r >>= (λ x. s x >>= (λ y. t >>= (λ z. Ok (made x y z)))))
+three_found r s t made named =
+    then_any IsNamedChange r (λ x. s x >>= (λ y. t >>= (λ z. Ok (made x y z)))) (λ x. two_found (s x) (λ _. t) (made x) (named x))
+
+abbrev named_at : List (List ℕ) → List ℕ → Missing → Result ℕ EditCause
+named_at names name other = or_fault (place_of names name) (fault.Unknown other)
+
 found_named : (p : PolicyShape) (e : Edit) → IsNamedEdit e → HoldsOf IsNamedChange (found p e)
 found_named p (edit.AddUser user) form = form
-found_named p (edit.Leave user) form =
-    then_any IsNamedChange (or_fault (place_of p.roster.users user) (fault.Unknown missing.User)) (λ u. Ok (amend.Leave u)) (λ u. tt)
+found_named p (edit.Leave user) form = then_any IsNamedChange (named_at p.roster.users user missing.User) (λ u. Ok (amend.Leave u)) (λ u. tt)
 found_named p (edit.Enrol role user) form =
-    then_any IsNamedChange (or_fault (place_of p.roster.users user) (fault.Unknown missing.User))
-    (λ u. or_fault (place_of p.roster.roles role) (fault.Unknown missing.Role) >>= (λ r. Ok (amend.Enrol u r)))
-    (λ u. then_any IsNamedChange (or_fault (place_of p.roster.roles role) (fault.Unknown missing.Role)) (λ r. Ok (amend.Enrol u r)) (λ r. tt))
+    two_found (named_at p.roster.users user missing.User) (λ u. named_at p.roster.roles role missing.Role) amend.Enrol (λ u r. tt)
 found_named p (edit.Dismiss role user) form =
-    then_any IsNamedChange (or_fault (place_of p.roster.users user) (fault.Unknown missing.User))
-    (λ u. or_fault (place_of p.roster.roles role) (fault.Unknown missing.Role) >>= (λ r. Ok (amend.Dismiss u r)))
-    (λ u. then_any IsNamedChange (or_fault (place_of p.roster.roles role) (fault.Unknown missing.Role)) (λ r. Ok (amend.Dismiss u r)) (λ r. tt))
+    two_found (named_at p.roster.users user missing.User) (λ u. named_at p.roster.roles role missing.Role) amend.Dismiss (λ u r. tt)
 found_named p (edit.Relate first relation second) form =
-    then_any IsNamedChange (or_fault (place_of (known_names p.relations) relation) (fault.Unknown missing.Relation))
-    (λ rho. or_fault (place_of p.roster.users first) (fault.Unknown missing.User) >>=
-    (λ u. or_fault (place_of p.roster.users second) (fault.Unknown missing.User) >>= (λ v. Ok (amend.Relate rho u v))))
-    (λ rho. then_any IsNamedChange (or_fault (place_of p.roster.users first) (fault.Unknown missing.User))
-    (λ u. or_fault (place_of p.roster.users second) (fault.Unknown missing.User) >>= (λ v. Ok (amend.Relate rho u v)))
-    (λ u. then_any IsNamedChange (or_fault (place_of p.roster.users second) (fault.Unknown missing.User)) (λ v. Ok (amend.Relate rho u v)) (λ v. tt)))
+    three_found (named_at (known_names p.relations) relation missing.Relation) (λ rho. named_at p.roster.users first missing.User)
+    (named_at p.roster.users second missing.User) amend.Relate (λ rho u v. tt)
 found_named p (edit.Unrelate first relation second) form =
-    then_any IsNamedChange (or_fault (place_of (known_names p.relations) relation) (fault.Unknown missing.Relation))
-    (λ rho. or_fault (place_of p.roster.users first) (fault.Unknown missing.User) >>=
-    (λ u. or_fault (place_of p.roster.users second) (fault.Unknown missing.User) >>= (λ v. Ok (amend.Unrelate rho u v))))
-    (λ rho. then_any IsNamedChange (or_fault (place_of p.roster.users first) (fault.Unknown missing.User))
-    (λ u. or_fault (place_of p.roster.users second) (fault.Unknown missing.User) >>= (λ v. Ok (amend.Unrelate rho u v)))
-    (λ u. then_any IsNamedChange (or_fault (place_of p.roster.users second) (fault.Unknown missing.User)) (λ v. Ok (amend.Unrelate rho u v)) (λ v. tt)))
+    three_found (named_at (known_names p.relations) relation missing.Relation) (λ rho. named_at p.roster.users first missing.User)
+    (named_at p.roster.users second missing.User) amend.Unrelate (λ rho u v. tt)
 found_named p (edit.Permit flow role step) form =
-    then_any IsNamedChange (or_fault (place_of p.flow_names flow) (fault.Unknown missing.Flow)) (λ f. or_fault (place_of (flow_at p f).flow.steps step)
-    (fault.Unknown missing.Step) >>= (λ s. or_fault (place_of p.roster.roles role) (fault.Unknown missing.Role) >>= (λ r. Ok (amend.Permit f r s))))
-    (λ f. then_any IsNamedChange (or_fault (place_of (flow_at p f).flow.steps step) (fault.Unknown missing.Step))
-    (λ s. or_fault (place_of p.roster.roles role) (fault.Unknown missing.Role) >>= (λ r. Ok (amend.Permit f r s)))
-    (λ s. then_any IsNamedChange (or_fault (place_of p.roster.roles role) (fault.Unknown missing.Role)) (λ r. Ok (amend.Permit f r s)) (λ r. tt)))
+    three_found (named_at p.flow_names flow missing.Flow) (λ f. named_at (flow_at p f).flow.steps step missing.Step)
+    (named_at p.roster.roles role missing.Role) (λ f s r. amend.Permit f r s) (λ f s r. tt)
 found_named p (edit.Forbid flow role step) form =
-    then_any IsNamedChange (or_fault (place_of p.flow_names flow) (fault.Unknown missing.Flow)) (λ f. or_fault (place_of (flow_at p f).flow.steps step)
-    (fault.Unknown missing.Step) >>= (λ s. or_fault (place_of p.roster.roles role) (fault.Unknown missing.Role) >>= (λ r. Ok (amend.Forbid f r s))))
-    (λ f. then_any IsNamedChange (or_fault (place_of (flow_at p f).flow.steps step) (fault.Unknown missing.Step))
-    (λ s. or_fault (place_of p.roster.roles role) (fault.Unknown missing.Role) >>= (λ r. Ok (amend.Forbid f r s)))
-    (λ s. then_any IsNamedChange (or_fault (place_of p.roster.roles role) (fault.Unknown missing.Role)) (λ r. Ok (amend.Forbid f r s)) (λ r. tt)))
-found_named p (edit.Retire flow) form =
-    then_any IsNamedChange (or_fault (place_of p.flow_names flow) (fault.Unknown missing.Flow)) (λ f. Ok (amend.Retire f)) (λ f. tt)
+    three_found (named_at p.flow_names flow missing.Flow) (λ f. named_at (flow_at p f).flow.steps step missing.Step)
+    (named_at p.roster.roles role missing.Role) (λ f s r. amend.Forbid f r s) (λ f s r. tt)
+found_named p (edit.Retire flow) form = then_any IsNamedChange (named_at p.flow_names flow missing.Flow) (λ f. Ok (amend.Retire f)) (λ f. tt)
 
 amendment_named : (p : PolicyShape) (by : List ℕ) (e : Edit) → IsNamedEdit e → HoldsOf IsNamedChange (amendment_of p by e)
 amendment_named p by e form =

@@ -1,5 +1,5 @@
 -- A line end behind what is printed changes no token.
-use Rattle.std.proofs.Common.{◌≡◌, ℕ, Bool, true, false, cond, ◌&&◌, List, [], ◌∷◌, ◌++◌, refl, sym, ap, ap₂, ◌∙◌, append_assoc}
+use Rattle.std.proofs.Common.{◌≡◌, ℕ, Bool, true, false, cond, ◌&&◌, List, [], ◌∷◌, ◌++◌, refl, sym, ap, ap₂, ◌∙◌, append_assoc, append-nil}
 use Rattle.json.specs.Token.{Token, begin_object, end_object, begin_array, end_array, key, string, number, boolean, null, bad}
 use Rattle.json.specs.Word.{ends_word, word}
 use Rattle.json.specs.Lex.{Lexeme, token, colon, string_token, lex, between, fresh, punctuate, tokens}
@@ -12,33 +12,22 @@ abbrev pub line_end : List ℕ
 line_end = 10 ∷ []
 
 -- after a value stands a comma, a closing bracket or a line end
-value_ends : (ts : List Token) → ends_word (print_from true ts ++ line_end) ≡ true
+value_ends : (ts : List Token) (more : List ℕ) → ends_word more ≡ true → ends_word (print_from true ts ++ more) ≡ true
 unfolding print_from
-value_ends [] = refl
-value_ends (begin_object ∷ ts) = refl
-value_ends (end_object ∷ ts) = refl
-value_ends (begin_array ∷ ts) = refl
-value_ends (end_array ∷ ts) = refl
-value_ends (key s ∷ ts) = refl
-value_ends (string s ∷ ts) = refl
-value_ends (number s ∷ ts) = refl
-value_ends (boolean b ∷ ts) = refl
-value_ends (null ∷ ts) = refl
-value_ends (bad ∷ ts) = refl
+value_ends [] more h = h
+value_ends (begin_object ∷ ts) more h = refl
+value_ends (end_object ∷ ts) more h = refl
+value_ends (begin_array ∷ ts) more h = refl
+value_ends (end_array ∷ ts) more h = refl
+value_ends (key s ∷ ts) more h = refl
+value_ends (string s ∷ ts) more h = refl
+value_ends (number s ∷ ts) more h = refl
+value_ends (boolean b ∷ ts) more h = refl
+value_ends (null ∷ ts) more h = refl
+value_ends (bad ∷ ts) more h = refl
 
 value_ends_alone : (ts : List Token) → ends_word (print_from true ts) ≡ true
-unfolding print_from
-value_ends_alone [] = refl
-value_ends_alone (begin_object ∷ ts) = refl
-value_ends_alone (end_object ∷ ts) = refl
-value_ends_alone (begin_array ∷ ts) = refl
-value_ends_alone (end_array ∷ ts) = refl
-value_ends_alone (key s ∷ ts) = refl
-value_ends_alone (string s ∷ ts) = refl
-value_ends_alone (number s ∷ ts) = refl
-value_ends_alone (boolean b ∷ ts) = refl
-value_ends_alone (null ∷ ts) = refl
-value_ends_alone (bad ∷ ts) = refl
+value_ends_alone ts = ap ends_word (sym (append-nil (print_from true ts))) ∙ value_ends ts [] refl
 
 quoted_before : (s r : List ℕ) → lex between (quoted s ++ r) ≡ token (string s) ∷ lex between r
 unfolding lex
@@ -84,7 +73,7 @@ ended c [] h = refl
 ended c (t ∷ ts) h =
     let rest = print_from (ends t) ts in
     let go : GoOnAlike t (rest ++ line_end) rest = record {
-      first = λ e. ap (λ b. ends_word (print_from b ts ++ line_end)) e ∙ value_ends ts;
+      first = λ e. ap (λ b. ends_word (print_from b ts ++ line_end)) e ∙ value_ends ts line_end refl;
       second = λ e. ap (λ b. ends_word (print_from b ts)) e ∙ value_ends_alone ts;
       rest = ended (ends t) ts h.1;
     } in

@@ -1,8 +1,7 @@
 -- What holds of each reading of a request holds of the reading of a word.
 use Rattle.std.proofs.Common.{refl, subst}
-use Rattle.std.specs.Prelude.{◌≡◌, ℕ, nat_eq, Bool, true, false, List, Option, Some, None, codes, option_map, option_and_then, Ok, if◌then◌else◌}
+use Rattle.std.specs.Prelude.{◌≡◌, ℕ, Bool, true, false, List, Option, Some, None, option_map, option_and_then, Ok, if◌then◌else◌}
 use Rattle.std.specs.Option.{option_or}
-use Rattle.std.specs.Cmp.Lexicographic.{pointwise}
 use Rattle.basics.specs.Reading.{or_fault}
 use Rattle.wf_talk.specs.declared.edit.Edit.{Edit}
 use Rattle.wf_talk.specs.declared.request.Request.{Request}
@@ -36,10 +35,7 @@ pub record AreAll (is_so : Reading → Type 0) : Type 0 where
 
 each_word : (is_so : Reading → Type 0) → AreAll is_so → (word : List ℕ) → Each is_so (reading_of word)
 each_word is_so all word =
-    if_so is_so (pointwise nat_eq word (codes "what_if")) what_if_in
-    (option_or (option_map asked_by (row_of rows word)) (option_map change_by (row_of edits word))) all.what_if
-    (or_else is_so (option_map asked_by (row_of rows word)) (option_map change_by (row_of edits word))
-    (mapped is_so asked_by (row_of rows word) (all.asked word)) (mapped is_so change_by (row_of edits word) (all.changed word)))
+    if_so is_so _ _ _ all.what_if (or_else is_so _ _ (mapped is_so asked_by _ (all.asked word)) (mapped is_so change_by _ (all.changed word)))
 
 found_so : (is_so : Reading → Type 0) (o : Option Reading) (read : Reading) → Each is_so o → or_fault o Do ≡ Ok read → is_so read
 found_so is_so None read h e = cc

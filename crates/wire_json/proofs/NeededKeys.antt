@@ -42,15 +42,6 @@ pub name_there : (d : Data) (key : List ℕ) (keys : List (List ℕ)) (name : Li
     → or_fault (name_at_key key d) (Key key) ≡ Ok name → keys_read d (key ∷ keys) ≡ keys_read d keys
 name_there d key keys name other h = rw (other, one_there (name_at_key key d) key name h) refl
 
-pub two_there : (d : Data) (a b : List ℕ) (x y : List ℕ) → pointwise nat_eq a case ≡ false → pointwise nat_eq b case ≡ false
-    → or_fault (name_at_key a d) (Key a) ≡ Ok x → or_fault (name_at_key b d) (Key b) ≡ Ok y → keys_read d (a ∷ b ∷ []) ≡ Ok tt
-two_there d a b x y oa ob ha hb = name_there d a (b ∷ []) x oa ha ∙ name_there d b [] y ob hb
-
-pub three_there : (d : Data) (a b c : List ℕ) (x y z : List ℕ) → pointwise nat_eq a case ≡ false → pointwise nat_eq b case ≡ false
-    → pointwise nat_eq c case ≡ false → or_fault (name_at_key a d) (Key a) ≡ Ok x → or_fault (name_at_key b d) (Key b) ≡ Ok y
-    → or_fault (name_at_key c d) (Key c) ≡ Ok z → keys_read d (a ∷ b ∷ c ∷ []) ≡ Ok tt
-three_there d a b c x y z oa ob oc ha hb hc = name_there d a (b ∷ c ∷ []) x oa ha ∙ two_there d b c y z ob oc hb hc
-
 pub name_is : (d : Data) (key name : List ℕ) → or_fault (name_at_key key d) (Key key) ≡ Ok name → the_name key d ≡ name
 name_is d key name h = it_is (name_at_key key d) [] key name h
 
@@ -68,12 +59,48 @@ case_is d n h = it_is (read_case d) 0 case n h
 
 -- ---- what is read by the keys
 
-pub edit_read : (r : Row Edit) (keys : List (List ℕ)) (d : Data) (e : Edit) → r.keys ≡ keys → keys_read d keys ≡ Ok tt → r.is d ≡ e → edit_by r d ≡ Ok e
+edit_read : (r : Row Edit) (keys : List (List ℕ)) (d : Data) (e : Edit) → r.keys ≡ keys → keys_read d keys ≡ Ok tt → r.is d ≡ e → edit_by r d ≡ Ok e
 edit_read r keys d e same h is = rw (same, h, is) refl
 
-pub edit_fault : (r : Row Edit) (keys : List (List ℕ)) (result : Result Edit Bad) (d : Data) (b : Bad) → r.keys ≡ keys → keys_read d keys ≡ Err b
+edit_fault : (r : Row Edit) (keys : List (List ℕ)) (result : Result Edit Bad) (d : Data) (b : Bad) → r.keys ≡ keys → keys_read d keys ≡ Err b
     → IsErrAnd result (λ e. e ≡ b) → Gives Some (λ e. e) result (edit_by r d)
 edit_fault r keys result d b same h is = handed_on result (edit_by r d) b is (rw (same, h) refl)
+
+-- an edit whose row needs names alone: the first that is not there, or what is made of them
+pub first_missing : (r : Row Edit) (result : Result Edit Bad) (d : Data) (a : List ℕ) (rest : List (List ℕ)) (fault : Bad) → r.keys ≡ a ∷ rest
+    → pointwise nat_eq a case ≡ false → or_fault (name_at_key a d) (Key a) ≡ Err fault → IsErrAnd result (λ e. e ≡ fault)
+    → Gives Some (λ e. e) result (edit_by r d)
+first_missing r result d a rest fault same oa ha is = edit_fault r (a ∷ rest) result d fault same (name_missing d a rest fault oa ha) is
+
+pub second_missing : (r : Row Edit) (result : Result Edit Bad) (d : Data) (a b : List ℕ) (rest : List (List ℕ)) (x : List ℕ) (fault : Bad)
+    → r.keys ≡ a ∷ b ∷ rest → pointwise nat_eq a case ≡ false → pointwise nat_eq b case ≡ false → or_fault (name_at_key a d) (Key a) ≡ Ok x
+    → or_fault (name_at_key b d) (Key b) ≡ Err fault → IsErrAnd result (λ e. e ≡ fault) → Gives Some (λ e. e) result (edit_by r d)
+second_missing r result d a b rest x fault same oa ob ha hb is =
+    edit_fault r (a ∷ b ∷ rest) result d fault same (name_there d a (b ∷ rest) x oa ha ∙ name_missing d b rest fault ob hb) is
+
+pub third_missing : (r : Row Edit) (result : Result Edit Bad) (d : Data) (a b c : List ℕ) (x y : List ℕ) (fault : Bad) → r.keys ≡ a ∷ b ∷ c ∷ []
+    → pointwise nat_eq a case ≡ false → pointwise nat_eq b case ≡ false → pointwise nat_eq c case ≡ false → or_fault (name_at_key a d) (Key a) ≡ Ok x
+    → or_fault (name_at_key b d) (Key b) ≡ Ok y → or_fault (name_at_key c d) (Key c) ≡ Err fault → IsErrAnd result (λ e. e ≡ fault)
+    → Gives Some (λ e. e) result (edit_by r d)
+third_missing r result d a b c x y fault same oa ob oc ha hb hc is =
+    edit_fault r (a ∷ b ∷ c ∷ []) result d fault same
+    (name_there d a (b ∷ c ∷ []) x oa ha ∙ name_there d b (c ∷ []) y ob hb ∙ name_missing d c [] fault oc hc) is
+
+pub two_read : (r : Row Edit) (d : Data) (a b x y : List ℕ) (made : List ℕ → List ℕ → Edit) → r.keys ≡ a ∷ b ∷ []
+    → r.is d ≡ made (the_name a d) (the_name b d) → pointwise nat_eq a case ≡ false → pointwise nat_eq b case ≡ false
+    → or_fault (name_at_key a d) (Key a) ≡ Ok x → or_fault (name_at_key b d) (Key b) ≡ Ok y → edit_by r d ≡ Ok (made x y)
+two_read r d a b x y made same is oa ob ha hb =
+    edit_read r (a ∷ b ∷ []) d (made x y) same (name_there d a (b ∷ []) x oa ha ∙ name_there d b [] y ob hb)
+    (is ∙ (λ i. made (name_is d a x ha i) (name_is d b y hb i)))
+
+pub three_read : (r : Row Edit) (d : Data) (a b c x y z : List ℕ) (made : List ℕ → List ℕ → List ℕ → Edit) → r.keys ≡ a ∷ b ∷ c ∷ []
+    → r.is d ≡ made (the_name a d) (the_name b d) (the_name c d) → pointwise nat_eq a case ≡ false → pointwise nat_eq b case ≡ false
+    → pointwise nat_eq c case ≡ false → or_fault (name_at_key a d) (Key a) ≡ Ok x → or_fault (name_at_key b d) (Key b) ≡ Ok y
+    → or_fault (name_at_key c d) (Key c) ≡ Ok z → edit_by r d ≡ Ok (made x y z)
+three_read r d a b c x y z made same is oa ob oc ha hb hc =
+    edit_read r (a ∷ b ∷ c ∷ []) d (made x y z) same
+    (name_there d a (b ∷ c ∷ []) x oa ha ∙ name_there d b (c ∷ []) y ob hb ∙ name_there d c [] z oc hc)
+    (is ∙ (λ i. made (name_is d a x ha i) (name_is d b y hb i) (name_is d c z hc i)))
 
 pub key_missing : (others keys : List (List ℕ)) (is : Data → Request) (d : Data) (ms : Members) (result : Result Request Bad) (b : Bad)
     → keys_read d keys ≡ Err b → IsErrAnd result (λ e. e ≡ b) → Gives Some (λ r. r) result (request_by others keys is d ms)

@@ -1,19 +1,18 @@
 //! Twins among the branches of a node.
 ghost use Rattle.std.specs.Prelude.{◌≡◌, ◌<◌, [], length, true, false, IsTrue, MatchOption};
-ghost use Rattle.wf_names.specs.declared.limits.TheConstants.{STEP_LIMIT};
-ghost use Rattle.constraint_forms.specs.Assign.{user_at};
 ghost use Rattle.policy_book.specs.Policies.{problem_of};
-ghost use Rattle.policy_book.specs.Twins.{are_twins, has_no_step, has_twin, is_given_to, is_one_of};
+ghost use Rattle.policy_book.specs.Twins.{are_twins, has_no_step, has_twin, is_one_of};
 ghost use Rattle.certificate_check.specs.Walks.{AreUsersBelow, kid_user_onto};
 ghost use Rattle.refutation_tree.specs.Views.{kids_of_items};
 ghost use Rattle.wsp_solver.specs.Crews.{IsCrewOf};
 ghost use Rattle.wsp_solver.specs.Lean.{kid_users};
 
 use crate::crew::{Crew, first_twin};
+use certificate_check::has_no_step;
 use plan_finder::Finder;
 use policy_book::{Assign, Policy};
 use refutation_tree::{Branch, Branches, Kid};
-use wf_names::{FlowId, STEP_LIMIT, StepId, UserId};
+use wf_names::{FlowId, UserId};
 
 /// A twin of the user `u` whose branch has a tree, if there is one. The branches are of lower
 /// users, so that there is none for a user who is the first twin.
@@ -109,26 +108,4 @@ fn have_one_twin(
     ensures { result ≡ are_twins (problem_of p.now f) [] u v }
 {
     first_twin(p, f, crew, finder, u) == first_twin(p, f, crew, finder, v)
-}
-
-// Whether no step is given to a user.
-fn has_no_step(a: &Assign, u: UserId) -> bool
-    ensures { result ≡ has_no_step a.now u }
-{
-    'steps: for s in 0..STEP_LIMIT {
-        if is_given_to(a, StepId(s as u8), u) {
-            return false;
-        }
-    }
-    true
-}
-
-fn is_given_to(a: &Assign, s: StepId, u: UserId) -> bool
-    ensures given { result ≡ is_given_to u (user_at a.now s) }
-    ensures len { length a.now ≡ STEP_LIMIT }
-{
-    match a.at(s) {
-        Some(v) => v == u,
-        None => false,
-    }
 }

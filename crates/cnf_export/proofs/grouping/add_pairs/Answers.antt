@@ -1,8 +1,7 @@
-use Rattle.std.proofs.Common.{◌∙◌, ◌<◌, ◌++◌, ◌∷◌, [], length, ap, sym, arith}
-use Rattle.basics.proofs.Booleans.{differ}
+use Rattle.std.proofs.Common.{◌∙◌, ◌<◌, ◌++◌, ◌∷◌, [], length, ap, sym, arith, refl, map}
 use Rattle.constraint_forms.specs.Assign.{is_member}
 use Rattle.cnf_export.specs.Terms.{pair_group_at}
-use Rattle.cnf_export.proofs.Listing.{one_mapped}
+use Rattle.cnf_export.proofs.Listing.{listed_none, listed_one}
 use Rattle.cnf_export.proofs.grouping.add_pairs.Goals as goal
 use Rattle.cnf_export.proofs.grouping.add_pairs.Goals.{then-has+in_ok-add_group, else-has}
 
@@ -13,13 +12,10 @@ members-preserved c =
     let below : c.members.x < length group = omega (arith, c.members-test.true, c.limit-limit.ensures.limit, c.limit-limit.ensures.len) in
     elim c.if-has.branch [
       | then-has+in_ok-add_group w ↦
-          one_mapped f (is_member group) c.members.made.items c.if-has.made.items c.members.x (length group) below
-          (λ _. ap (λ v. v.items) w.made-is ∙ w.in_ok-add_group.ensures ∙ ap (λ g. c.members.made.items ++ g ∷ []) w.pair_of.ensures)
-          (λ no_one. absurd (differ (is_member group c.members.x) (sym c.has.ensures.flag ∙ w.if-has.true) no_one))
+          listed_one (map f) (f c.members.x ∷ []) (is_member group) c.members.made.items c.if-has.made.items c.members.x (length group) (λ us. refl) below (sym c.has.ensures.flag ∙ w.if-has.true)
+          (ap (λ v. v.items) w.made-is ∙ w.in_ok-add_group.ensures ∙ ap (λ g. c.members.made.items ++ g ∷ []) w.pair_of.ensures)
           ∙ c.members.invariant
       | else-has w ↦
-          one_mapped f (is_member group) c.members.made.items c.if-has.made.items c.members.x (length group) below
-          (λ one. absurd (differ (is_member group c.members.x) one (sym c.has.ensures.flag ∙ w.if-has.false)))
-          (λ _. ap (λ v. v.items) w.made-is)
+          listed_none (map f) (is_member group) c.members.made.items c.if-has.made.items c.members.x (length group) below (sym c.has.ensures.flag ∙ w.if-has.false) (ap (λ v. v.items) w.made-is)
           ∙ c.members.invariant
     ]

@@ -4,7 +4,8 @@ use Rattle.std.specs.List.{flat_map}
 use Rattle.wf_names.specs.UserSets.{count_below}
 use Rattle.cnf_export.specs.Models.{has_some}
 use Rattle.cnf_export.proofs.Listing.{next_number}
-use Rattle.cnf_export.proofs.Grids.{count_next, count_none, one_at_most}
+use Rattle.constraint_forms.proofs.Walking.{at_most_one}
+use Rattle.cnf_export.proofs.Grids.{count_next, count_none}
 use Rattle.cnf_export.proofs.saying.say_counts.Goals as goal
 
 pub users-init : goal.users-init
@@ -25,7 +26,7 @@ users-preserved c =
     let u = c.users.u in
     let next : suc u ≡ u + 1 = omega arith in
     let few = c.users.invariant.few in
-    let one = one_at_most c.takes_some.result in
+    let one = at_most_one c.takes_some.result in
     let more = c.count_on-count.ensures in
     let counted : c.count_on-count.result ≡ count_below (suc u) test =
     more ∙ ap (λ n. n + cond c.takes_some.result 1 0) c.users.invariant.counted ∙ ap (λ b. count_below u test + cond b 1 0) c.takes_some.ensures ∙

@@ -1,6 +1,6 @@
 use Rattle.std.proofs.Common.{◌≡◌, ◌+◌, cond, is_none, sym, ap, ◌∙◌, arith}
 use Rattle.constraint_forms.specs.Assign.{user_at}
-use Rattle.constraint_forms.proofs.Walking.{at_most_one, free_end, free_go, none_of}
+use Rattle.constraint_forms.proofs.Walking.{at_most_one, free_go, none_of}
 use Rattle.constraint_forms.proofs.count.count_free.Goals as goal
 use Rattle.constraint_forms.proofs.count.count_free.Goals.{then-is_none, else-is_none}
 
@@ -20,8 +20,3 @@ members-preserved c =
           free_go (user_at c.args.a.now) c.args.group.now c.members.from c.in-Some.member _ count _ _ here c.next.ensures.len next
           c.member.view_is (none_of c.at.result here c.is_none.ensures ∙ ap is_none c.at.ensures.user) more c.members.invariant.rest;
     }
-
-pub returns-clause-free : goal.returns-clause-free
-returns-clause-free c =
-    let none = (free_end (user_at c.args.a.now) c.args.group.now c.members.from c.next.ensures.len c.members.invariant.below c.in_default.ensures.next) in
-    omega (arith, none, c.members.invariant.rest)

@@ -1,7 +1,6 @@
 use Rattle.std.proofs.Common.{◌≡◌, ◌+◌, cond, sym, ap, ◌∙◌, arith}
 use Rattle.constraint_forms.specs.Assign.{user_at}
-use Rattle.constraint_forms.specs.Rules.{different}
-use Rattle.constraint_forms.proofs.Walking.{at_most_one, users_end, users_go}
+use Rattle.constraint_forms.proofs.Walking.{at_most_one, users_go}
 use Rattle.constraint_forms.proofs.count.count_users.Goals as goal
 use Rattle.constraint_forms.proofs.count.count_users.Goals.{then-is_last, else-is_last}
 
@@ -21,9 +20,3 @@ members-preserved c =
           users_go (user_at c.args.a.now) c.args.group.now c.members.from c.in-Some.member _ count _ _ here c.next.ensures.len next
           c.member.view_is c.is_last.ensures more c.members.invariant.rest;
     }
-
-pub returns-clause-users : goal.returns-clause-users
-returns-clause-users c =
-    let none = ap different
-    (users_end (user_at c.args.a.now) c.args.group.now c.members.from c.next.ensures.len c.members.invariant.below c.in_default.ensures.next) in
-    omega (arith, none, c.members.invariant.rest)

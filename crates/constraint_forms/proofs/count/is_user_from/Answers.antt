@@ -1,7 +1,7 @@
 use Rattle.std.proofs.Common.{[], sym, ap, ◌∙◌, arith}
 use Rattle.constraint_forms.specs.Assign.{user_at}
 use Rattle.constraint_forms.specs.Rules.{is_among, user_onto}
-use Rattle.constraint_forms.proofs.Walking.{among_go, among_stop, users_end}
+use Rattle.constraint_forms.proofs.Walking.{among_go, among_stop}
 use Rattle.constraint_forms.proofs.count.is_user_from.Goals as goal
 
 pub returns-then-is_user : goal.returns-then-is_user
@@ -19,8 +19,3 @@ members-preserved c =
           among_go (user_at c.args.a.now) c.args.group.now c.members.from c.in-Some.member _ c.args.u _ c.next.ensures.len c.in-Some.ensures.next
           c.member.view_is (says ∙ c.if-is_user.false) c.members.invariant.rest;
     }
-
-pub returns : goal.returns
-returns c =
-    let none = users_end (user_at c.args.a.now) c.args.group.now c.members.from c.next.ensures.len c.members.invariant.below c.in_default.ensures.next in
-    sym (ap (λ us. is_among us c.args.u) none) ∙ c.members.invariant.rest

@@ -1,8 +1,8 @@
-use Rattle.std.proofs.Common.{[], ◌||◌, sym, ap, ◌∙◌, arith}
+use Rattle.std.proofs.Common.{[], ◌||◌, ap, ◌∙◌, arith}
 use Rattle.wf_names.specs.UserSets.{has_user}
 use Rattle.constraint_forms.specs.Assign.{user_at}
 use Rattle.constraint_forms.specs.Rules.{is_among, user_onto}
-use Rattle.constraint_forms.proofs.Walking.{put_go, users_end}
+use Rattle.constraint_forms.proofs.Walking.{put_go}
 use Rattle.constraint_forms.proofs.count.users_of.Goals as goal
 
 pub members-preserved : goal.members-preserved
@@ -13,8 +13,3 @@ members-preserved c = record {
       put_go (user_at c.args.a.now) c.args.group.now c.members.from c.in-Some.member _ u _ _ _ c.next.ensures.len c.in-Some.ensures.next
       c.member.view_is now (c.members.invariant.rest u h);
 }
-
-pub returns : goal.returns
-returns c = λ u h.
-    let none = users_end (user_at c.args.a.now) c.args.group.now c.members.from c.next.ensures.len c.members.invariant.below c.in_default.ensures.next in
-    sym (ap (λ us. is_among us u || has_user c.members.users u) none) ∙ c.members.invariant.rest u h

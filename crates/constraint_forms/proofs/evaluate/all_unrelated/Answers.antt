@@ -1,17 +1,8 @@
 use Rattle.std.proofs.Common.{ℕ, sym, ap, ◌∙◌, arith}
 use Rattle.constraint_forms.specs.Assign.{user_at}
 use Rattle.constraint_forms.specs.Rules.{are_unrelated, turned}
-use Rattle.constraint_forms.proofs.Walking.{all_end, all_go, all_stop}
+use Rattle.constraint_forms.proofs.Walking.{all_go}
 use Rattle.constraint_forms.proofs.evaluate.all_unrelated.Goals as goal
-
-pub returns-then-not-is_unrelated : goal.returns-then-not-is_unrelated
-returns-then-not-is_unrelated g c =
-    let are = are_unrelated (turned c.args.back (g.H.Holds.related c.args.h.now)) c.args.rho in
-    let user = user_at c.args.a.now in
-    let s = c.in-Some.member in
-    let says = ap (λ o. are o (user c.args.step)) (sym c.at.ensures.user) ∙ ap (are c.at.result) (sym c.at-in-Some.ensures.user) ∙ sym c.is_unrelated.ensures in
-    all_stop (λ (x : ℕ). are (user x) (user c.args.step)) c.args.group.now c.members.from s _ c.next.ensures.len c.in-Some.ensures.next
-    (says ∙ c.if-not-is_unrelated.true) c.members.invariant.rest
 
 pub members-preserved : goal.members-preserved
 members-preserved g c =
@@ -25,7 +16,3 @@ members-preserved g c =
           all_go (λ (x : ℕ). are (user x) (user c.args.step)) c.args.group.now c.members.from s _ _ c.next.ensures.len c.in-Some.ensures.next
           c.member.view_is (says ∙ c.if-not-is_unrelated.false) c.members.invariant.rest;
     }
-
-pub returns : goal.returns
-returns g c =
-    sym (all_end _ c.args.group.now c.members.from c.next.ensures.len c.members.invariant.below c.in_default.ensures.next) ∙ c.members.invariant.rest

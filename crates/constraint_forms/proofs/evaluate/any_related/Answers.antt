@@ -1,16 +1,8 @@
 use Rattle.std.proofs.Common.{ℕ, sym, ap, ◌∙◌, arith}
 use Rattle.constraint_forms.specs.Assign.{planned}
 use Rattle.constraint_forms.specs.Rules.{turned}
-use Rattle.constraint_forms.proofs.Walking.{any_end, any_go, any_stop}
+use Rattle.constraint_forms.proofs.Walking.{any_go}
 use Rattle.constraint_forms.proofs.evaluate.any_related.Goals as goal
-
-pub returns-then-is_related : goal.returns-then-is_related
-returns-then-is_related g c =
-    let related = turned c.args.back (g.H.Holds.related c.args.h.now) c.args.rho in
-    let s = c.in-Some.member in
-    let says = ap (λ u. related u c.args.v) (sym c.at.ensures) ∙ sym c.is_related.ensures in
-    any_stop (λ (x : ℕ). related (planned c.args.plan.now x) c.args.v) c.args.group.now c.members.from s _ c.next.ensures.len c.in-Some.ensures.next
-    (says ∙ c.if-is_related.true) c.members.invariant.rest
 
 pub members-preserved : goal.members-preserved
 members-preserved g c =
@@ -23,7 +15,3 @@ members-preserved g c =
           any_go (λ (x : ℕ). related (planned c.args.plan.now x) c.args.v) c.args.group.now c.members.from s _ _ c.next.ensures.len c.in-Some.ensures.next
           c.member.view_is (says ∙ c.if-is_related.false) c.members.invariant.rest;
     }
-
-pub returns : goal.returns
-returns g c =
-    sym (any_end _ c.args.group.now c.members.from c.next.ensures.len c.members.invariant.below c.in_default.ensures.next) ∙ c.members.invariant.rest

@@ -1,11 +1,11 @@
-use Rattle.std.proofs.Common.{◌∙◌, ◌<◌, ◌&&◌, ℕ, map, length, sym, arith}
-use Rattle.basics.proofs.Booleans.{differ}
+use Rattle.std.proofs.Common.{◌∙◌, ◌<◌, ◌&&◌, ℕ, map, length, sym, arith, refl}
+use Rattle.std.specs.List.{flat_map}
 use Rattle.constraint_forms.specs.Assign.{is_member}
 use Rattle.constraint_forms.specs.Rules.{turned}
 use Rattle.cnf_export.specs.Clauses.{yes_to}
 use Rattle.cnf_export.specs.Encodings.{has, users_who}
 use Rattle.cnf_export.specs.Terms.{encoding_in}
-use Rattle.cnf_export.proofs.Listing.{one_looked_at}
+use Rattle.cnf_export.proofs.Listing.{listed_none, listed_one}
 use Rattle.cnf_export.proofs.terms.Terms.add_members.Goals as goal
 use Rattle.cnf_export.proofs.terms.Terms.add_members.Goals.{then-has+in_ok-add_member, else-has}
 
@@ -17,13 +17,10 @@ members-preserved c =
     let below : c.members.t < length group = omega (arith, c.members-test.true, c.limit-limit.ensures.limit, c.limit-limit.ensures.len) in
     elim c.if-has.branch [
       | then-has+in_ok-add_member w ↦
-          one_looked_at f (is_member group) c.members.into c.if-has.into c.members.t (length group) below
-          (λ _. w.into-is ∙ w.in_ok-add_member.ensures)
-          (λ no_one. absurd (differ (is_member group c.members.t) (sym c.has.ensures.flag ∙ w.if-has.true) no_one))
+          listed_one (flat_map f) (f c.members.t) (is_member group) c.members.into c.if-has.into c.members.t (length group) (λ us. refl) below (sym c.has.ensures.flag ∙ w.if-has.true)
+          (w.into-is ∙ w.in_ok-add_member.ensures)
           ∙ c.members.invariant
       | else-has w ↦
-          one_looked_at f (is_member group) c.members.into c.if-has.into c.members.t (length group) below
-          (λ one. absurd (differ (is_member group c.members.t) one (sym c.has.ensures.flag ∙ w.if-has.false)))
-          (λ _. w.into-is)
+          listed_none (flat_map f) (is_member group) c.members.into c.if-has.into c.members.t (length group) below (sym c.has.ensures.flag ∙ w.if-has.false) w.into-is
           ∙ c.members.invariant
     ]
