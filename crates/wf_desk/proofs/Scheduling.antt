@@ -31,8 +31,9 @@ use Rattle.wf_desk.specs.Holding.{AreHeld, IsHeld, standing}
 
 -- ---- more entries
 
-pub grown_none : (d e : DeskShape) → e ≡ d → HasGrown d e
-grown_none d e same = record {
+-- a desk that is the same but for what it lost
+grown_but : (d e : DeskShape) → record e { losses = d.losses } ≡ d → HasGrown d e
+grown_but d e same = record {
   more = [];
   extends = ap (λ (x : DeskShape). x.entries) same ∙ sym (append-nil d.entries);
   opening = ap (λ (x : DeskShape). x.opening) same;
@@ -44,18 +45,11 @@ grown_none d e same = record {
   restored = ap (λ (x : DeskShape). x.restored) same;
 }
 
+pub grown_none : (d e : DeskShape) → e ≡ d → HasGrown d e
+grown_none d e same = grown_but d e (ap (λ (x : DeskShape). record x { losses = d.losses }) same)
+
 grown_lost : (d e : DeskShape) (lane : ℕ) → e ≡ with_loss d lane → HasGrown d e
-grown_lost d e lane same = record {
-  more = [];
-  extends = ap (λ (x : DeskShape). x.entries) same ∙ sym (append-nil d.entries);
-  opening = ap (λ (x : DeskShape). x.opening) same;
-  lanes = ap (λ (x : DeskShape). x.lanes) same;
-  rounds = ap (λ (x : DeskShape). x.rounds) same;
-  earlier = ap (λ (x : DeskShape). x.earlier) same;
-  jobs = ap (λ (x : DeskShape). x.jobs) same;
-  start = ap (λ (x : DeskShape). x.start) same;
-  restored = ap (λ (x : DeskShape). x.restored) same;
-}
+grown_lost d e lane same = grown_but d e (ap (λ (x : DeskShape). record x { losses = d.losses }) same)
 
 pub grown_added : (d e : DeskShape) (job : Job) (place : ℕ) (Is : Reply → Type 0) → HasAdded d e job place Is → HasGrown d e
 grown_added d e job place Is added = record {
