@@ -21,11 +21,7 @@ refuses_wider : (A B : RunFault → List ℕ → Type 0) (how : How) (fault : Ru
 refuses_wider A B ending.unloaded fault wider h = tt
 refuses_wider A B ending.unread fault wider h = tt
 refuses_wider A B ending.lacking fault wider h = tt
-refuses_wider A B ending.unasked fault wider h = wider fault [] h
-refuses_wider A B ending.answered fault wider h = wider fault [] h
-refuses_wider A B ending.misfiled fault wider h = wider fault [] h
-refuses_wider A B ending.refused fault wider h = wider fault [] h
-refuses_wider A B ending.unwritten fault wider h = wider fault [] h
+refuses_wider A B how fault wider h = wider fault [] h
 
 -- what answers in one way answers in a wider one
 pub answers_wider : (A B : RunFault → List ℕ → Type 0) (result : Result Answer RunFault) → ((f : RunFault) (text : List ℕ) → A f text → B f text) →

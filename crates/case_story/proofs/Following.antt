@@ -1,8 +1,8 @@
 -- How a transcript is followed, line after line.
-use Rattle.std.proofs.Common.{◌≡◌, ℕ, ◌+◌, ◌<◌, ◌≤◌, nat_lt, false, true, List, [], ◌∷◌, ◌++◌, length, take, drop, Option, None, Some, Ok, Err, refl, ap}
+use Rattle.std.proofs.Common.{◌≡◌, ℕ, ◌+◌, ◌-◌, ◌<◌, ◌≤◌, nat_lt, false, true, List, [], ◌∷◌, ◌++◌, length, take, drop, Option, None, Some, Ok, Err, refl, ap}
 use Rattle.std.proofs.Common.{sym, subst, ◌∙◌, arith}
 use Rattle.std.proofs.lemmas.Grind.{common_steps}
-use Rattle.std.proofs.lemmas.List.{append-nil, append_assoc, drop_all, drop-drop, length-append}
+use Rattle.std.proofs.lemmas.List.{append-nil, append_assoc, drop_all, drop-drop, length-append, length-drop}
 use Rattle.wf_names.specs.declared.limits.TheConstants.{TRANSCRIPT_LINE_LIMIT}
 use Rattle.wf_talk.specs.declared.entry.Entry.{Entry}
 use Rattle.line_reader.specs.Reader.{AreShort, behind_line, first_line, line_length, lines_of}
@@ -12,6 +12,7 @@ use Rattle.transcript_audit.specs.Auditor.{AuditShape, HasFault, IsNextLine, wit
 use Rattle.transcript_audit.specs.Outcomes.{HasTakenLine, IsFirstFault}
 use Rattle.transcript_audit.specs.declared.fault.AuditFault.TheVariants.{At}
 use Rattle.transcript_audit.proofs.Exact.{next_pushed}
+use Rattle.transcript_commands.proofs.LinesTaken.{left_at}
 use Rattle.case_story.specs.declared.place.Place.{Place}
 use Rattle.case_story.specs.declared.verdict.Verdict.{Verdict}
 use Rattle.case_story.specs.declared.verdict.Verdict.TheVariants.{Legal, Fault, TooLong}
@@ -28,6 +29,12 @@ begins first text place none at number = record {
   same = refl;
   short = tt;
 }
+
+-- what is left of a text behind a place has some bytes
+pub left_some : (text : List ℕ) (at : ℕ) → at < length text → 0 < length (take (length text - at) (drop at text))
+left_some text at within =
+    let same = ap length (left_at text at) in
+    omega (arith, within, same, length-drop at text)
 
 -- the rest of a text, at its first line
 pub record IsRest (text rest : List ℕ) (place : Place) (count : ℕ) : Type 0 where

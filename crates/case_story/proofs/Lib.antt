@@ -1,4 +1,3 @@
-pub mod FirstLine
 pub mod Following
 pub mod Founds
 pub mod Answering

@@ -4,13 +4,13 @@ ghost use Rattle.wf_commands.specs.Answer.{AnswersAs, IsAnswerEnding};
 ghost use Rattle.case_story.specs.Verdicts.{is_wrong};
 ghost use Rattle.case_story.specs.Printed.{TellsBy, verdict_line};
 
-use crate::lines::first_len;
 use crate::place::Place;
 use crate::verdict::Verdict;
 use plain_words::say;
 use run_record::{InputFault, RunFault};
 use std::alloc::{AllocError, Global};
 use transcript_audit::AuditKind;
+use transcript_commands::first_len;
 use wf_commands::Answer;
 
 /// How many bytes of a line are shown at most.

@@ -5,12 +5,12 @@ ghost use Rattle.case_story.specs.Followed.{EndsAt, HasFollowed, IsAt, FollowsTo
 ghost use Rattle.case_story.specs.Follow.{IsBetween};
 ghost use Rattle.case_story.specs.Verdicts.{right_lines};
 
-use crate::lines::{first_len, is_long};
 use crate::place::Place;
 use crate::verdict::Verdict;
 use case_views::PlainDecider;
 use std::alloc::{AllocError, Global};
 use transcript_audit::{AuditFault, Auditor};
+use transcript_commands::{first_len, is_long};
 
 /// What looks at an audit after each entry. Nothing is promised of what it makes of it.
 pub(crate) trait Watches {

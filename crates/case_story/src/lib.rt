@@ -12,7 +12,6 @@ mod head;
 mod html;
 pub mod laws;
 mod layout;
-mod lines;
 mod log;
 mod now;
 mod page;

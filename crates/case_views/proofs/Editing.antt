@@ -8,12 +8,11 @@ use Rattle.refutation_tree.specs.declared.tree.Tree.{Tree}
 use Rattle.policy_book.specs.Shapes.{PolicyShape}
 use Rattle.policy_book.specs.Policies.{problem_of}
 use Rattle.policy_book.specs.Plans.{Problem}
-use Rattle.case_record.specs.Cases.{CaseShape, is_open}
+use Rattle.case_record.specs.Cases.{is_open}
 use Rattle.grant_table.specs.declared.rows.Row.{Row}
 use Rattle.grant_table.proofs.Places.{taken_off}
 use Rattle.wf_board.specs.Boards.{numbered}
 use Rattle.wf_board.specs.Edition.{ArePlansOf, IsFirstStranded, IsPlanOf, IsTreeOf}
-use Rattle.wf_board.specs.Kept.{IsPlanned}
 use Rattle.wf_board.specs.States.{Numbered}
 use Rattle.wsp_solver.specs.declared.search.Outcome.{Outcome}
 use Rattle.wsp_solver.specs.declared.search.Outcome.TheVariants as outcome
@@ -87,10 +86,6 @@ one_plan p r plan live valid = rw live (valid, tt)
 
 pub no_plan : (p : PolicyShape) (r : Row) → is_open r.case ≡ false → ArePlansOf p (open_in (r ∷ [])) []
 no_plan p r closed = rw closed tt
-
--- the plan that is kept for an open case is one
-pub kept_plan_of : (p : PolicyShape) (c d : CaseShape) (o : Option (List ℕ)) (plan : List ℕ) → Some plan ≡ o → d ≡ c → IsPlanned p c o → IsPlanOf p d plan
-kept_plan_of p c d o plan is same planned = subst (λ k. IsPlanOf p k plan) (sym same) (subst (IsPlanned p c) (sym is) planned)
 
 -- what is left of the case of a row is what is added for it
 pub added_of : (p : PolicyShape) (r : Row) (left : Option Outcome) (tree : Option Tree) (before after : List (List ℕ)) → IsLeftAt p r left →

@@ -1,6 +1,6 @@
 -- A reply that was taken or refused, and what becomes of its line.
-use Rattle.std.proofs.Common.{◌≡◌, ◌↔◌, ℕ, ◌+◌, ◌<◌, ◌≤◌, ◌⊎◌, inl, inr, max, Bool, true, false, ◌&&◌, nat_eq, nat_le, List, length, map, drop, Option}
-use Rattle.std.proofs.Common.{None, Some, Result, Ok, Err, refl, sym, ap, subst, ◌∙◌, arith}
+use Rattle.std.proofs.Common.{◌≡◌, ◌↔◌, ℕ, ◌+◌, ◌-◌, ◌<◌, ◌≤◌, ◌⊎◌, inl, inr, max, Bool, true, false, ◌&&◌, nat_eq, nat_le, List, length, map, take, drop}
+use Rattle.std.proofs.Common.{Option, None, Some, Result, Ok, Err, refl, sym, ap, subst, ◌∙◌, arith}
 use Rattle.std.proofs.lemmas.Grind.{common_steps}
 use Rattle.std.specs.Option.{option_map}
 use Rattle.basics.proofs.Booleans.{and_both, and_from, eq_back, eq_is, same_by}
@@ -25,7 +25,7 @@ use Rattle.wf_board.proofs.HistoryLaws.{after_again, after_more, again_rests, ed
 use Rattle.wf_board.specs.States.{State, numbered_case, opening_state}
 use Rattle.wf_board.specs.Steps.{IsStep, state_after_step}
 use Rattle.wf_board.proofs.Counted.{count_later}
-use Rattle.wf_desk.proofs.DocketLaws.{next_lane}
+use Rattle.wf_desk.proofs.DocketLaws.{next_lane, rest_from}
 use Rattle.wire_json.specs.Replies.{entry_text}
 use Rattle.entry_reader.specs.Lines.{entry_at}
 use Rattle.entry_laws.proofs.Entries.{text_stays}
@@ -182,6 +182,14 @@ rests_else entries start lane what n place found is short =
     let none : nat_le n (counted what (drop (max (lane_end lane entries) start) entries)) ≡ false =
     let h : counted what (drop (max (lane_end lane entries) start) entries) < n = omega (arith, is, short) in grind (arith, common_steps) in
     sym (ap (λ b. b && nat_eq (place + 1) (counted_end what entries)) none)
+
+-- how many count behind the last entry of a lane and behind a batch's start, as they are found in a slice
+pub found_own : (what : Ask) (lane : ℕ) (xs entries : List Entry) (from start begins found : ℕ) → from ≡ max (lane_end lane xs) start → start ≡ begins →
+    found ≡ counted what (take (length xs - from) (drop from xs)) → xs ≡ entries
+    → found ≡ counted what (drop (max (lane_end lane entries) begins) entries)
+found_own what lane xs entries from start begins found own begun is same =
+    is ∙ ap (counted what) (rest_from xs from) ∙ ap (λ es. counted what (drop from es)) same
+    ∙ ap (λ n. counted what (drop n entries)) (own ∙ ap (λ es. max (lane_end lane es) start) same ∙ ap (max (lane_end lane entries)) begun)
 
 -- where some count behind a place, some do
 pub some_count : (what : Ask) (entries : List Entry) (n found rounds : ℕ) → found ≡ counted what (drop n entries) → rounds ≤ found → 1 ≤ rounds →

@@ -1,7 +1,6 @@
 -- The first line that is too long.
 use Rattle.std.proofs.Common.{◌≡◌, ℕ, suc, ◌+◌, ◌-◌, ◌==◌, ◌<◌, ◌≤◌, nat_lt, Bool, true, false, List, [], ◌∷◌, length, take, drop, Option, None, Some, refl}
 use Rattle.std.proofs.Common.{sym, ap, subst, ◌∙◌, arith}
-use Rattle.std.proofs.lemmas.Bool.{le-ltb, lt-ltb}
 use Rattle.std.proofs.lemmas.List.{drop-drop, length-drop}
 use Rattle.wf_names.specs.declared.limits.TheConstants.{TRANSCRIPT_LINE_LIMIT}
 use Rattle.memchr.specs.Find.{IsFirstByte, is_byte}
@@ -40,27 +39,27 @@ alone (b ∷ bs) = alone_step b bs (b == 10) refl (alone bs)
 -- ---- the first that is too long
 
 -- it is the first line, or one behind it
-pub long_here : (n : ℕ) (bytes : List ℕ) → 0 < length bytes → TRANSCRIPT_LINE_LIMIT < line_length bytes → first_long n (lines_of bytes) ≡ Some n
+pub long_here : (n : ℕ) (bytes : List ℕ) → 0 < length bytes → nat_lt TRANSCRIPT_LINE_LIMIT (line_length bytes) ≡ true →
+    first_long n (lines_of bytes) ≡ Some n
 long_here n bytes some long =
-    let here : nat_lt TRANSCRIPT_LINE_LIMIT (line_length (first_line bytes)) ≡ true =
-    lt-ltb TRANSCRIPT_LINE_LIMIT (line_length (first_line bytes)) (let same = alone bytes in omega (arith, same, long)) in
+    let here : nat_lt TRANSCRIPT_LINE_LIMIT (line_length (first_line bytes)) ≡ true = ap (nat_lt TRANSCRIPT_LINE_LIMIT) (alone bytes) ∙ long in
     rw (lines_first bytes some) (rw here refl)
 
-pub long_behind : (n : ℕ) (bytes : List ℕ) → 0 < length bytes → line_length bytes ≤ TRANSCRIPT_LINE_LIMIT →
+pub long_behind : (n : ℕ) (bytes : List ℕ) → 0 < length bytes → nat_lt TRANSCRIPT_LINE_LIMIT (line_length bytes) ≡ false →
     first_long n (lines_of bytes) ≡ first_long (n + 1) (lines_of (behind_line bytes))
 long_behind n bytes some short =
-    let here : nat_lt TRANSCRIPT_LINE_LIMIT (line_length (first_line bytes)) ≡ false =
-    le-ltb TRANSCRIPT_LINE_LIMIT (line_length (first_line bytes)) (let same = alone bytes in omega (arith, same, short)) in
+    let here : nat_lt TRANSCRIPT_LINE_LIMIT (line_length (first_line bytes)) ≡ false = ap (nat_lt TRANSCRIPT_LINE_LIMIT) (alone bytes) ∙ short in
     rw (lines_first bytes some) (rw here refl)
 
 -- the same of what is left of a text behind a place, as a slice
-pub long_at : (n at : ℕ) (text : List ℕ) (found : Option ℕ) → at < length text → TRANSCRIPT_LINE_LIMIT < line_length (take (length text - at) (drop at text))
-    → first_long n (lines_of (drop at text)) ≡ found → Some n ≡ found
+pub long_at : (n at : ℕ) (text : List ℕ) (found : Option ℕ) → at < length text →
+    nat_lt TRANSCRIPT_LINE_LIMIT (line_length (take (length text - at) (drop at text))) ≡ true → first_long n (lines_of (drop at text)) ≡ found → Some n ≡ found
 long_at n at text found within long goes =
     sym (long_here n (drop at text) (omega (arith, within, length-drop at text))
-    (subst (λ xs. TRANSCRIPT_LINE_LIMIT < line_length xs) (left_at text at) long)) ∙ goes
+    (subst (λ xs. nat_lt TRANSCRIPT_LINE_LIMIT (line_length xs) ≡ true) (left_at text at) long)) ∙ goes
 
-pub long_on : (n at count : ℕ) (text : List ℕ) → at < length text → line_length (take (length text - at) (drop at text)) ≤ TRANSCRIPT_LINE_LIMIT
+pub long_on : (n at count : ℕ) (text : List ℕ) → at < length text →
+    nat_lt TRANSCRIPT_LINE_LIMIT (line_length (take (length text - at) (drop at text))) ≡ false
     → drop count (take (length text - at) (drop at text)) ≡ behind_line (take (length text - at) (drop at text))
     → first_long (n + 1) (lines_of (drop (at + count) text)) ≡ first_long n (lines_of (drop at text))
 long_on n at count text within short behind =
@@ -68,4 +67,4 @@ long_on n at count text within short behind =
     sym (drop-drop count at text) ∙ ap (drop count) (sym (left_at text at)) ∙ behind ∙ ap behind_line (left_at text at) in
     ap (λ xs. first_long (n + 1) (lines_of xs)) rest
     ∙ sym (long_behind n (drop at text) (omega (arith, within, length-drop at text))
-    (subst (λ xs. line_length xs ≤ TRANSCRIPT_LINE_LIMIT) (left_at text at) short))
+    (subst (λ xs. nat_lt TRANSCRIPT_LINE_LIMIT (line_length xs) ≡ false) (left_at text at) short))

@@ -6,8 +6,7 @@ use Rattle.wf_outside.specs.Outside.{Filed, told, missing, untold, HasPart, with
 use Rattle.wf_outside.proofs.OutsideLaws.{nothing_put, nothing_taken}
 use Rattle.policy_book.specs.Shapes.{PolicyShape}
 use Rattle.run_record.specs.declared.fault.RunFault.{RunFault}
-use Rattle.run_record.specs.declared.fault.RunFault.TheVariants.{Nothing, Found, Usage, Policy, Read, Write, Load, NoMemory, FileTooLong, LineTooLong}
-use Rattle.run_record.specs.declared.fault.RunFault.TheVariants.{TooManyLines, BadInput, TooLarge}
+use Rattle.run_record.specs.declared.fault.RunFault.TheVariants.{Nothing, Policy, Read, Write, Load, NoMemory, FileTooLong}
 use Rattle.run_record.specs.Fault.{fault_in, is_before_input, CountsLoads, CountsReadsAlone, CountsWrites}
 use Rattle.run_record.specs.Report.{nothing_told}
 use Rattle.run_record.specs.Run.{Run, OverFile}
@@ -165,17 +164,7 @@ untold_run policy requests lanes rounds r f NoMemory is fails finds named withou
   without = rw is (late_without (r.files requests) NoMemory without);
   reads = rw is input;
 }
-untold_run policy requests lanes rounds r f Nothing is fails finds named without loads reads writes input nothing = absurd fails
-untold_run policy requests lanes rounds r f Found is fails finds named without loads reads writes input nothing = absurd fails
-untold_run policy requests lanes rounds r f Usage is fails finds named without loads reads writes input nothing = absurd fails
-untold_run policy requests lanes rounds r f (Policy e) is fails finds named without loads reads writes input nothing = absurd fails
-untold_run policy requests lanes rounds r f Read is fails finds named without loads reads writes input nothing = absurd fails
-untold_run policy requests lanes rounds r f Load is fails finds named without loads reads writes input nothing = absurd fails
-untold_run policy requests lanes rounds r f FileTooLong is fails finds named without loads reads writes input nothing = absurd fails
-untold_run policy requests lanes rounds r f (LineTooLong line) is fails finds named without loads reads writes input nothing = absurd fails
-untold_run policy requests lanes rounds r f TooManyLines is fails finds named without loads reads writes input nothing = absurd fails
-untold_run policy requests lanes rounds r f (BadInput e) is fails finds named without loads reads writes input nothing = absurd fails
-untold_run policy requests lanes rounds r f TooLarge is fails finds named without loads reads writes input nothing = absurd fails
+untold_run policy requests lanes rounds r f fault is fails finds named without loads reads writes input nothing = absurd fails
 
 -- nothing was found: so may every command end
 is_refusal : (fault : RunFault) → IsAuditEnding fault → answer.IsCommandEnding fault

@@ -20,7 +20,7 @@ mod unserved;
 pub use audit::{AuditedSession, run_audit};
 pub use finding::fault_text;
 pub use laws::{legal_is_exact, legal_is_next};
-pub use lines::{first_long, whole};
+pub use lines::{first_len, first_long, is_long, whole};
 pub use refusal::Refusal;
 pub use resumed::{Resumed, resume};
 pub use start::{Beginning, Earlier, begin};

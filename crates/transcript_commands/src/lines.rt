@@ -1,5 +1,7 @@
 //! The lines of a transcript.
-ghost use Rattle.std.specs.Prelude.{◌≡◌, ◌≢◌, ◌<◌, ◌≤◌, ◌-◌, ℕ, length, slice_index, take, drop};
+ghost use Rattle.std.specs.Prelude.{◌≡◌, ◌≢◌, ◌<◌, ◌≤◌, ◌-◌, ℕ, length, nat_lt, slice_index};
+ghost use Rattle.std.specs.Prelude.{take, drop};
+ghost use Rattle.wf_names.specs.declared.limits.TheConstants.{TRANSCRIPT_LINE_LIMIT};
 ghost use Rattle.line_reader.specs.Reader.{behind_line, first_line, line_length, lines_of};
 ghost use Rattle.transcript_commands.specs.Resumed.{first_long, whole_lines};
 
@@ -27,7 +29,7 @@ pub(crate) fn whole_lines(transcript: &[u8]) -> &[u8]
 }
 
 /// How many bytes the first line has, with its LF.
-pub(crate) fn first_len(text: &[u8]) -> usize
+pub fn first_len(text: &[u8]) -> usize
     requires { 0 < length text.now }
     ensures some { 0 < result }
     ensures within { result ≤ length text.now }
@@ -57,13 +59,20 @@ fn first_long_of(text: &[u8]) -> Option<u32>
     let mut number = 0;
     'looking: while at < text.len() {
         let rest = &text[at..];
-        if line_len(rest) > TRANSCRIPT_LINE_LIMIT {
+        if is_long(rest) {
             return Some(number);
         }
         at += first_len(rest);
         number += 1;
     }
     None
+}
+
+/// Whether the first line is longer than a line of a transcript may be.
+pub fn is_long(text: &[u8]) -> bool
+    ensures { result ≡ nat_lt TRANSCRIPT_LINE_LIMIT (line_length text.now) }
+{
+    line_len(text) > TRANSCRIPT_LINE_LIMIT
 }
 
 // How many bytes the first line has, without its LF.

@@ -1,5 +1,5 @@
 -- A claim is granted exactly where its user is authorised, its step is ready, and its case can then be completed.
-use Rattle.std.proofs.Common.{◌≡◌, ℕ, suc, ◌+◌, ◌<◌, Bool, true, false, not, ◌&&◌, nat_lt, List, [], ◌∷◌, length, Option, None, Some, option_map, is_none}
+use Rattle.std.proofs.Common.{◌≡◌, ℕ, suc, ◌+◌, ◌<◌, Bool, true, false, ◌&&◌, nat_lt, List, [], ◌∷◌, length, Option, None, Some, option_map, is_none}
 use Rattle.std.proofs.Common.{slice_get, if◌then◌else◌, ◌⊎◌, inl, inr, refl, sym, ap, subst, ◌∙◌, arith}
 use Rattle.std.specs.Prelude.{◌↔◌, ◌||◌}
 use Rattle.std.specs.List.{list_any}
@@ -191,10 +191,6 @@ still_none related c t u k (r ∷ rs) quiet before =
     by_rule n false false named is old rest =
         ap (λ b. if b then Some k else first_falsified related (user_at (assigned_with c t u)) (k + 1) rs) is
         ∙ rest (none_later _ _ quiet) (ap (λ b. if b then Some k else first_falsified related (user_at (assigned_of c)) (k + 1) rs) (sym old) ∙ before)
-
-pub told_false : (b : Bool) → not b ≡ true → b ≡ false
-told_false true h = cc
-told_false false h = refl
 
 nothing : (o : Option ℕ) → is_none o ≡ true → o ≡ None
 nothing None h = refl

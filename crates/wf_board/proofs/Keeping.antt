@@ -33,14 +33,11 @@ use Rattle.wf_board.specs.Laws.{HistoriesKeepCompletable, HistoriesStaySound, Pl
 use Rattle.wf_board.proofs.Told.{HasStep, IsTold, claim_free, held_by, told}
 use Rattle.wf_board.proofs.Valid.{valid_claimed, valid_finished, valid_freed, valid_fresh}
 use Rattle.wf_board.proofs.Known.{of_policy_claimed, of_policy_finished, of_policy_freed, of_policy_fresh, of_policy_in_phase}
-use Rattle.wf_board.proofs.Amended.{of_policy_amended, open_can}
+use Rattle.wf_board.proofs.Amended.{of_policy_amended, open_can, same_case}
 
 -- P holds of each case that is found
 abbrev AllCases : (CaseShape → Type 0) → List Numbered → Type 0
 AllCases P cases = (n : ℕ) (c : CaseShape) → numbered_case cases n ≡ Some c → P c
-
-same_case : (c d : CaseShape) → Some c ≡ Some d → c ≡ d
-same_case c d h = cc
 
 -- the case at a number after a change: the one that was changed, or one from before
 record IsChanged (n : ℕ) (change : CaseShape → CaseShape) (cases : List Numbered) (d : CaseShape) : Type 0 where

@@ -6,7 +6,7 @@ use Rattle.std.specs.FinSet as set
 use Rattle.std.proofs.lemmas.Bool.Decides.{eqb_tells}
 use Rattle.std.proofs.lemmas.Option.{slice_get_within}
 use Rattle.basics.proofs.Lists.{take_next}
-use Rattle.basics.proofs.Booleans.{and_from, bool_cases, differ, eq_is, not_true, or_false}
+use Rattle.basics.proofs.Booleans.{and_from, bool_cases, differ, eq_is, not_true, or_false, second_false}
 use Rattle.wf_names.specs.States.{is_finished}
 use Rattle.rbac_state.specs.Rosters.{has_role}
 use Rattle.user_relations.specs.Relations.{RelationKind, complement_of, is_related, kind_of, listed, listed_pairs, pairs_of, with_kind}
@@ -47,11 +47,6 @@ use Rattle.wf_board.proofs.Rows.{each_added}
 none_below : (n : ℕ) (test : ℕ → Bool) → any_below n test ≡ false → (k : ℕ) → k < n → test k ≡ false
 none_below n test none k below = not_true (test k) (λ is. differ (any_below n test) (any_below-at n k test below is) none)
 
--- where two tests do not both pass, and the first does, the second fails
-second_fails : (a b : Bool) → (a && b) ≡ false → a ≡ true → b ≡ false
-second_fails true b h is = h
-second_fails false b h is = cc
-
 -- one of two tests that both pass may be exchanged for one that passes with it
 first_still : (a b d : Bool) → (a ≡ true → b ≡ true) → (a && d) ≡ true → (b && d) ≡ true
 first_still true b d still both = and_from b d (still refl) both
@@ -77,7 +72,7 @@ still_hers : (q : PolicyShape) (c : CaseShape) (plan : List ℕ) (u s : ℕ) →
     (planned plan s == u) ≡ true → is_authorised q c.flow s (planned plan s) ≡ true
 still_hers q c plan u s none below open_ hers =
     may_still q c plan s
-    (second_fails (planned plan s == u) (is_barred q c plan s) (none_below (length plan) (λ t. (planned plan t == u) && is_barred q c plan t) none s below)
+    (second_false (planned plan s == u) (is_barred q c plan s) (none_below (length plan) (λ t. (planned plan t == u) && is_barred q c plan t) none s below)
     hers) open_
 
 -- where memberships change, of one user alone, and this one loses no step
@@ -128,7 +123,7 @@ rules_unbroken p rho kind c plan none valid =
     ap (is_broken_over p.relations q rho plan) (sym is)
     ∙ none_below (length rules) (λ n. is_broken_over p.relations q rho plan (slice_get rules n)) none k (slice_get_within rules k rule is) in
     elim (bool_cases (is_over p.relations rho rule)) [
-      | inl over ↦ satisfied_there q rule plan (second_fails (is_over p.relations rho rule) _ here over)
+      | inl over ↦ satisfied_there q rule plan (second_false (is_over p.relations rho rule) _ here over)
       | inr apart ↦ satisfied_over p rho kind rule plan apart ∙ obeyed
     ])
     valid
@@ -154,7 +149,7 @@ pairs_unbroken : (p : PolicyShape) (rho u v : ℕ) (old new : Pairs) (c : CaseSh
     ((gives plan u && gives plan v) && breaks_rule p.relations (record p { relations = with_kind p.relations rho (listed new) }) rho c.flow plan) ≡ false →
     IsPlanOf p c plan → IsPlanOf (record p { relations = with_kind p.relations rho (listed new) }) c plan
 pairs_unbroken p rho u v old new c plan sound is others none valid = elim (bool_cases (gives plan u && gives plan v)) [
-  | inl both ↦ rules_unbroken p rho (listed new) c plan (second_fails (gives plan u && gives plan v) _ none both) valid
+  | inl both ↦ rules_unbroken p rho (listed new) c plan (second_false (gives plan u && gives plan v) _ none both) valid
   | inr apart ↦ pair_unbroken p rho u v old new c plan sound is others apart valid
 ]
 
@@ -176,7 +171,7 @@ forbidden_unbroken p g r s c plan within none valid =
             | inl here ↦
                 let free : is_barred q c plan t ≡ false =
                 subst (λ (n : ℕ). is_barred q c plan n ≡ false) (sym here.1)
-                (second_fails (c.flow == g) (is_barred q c plan s) none (eq_is c.flow g new.0)) in
+                (second_false (c.flow == g) (is_barred q c plan s) none (eq_is c.flow g new.0)) in
                 subst (λ (x : WorkflowShape). (problem_with p x).authorised t (planned plan t) ≡ true) new.1 (may_still q c plan t free open_)
             | inr other ↦ more_below (length p.roster.roles)
                 (λ n. has_role p.roster (planned plan t) n && set.contains (flow_at p c.flow).flow.permits (n, t))
@@ -236,10 +231,6 @@ names_step p (amend.Forbid g r s) c plan found valid = λ same.
 names_step p a c plan found valid = tt
 
 -- ---- rows
-
-pub not_back : (b : Bool) → not b ≡ true → b ≡ false
-not_back true h = absurd (cc)
-not_back false h = refl
 
 -- the plan of a row is one of its case, and one of its case is that of the row
 pub plan_of_row : (p : PolicyShape) (c d : CaseShape) (o : Option (List ℕ)) (plan : List ℕ) → Some plan ≡ o → d ≡ c → IsPlanned p c o → IsPlanOf p d plan

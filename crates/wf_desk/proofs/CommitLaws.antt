@@ -3,7 +3,7 @@ use Rattle.std.proofs.Common.{◌≡◌, ℕ, zero, suc, ◌+◌, ◌-◌, get_o
 use Rattle.std.proofs.Common.{◌++◌, length, take, drop, slice_set, slice_index_or, Some, refl, sym, ap, subst, ◌∙◌, arith, ◌==◌, if◌then◌else◌}
 use Rattle.std.proofs.lemmas.Grind.{common_steps}
 use Rattle.std.proofs.lemmas.List.{take_more, length-take-le}
-use Rattle.basics.proofs.Booleans.{and_both, bool_cases, eq_is, same_by}
+use Rattle.basics.proofs.Booleans.{and_both, bool_cases, eq_is, not_yes, same_by}
 use Rattle.wf_names.specs.declared.limits.TheConstants.{LANE_LIMIT}
 use Rattle.wf_talk.specs.declared.entry.Entry.{Entry}
 use Rattle.wf_talk.specs.declared.job.Job.{Job}
@@ -51,10 +51,6 @@ record LostFacts (d : DeskShape) (t : Task) : Type 0 where
   pub undecided : needs_verdict (decision_of (state_on d.board).book t.ask) ≡ true
   pub floor : floor_of d t.lane ≤ t.number
 
-not_told : (b : Bool) → not b ≡ true → b ≡ false
-not_told true h = cc
-not_told false h = refl
-
 lost_facts : (d : DeskShape) (t : Task) → is_lost d t ≡ true → LostFacts d t
 lost_facts d t lost =
     let first = and_both (nat_le 1 d.rounds) _ lost in
@@ -64,7 +60,7 @@ lost_facts d t lost =
     let floor = second.1 in
     record {
       positive = grind (arith, common_steps, one);
-      deed = not_told (is_view t.ask) next.0;
+      deed = not_yes (is_view t.ask) next.0;
       undecided = second.0;
       floor = grind (arith, common_steps, floor);
     }

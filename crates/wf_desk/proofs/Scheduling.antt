@@ -1,7 +1,6 @@
 -- What lanes hold stays right while a schedule is gone through.
 use Rattle.std.proofs.Common.{◌≡◌, ℕ, zero, suc, ◌+◌, ◌-◌, ◌<◌, ◌≤◌, ◌⊎◌, inl, inr, Bool, true, false, List, [], ◌∷◌, ◌++◌, length, take, drop, map, get_or}
 use Rattle.std.proofs.Common.{slice_index_or, slice_set, replicate, Option, None, Some, append_assoc, append-nil, refl, sym, ap, subst, ◌∙◌, arith}
-use Rattle.std.specs.List.{filter}
 use Rattle.std.proofs.lemmas.List.{drop-append-le, drop-take, length-append, map-append, take-append-le}
 use Rattle.std.proofs.lemmas.List.Elements.{filter-append}
 use Rattle.std.proofs.Math.Seq.{drop-append_seam, take-length}
@@ -31,8 +30,9 @@ use Rattle.wf_desk.specs.Holding.{AreHeld, IsHeld, standing}
 
 -- ---- more entries
 
-pub grown_none : (d e : DeskShape) → e ≡ d → HasGrown d e
-grown_none d e same = record {
+-- a desk that is the same but for what it lost
+grown_but : (d e : DeskShape) → record e { losses = d.losses } ≡ d → HasGrown d e
+grown_but d e same = record {
   more = [];
   extends = ap (λ (x : DeskShape). x.entries) same ∙ sym (append-nil d.entries);
   opening = ap (λ (x : DeskShape). x.opening) same;
@@ -43,21 +43,14 @@ grown_none d e same = record {
   start = ap (λ (x : DeskShape). x.start) same;
   restored = ap (λ (x : DeskShape). x.restored) same;
 }
+
+pub grown_none : (d e : DeskShape) → e ≡ d → HasGrown d e
+grown_none d e same = grown_but d e (ap (λ (x : DeskShape). record x { losses = d.losses }) same)
 
 grown_lost : (d e : DeskShape) (lane : ℕ) → e ≡ with_loss d lane → HasGrown d e
-grown_lost d e lane same = record {
-  more = [];
-  extends = ap (λ (x : DeskShape). x.entries) same ∙ sym (append-nil d.entries);
-  opening = ap (λ (x : DeskShape). x.opening) same;
-  lanes = ap (λ (x : DeskShape). x.lanes) same;
-  rounds = ap (λ (x : DeskShape). x.rounds) same;
-  earlier = ap (λ (x : DeskShape). x.earlier) same;
-  jobs = ap (λ (x : DeskShape). x.jobs) same;
-  start = ap (λ (x : DeskShape). x.start) same;
-  restored = ap (λ (x : DeskShape). x.restored) same;
-}
+grown_lost d e lane same = grown_but d e (ap (λ (x : DeskShape). record x { losses = d.losses }) same)
 
-pub grown_added : (d e : DeskShape) (job : Job) (place : ℕ) (Is : Reply → Type 0) → HasAdded d e job place Is → HasGrown d e
+unfoldable pub grown_added : (d e : DeskShape) (job : Job) (place : ℕ) (Is : Reply → Type 0) → HasAdded d e job place Is → HasGrown d e
 grown_added d e job place Is added = record {
   more = added.entry ∷ [];
   extends = added.added;
@@ -70,7 +63,7 @@ grown_added d e job place Is added = record {
   restored = added.restored;
 }
 
-pub grown_then : (d e f : DeskShape) → HasGrown d e → HasGrown e f → HasGrown d f
+unfoldable pub grown_then : (d e f : DeskShape) → HasGrown d e → HasGrown e f → HasGrown d f
 grown_then d e f first later = record {
   more = first.more ++ later.more;
   extends = later.extends ∙ ap (λ es. es ++ later.more) first.extends ∙ append_assoc d.entries first.more later.more;

@@ -1,5 +1,5 @@
 -- How a batch is served by turns.
-use Rattle.std.proofs.Common.{◌≡◌, ℕ, ◌+◌, ◌<◌, ◌≤◌, Bool, true, false, nat_lt, nat_eq, [], ◌∷◌, ◌++◌, length, None, inl, inr, refl, sym, ◌∙◌, ap, subst, arith}
+use Rattle.std.proofs.Common.{◌≡◌, ℕ, ◌+◌, ◌<◌, ◌≤◌, Bool, true, false, nat_lt, nat_eq, [], ◌∷◌, ◌++◌, length, None, inl, inr, refl, sym, ap, subst, arith}
 use Rattle.std.proofs.Common.{append_assoc, append-nil, length-append}
 use Rattle.std.proofs.lemmas.Bool.Decides.{nat_tests}
 use Rattle.basics.proofs.Booleans.{bool_cases}
@@ -10,6 +10,7 @@ use Rattle.wf_desk.specs.Desks.{AreOfLanes, DeskShape, IsDone, IsSoundDesk, next
 use Rattle.wf_desk.specs.Commits.{HasServed}
 use Rattle.wf_desk.proofs.DocketLaws.{batch_within, none_of_lanes}
 use Rattle.wf_desk.specs.Schedules.{HasGrown}
+use Rattle.wf_desk.proofs.Scheduling.{grown_added, grown_then}
 use Rattle.wf_lanes.specs.Turns.{HasServedByTurns, HasServedOn, left_at}
 use Rattle.wf_lanes.specs.TurnSteps.{HasServedTurn, AreTurnsBefore, IsAtTurn}
 use Rattle.wf_lanes.proofs.TurnOrder.{at_first, at_passed, at_served, at_whole}
@@ -33,36 +34,17 @@ on_none d = record {
 
 -- more jobs were served
 pub on_more : (a b c : DeskShape) → HasServedOn a b → HasServedOn b c → HasServedOn a c
+unfolding grown_then
 on_more a b c first second = record {
-  grown = record {
-    more = first.grown.more ++ second.grown.more;
-    extends = second.grown.extends ∙ ap (λ es. es ++ second.grown.more) first.grown.extends ∙ append_assoc a.entries first.grown.more second.grown.more;
-    opening = second.grown.opening ∙ first.grown.opening;
-    lanes = second.grown.lanes ∙ first.grown.lanes;
-    rounds = second.grown.rounds ∙ first.grown.rounds;
-    earlier = second.grown.earlier ∙ first.grown.earlier;
-    jobs = second.grown.jobs ∙ first.grown.jobs;
-    start = second.grown.start ∙ first.grown.start;
-    restored = second.grown.restored ∙ first.grown.restored;
-  };
+  grown = grown_then a b c first.grown second.grown;
   once = once_all first.grown.more second.grown.more first.once second.once;
 }
 
 -- a lane's next job was served, if it had one
 pub on_next : (b c : DeskShape) (lane : ℕ) (had : Bool) → HasServed b c lane had → HasServedOn b c
+unfolding grown_added
 on_next b c lane true (job, (next, more)) = record {
-  grown = record {
-    more = more.entry ∷ [];
-    extends = more.added;
-    opening = more.opening;
-    lanes = more.lanes;
-    rounds = more.rounds;
-    earlier = more.earlier;
-    jobs = more.jobs;
-    start =
-        more.start;
-    restored = more.restored;
-  };
+  grown = grown_added b c job _ _ more;
   once = (λ n place. step_once (state_on b.board) job.ask more.entry.reply more.reply.step n place, tt);
 }
 on_next b c lane false (none, same) = rw same (on_none b)
@@ -85,7 +67,7 @@ turned_none d = record {
 
 -- with the next lane, which had a job
 pub turned_served : (a b c : DeskShape) (lane : ℕ) (had : Bool) → HasTurned a b lane had → HasServed b c lane true → HasTurned a c (lane + 1) true
-unfolding on_more on_next
+unfolding on_more on_next grown_then grown_added
 turned_served a b c lane had turned served =
     let next = on_next b c lane true served in
     let before = turned.on.grown.extends in
@@ -141,7 +123,7 @@ turns_none d = record { on = on_none d; turns = 0; at = at_first d }
 
 -- and one more
 pub turns_more : (a b c : DeskShape) → HasServedTurns a b → HasServedTurn b c → HasServedTurns a c
-unfolding on_more
+unfolding on_more grown_then
 turns_more a b c so_far next = record {
   on = on_more a b c so_far.on next.on;
   turns = so_far.turns + 1;

@@ -3,8 +3,8 @@ use Rattle.transcript_audit.specs.Outcomes.{HasTakenLine}
 use Rattle.case_story.specs.declared.place.Place.{Place}
 use Rattle.case_story.specs.declared.verdict.Verdict.TheVariants.{Fault}
 use Rattle.case_story.specs.Followed.{StopsTo}
-use Rattle.case_story.proofs.FirstLine.{left_at, left_some}
-use Rattle.case_story.proofs.Following.{IsRest, one_long, one_more, wrong_line}
+use Rattle.transcript_commands.proofs.LinesTaken.{left_at}
+use Rattle.case_story.proofs.Following.{IsRest, left_some, one_long, one_more, wrong_line}
 use Rattle.case_story.proofs.follow.follow_line.Goals as goal
 
 pub returns-then-is_long-clause-steps : goal.returns-then-is_long-clause-steps

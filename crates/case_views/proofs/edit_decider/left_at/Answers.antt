@@ -3,12 +3,12 @@ use Rattle.wf_names.specs.States.{is_live}
 use Rattle.policy_book.specs.Policies.{problem_of}
 use Rattle.case_record.specs.Cases.{CaseShape, assigned_of, finished_of, is_open}
 use Rattle.wsp_solver.specs.Searches.{HasSolved}
-use Rattle.case_views.proofs.Editing.{kept_plan_of}
+use Rattle.wf_board.proofs.Unbroken.{plan_of_row}
 use Rattle.case_views.proofs.edit_decider.left_at.Goals as goal
 
 pub plan_for-requires-clause-valid : goal.plan_for-requires-clause-valid
 plan_for-requires-clause-valid c =
-    kept_plan_of c.args.p.now c.args.row.now.case c.case-in-Some.result.now c.args.row.now.plan c.in-Some.kept c.in-Some.ensures c.case-in-Some.ensures
+    plan_of_row c.args.p.now c.args.row.now.case c.case-in-Some.result.now c.args.row.now.plan c.in-Some.kept c.in-Some.ensures c.case-in-Some.ensures
     c.requires.planned
 
 pub returns-in_ok-plan_for-in-Some : goal.returns-in_ok-plan_for-in-Some

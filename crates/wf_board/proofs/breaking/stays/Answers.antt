@@ -1,4 +1,5 @@
-use Rattle.wf_board.proofs.Unbroken.{not_back, plan_of_row, row_planned}
+use Rattle.basics.proofs.Booleans.{not_yes}
+use Rattle.wf_board.proofs.Unbroken.{plan_of_row, row_planned}
 use Rattle.wf_board.proofs.breaking.stays.Goals as goal
 
 pub may_break-requires-clause-valid : goal.may_break-requires-clause-valid
@@ -8,4 +9,4 @@ may_break-requires-clause-valid c =
 pub returns-in-Some : goal.returns-in-Some
 returns-in-Some c = λ kept.
     row_planned c.args.after.now c.args.row.now.case c.case.result.now c.args.row.now.plan c.in-Some.plan c.in-Some.ensures c.case.ensures
-    (c.may_break.ensures (not_back c.may_break.result kept))
+    (c.may_break.ensures (not_yes c.may_break.result kept))

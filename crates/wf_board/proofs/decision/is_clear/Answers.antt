@@ -1,8 +1,9 @@
 use Rattle.std.proofs.Common.{◌≡◌, true, sym, ◌∙◌, arith}
 use Rattle.std.proofs.lemmas.Grind.{common_steps}
+use Rattle.basics.proofs.Booleans.{not_yes}
 use Rattle.policy_book.specs.Policies.{flow_at, is_authorised}
 use Rattle.case_record.specs.Order.{is_ready}
-use Rattle.wf_board.proofs.Grants.{clear_none, planned_none, told_false}
+use Rattle.wf_board.proofs.Grants.{clear_none, planned_none}
 use Rattle.wf_board.proofs.Planned.{plan_kept}
 use Rattle.wf_board.proofs.decision.is_clear.Goals as goal
 
@@ -27,4 +28,4 @@ returns c clear =
     grind (arith, common_steps, c.flow-f.ensures, c.authorised.ensures, c.if-not-authorised.false) in
     clear_none p k c.args.s c.args.u c.admin-sound.ensures.sound found.case.known.flow
     (plan_kept p c.args.cases.now.rows c.args.n k c.requires.kept found.case.found found.case.live) ready may
-    (sym c.breaks_rule.ensures ∙ told_false c.breaks_rule.result clear)
+    (sym c.breaks_rule.ensures ∙ not_yes c.breaks_rule.result clear)
