@@ -1,20 +1,22 @@
 //! The page of a case, taken together entry by entry.
-ghost use Rattle.std.specs.Prelude.{◌≡◌, ◌<◌, length, is_some, true, IfOk};
+ghost use Rattle.std.specs.Prelude.{◌≡◌, is_some, true, IfOk};
 ghost use Rattle.case_story.specs.Pages.{has_page};
 
 use crate::head::{END, FRONT, HISTORY, STYLE};
 use crate::html::{Html, Part};
 use crate::picture::put_picture;
+use crate::shown::Shown;
 use crate::standing::{put_plan, put_rules, put_standing};
 use crate::steps::put_steps;
 use case_record::Case;
+use constraint_forms::Plan;
 use grant_table::Cases;
 use plain_words::flow_text;
 use policy_book::Policy;
 use std::alloc::{AllocError, Global};
 use std::marker::Model;
 use story_words::{push_answer, push_ask, push_reasons, push_reply, subject};
-use wf_names::{CaseId, FlowId};
+use wf_names::CaseId;
 use wf_talk::{Ask, Denial, Entry, Reply, Request};
 
 /// The page of a case so far. Contracts see the number of the case.
@@ -92,14 +94,14 @@ impl Page {
         let Some(case) = cases.case(self.case) else {
             return Ok(None);
         };
-        let f = case.flow();
-        if p.flows().len() <= f.0 as u16 {
+        if p.flows().len() <= case.flow().0 as u16 {
             return Ok(None);
         }
+        let shown = Shown { policy: p, case };
         let mut out = Html::new(alloc);
         self.put_front(alloc, &mut out, p, case, verdict)?;
-        put_steps_of(alloc, &mut out, p, cases, self.case, case)?;
-        put_rules(alloc, &mut out, p, f)?;
+        put_steps_of(alloc, &mut out, &shown, cases.plan(self.case))?;
+        put_rules(alloc, &mut out, &shown)?;
         self.put_history(&mut out)?;
         Ok(Some(out.into_text()))
     }
@@ -155,19 +157,14 @@ impl Page {
 fn put_steps_of(
     alloc: Global,
     out: &mut Html,
-    p: &Policy,
-    cases: &Cases,
-    number: CaseId,
-    case: &Case,
-) -> Result<(), AllocError>
-    requires { case.now.flow < length p.now.flows }
-{
-    let f = case.flow();
+    shown: &Shown<'_>,
+    plan: Option<Plan>,
+) -> Result<(), AllocError> {
     out.put(&[Part::Mark("<h2>Steps</h2>\n")])?;
-    put_picture(alloc, out, p, f, case)?;
-    put_steps(alloc, out, p, f, case)?;
-    match cases.plan(number) {
-        Some(plan) => put_plan(alloc, out, p, f, case, &plan),
+    put_picture(alloc, out, shown)?;
+    put_steps(alloc, out, shown)?;
+    match plan {
+        Some(plan) => put_plan(alloc, out, shown, &plan),
         None => Ok(()),
     }
 }

@@ -19,6 +19,7 @@ mod picture;
 mod place;
 mod printed;
 mod session;
+mod shown;
 mod standing;
 mod steps;
 mod transcript;

@@ -1,16 +1,14 @@
 //! The picture of a workflow with how a case stands: a box for each step, in layers from left to
 //! right.
-ghost use Rattle.std.specs.Prelude.{◌<◌, length};
 
 use crate::html::{Html, Part};
 use crate::layout::{Layout, Spot, led_from};
+use crate::shown::Shown;
 use crate::steps::{class_of, roles_text, state_text};
-use case_record::Case;
-use plain_words::{flow_text, step_text};
-use policy_book::Policy;
+use plain_words::flow_text;
 use std::alloc::{AllocError, Global};
 use std::cmp::max;
-use wf_names::{FlowId, StepId};
+use wf_names::StepId;
 
 /// How far below the one box the next begins, in halves.
 const HALF_DOWN: u32 = 42;
@@ -62,34 +60,28 @@ const PICTURE: &str =
 pub(crate) fn put_picture(
     alloc: Global,
     out: &mut Html,
-    p: &Policy,
-    f: FlowId,
-    case: &Case,
-) -> Result<(), AllocError>
-    requires { f < length p.now.flows }
-{
-    let mut canvas = canvas_of(alloc, p, f, case)?;
+    shown: &Shown<'_>,
+) -> Result<(), AllocError> {
+    let mut canvas = canvas_of(alloc, shown)?;
     let mut drawn = Html::new(alloc);
-    for s in 0..case.steps() {
-        put_arrows(&mut drawn, p, f, &mut canvas, StepId(s))?;
+    for s in 0..shown.case.steps() {
+        put_arrows(&mut drawn, shown, &mut canvas, StepId(s))?;
     }
-    for s in 0..case.steps() {
-        put_box(alloc, &mut drawn, p, f, case, &canvas, StepId(s))?;
+    for s in 0..shown.case.steps() {
+        put_box(alloc, &mut drawn, shown, &canvas, StepId(s))?;
     }
-    put_frame(alloc, out, p, f, &canvas)?;
+    put_frame(alloc, out, shown, &canvas)?;
     out.join(&drawn)?;
     out.put(&[Part::Mark("</svg></div>\n")])
 }
 
 // The layout, with boxes as wide as the longest text of a step or its state.
-fn canvas_of(alloc: Global, p: &Policy, f: FlowId, case: &Case) -> Result<Canvas, AllocError>
-    requires { f < length p.now.flows }
-{
-    let layout = Layout::of(p.flow(f));
+fn canvas_of(alloc: Global, shown: &Shown<'_>) -> Result<Canvas, AllocError> {
+    let layout = Layout::of(shown.flow());
     let mut letters = 16;
-    for s in 0..case.steps() {
-        let step = step_text(alloc, p, f, StepId(s))?;
-        let state = state_text(alloc, p, f, case, StepId(s))?;
+    for s in 0..shown.case.steps() {
+        let step = shown.step(alloc, StepId(s))?;
+        let state = state_text(alloc, shown, StepId(s))?;
         letters = max(letters, max(step.len().saturating_add(3), state.len()));
     }
     Ok(Canvas {
@@ -103,8 +95,7 @@ fn canvas_of(alloc: Global, p: &Policy, f: FlowId, case: &Case) -> Result<Canvas
 fn put_frame(
     alloc: Global,
     out: &mut Html,
-    p: &Policy,
-    f: FlowId,
+    shown: &Shown<'_>,
     canvas: &Canvas,
 ) -> Result<(), AllocError> {
     let last = Spot {
@@ -115,7 +106,7 @@ fn put_frame(
         .x(last)
         .saturating_add(canvas.wide)
         .saturating_add(EDGE);
-    let flow = flow_text(alloc, p, f)?;
+    let flow = flow_text(alloc, shown.policy, shown.case.flow())?;
     out.put(&[
         Part::Mark("<div class=\"wide\"><svg viewBox=\"0 0 "),
         Part::Number(wide),
@@ -139,14 +130,11 @@ fn put_frame(
 // Adds the arrows to a step.
 fn put_arrows(
     out: &mut Html,
-    p: &Policy,
-    f: FlowId,
+    shown: &Shown<'_>,
     canvas: &mut Canvas,
     s: StepId,
-) -> Result<(), AllocError>
-    requires { f < length p.now.flows }
-{
-    let from = led_from(p.flow(f), s);
+) -> Result<(), AllocError> {
+    let from = led_from(shown.flow(), s);
     let to = canvas.layout.spot(s);
     for t in 0..from.limit() {
         if from.has(StepId(t as u8)) {
@@ -190,24 +178,17 @@ fn put_arrow(out: &mut Html, canvas: &mut Canvas, start: Spot, to: Spot) -> Resu
 fn put_box(
     alloc: Global,
     out: &mut Html,
-    p: &Policy,
-    f: FlowId,
-    case: &Case,
+    shown: &Shown<'_>,
     canvas: &Canvas,
     s: StepId,
-) -> Result<(), AllocError>
-    requires { f < length p.now.flows }
-{
+) -> Result<(), AllocError> {
     let spot = canvas.layout.spot(s);
-    let step = step_text(alloc, p, f, s)?;
-    let (roles, state) = (
-        roles_text(alloc, p, f, s)?,
-        state_text(alloc, p, f, case, s)?,
-    );
-    let (shown, dots) = beginning(roles.as_str(), canvas.letters);
+    let step = shown.step(alloc, s)?;
+    let (roles, state) = (roles_text(alloc, shown, s)?, state_text(alloc, shown, s)?);
+    let (begun, dots) = beginning(roles.as_str(), canvas.letters);
     out.put(&[
         Part::Mark("<g class=\""),
-        Part::Mark(class_of(p, f, case, s)),
+        Part::Mark(class_of(shown, s)),
         Part::Mark("\" transform=\"translate("),
         Part::Number(canvas.x(spot)),
         Part::Mark(" "),
@@ -219,7 +200,7 @@ fn put_box(
         Part::Mark(" "),
         Part::Value(step.as_str()),
         Part::Mark("</text><text x=\"10\" y=\"38\" class=\"r\">"),
-        Part::Value(shown),
+        Part::Value(begun),
         Part::Mark(dots),
         Part::Mark("</text><text x=\"10\" y=\"55\">"),
         Part::Value(state.as_str()),

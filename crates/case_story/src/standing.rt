@@ -1,13 +1,12 @@
 //! How a case stands, and how it can be finished.
-ghost use Rattle.std.specs.Prelude.{◌<◌, length};
 
 use crate::html::{Html, Part};
+use crate::shown::Shown;
 use case_record::Case;
 use constraint_forms::Plan;
-use plain_words::{name_text, push_gap, rule_text, say, step_text};
-use policy_book::Policy;
+use plain_words::{name_text, push_gap, rule_text, say};
 use std::alloc::{AllocError, Global};
-use wf_names::{FlowId, Phase, StepId};
+use wf_names::{Phase, StepId};
 
 /// Adds the sentence on how a case stands.
 pub(crate) fn put_standing(out: &mut Html, case: &Case) -> Result<(), AllocError> {
@@ -56,21 +55,17 @@ fn counts(case: &Case) -> (u32, u32) {
 pub(crate) fn put_plan(
     alloc: Global,
     out: &mut Html,
-    p: &Policy,
-    f: FlowId,
-    case: &Case,
+    shown: &Shown<'_>,
     plan: &Plan,
-) -> Result<(), AllocError>
-    requires { f < length p.now.flows }
-{
-    let (finished, _) = counts(case);
+) -> Result<(), AllocError> {
+    let (finished, _) = counts(shown.case);
     let left = (plan.len() as u32).saturating_sub(finished);
     let mut text = String::new(alloc);
     let mut place = 0u32;
     for s in 0..plan.len() {
-        if !case.state(StepId(s)).is_finished() {
-            let user = name_text(alloc, p.roster().users(), plan.at(StepId(s)).0)?;
-            let step = step_text(alloc, p, f, StepId(s))?;
+        if !shown.case.state(StepId(s)).is_finished() {
+            let user = name_text(alloc, shown.policy.roster().users(), plan.at(StepId(s)).0)?;
+            let step = shown.step(alloc, StepId(s))?;
             push_gap(&mut text, place, left, "and")?;
             say(&mut text, &[user.as_str(), " does ", step.as_str()])?;
             place = place.saturating_add(1);
@@ -87,14 +82,11 @@ pub(crate) fn put_plan(
 pub(crate) fn put_rules(
     alloc: Global,
     out: &mut Html,
-    p: &Policy,
-    f: FlowId,
-) -> Result<(), AllocError>
-    requires { f < length p.now.flows }
-{
+    shown: &Shown<'_>,
+) -> Result<(), AllocError> {
     out.put(&[Part::Mark("<h2>Rules</h2>\n<ol start=\"0\">\n")])?;
-    for rule in p.rules(f).as_slice() {
-        let words = rule_text(alloc, p, f, rule)?;
+    for rule in shown.rules().as_slice() {
+        let words = rule_text(alloc, shown.policy, shown.case.flow(), rule)?;
         out.put(&[
             Part::Mark("<li>"),
             Part::Value(words.as_str()),
