@@ -103,9 +103,9 @@ what_if_adding d ms = at_row (or_fault (option_and_then (row_of edits) (text_at 
 all_adding : AreAll ReadsAdding
 all_adding = record {
   asked = λ word r is. by_adding (codes "do" ∷ codes "lane" ∷ []) r.keys r.is
-  (λ d have. find_row IsPlainRow (λ y. pointwise nat_eq word y.word) rows r rows_plain is d);
+      (λ d have. find_row IsPlainRow (λ y. pointwise nat_eq word y.word) rows r rows_plain is d);
   changed = λ word r is. by_adding (codes "do" ∷ codes "lane" ∷ []) (by ∷ r.keys) (λ d. Change (the_name by d) (r.is d))
-  (λ d have. find_row IsEditRow (λ y. pointwise nat_eq word y.word) edits r edits_named is d have);
+      (λ d have. find_row IsEditRow (λ y. pointwise nat_eq word y.word) edits r edits_named is d have);
   what_if = what_if_adding;
 }
 

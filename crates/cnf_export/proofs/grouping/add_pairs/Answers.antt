@@ -12,10 +12,12 @@ members-preserved c =
     let below : c.members.x < length group = omega (arith, c.members-test.true, c.limit-limit.ensures.limit, c.limit-limit.ensures.len) in
     elim c.if-has.branch [
       | then-has+in_ok-add_group w ↦
-          listed_one (map f) (f c.members.x ∷ []) (is_member group) c.members.made.items c.if-has.made.items c.members.x (length group) (λ us. refl) below (sym c.has.ensures.flag ∙ w.if-has.true)
+          listed_one (map f) (f c.members.x ∷ []) (is_member group) c.members.made.items c.if-has.made.items c.members.x (length group)
+          (λ us. refl) below (sym c.has.ensures.flag ∙ w.if-has.true)
           (ap (λ v. v.items) w.made-is ∙ w.in_ok-add_group.ensures ∙ ap (λ g. c.members.made.items ++ g ∷ []) w.pair_of.ensures)
           ∙ c.members.invariant
       | else-has w ↦
-          listed_none (map f) (is_member group) c.members.made.items c.if-has.made.items c.members.x (length group) below (sym c.has.ensures.flag ∙ w.if-has.false) (ap (λ v. v.items) w.made-is)
+          listed_none (map f) (is_member group) c.members.made.items c.if-has.made.items c.members.x (length group) below
+          (sym c.has.ensures.flag ∙ w.if-has.false) (ap (λ v. v.items) w.made-is)
           ∙ c.members.invariant
     ]

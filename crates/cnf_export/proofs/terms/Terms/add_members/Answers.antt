@@ -17,10 +17,12 @@ members-preserved c =
     let below : c.members.t < length group = omega (arith, c.members-test.true, c.limit-limit.ensures.limit, c.limit-limit.ensures.len) in
     elim c.if-has.branch [
       | then-has+in_ok-add_member w ↦
-          listed_one (flat_map f) (f c.members.t) (is_member group) c.members.into c.if-has.into c.members.t (length group) (λ us. refl) below (sym c.has.ensures.flag ∙ w.if-has.true)
+          listed_one (flat_map f) (f c.members.t) (is_member group) c.members.into c.if-has.into c.members.t (length group)
+          (λ us. refl) below (sym c.has.ensures.flag ∙ w.if-has.true)
           (w.into-is ∙ w.in_ok-add_member.ensures)
           ∙ c.members.invariant
       | else-has w ↦
-          listed_none (flat_map f) (is_member group) c.members.into c.if-has.into c.members.t (length group) below (sym c.has.ensures.flag ∙ w.if-has.false) w.into-is
+          listed_none (flat_map f) (is_member group) c.members.into c.if-has.into c.members.t (length group) below
+          (sym c.has.ensures.flag ∙ w.if-has.false) w.into-is
           ∙ c.members.invariant
     ]
