@@ -8,3 +8,4 @@ pub mod Lean
 pub mod Stored
 pub mod Candidates
 pub mod Duties
+pub mod Course

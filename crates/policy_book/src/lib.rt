@@ -3,6 +3,7 @@
 
 mod authority;
 mod candidates;
+mod course;
 mod duties;
 mod kept;
 mod policy;
@@ -10,6 +11,7 @@ mod related;
 mod workflow;
 
 pub use constraint_forms::{Assign, Holds, Plan, RelatedRows, Rule, Rules, StepSet};
+pub use course::Course;
 pub use policy::Policy;
 pub use rbac_state::{Roster, RosterFault};
 pub use user_relations::{RelationFault, Relations};
