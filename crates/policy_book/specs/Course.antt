@@ -5,4 +5,4 @@ use Rattle.policy_book.specs.declared.course.Course.{Course}
 
 -- all that a policy says of the workflow
 abbrev pub problem_in : Course → Problem
-problem_in c = problem_of c.policy.now c.flow
+problem_in c = problem_of c.policy.now c.number
