@@ -5,6 +5,7 @@ ghost use Rattle.wf_names.specs.declared.limits.TheConstants.{STEP_LIMIT};
 ghost use Rattle.wf_names.specs.UserSets.{has_user};
 ghost use Rattle.constraint_forms.specs.Assign.{user_at};
 ghost use Rattle.constraint_forms.specs.Rules.{all_read, reads};
+ghost use Rattle.policy_book.specs.Course.{problem_in};
 ghost use Rattle.policy_book.specs.Policies.{problem_of};
 ghost use Rattle.policy_book.specs.Twins.{agree, all_below, are_related_alike, are_twins};
 ghost use Rattle.policy_book.specs.Twins.{has_no_step, is_alike_to, is_given_to, is_rule_alike};
@@ -12,7 +13,7 @@ ghost use Rattle.policy_book.specs.Twins.{may_do_the_same, treats_alike};
 ghost use Rattle.certificate_check.specs.Alike.{AreSameBut, HasNoMoreThan, reads_as};
 
 use constraint_forms::{Holds, RelatedRows, Rule};
-use policy_book::{Assign, Policy};
+use policy_book::{Assign, Course, Policy};
 use wf_names::{FlowId, RelId, STEP_LIMIT, StepId, USER_LIMIT, UserId, UserSet};
 
 // Up to how many users are looked at one by one.
@@ -26,7 +27,11 @@ pub fn twins(p: &Policy, f: FlowId, a: &Assign, u: UserId, v: UserId) -> bool
     requires second { v < (problem_of p.now f).users }
     ensures { result ≡ are_twins (problem_of p.now f) a.now u v }
 {
-    have_no_step(a, u, v) && may_do_the_same(p, f, u, v) && are_related_alike(p, f, u, v)
+    let course = Course {
+        policy: p,
+        number: f,
+    };
+    have_no_step(a, u, v) && may_do_the_same(&course, u, v) && are_related_alike(p, f, u, v)
 }
 
 fn have_no_step(a: &Assign, u: UserId, v: UserId) -> bool
@@ -57,29 +62,27 @@ fn is_given_to(a: &Assign, s: StepId, u: UserId) -> bool
     }
 }
 
-fn may_do_the_same(p: &Policy, f: FlowId, u: UserId, v: UserId) -> bool
-    requires flow { f < length p.now.flows }
-    requires first { u < (problem_of p.now f).users }
-    requires second { v < (problem_of p.now f).users }
-    ensures { result ≡ may_do_the_same (problem_of p.now f) u v }
+fn may_do_the_same(course: &Course, u: UserId, v: UserId) -> bool
+    requires first { u < (problem_in course.now).users }
+    requires second { v < (problem_in course.now).users }
+    ensures { result ≡ may_do_the_same (problem_in course.now) u v }
 {
-    'steps: for s in 0..p.flow(f).steps().len() {
-        if !may_both_or_neither(p, f, StepId(s as u8), u, v) {
+    'steps: for s in 0..course.flow().steps().len() {
+        if !may_both_or_neither(course, StepId(s as u8), u, v) {
             return false;
         }
     }
     true
 }
 
-fn may_both_or_neither(p: &Policy, f: FlowId, s: StepId, u: UserId, v: UserId) -> bool
-    requires flow { f < length p.now.flows }
-    requires step { s < (problem_of p.now f).steps }
-    requires first { u < (problem_of p.now f).users }
-    requires second { v < (problem_of p.now f).users }
-    ensures { result ≡ agree ((problem_of p.now f).authorised s u)
-        ((problem_of p.now f).authorised s v) }
+fn may_both_or_neither(course: &Course, s: StepId, u: UserId, v: UserId) -> bool
+    requires step { s < (problem_in course.now).steps }
+    requires first { u < (problem_in course.now).users }
+    requires second { v < (problem_in course.now).users }
+    ensures { result ≡ agree ((problem_in course.now).authorised s u)
+        ((problem_in course.now).authorised s v) }
 {
-    agree(p.authorised(f, s, u), p.authorised(f, s, v))
+    agree(course.authorised(s, u), course.authorised(s, v))
 }
 
 fn agree(one: bool, other: bool) -> bool
@@ -94,11 +97,15 @@ pub fn are_related_alike(p: &Policy, f: FlowId, u: UserId, v: UserId) -> bool
     requires flow { f < length p.now.flows }
     ensures { result ≡ are_related_alike (problem_of p.now f) u v }
 {
-    'rules: for k in 0..p.rules(f).len() {
-        if read_before(p, f, k) < k {
+    let course = Course {
+        policy: p,
+        number: f,
+    };
+    'rules: for k in 0..course.rules().len() {
+        if read_before(&course, k) < k {
             continue;
         }
-        if !is_rule_alike(p, f, k, u, v) {
+        if !is_rule_alike(&course, k, u, v) {
             return false;
         }
     }
@@ -106,16 +113,15 @@ pub fn are_related_alike(p: &Policy, f: FlowId, u: UserId, v: UserId) -> bool
 }
 
 // An earlier rule that reads all that a rule reads, or else the rule itself.
-fn read_before(p: &Policy, f: FlowId, k: usize) -> usize
-    requires flow { f < length p.now.flows }
+fn read_before(course: &Course, k: usize) -> usize
     ensures { (u v : ℕ)
-        → IsTrue (is_rule_alike (problem_of p.now f) u v
-        (slice_get (problem_of p.now f).rules result))
-        → IsTrue (is_rule_alike (problem_of p.now f) u v
-        (slice_get (problem_of p.now f).rules k)) }
+        → IsTrue (is_rule_alike (problem_in course.now) u v
+        (slice_get (problem_in course.now).rules result))
+        → IsTrue (is_rule_alike (problem_in course.now) u v
+        (slice_get (problem_in course.now).rules k)) }
 {
     'earlier: for j in 0..k {
-        if reads_as(p, f, j, k) {
+        if reads_as(course, j, k) {
             return j;
         }
     }
@@ -123,22 +129,20 @@ fn read_before(p: &Policy, f: FlowId, k: usize) -> usize
 }
 
 // Whether one rule reads all that another rule reads.
-fn reads_as(p: &Policy, f: FlowId, j: usize, k: usize) -> bool
-    requires flow { f < length p.now.flows }
-    ensures { result ≡ reads_as (slice_get (problem_of p.now f).rules j)
-        (slice_get (problem_of p.now f).rules k) }
+fn reads_as(course: &Course, j: usize, k: usize) -> bool
+    ensures { result ≡ reads_as (slice_get (problem_in course.now).rules j)
+        (slice_get (problem_in course.now).rules k) }
 {
-    match p.rules(f).as_slice().get(j) {
-        Some(rule) => reads_all_of(p, f, rule, k),
+    match course.rules().as_slice().get(j) {
+        Some(rule) => reads_all_of(course, rule, k),
         None => false,
     }
 }
 
-fn reads_all_of(p: &Policy, f: FlowId, rule: &Rule, k: usize) -> bool
-    requires flow { f < length p.now.flows }
-    ensures { result ≡ reads_as (Some rule.now) (slice_get (problem_of p.now f).rules k) }
+fn reads_all_of(course: &Course, rule: &Rule, k: usize) -> bool
+    ensures { result ≡ reads_as (Some rule.now) (slice_get (problem_in course.now).rules k) }
 {
-    match p.rules(f).as_slice().get(k) {
+    match course.rules().as_slice().get(k) {
         Some(other) => reads_all(rule, other),
         None => false,
     }
@@ -153,82 +157,84 @@ fn reads_all(rule: &Rule, other: &Rule) -> bool
     }
 }
 
-fn is_rule_alike(p: &Policy, f: FlowId, k: usize, u: UserId, v: UserId) -> bool
-    requires { f < length p.now.flows }
-    ensures { result ≡ is_rule_alike (problem_of p.now f) u v
-        (slice_get (problem_of p.now f).rules k) }
+fn is_rule_alike(course: &Course, k: usize, u: UserId, v: UserId) -> bool
+    ensures { result ≡ is_rule_alike (problem_in course.now) u v
+        (slice_get (problem_in course.now).rules k) }
 {
-    match p.rules(f).as_slice().get(k) {
-        Some(rule) => are_read_alike(p, f, rule, u, v),
+    match course.rules().as_slice().get(k) {
+        Some(rule) => are_read_alike(course, rule, u, v),
         None => true,
     }
 }
 
 // Whether every relation that a rule reads treats two users alike.
-fn are_read_alike(p: &Policy, f: FlowId, rule: &Rule, u: UserId, v: UserId) -> bool
-    ensures { result ≡ all_read rule.now (λ rho. treats_alike (problem_of p.now f).users
-        ((problem_of p.now f).related rho) u v) }
+fn are_read_alike(course: &Course, rule: &Rule, u: UserId, v: UserId) -> bool
+    ensures { result ≡ all_read rule.now (λ rho. treats_alike (problem_in course.now).users
+        ((problem_in course.now).related rho) u v) }
 {
     match rule.relation() {
-        Some(rho) => treats_alike(p, f, rho, u, v),
+        Some(rho) => treats_alike(course, rho, u, v),
         None => true,
     }
 }
 
-fn treats_alike(p: &Policy, f: FlowId, rho: RelId, u: UserId, v: UserId) -> bool
-    ensures { result ≡ treats_alike (problem_of p.now f).users
-        ((problem_of p.now f).related rho) u v }
+fn treats_alike(course: &Course, rho: RelId, u: UserId, v: UserId) -> bool
+    ensures { result ≡ treats_alike (problem_in course.now).users
+        ((problem_in course.now).related rho) u v }
 {
+    let p = course.policy;
     if !agree(p.holds(rho, u, u), p.holds(rho, v, v)) {
         return false;
     }
     if !agree(p.holds(rho, u, v), p.holds(rho, v, u)) {
         return false;
     }
-    are_alike_to_all(p, f, rho, u, v)
+    are_alike_to_all(course, rho, u, v)
 }
 
-fn are_alike_to_all(p: &Policy, f: FlowId, rho: RelId, u: UserId, v: UserId) -> bool
-    ensures { result ≡ all_below (problem_of p.now f).users
-        (λ w. (w == u || w == v) || is_alike_to ((problem_of p.now f).related rho) u v w) }
+fn are_alike_to_all(course: &Course, rho: RelId, u: UserId, v: UserId) -> bool
+    ensures { result ≡ all_below (problem_in course.now).users
+        (λ w. (w == u || w == v) || is_alike_to ((problem_in course.now).related rho) u v w) }
 {
-    if p.roster().users().len() <= FEW {
-        are_alike_to_each(p, f, rho, u, v)
+    if course.policy.roster().users().len() <= FEW {
+        are_alike_to_each(course, rho, u, v)
     } else {
-        have_same_rows(p, f, rho, u, v)
+        have_same_rows(course, rho, u, v)
     }
 }
 
-fn are_alike_to_each(p: &Policy, f: FlowId, rho: RelId, u: UserId, v: UserId) -> bool
-    ensures { result ≡ all_below (problem_of p.now f).users
-        (λ w. (w == u || w == v) || is_alike_to ((problem_of p.now f).related rho) u v w) }
+fn are_alike_to_each(course: &Course, rho: RelId, u: UserId, v: UserId) -> bool
+    ensures { result ≡ all_below (problem_in course.now).users
+        (λ w. (w == u || w == v) || is_alike_to ((problem_in course.now).related rho) u v w) }
 {
-    'users: for w in 0..p.roster().users().len() {
-        if !are_alike_to(p, f, rho, u, v, UserId(w)) {
+    'users: for w in 0..course.policy.roster().users().len() {
+        if !are_alike_to(course, rho, u, v, UserId(w)) {
             return false;
         }
     }
     true
 }
 
-fn are_alike_to(p: &Policy, f: FlowId, rho: RelId, u: UserId, v: UserId, w: UserId) -> bool
-    ensures { result ≡ ((w == u || w == v) || is_alike_to ((problem_of p.now f).related
+fn are_alike_to(course: &Course, rho: RelId, u: UserId, v: UserId, w: UserId) -> bool
+    ensures { result ≡ ((w == u || w == v) || is_alike_to ((problem_in course.now).related
         rho) u v w) }
 {
-    w == u || w == v || is_alike_to(p, f, rho, u, v, w)
+    w == u || w == v || is_alike_to(course, rho, u, v, w)
 }
 
-fn is_alike_to(p: &Policy, f: FlowId, rho: RelId, u: UserId, v: UserId, w: UserId) -> bool
-    ensures { result ≡ is_alike_to ((problem_of p.now f).related rho) u v w }
+fn is_alike_to(course: &Course, rho: RelId, u: UserId, v: UserId, w: UserId) -> bool
+    ensures { result ≡ is_alike_to ((problem_in course.now).related rho) u v w }
 {
+    let p = course.policy;
     agree(p.holds(rho, u, w), p.holds(rho, v, w)) && agree(p.holds(rho, w, u), p.holds(rho, w, v))
 }
 
 // By the rows of all whom a relation relates to each of the two.
-fn have_same_rows(p: &Policy, f: FlowId, rho: RelId, u: UserId, v: UserId) -> bool
-    ensures { result ≡ all_below (problem_of p.now f).users
-        (λ w. (w == u || w == v) || is_alike_to ((problem_of p.now f).related rho) u v w) }
+fn have_same_rows(course: &Course, rho: RelId, u: UserId, v: UserId) -> bool
+    ensures { result ≡ all_below (problem_in course.now).users
+        (λ w. (w == u || w == v) || is_alike_to ((problem_in course.now).related rho) u v w) }
 {
+    let p = course.policy;
     let users = p.roster().users().len();
     prove!(users <= USER_LIMIT);
     if !are_same_but(&p.after(rho, u, users), &p.after(rho, v, users), u, v) {

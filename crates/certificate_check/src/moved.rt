@@ -1,12 +1,13 @@
 //! A valid plan with one step given to another user.
 ghost use Rattle.std.specs.Prelude.{◌≡◌, ◌<◌, ℕ, Bool, List, Option, Some, length, slice_get};
 ghost use Rattle.std.specs.Prelude.{slice_set, true, IfSome};
+ghost use Rattle.policy_book.specs.Course.{problem_in};
 ghost use Rattle.policy_book.specs.Policies.{problem_of};
 ghost use Rattle.policy_book.specs.Plans.{IsValidPlan};
 ghost use Rattle.certificate_check.specs.Plan.{keeps_rule};
 
 use constraint_forms::satisfied;
-use policy_book::{Plan, Policy};
+use policy_book::{Course, Plan, Policy};
 use wf_names::{FlowId, STEP_LIMIT, StepId, UserId};
 
 /// A plan with one of its steps given to another user, where that is valid because the plan is: the
@@ -25,8 +26,12 @@ pub fn moved_plan(p: &Policy, f: FlowId, plan: &Plan, step: StepId, user: UserId
     if !p.authorised(f, step, user) {
         return None;
     }
+    let course = Course {
+        policy: p,
+        number: f,
+    };
     let moved = with_user(plan, step, user);
-    if keeps_rules(p, f, &moved, step) {
+    if keeps_rules(&course, &moved, step) {
         Some(moved)
     } else {
         None
@@ -48,15 +53,14 @@ fn with_user(plan: &Plan, step: StepId, user: UserId) -> Plan
 }
 
 /// Whether a plan satisfies the rules that name a step.
-fn keeps_rules(p: &Policy, f: FlowId, plan: &Plan, step: StepId) -> bool
-    requires flow { f < length p.now.flows }
-    requires whole { length plan.now ≡ (problem_of p.now f).steps }
-    ensures { result ≡ true → (k : ℕ) → k < length (problem_of p.now f).rules
-        → keeps_rule (problem_of p.now f) plan.now step
-        (slice_get (problem_of p.now f).rules k) ≡ true }
+fn keeps_rules(course: &Course, plan: &Plan, step: StepId) -> bool
+    requires whole { length plan.now ≡ (problem_in course.now).steps }
+    ensures { result ≡ true → (k : ℕ) → k < length (problem_in course.now).rules
+        → keeps_rule (problem_in course.now) plan.now step
+        (slice_get (problem_in course.now).rules k) ≡ true }
 {
-    'rules: for k in 0..p.rules(f).len() {
-        if !keeps_rule(p, f, plan, step, k) {
+    'rules: for k in 0..course.rules().len() {
+        if !keeps_rule(course, plan, step, k) {
             return false;
         }
     }
@@ -64,14 +68,13 @@ fn keeps_rules(p: &Policy, f: FlowId, plan: &Plan, step: StepId) -> bool
 }
 
 /// Whether a plan satisfies the rule with a number, if it names a step.
-fn keeps_rule(p: &Policy, f: FlowId, plan: &Plan, step: StepId, k: usize) -> bool
-    requires flow { f < length p.now.flows }
-    requires whole { length plan.now ≡ (problem_of p.now f).steps }
-    ensures { result ≡ keeps_rule (problem_of p.now f) plan.now step
-        (slice_get (problem_of p.now f).rules k) }
+fn keeps_rule(course: &Course, plan: &Plan, step: StepId, k: usize) -> bool
+    requires whole { length plan.now ≡ (problem_in course.now).steps }
+    ensures { result ≡ keeps_rule (problem_in course.now) plan.now step
+        (slice_get (problem_in course.now).rules k) }
 {
-    match p.rules(f).as_slice().get(k) {
-        Some(rule) => !rule.names(step) || satisfied(rule, p, plan),
+    match course.rules().as_slice().get(k) {
+        Some(rule) => !rule.names(step) || satisfied(rule, course.policy, plan),
         None => true,
     }
 }

@@ -2,12 +2,13 @@
 ghost use Rattle.std.specs.Prelude.{◌≡◌, ◌<◌, ◌==◌, ◌↔◌, ℕ, length, slice_get, true, IsOk};
 ghost use Rattle.constraint_forms.specs.Assign.{planned, user_at};
 ghost use Rattle.policy_book.specs.Plans.{IsValidPlan, IsWithin};
+ghost use Rattle.policy_book.specs.Course.{problem_in};
 ghost use Rattle.policy_book.specs.Policies.{problem_of};
 ghost use Rattle.certificate_check.specs.Plan.{first_failing, is_kept, is_obeyed, may_perform};
 ghost use Rattle.certificate_check.specs.Plan.{plan_verdict};
 
 use constraint_forms::satisfied;
-use policy_book::{Assign, Plan, Policy, StepSet};
+use policy_book::{Assign, Course, Plan, Policy, StepSet};
 use wf_names::{FlowId, StepId};
 
 /// What is wrong with a plan.
@@ -27,15 +28,18 @@ pub fn is_valid_plan(p: &Policy, f: FlowId, a: &Assign, done: &StepSet, plan: &P
     requires within { IsWithin (problem_of p.now f) a.now }
     ensures { result ≡ true ↔ IsValidPlan (problem_of p.now f) a.now done.now plan.now }
 {
-    is_whole(p, f, plan) && has_known(p, plan) && check_plan(p, f, a, done, plan).is_ok()
+    let course = Course {
+        policy: p,
+        number: f,
+    };
+    is_whole(&course, plan) && has_known(p, plan) && check_plan(p, f, a, done, plan).is_ok()
 }
 
 /// Whether a plan has a user for each step.
-fn is_whole(p: &Policy, f: FlowId, plan: &Plan) -> bool
-    requires { f < length p.now.flows }
-    ensures { result ≡ (length plan.now == (problem_of p.now f).steps) }
+fn is_whole(course: &Course, plan: &Plan) -> bool
+    ensures { result ≡ (length plan.now == (problem_in course.now).steps) }
 {
-    plan.len() as u16 == p.flow(f).steps().len()
+    plan.len() as u16 == course.flow().steps().len()
 }
 
 /// Whether the policy has every user of a plan.
@@ -67,23 +71,26 @@ pub fn check_plan(
     ensures valid { IsOk result ↔ IsValidPlan (problem_of p.now f) a.now done.now plan.now }
     ensures fault { result ≡ plan_verdict (problem_of p.now f) a.now done.now plan.now }
 {
-    verdict(p, f, a, done, plan)
+    let course = Course {
+        policy: p,
+        number: f,
+    };
+    verdict(&course, a, done, plan)
 }
 
-fn verdict(p: &Policy, f: FlowId, a: &Assign, done: &StepSet, plan: &Plan) -> Result<(), PlanFault>
-    requires flow { f < length p.now.flows }
-    requires whole { length plan.now ≡ (problem_of p.now f).steps }
+fn verdict(course: &Course, a: &Assign, done: &StepSet, plan: &Plan) -> Result<(), PlanFault>
+    requires whole { length plan.now ≡ (problem_in course.now).steps }
     requires users { (s : ℕ) → s < length plan.now
-        → planned plan.now s < (problem_of p.now f).users }
-    ensures { result ≡ plan_verdict (problem_of p.now f) a.now done.now plan.now }
+        → planned plan.now s < (problem_in course.now).users }
+    ensures { result ≡ plan_verdict (problem_in course.now) a.now done.now plan.now }
 {
     if let Some(s) = first_moved(a, plan) {
         return Err(PlanFault::Moved(s));
     }
-    if let Some(s) = first_unauthorised(p, f, done, plan) {
+    if let Some(s) = first_unauthorised(course, done, plan) {
         return Err(PlanFault::Role(s));
     }
-    if let Some(k) = first_disobeyed(p, f, plan) {
+    if let Some(k) = first_disobeyed(course, plan) {
         return Err(PlanFault::Rule(k));
     }
     Ok(())
@@ -113,56 +120,52 @@ fn is_kept(a: &Assign, plan: &Plan, s: StepId) -> bool
 }
 
 /// The least step that is not finished and whose user is not authorised for it.
-fn first_unauthorised(p: &Policy, f: FlowId, done: &StepSet, plan: &Plan) -> Option<StepId>
-    requires flow { f < length p.now.flows }
-    requires whole { length plan.now ≡ (problem_of p.now f).steps }
+fn first_unauthorised(course: &Course, done: &StepSet, plan: &Plan) -> Option<StepId>
+    requires whole { length plan.now ≡ (problem_in course.now).steps }
     requires users { (s : ℕ) → s < length plan.now
-        → planned plan.now s < (problem_of p.now f).users }
-    ensures { result ≡ first_failing (may_perform (problem_of p.now f) done.now plan.now) 0
+        → planned plan.now s < (problem_in course.now).users }
+    ensures { result ≡ first_failing (may_perform (problem_in course.now) done.now plan.now) 0
         (length plan.now) }
 {
     'steps: for s in 0..plan.len() {
-        if !may_perform(p, f, done, plan, StepId(s)) {
+        if !may_perform(course, done, plan, StepId(s)) {
             return Some(StepId(s));
         }
     }
     None
 }
 
-fn may_perform(p: &Policy, f: FlowId, done: &StepSet, plan: &Plan, s: StepId) -> bool
-    requires flow { f < length p.now.flows }
-    requires whole { length plan.now ≡ (problem_of p.now f).steps }
+fn may_perform(course: &Course, done: &StepSet, plan: &Plan, s: StepId) -> bool
+    requires whole { length plan.now ≡ (problem_in course.now).steps }
     requires users { (t : ℕ) → t < length plan.now
-        → planned plan.now t < (problem_of p.now f).users }
+        → planned plan.now t < (problem_in course.now).users }
     requires step { s < length plan.now }
-    ensures { result ≡ may_perform (problem_of p.now f) done.now plan.now s }
+    ensures { result ≡ may_perform (problem_in course.now) done.now plan.now s }
 {
-    done.has(s) || p.authorised(f, s, plan.at(s))
+    done.has(s) || course.authorised(s, plan.at(s))
 }
 
 /// The least rule that the plan does not satisfy.
-fn first_disobeyed(p: &Policy, f: FlowId, plan: &Plan) -> Option<u8>
-    requires flow { f < length p.now.flows }
-    requires whole { length plan.now ≡ (problem_of p.now f).steps }
-    ensures { result ≡ first_failing (λ k. is_obeyed (problem_of p.now f) plan.now
-        (slice_get (problem_of p.now f).rules k)) 0 (length (problem_of p.now f).rules) }
+fn first_disobeyed(course: &Course, plan: &Plan) -> Option<u8>
+    requires whole { length plan.now ≡ (problem_in course.now).steps }
+    ensures { result ≡ first_failing (λ k. is_obeyed (problem_in course.now) plan.now
+        (slice_get (problem_in course.now).rules k)) 0 (length (problem_in course.now).rules) }
 {
-    'rules: for k in 0..p.rules(f).len() {
-        if !is_obeyed(p, f, plan, k) {
+    'rules: for k in 0..course.rules().len() {
+        if !is_obeyed(course, plan, k) {
             return Some(k as u8);
         }
     }
     None
 }
 
-fn is_obeyed(p: &Policy, f: FlowId, plan: &Plan, k: usize) -> bool
-    requires flow { f < length p.now.flows }
-    requires whole { length plan.now ≡ (problem_of p.now f).steps }
-    ensures { result ≡ is_obeyed (problem_of p.now f) plan.now
-        (slice_get (problem_of p.now f).rules k) }
+fn is_obeyed(course: &Course, plan: &Plan, k: usize) -> bool
+    requires whole { length plan.now ≡ (problem_in course.now).steps }
+    ensures { result ≡ is_obeyed (problem_in course.now) plan.now
+        (slice_get (problem_in course.now).rules k) }
 {
-    match p.rules(f).as_slice().get(k) {
-        Some(rule) => satisfied(rule, p, plan),
+    match course.rules().as_slice().get(k) {
+        Some(rule) => satisfied(rule, course.policy, plan),
         None => true,
     }
 }

@@ -5,6 +5,7 @@ ghost use Rattle.constraint_forms.specs.Assign.{user_at};
 ghost use Rattle.refutation_tree.specs.Tree.{no_kids, Kids};
 ghost use Rattle.refutation_tree.specs.Views.{branch_onto, kids_of_items, shape_of};
 ghost use Rattle.policy_book.specs.Plans.{IsWithin};
+ghost use Rattle.policy_book.specs.Course.{problem_in};
 ghost use Rattle.policy_book.specs.Policies.{problem_of};
 ghost use Rattle.certificate_check.specs.Walks.{AreUsersBelow, begins_with, tree_users};
 ghost use Rattle.certificate_check.specs.Walks.{kid_user_onto};
@@ -15,55 +16,59 @@ ghost use Rattle.policy_book.specs.Refuting.{is_rule_naming, mentions, refutes};
 
 use crate::alike::twins;
 use constraint_forms::falsified;
-use policy_book::{Assign, Policy, Rules, StepSet};
+use policy_book::{Assign, Course, Policy, Rules, StepSet};
 use refutation_tree::{Branch, Kid, Tree};
 use wf_names::{FlowId, StepId, UserId};
 
 /// Whether a tree refutes an assignment with these finished steps, which then no valid plan keeps.
 /// The tree may hold any numbers. Takes no memory.
-#[cycle(check)]
 pub fn check_tree(p: &Policy, f: FlowId, a: &Assign, done: &StepSet, tree: &Tree) -> bool
     requires flow { f < length p.now.flows }
     requires within { IsWithin (problem_of p.now f) a.now }
     ensures { result ≡ refutes (problem_of p.now f) a.now done.now (shape_of tree.now) }
 {
+    let course = Course {
+        policy: p,
+        number: f,
+    };
+    refutes(&course, a, done, tree)
+}
+
+/// Whether a tree refutes an assignment with these finished steps.
+#[cycle(check)]
+fn refutes(course: &Course, a: &Assign, done: &StepSet, tree: &Tree) -> bool
+    requires { IsWithin (problem_in course.now) a.now }
+    ensures { result ≡ refutes (problem_in course.now) a.now done.now (shape_of tree.now) }
+{
     match tree {
-        Tree::Holder(s) => is_misheld(p, f, a, done, *s),
-        Tree::Rule(k) => is_broken(p, f, a, *k),
+        Tree::Holder(s) => is_misheld(course, a, done, *s),
+        Tree::Rule(k) => is_broken(course, a, *k),
         Tree::Step(s, branches) => {
             let branches = branches.as_slice();
-            if !is_unassigned(p, f, a, *s) {
+            if !is_unassigned(course, a, *s) {
                 return false;
             }
-            if !have_users(p, f, *s, branches) {
+            if !have_users(course, *s, branches) {
                 return false;
             }
-            all_refute(p, f, a, done, *s, branches)
+            all_refute(course, a, done, *s, branches)
         }
     }
 }
 
 /// Whether each of a step's branches refutes.
 #[cycle(check)]
-fn all_refute(
-    p: &Policy,
-    f: FlowId,
-    a: &Assign,
-    done: &StepSet,
-    s: StepId,
-    branches: &[Branch],
-) -> bool
-    requires flow { f < length p.now.flows }
-    requires within { IsWithin (problem_of p.now f) a.now }
+fn all_refute(course: &Course, a: &Assign, done: &StepSet, s: StepId, branches: &[Branch]) -> bool
+    requires within { IsWithin (problem_in course.now) a.now }
     requires room { s < STEP_LIMIT }
-    requires free { IsTrue (is_unassigned (problem_of p.now f) a.now s) }
-    requires users { IsTrue (have_users (authorised_users (problem_of p.now f) s)
+    requires free { IsTrue (is_unassigned (problem_in course.now) a.now s) }
+    requires users { IsTrue (have_users (authorised_users (problem_in course.now) s)
         (kids_of_items branches.now)) }
-    ensures { result ≡ all_refute (problem_of p.now f) a.now done.now s []
+    ensures { result ≡ all_refute (problem_in course.now) a.now done.now s []
         (kids_of_items branches.now) }
 {
     'branches: for i in 0..branches.len() {
-        if !branch_refutes(p, f, a, done, s, &branches[..i], &branches[i]) {
+        if !branch_refutes(course, a, done, s, &branches[..i], &branches[i]) {
             return false;
         }
     }
@@ -74,45 +79,35 @@ fn all_refute(
 /// of a user whose branch stands earlier and has a tree.
 #[cycle(check)]
 fn branch_refutes(
-    p: &Policy,
-    f: FlowId,
+    course: &Course,
     a: &Assign,
     done: &StepSet,
     s: StepId,
     earlier: &[Branch],
     branch: &Branch,
 ) -> bool
-    requires flow { f < length p.now.flows }
-    requires within { IsWithin (problem_of p.now f) a.now }
+    requires within { IsWithin (problem_in course.now) a.now }
     requires room { s < STEP_LIMIT }
-    requires free { IsTrue (is_unassigned (problem_of p.now f) a.now s) }
-    requires users { AreUsersBelow (problem_of p.now f).users (kids_of_items earlier.now) }
-    requires user { branch.now.user < (problem_of p.now f).users }
-    ensures { result ≡ all_refute (problem_of p.now f) a.now done.now s (tree_users [] earlier.now)
+    requires free { IsTrue (is_unassigned (problem_in course.now) a.now s) }
+    requires users { AreUsersBelow (problem_in course.now).users (kids_of_items earlier.now) }
+    requires user { branch.now.user < (problem_in course.now).users }
+    ensures { result ≡ all_refute (problem_in course.now) a.now done.now s (tree_users [] earlier.now)
         (branch_onto branch.now no_kids) }
 {
     match &branch.kid {
-        Kid::Tree(tree) => check_tree(p, f, &a.with(s, branch.user), done, tree),
-        Kid::Twin(twin) => is_twin_of_one(p, f, a, earlier, branch.user, *twin),
+        Kid::Tree(tree) => refutes(course, &a.with(s, branch.user), done, tree),
+        Kid::Twin(twin) => is_twin_of_one(course, a, earlier, branch.user, *twin),
     }
 }
 
 // Whether `u` is a twin of a user among the branches whose branch has a tree.
-fn is_twin_of_one(
-    p: &Policy,
-    f: FlowId,
-    a: &Assign,
-    branches: &[Branch],
-    u: UserId,
-    twin: UserId,
-) -> bool
-    requires flow { f < length p.now.flows }
-    requires users { AreUsersBelow (problem_of p.now f).users (kids_of_items branches.now) }
-    requires user { u < (problem_of p.now f).users }
+fn is_twin_of_one(course: &Course, a: &Assign, branches: &[Branch], u: UserId, twin: UserId) -> bool
+    requires users { AreUsersBelow (problem_in course.now).users (kids_of_items branches.now) }
+    requires user { u < (problem_in course.now).users }
     ensures { result ≡ (is_one_of (tree_users [] branches.now) twin && are_twins
-        (problem_of p.now f) a.now u twin) }
+        (problem_in course.now) a.now u twin) }
 {
-    has_tree(branches, twin) && twins(p, f, a, u, twin)
+    has_tree(branches, twin) && twins(course.policy, course.number, a, u, twin)
 }
 
 // Whether one of the branches is of a user and has a tree.
@@ -136,45 +131,41 @@ fn is_tree_of(branch: &Branch, u: UserId) -> bool
     }
 }
 
-fn is_misheld(p: &Policy, f: FlowId, a: &Assign, done: &StepSet, s: StepId) -> bool
-    requires flow { f < length p.now.flows }
-    requires within { IsWithin (problem_of p.now f) a.now }
-    ensures { result ≡ (nat_lt s (problem_of p.now f).steps && is_misheld (problem_of p.now f)
+fn is_misheld(course: &Course, a: &Assign, done: &StepSet, s: StepId) -> bool
+    requires within { IsWithin (problem_in course.now) a.now }
+    ensures { result ≡ (nat_lt s (problem_in course.now).steps && is_misheld (problem_in course.now)
         done.now s (user_at a.now s)) }
 {
     match a.at(s) {
-        Some(u) => !done.has(s) && !p.authorised(f, s, u),
+        Some(u) => !done.has(s) && !course.authorised(s, u),
         None => false,
     }
 }
 
-fn is_broken(p: &Policy, f: FlowId, a: &Assign, k: u8) -> bool
-    requires flow { f < length p.now.flows }
-    ensures { result ≡ is_broken (problem_of p.now f) a.now
-        (slice_get (problem_of p.now f).rules k) }
+fn is_broken(course: &Course, a: &Assign, k: u8) -> bool
+    ensures { result ≡ is_broken (problem_in course.now) a.now
+        (slice_get (problem_in course.now).rules k) }
 {
-    match p.rules(f).as_slice().get(k as usize) {
-        Some(rule) => falsified(rule, p, a),
+    match course.rules().as_slice().get(k as usize) {
+        Some(rule) => falsified(rule, course.policy, a),
         None => false,
     }
 }
 
-fn is_unassigned(p: &Policy, f: FlowId, a: &Assign, s: StepId) -> bool
-    requires flow { f < length p.now.flows }
+fn is_unassigned(course: &Course, a: &Assign, s: StepId) -> bool
     ensures within { IsTrue result → s < STEP_LIMIT }
-    ensures free { result ≡ is_unassigned (problem_of p.now f) a.now s }
+    ensures free { result ≡ is_unassigned (problem_in course.now) a.now s }
 {
-    (s.0 as u16) < p.flow(f).steps().len() && a.at(s).is_none()
+    (s.0 as u16) < course.flow().steps().len() && a.at(s).is_none()
 }
 
 /// Whether branches are of exactly the users who are authorised for a step, ascending.
-fn have_users(p: &Policy, f: FlowId, s: StepId, branches: &[Branch]) -> bool
-    requires flow { f < length p.now.flows }
-    requires step { s < (problem_of p.now f).steps }
-    ensures { result ≡ have_users (authorised_users (problem_of p.now f) s)
+fn have_users(course: &Course, s: StepId, branches: &[Branch]) -> bool
+    requires step { s < (problem_in course.now).steps }
+    ensures { result ≡ have_users (authorised_users (problem_in course.now) s)
         (kids_of_items branches.now) }
 {
-    let row = p.authorised_row(f, s);
+    let row = course.policy.authorised_row(course.number, s);
     let mut from = 0;
     let mut next = 0;
     'users: while let Some(user) = row.next(from) {

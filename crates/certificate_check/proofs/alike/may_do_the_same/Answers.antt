@@ -1,5 +1,5 @@
 use Rattle.std.proofs.Common.{◌≡◌, ℕ, List, length, sym, ap, ◌∙◌, arith}
-use Rattle.policy_book.specs.Policies.{problem_of}
+use Rattle.policy_book.specs.Course.{problem_in}
 use Rattle.policy_book.specs.Twins.{agree}
 use Rattle.certificate_check.proofs.Below.{one_fails}
 use Rattle.certificate_check.proofs.alike.may_do_the_same.Goals as goal
@@ -10,5 +10,5 @@ steps_known n names steps count same = count ∙ ap length same
 pub returns-then-not-may_both_or_neither : goal.returns-then-not-may_both_or_neither
 returns-then-not-may_both_or_neither c =
     let known = steps_known _ _ _ c.len-s-end.ensures.count (c.steps-2.ensures.names ∙ ap (λ w. w.steps) c.flow.ensures.flow) in
-    sym (one_fails (problem_of c.args.p.now c.args.f).steps c.steps.s (λ s. agree ((problem_of c.args.p.now c.args.f).authorised s c.args.u)
-    ((problem_of c.args.p.now c.args.f).authorised s c.args.v)) (omega (arith, known, c.steps-test.true)) (sym c.if-not-may_both_or_neither.ensures))
+    sym (one_fails (problem_in c.args.course.now).steps c.steps.s (λ s. agree ((problem_in c.args.course.now).authorised s c.args.u)
+    ((problem_in c.args.course.now).authorised s c.args.v)) (omega (arith, known, c.steps-test.true)) (sym c.if-not-may_both_or_neither.ensures))

@@ -1,7 +1,7 @@
 use Rattle.std.proofs.Common.{◌≡◌, true}
-use Rattle.policy_book.specs.Policies.{problem_of}
+use Rattle.policy_book.specs.Course.{problem_in}
 use Rattle.policy_book.specs.Twins.{agree, all_below}
 use Rattle.certificate_check.proofs.alike.may_do_the_same.Given as goal
 
 abbrev pub invariant-steps : goal.invariant-steps
-invariant-steps l = all_below l.s (λ s. agree ((problem_of l.p l.f).authorised s l.u) ((problem_of l.p l.f).authorised s l.v)) ≡ true
+invariant-steps l = all_below l.s (λ s. agree ((problem_in l.course).authorised s l.u) ((problem_in l.course).authorised s l.v)) ≡ true

@@ -8,7 +8,7 @@ use Rattle.refutation_tree.specs.declared.tree.Tree.TheVariants.{Step}
 use Rattle.refutation_tree.specs.Tree.{Kids}
 use Rattle.refutation_tree.proofs.Depths.{branches_below}
 use Rattle.policy_book.specs.Plans.{Problem}
-use Rattle.policy_book.specs.Policies.{problem_of}
+use Rattle.policy_book.specs.Course.{problem_in}
 use Rattle.policy_book.specs.Refuting.{all_refute, authorised_users, have_users, is_unassigned, refutes}
 use Rattle.certificate_check.specs.Walks.{tree_users}
 use Rattle.certificate_check.proofs.Trees.{refutes_at, branch_user, first_below, passing_below}
@@ -16,7 +16,7 @@ use Rattle.certificate_check.proofs.tree.+check.Goals as goal
 
 pub all_refute-branch_refutes-requires : goal.all_refute-branch_refutes-requires
 all_refute-branch_refutes-requires t c =
-    let p = problem_of c.args.p.now c.args.f in
+    let p = problem_in c.args.course.now in
     let bs = c.args.branches.now in
     let known = branch_user p c.args.s bs c.requires.users c.branches.i c.branches-test.true c.index-branches-i.result c.index-branches-i.is in
     let below =
@@ -27,12 +27,12 @@ all_refute-branch_refutes-requires t c =
         at_most (λ b. size-Branch b) bs c.branches.i c.index-branches-i.result c.branches-test.true,
         ap (λ b. size-Branch b) c.index-branches-i.is,
       ),
-      (c.requires.flow, (c.requires.within, (c.requires.room, (c.requires.free, (below, known))))),
+      (c.requires.within, (c.requires.room, (c.requires.free, (below, known)))),
     )
 
 pub all_refute-returns-then-not-branch_refutes : goal.all_refute-returns-then-not-branch_refutes
 all_refute-returns-then-not-branch_refutes t c =
-    let p = problem_of c.args.p.now c.args.f in
+    let p = problem_in c.args.course.now in
     let rest = all_refute p c.args.a.now c.args.done.now c.args.s (tree_users [] (take (c.branches.i + 1) c.args.branches.now))
     (kids_of_items (drop (c.branches.i + 1) c.args.branches.now)) in
     ap (λ b. b && rest) c.if-not-branch_refutes.ensures ∙ sym (refutes_at p c.args.a.now c.args.done.now c.args.s c.args.branches.now c.branches.i
@@ -40,7 +40,7 @@ all_refute-returns-then-not-branch_refutes t c =
 
 pub all_refute-branches-preserved : goal.all_refute-branches-preserved
 all_refute-branches-preserved t c =
-    let p = problem_of c.args.p.now c.args.f in
+    let p = problem_in c.args.course.now in
     let rest = all_refute p c.args.a.now c.args.done.now c.args.s (tree_users [] (take (c.branches.i + 1) c.args.branches.now))
     (kids_of_items (drop (c.branches.i + 1) c.args.branches.now)) in
     ap (λ b. b && rest) c.if-not-branch_refutes.ensures ∙ sym (refutes_at p c.args.a.now c.args.done.now c.args.s c.args.branches.now c.branches.i
@@ -56,27 +56,24 @@ node_refutes p assigned done tree s kids bs is items free users known =
     ∙ ap (λ b. b && (have_users (authorised_users p s) kids && all_refute p assigned done s [] kids)) (sym free)
     ∙ ap (λ t. refutes p assigned done (shape_of t)) (sym is)
 
-pub check_tree-returns-then-not-have_users : goal.check_tree-returns-then-not-have_users
-check_tree-returns-then-not-have_users t c =
-    node_refutes (problem_of c.args.p.now c.args.f) c.args.a.now c.args.done.now c.args.tree.now c.in-Step.s c.in-Step.branches
+pub refutes-returns-then-not-have_users : goal.refutes-returns-then-not-have_users
+refutes-returns-then-not-have_users t c =
+    node_refutes (problem_in c.args.course.now) c.args.a.now c.args.done.now c.args.tree.now c.in-Step.s c.in-Step.branches
     c.as_slice-branches.result.now c.in-Step.is c.as_slice-branches.ensures (sym c.if-not-is_unassigned.ensures.free) false c.if-not-have_users.ensures
 
-pub check_tree-returns-else-not-have_users : goal.check_tree-returns-else-not-have_users
-check_tree-returns-else-not-have_users t c =
+pub refutes-returns-else-not-have_users : goal.refutes-returns-else-not-have_users
+refutes-returns-else-not-have_users t c =
     c.all_refute.ensures
-    ∙ node_refutes (problem_of c.args.p.now c.args.f) c.args.a.now c.args.done.now c.args.tree.now c.in-Step.s c.in-Step.branches
+    ∙ node_refutes (problem_in c.args.course.now) c.args.a.now c.args.done.now c.args.tree.now c.in-Step.s c.in-Step.branches
     c.as_slice-branches.result.now c.in-Step.is c.as_slice-branches.ensures (sym c.if-not-is_unassigned.ensures.free) true c.if-not-have_users.ensures
 
-pub check_tree-all_refute-requires : goal.check_tree-all_refute-requires
-check_tree-all_refute-requires t c = (
+pub refutes-all_refute-requires : goal.refutes-all_refute-requires
+refutes-all_refute-requires t c = (
   omega (
     arith,
     c.decreases,
     branches_below
         c.args.tree.now c.in-Step.s c.in-Step.branches c.as_slice-branches.result.now c.in-Step.is c.as_slice-branches.ensures,
   ),
-  (
-    c.requires.flow,
-    (c.requires.within, (c.if-not-is_unassigned.ensures.within refl, (sym c.if-not-is_unassigned.ensures.free, sym c.if-not-have_users.ensures))),
-  ),
+  (c.requires, (c.if-not-is_unassigned.ensures.within refl, (sym c.if-not-is_unassigned.ensures.free, sym c.if-not-have_users.ensures))),
 )

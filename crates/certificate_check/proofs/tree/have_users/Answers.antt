@@ -1,13 +1,13 @@
 use Rattle.std.proofs.Common.{◌≡◌, ◌≤◌, ◌<◌, ◌+◌, ◌-◌, length, drop, true, false, refl, sym, ap, subst, ◌∙◌, arith}
 use Rattle.refutation_tree.specs.Views.{kids_of_items}
-use Rattle.policy_book.specs.Policies.{problem_of}
+use Rattle.policy_book.specs.Course.{problem_in}
 use Rattle.policy_book.specs.Refuting.{authorised_users, have_users, passing}
 use Rattle.certificate_check.proofs.Trees.{none_next, passing_end, passing_next, users_next}
 use Rattle.certificate_check.proofs.tree.have_users.Goals as goal
 
 pub returns-then-not-is_of : goal.returns-then-not-is_of
 returns-then-not-is_of c =
-    let p = problem_of c.args.p.now c.args.f in
+    let p = problem_in c.args.course.now in
     let row = c.authorised_row-row.ensures in
     let u = c.in-Some.user in
     let found = c.in-Some.ensures in
@@ -18,7 +18,7 @@ returns-then-not-is_of c =
 
 pub users-preserved : goal.users-preserved
 users-preserved c =
-    let p = problem_of c.args.p.now c.args.f in
+    let p = problem_in c.args.course.now in
     let row = c.authorised_row-row.ensures in
     let u = c.in-Some.user in
     let found = c.in-Some.ensures in
@@ -38,7 +38,7 @@ users-preserved c =
 
 pub returns : goal.returns
 returns c =
-    let p = problem_of c.args.p.now c.args.f in
+    let p = problem_in c.args.course.now in
     let row = c.authorised_row-row.ensures in
     let over = passing_end (p.authorised c.args.s) c.users.from p.users c.users.invariant.1 (λ v low. sym (row.authorised v) ∙ c.in_default.ensures v low) in
     sym (none_next c.args.branches.now c.users.next c.users.invariant.0) ∙
