@@ -34,6 +34,8 @@ struct Asked {
     given: Assign,
     s: StepId,
     users: u16,
+    ghost step: { s < STEP_LIMIT },
+    ghost few: { users ≤ USER_LIMIT },
 }
 
 /// Keeps the users of a set who may be given a step: those with whom the rule is not falsified.
@@ -88,9 +90,7 @@ fn keep_related_to_some<R: RelatedRows>(
     step: StepId,
     set: &mut UserSet,
 )
-    requires step { asked.now.s < STEP_LIMIT }
-    requires users { asked.now.users ≤ USER_LIMIT }
-    requires below { IsBelow asked.now.users set.old }
+    requires { IsBelow asked.now.users set.old }
     ensures { (u : ℕ) → has_user set.new u
         ≡ (has_user set.old u && not (is_some (user_at
         (slice_set asked.now.given asked.now.s (Some u)) step) && all_from 0 group.now
@@ -112,9 +112,7 @@ fn keep_related_to_member<R: RelatedRows>(
     step: StepId,
     set: &mut UserSet,
 )
-    requires step { asked.now.s < STEP_LIMIT }
-    requires users { asked.now.users ≤ USER_LIMIT }
-    requires below { IsBelow asked.now.users set.old }
+    requires { IsBelow asked.now.users set.old }
     ensures { (u : ℕ) → has_user set.new u
         ≡ (has_user set.old u && not (all_from 0 group.now
         (λ x. are_unrelated_with (turned back (R.related rows.now)) rho asked.now.given x step
@@ -141,9 +139,7 @@ fn keep_related_to_all<R: RelatedRows>(
     step: StepId,
     set: &mut UserSet,
 )
-    requires step { asked.now.s < STEP_LIMIT }
-    requires users { asked.now.users ≤ USER_LIMIT }
-    requires below { IsBelow asked.now.users set.old }
+    requires { IsBelow asked.now.users set.old }
     ensures { (u : ℕ) → has_user set.new u
         ≡ (has_user set.old u && not (any_from 0 group.now
         (λ x. are_unrelated_with (turned back (R.related rows.now)) rho asked.now.given x step
@@ -166,9 +162,7 @@ fn keep_related<R: RelatedRows>(
     y: StepId,
     set: &mut UserSet,
 )
-    requires step { asked.now.s < STEP_LIMIT }
-    requires users { asked.now.users ≤ USER_LIMIT }
-    requires below { IsBelow asked.now.users set.old }
+    requires { IsBelow asked.now.users set.old }
     ensures { (u : ℕ) → has_user set.new u
         ≡ (has_user set.old u
         && not (are_unrelated_with (turned back (R.related rows.now)) rho asked.now.given x y
@@ -235,9 +229,7 @@ fn keep_related_to_self<R: RelatedRows>(rows: &R, rho: RelId, users: u16, set: &
 
 // Keeps the users with whom the members have `limit` users at most.
 fn keep_at_most(limit: u8, asked: &Asked, group: &StepSet, set: &mut UserSet)
-    requires step { asked.now.s < STEP_LIMIT }
-    requires users { asked.now.users ≤ USER_LIMIT }
-    requires below { IsBelow asked.now.users set.old }
+    requires { IsBelow asked.now.users set.old }
     ensures { (u : ℕ) → has_user set.new u
         ≡ (has_user set.old u && not (too_many_with limit group.now
         asked.now.given asked.now.s u)) }
@@ -253,9 +245,7 @@ fn keep_at_most(limit: u8, asked: &Asked, group: &StepSet, set: &mut UserSet)
 
 // Keeps the users with whom the members have `limit` users at least, once the free ones have some.
 fn keep_at_least(limit: u8, asked: &Asked, group: &StepSet, set: &mut UserSet)
-    requires step { asked.now.s < STEP_LIMIT }
-    requires users { asked.now.users ≤ USER_LIMIT }
-    requires below { IsBelow asked.now.users set.old }
+    requires { IsBelow asked.now.users set.old }
     ensures { (u : ℕ) → has_user set.new u
         ≡ (has_user set.old u && not (too_few_with limit group.now
         asked.now.given asked.now.s u)) }

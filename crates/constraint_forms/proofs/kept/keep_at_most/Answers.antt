@@ -20,7 +20,7 @@ returns-then-count-limit c = λ u.
     let group = c.args.group.now in
     let count = counted group a c.without-others.result s c.count_users-count.result c.without-others.ensures.freed c.count_users-count.ensures.users in
     c.empty.ensures.none u ∙ nobody_left (has_user c.args.set.now u) _
-    (most_out group a s u (step_in a s _ c.requires.step c.without-others.ensures.len) c.args.limit (omega (arith, count, c.if-count-limit.true)))
+    (most_out group a s u (step_in a s _ c.args.asked.now.step c.without-others.ensures.len) c.args.limit (omega (arith, count, c.if-count-limit.true)))
 
 pub returns-then-has : goal.returns-then-has
 returns-then-has c = λ u.
@@ -28,9 +28,9 @@ returns-then-has c = λ u.
     let s = c.args.asked.now.s in
     let group = c.args.group.now in
     let count = counted group a c.without-others.result s c.count_users-count.result c.without-others.ensures.freed c.count_users-count.ensures.users in
-    let within = step_in a s _ c.requires.step c.without-others.ensures.len in
+    let within = step_in a s _ c.args.asked.now.step c.without-others.ensures.len in
     c.meet.ensures u ∙ and_same (has_user c.args.set.now u) _ _ (λ is.
-    c.users_of.ensures u (omega (arith, c.requires.below u is, c.requires.users))
+    c.users_of.ensures u (omega (arith, c.requires u is, c.args.asked.now.few))
     ∙ ap (λ o. is_among (users_from 0 group (user_at o)) u) c.without-others.ensures.freed
     ∙ sym (most_meets group a s u within c.args.limit (omega (arith, count, c.if-count-limit-2.true)) (sym c.has.ensures.flag ∙ c.if-has.true)))
 
@@ -40,7 +40,7 @@ returns-else-count-limit-2 c = λ u.
     let s = c.args.asked.now.s in
     let group = c.args.group.now in
     let count = counted group a c.without-others.result s c.count_users-count.result c.without-others.ensures.freed c.count_users-count.ensures.users in
-    let within = step_in a s _ c.requires.step c.without-others.ensures.len in
+    let within = step_in a s _ c.args.asked.now.step c.without-others.ensures.len in
     elim c.else-count-limit-2.branch [
       | else-count-limit-2-via-then-count-limit-2+else-has w ↦
           all_left (has_user c.args.set.now u) _

@@ -10,14 +10,14 @@ returns-in-true-true g c = λ u.
     let a = c.args.asked.now.given in
     let s = c.args.asked.now.s in
     c.keep_related_to_self.ensures u
-    ∙ left_by_itself a s u (step_in a s _ c.requires.step c.at-u.ensures.len) (g.R.Holds.related c.args.rows.now) c.args.back c.args.rho
+    ∙ left_by_itself a s u (step_in a s _ c.args.asked.now.step c.at-u.ensures.len) (g.R.Holds.related c.args.rows.now) c.args.back c.args.rho
     c.args.x c.args.y (has_user c.args.set.now u) c.in-true-true.ensures c.in-true-true.ensures'
 
 pub returns-in-true-false : goal.returns-in-true-false
 returns-in-true-false g c = λ u.
     let a = c.args.asked.now.given in
     let s = c.args.asked.now.s in
-    let within = step_in a s _ c.requires.step c.at-u.ensures.len in
+    let within = step_in a s _ c.args.asked.now.step c.at-u.ensures.len in
     c.keep_ahead.ensures u
     ∙ left_by a s u within (turned c.args.back (g.R.Holds.related c.args.rows.now)) c.args.rho c.args.x c.args.y (has_user c.args.set.now u)
     (Some u) c.at-v.result (at_step a s u within c.args.x c.in-true-false.ensures)
@@ -27,7 +27,7 @@ pub returns-in-false-true : goal.returns-in-false-true
 returns-in-false-true g c = λ u.
     let a = c.args.asked.now.given in
     let s = c.args.asked.now.s in
-    let within = step_in a s _ c.requires.step c.at-u.ensures.len in
+    let within = step_in a s _ c.args.asked.now.step c.at-u.ensures.len in
     c.keep_ahead-in-false-true.ensures u
     ∙ ap (λ t. has_user c.args.set.now u && not t) (other_way (g.R.Holds.related c.args.rows.now) c.args.back c.args.rho u c.at-u.result)
     ∙ left_by a s u within (turned c.args.back (g.R.Holds.related c.args.rows.now)) c.args.rho c.args.x c.args.y (has_user c.args.set.now u)
@@ -38,7 +38,7 @@ pub returns-then-is_unrelated : goal.returns-then-is_unrelated
 returns-then-is_unrelated g c = λ u.
     let a = c.args.asked.now.given in
     let s = c.args.asked.now.s in
-    let within = step_in a s _ c.requires.step c.at-u.ensures.len in
+    let within = step_in a s _ c.args.asked.now.step c.at-u.ensures.len in
     let related = turned c.args.back (g.R.Holds.related c.args.rows.now) in
     c.empty.ensures.none u
     ∙ nobody_left (has_user c.args.set.now u) (are_unrelated related c.args.rho c.at-u.result c.at-v.result)
@@ -51,7 +51,7 @@ pub returns-else-is_unrelated : goal.returns-else-is_unrelated
 returns-else-is_unrelated g c = λ u.
     let a = c.args.asked.now.given in
     let s = c.args.asked.now.s in
-    let within = step_in a s _ c.requires.step c.at-u.ensures.len in
+    let within = step_in a s _ c.args.asked.now.step c.at-u.ensures.len in
     let related = turned c.args.back (g.R.Holds.related c.args.rows.now) in
     all_left (has_user c.args.set.now u) (are_unrelated related c.args.rho c.at-u.result c.at-v.result)
     (sym c.is_unrelated.ensures ∙ c.if-is_unrelated.false)
