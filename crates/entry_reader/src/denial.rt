@@ -34,9 +34,7 @@ pub(crate) fn denial_of<F: FlowOf>(
     if let Some(denial) = word_denial(value) {
         return Ok(denial);
     }
-    let Some((key, value)) = only(value) else {
-        return Err(TextFault::NotText);
-    };
+    let (key, value) = only(value).ok_or(TextFault::NotText)?;
     match DenialKind::read(key) {
         Some(kind) => denial_by(alloc, p, cases, flow, kind, value),
         None => Err(TextFault::NotText),
@@ -73,10 +71,7 @@ fn denial_by<F: FlowOf>(
             Ok(Denial::Stranded { flow, tree })
         }
         DenialKind::Strands => strands_of(alloc, p, cases, value),
-        _ => match short_denial(p, flow, kind, value) {
-            Some(denial) => Ok(denial),
-            None => Err(TextFault::NotText),
-        },
+        _ => short_denial(p, flow, kind, value).ok_or(TextFault::NotText),
     }
 }
 
@@ -107,12 +102,8 @@ fn strands_of<F: FlowOf>(
     ensures { Reads (λ d. d) result (told.strands_read p.now (F.FlowOf.flows cases.now)
         (view value.now)) }
 {
-    let Some(case) = case_of(value) else {
-        return Err(TextFault::NotText);
-    };
-    let Some(tree) = value.get("tree") else {
-        return Err(TextFault::NotText);
-    };
+    let case = case_of(value).ok_or(TextFault::NotText)?;
+    let tree = value.get("tree").ok_or(TextFault::NotText)?;
     let (flow, tree) = tree_by(alloc, p, cases.flow_of(case), tree)?;
     Ok(Denial::Strands { case, flow, tree })
 }
@@ -126,9 +117,7 @@ fn tree_by(
 ) -> Result<(FlowId, Shared<Tree>), TextFault>
     ensures { Reads (λ t. t) result (told.tree_by p.now flow (view value.now)) }
 {
-    let Some(flow) = flow_within(p, flow) else {
-        return Err(TextFault::NotText);
-    };
+    let flow = flow_within(p, flow).ok_or(TextFault::NotText)?;
     let tree = read_tree(alloc, p, flow, value)?;
     Ok((flow, Shared::new(alloc, tree)?))
 }

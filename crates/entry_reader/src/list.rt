@@ -20,9 +20,7 @@ use wf_talk::{CaseList, FlowOf, RoleList, States, WorkItem, WorkList};
 pub(crate) fn plan_of(alloc: Global, p: &Policy, value: &Value) -> Result<Plan, TextFault>
     ensures { Reads (λ plan. plan) result (told.plan_read p.now (view value.now)) }
 {
-    let Some(value) = value.get("plan") else {
-        return Err(TextFault::NotText);
-    };
+    let value = value.get("plan").ok_or(TextFault::NotText)?;
     let users = users_of(alloc, p, items_of(value)?)?;
     if users.len() > STEP_LIMIT {
         return Err(TextFault::NotText);
@@ -34,9 +32,7 @@ pub(crate) fn plan_of(alloc: Global, p: &Policy, value: &Value) -> Result<Plan, 
 pub(crate) fn states_of(alloc: Global, p: &Policy, value: &Value) -> Result<States, TextFault>
     ensures { Reads (λ states. states) result (told.states_read p.now (view value.now)) }
 {
-    let Some(value) = value.get("steps") else {
-        return Err(TextFault::NotText);
-    };
+    let value = value.get("steps").ok_or(TextFault::NotText)?;
     let states = each_state(alloc, p, items_of(value)?)?;
     if states.len() > STEP_LIMIT {
         return Err(TextFault::NotText);
@@ -75,10 +71,8 @@ pub(crate) fn cases_of(alloc: Global, value: &Value) -> Result<CaseList, TextFau
 fn items_of(value: &Value) -> Result<&[Value], TextFault>
     ensures { Reads (λ items. items_view items.now) result (as_array (view value.now)) }
 {
-    match value.as_array() {
-        Some(items) => Ok(items),
-        None => Err(TextFault::NotText),
-    }
+    let items = value.as_array().ok_or(TextFault::NotText)?;
+    Ok(items)
 }
 
 #[tactic(auto, using(crate::proofs::Uses::each_item))]
@@ -88,9 +82,7 @@ fn users_of(alloc: Global, p: &Policy, items: &[Value]) -> Result<List<UserId>, 
 {
     let mut users = List::new(alloc);
     'items: for item in items {
-        let Some(user) = user_of(p, item) else {
-            return Err(TextFault::NotText);
-        };
+        let user = user_of(p, item).ok_or(TextFault::NotText)?;
         users.push(user)?;
     }
     Ok(users)
@@ -103,9 +95,7 @@ fn each_state(alloc: Global, p: &Policy, items: &[Value]) -> Result<List<StepSta
 {
     let mut states = List::new(alloc);
     'items: for item in items {
-        let Some(state) = seen_of(p, item) else {
-            return Err(TextFault::NotText);
-        };
+        let state = seen_of(p, item).ok_or(TextFault::NotText)?;
         states.push(state)?;
     }
     Ok(states)
@@ -118,9 +108,7 @@ fn each_role(alloc: Global, p: &Policy, items: &[Value]) -> Result<RoleList, Tex
 {
     let mut roles = List::new(alloc);
     'items: for item in items {
-        let Some(role) = numbered(p.roster().roles(), item) else {
-            return Err(TextFault::NotText);
-        };
+        let role = numbered(p.roster().roles(), item).ok_or(TextFault::NotText)?;
         roles.push(RoleId(role as u8))?;
     }
     Ok(roles)
@@ -138,9 +126,7 @@ fn each_item<F: FlowOf>(
 {
     let mut work = List::new(alloc);
     'items: for item in items {
-        let Some(step) = item_of(p, cases, item) else {
-            return Err(TextFault::NotText);
-        };
+        let step = item_of(p, cases, item).ok_or(TextFault::NotText)?;
         work.push(step)?;
     }
     Ok(work)
@@ -163,9 +149,7 @@ fn each_case(alloc: Global, items: &[Value]) -> Result<CaseList, TextFault>
 {
     let mut cases: List<CaseId> = List::new(alloc);
     'items: for item in items {
-        let Some(case) = case_number_of(item) else {
-            return Err(TextFault::NotText);
-        };
+        let case = case_number_of(item).ok_or(TextFault::NotText)?;
         cases.push(case)?;
     }
     Ok(cases)

@@ -25,13 +25,8 @@ pub fn read_place(alloc: Global, text: &[u8]) -> Result<Place, TextFault>
     ensures place { IfOk result (λ place. place_of_line text.now ≡ Some place) }
     ensures none { IsErrOf result NotText → place_of_line text.now ≡ None }
 {
-    let Some(value) = read_value(alloc, text)? else {
-        return Err(TextFault::NotText);
-    };
-    match place_in(&value) {
-        Some(place) => Ok(place),
-        None => Err(TextFault::NotText),
-    }
+    let value = read_value(alloc, text)?.ok_or(TextFault::NotText)?;
+    place_in(&value).ok_or(TextFault::NotText)
 }
 
 /// The place that a value names.

@@ -47,25 +47,15 @@ fn guess_word<F: FlowOf>(
     let _ = p;
     let _ = cases;
     let _ = flow;
-    let Some(word) = rest.take_name() else {
-        return Err(TextFault::NotText);
-    };
-    match denial_word(word.as_str()) {
-        Some(denial) => Ok(denial),
-        None => Err(TextFault::NotText),
-    }
+    let word = rest.take_name().ok_or(TextFault::NotText)?;
+    denial_word(word.as_str()).ok_or(TextFault::NotText)
 }
 
 // Takes the key of a denial that tells more.
 fn take_kind(rest: &mut Rest<'_>) -> Result<DenialKind, TextFault> {
-    let Some(key) = rest.take_name() else {
-        return Err(TextFault::NotText);
-    };
+    let key = rest.take_name().ok_or(TextFault::NotText)?;
     rest.skip(b":")?;
-    match DenialKind::read(key.as_str()) {
-        Some(kind) => Ok(kind),
-        None => Err(TextFault::NotText),
-    }
+    DenialKind::read(key.as_str()).ok_or(TextFault::NotText)
 }
 
 // The denial of a kind.
@@ -178,11 +168,6 @@ fn take_state(p: &Policy, rest: &mut Rest<'_>) -> Result<StepState, TextFault>
 
 // Takes the word for what is not there.
 fn take_missing(rest: &mut Rest<'_>) -> Result<Missing, TextFault> {
-    let Some(word) = rest.take_name() else {
-        return Err(TextFault::NotText);
-    };
-    match missing_word(word.as_str()) {
-        Some(missing) => Ok(missing),
-        None => Err(TextFault::NotText),
-    }
+    let word = rest.take_name().ok_or(TextFault::NotText)?;
+    missing_word(word.as_str()).ok_or(TextFault::NotText)
 }

@@ -127,9 +127,7 @@ pub(crate) fn take_rule(rest: &mut Rest<'_>) -> Result<u8, TextFault>
 pub(crate) fn take_user(p: &Policy, rest: &mut Rest<'_>) -> Result<UserId, TextFault>
     ensures { IfOk result (IsUser p.now) }
 {
-    let Some(name) = rest.take_name() else {
-        return Err(TextFault::NotText);
-    };
+    let name = rest.take_name().ok_or(TextFault::NotText)?;
     match p.roster().users().find(&name) {
         Some(u) => Ok(UserId(u)),
         None => Err(TextFault::NotText),
@@ -140,9 +138,7 @@ pub(crate) fn take_user(p: &Policy, rest: &mut Rest<'_>) -> Result<UserId, TextF
 pub(crate) fn take_step(p: &Policy, f: FlowId, rest: &mut Rest<'_>) -> Result<StepId, TextFault>
     ensures { IfOk result (IsStepOf p.now f) }
 {
-    let Some(name) = rest.take_name() else {
-        return Err(TextFault::NotText);
-    };
+    let name = rest.take_name().ok_or(TextFault::NotText)?;
     if f.0 as u16 >= p.flows().len() {
         return Err(TextFault::NotText);
     }

@@ -92,12 +92,8 @@ fn entry_in<F: FlowOf>(
     ensures { Reads (λ e. e) result (told.entry_read p.now (F.FlowOf.flows cases.now) ask.now
         (view value.now)) }
 {
-    let Some(place) = place_in(value) else {
-        return Err(TextFault::NotText);
-    };
-    let Some(reply) = value.get("reply") else {
-        return Err(TextFault::NotText);
-    };
+    let place = place_in(value).ok_or(TextFault::NotText)?;
+    let reply = value.get("reply").ok_or(TextFault::NotText)?;
     let flow = flow_asked(p, cases, ask);
     let reply = reply_of(alloc, p, cases, flow, reply)?;
     Ok(Entry {
@@ -143,9 +139,7 @@ fn reply_of<F: FlowOf>(
     if let Some(reply) = word_reply(value) {
         return Ok(reply);
     }
-    let Some((key, value)) = only(value) else {
-        return Err(TextFault::NotText);
-    };
+    let (key, value) = only(value).ok_or(TextFault::NotText)?;
     match ReplyKind::read(key) {
         Some(kind) => reply_by(alloc, p, cases, flow, kind, value),
         None => Err(TextFault::NotText),
@@ -178,10 +172,7 @@ fn reply_by<F: FlowOf>(
         ReplyKind::Work => Ok(Reply::Work(work_of(alloc, p, cases, value)?)),
         ReplyKind::WhatIf => Ok(Reply::WhatIf(cases_of(alloc, value)?)),
         ReplyKind::Denied => Ok(Reply::Denied(denial_of(alloc, p, cases, flow, value)?)),
-        _ => match short_reply(kind, value) {
-            Some(reply) => Ok(reply),
-            None => Err(TextFault::NotText),
-        },
+        _ => short_reply(kind, value).ok_or(TextFault::NotText),
     }
 }
 
@@ -215,9 +206,7 @@ fn done_of(value: &Value) -> Option<bool>
 fn opened_of(alloc: Global, p: &Policy, value: &Value) -> Result<Reply, TextFault>
     ensures { Reads (λ r. r) result (told.opened_read p.now (view value.now)) }
 {
-    let Some(case) = case_of(value) else {
-        return Err(TextFault::NotText);
-    };
+    let case = case_of(value).ok_or(TextFault::NotText)?;
     let plan = plan_of(alloc, p, value)?;
     Ok(Reply::Opened { case, plan })
 }
@@ -225,12 +214,8 @@ fn opened_of(alloc: Global, p: &Policy, value: &Value) -> Result<Reply, TextFaul
 fn face_of(alloc: Global, p: &Policy, value: &Value) -> Result<Face, TextFault>
     ensures { Reads (λ face. face) result (told.face_read p.now (view value.now)) }
 {
-    let Some(flow) = flow_of(p, value) else {
-        return Err(TextFault::NotText);
-    };
-    let Some(phase) = phase_of(value) else {
-        return Err(TextFault::NotText);
-    };
+    let flow = flow_of(p, value).ok_or(TextFault::NotText)?;
+    let phase = phase_of(value).ok_or(TextFault::NotText)?;
     let states = states_of(alloc, p, value)?;
     Ok(Face {
         flow,

@@ -57,12 +57,8 @@ fn read_node(
 ) -> Result<Tree, TextFault>
     ensures { Reads shape_of result (read.node_read p.now f (view step.now) (view users.now)) }
 {
-    let Some(step) = step_of(p, f, step) else {
-        return Err(TextFault::NotText);
-    };
-    let Some(items) = users.as_array() else {
-        return Err(TextFault::NotText);
-    };
+    let step = step_of(p, f, step).ok_or(TextFault::NotText)?;
+    let items = users.as_array().ok_or(TextFault::NotText)?;
     Ok(Tree::Step(step, read_branches(alloc, p, f, items)?))
 }
 
@@ -139,10 +135,7 @@ fn are_node_keys(first: &str, second: &str) -> bool
 fn read_leaf(p: &Policy, f: FlowId, value: &Value) -> Result<Tree, TextFault>
     ensures { Reads shape_of result (read.lone_leaf p.now f (view value.now)) }
 {
-    match leaf_of(p, f, value) {
-        Some(tree) => Ok(tree),
-        None => Err(TextFault::NotText),
-    }
+    leaf_of(p, f, value).ok_or(TextFault::NotText)
 }
 
 fn leaf_of(p: &Policy, f: FlowId, value: &Value) -> Option<Tree>
