@@ -24,12 +24,12 @@ set_of t zero n = set.empty
 set_of t (suc a) n = with_row (t a) a n (set_of t a n)
 
 -- two pairs tie where both their numbers are equal
-then_tied : (r o : Ordering) → is_eq (ordering_then r o) ≡ (is_eq r && is_eq o)
+pub then_tied : (r o : Ordering) → is_eq (ordering_then r o) ≡ (is_eq r && is_eq o)
 then_tied Less o = refl
 then_tied Equal o = refl
 then_tied Greater o = refl
 
-pairs_tied : (x y a b : ℕ) → eq_by_cmp pair_cmp (x, y) (a, b) ≡ (x == a && y == b)
+pub pairs_tied : (x y a b : ℕ) → eq_by_cmp pair_cmp (x, y) (a, b) ≡ (x == a && y == b)
 pairs_tied x y a b = then_tied (nat_cmp x a) (nat_cmp y b) ∙
     (λ i. unsigned_tied x a i && unsigned_tied y b i)
 

@@ -1,10 +1,11 @@
 -- Assignments with one more step given, and what tests say.
 use Rattle.std.proofs.Common.{◌≡◌, refl, sym, ap, subst, ◌∙◌, ℕ, ◌<◌, ◌≤◌, true, false, not, List, length, get_or, Option, None, Some, is_some, slice_set, eqb}
-use Rattle.std.proofs.Common.{leb, ◌⊎◌, ◌≢◌, inl, inr}
+use Rattle.std.proofs.Common.{leb, Bool, ◌⊎◌, ◌≢◌, inl, inr}
 use Rattle.std.proofs.lemmas.Bool.{false≢true}
 use Rattle.std.proofs.lemmas.Bool.Decides.{eqb_tells, leb_tells}
 use Rattle.std.proofs.lemmas.List.{get_or-set_same, get_or-set_other, set_past}
 use Rattle.constraint_forms.specs.Assign.{user_at}
+use Rattle.policy_book.specs.Plans.{AreAssigned}
 
 pub not_some : (o : Option ℕ) → not (is_some o) ≡ true → o ≡ None
 not_some None h = refl
@@ -46,3 +47,9 @@ given a s u t w h = at_step (eqb_tells t s)
     at_step : ((eqb t s ≡ true) × (t ≡ s)) ⊎ ((eqb t s ≡ false) × (t ≢ s)) → ((t ≡ s) × (w ≡ u)) ⊎ (user_at a t ≡ Some w)
     at_step (inl same) = within same.1 (leb_tells (length a) s)
     at_step (inr apart) = inr (sym (given_other a s u t apart.1) ∙ h)
+
+-- finished steps stay assigned where one more step is given
+pub still_assigned : (done : List Bool) (a : List (Option ℕ)) (t u : ℕ) → t < length a → AreAssigned done a → AreAssigned done (slice_set a t (Some u))
+still_assigned done a t u below are s is = either (eqb_tells s t)
+    (λ same. (u, subst (λ k. user_at (slice_set a t (Some u)) k ≡ Some u) (sym same.1) (given_same a t u below)))
+    (λ apart. (let w = are s is in (w.0, given_other a t u s apart.1 ∙ w.1)))

@@ -91,8 +91,8 @@ fn branch_refutes(
     requires free { IsTrue (is_unassigned (problem_in course.now) a.now s) }
     requires users { AreUsersBelow (problem_in course.now).users (kids_of_items earlier.now) }
     requires user { branch.now.user < (problem_in course.now).users }
-    ensures { result ≡ all_refute (problem_in course.now) a.now done.now s (tree_users [] earlier.now)
-        (branch_onto branch.now no_kids) }
+    ensures { result ≡ all_refute (problem_in course.now) a.now done.now s
+        (tree_users [] earlier.now) (branch_onto branch.now no_kids) }
 {
     match &branch.kid {
         Kid::Tree(tree) => refutes(course, &a.with(s, branch.user), done, tree),

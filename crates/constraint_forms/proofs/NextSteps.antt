@@ -2,17 +2,15 @@
 use Rattle.std.proofs.Common.{◌≡◌, ℕ, max, ◌+◌, ◌-◌, ◌/◌, ◌%◌, ◌^◌, ◌<◌, ◌≤◌, false, ◌||◌, nat_eq, slice_index_or, sym, ap, ◌∙◌, inl, inr}
 use Rattle.std.proofs.Common.{arith, bit_or}
 use Rattle.std.specs.Int.{bit_at, w32, trailing_zeros}
-use Rattle.std.proofs.lemmas.Nat.{shr-shr, shr_le}
+use Rattle.std.proofs.lemmas.Nat.{shr_le}
 use Rattle.std.proofs.lemmas.Nat.Bits.{bit_at-zero, bit_at_above, bit_at-trailing_zeros, bit_at_or, bit_at-lt}
 use Rattle.std.proofs.lemmas.Bool.{cases_lt}
-use Rattle.std.proofs.lemmas.Bool.Decides.{nat_tests}
 use Rattle.wf_names.specs.declared.limits.TheConstants.{STEP_LIMIT}
+use Rattle.wf_names.proofs.NextUsers.{shifted}
+use Rattle.wf_names.proofs.UserBits.{some_bit}
 use Rattle.constraint_forms.specs.Flags.{flags_of}
 use Rattle.constraint_forms.specs.Assign.{IsNextStep}
 use Rattle.constraint_forms.proofs.Bits.{flags_of-at, has_no_flag}
-
-shifted : (w k j : ℕ) → bit_at (w / 2 ^ k) j ≡ bit_at w (k + j)
-shifted w k j = ap (λ x. x % 2) (shr-shr w k j)
 
 -- a flag is false where its bit is not set
 unset : (n w s : ℕ) → bit_at w s ≡ 0 → slice_index_or (flags_of n w) s false ≡ false
@@ -48,9 +46,6 @@ next_from w k fits some =
       member = flags_of-at STEP_LIMIT w (k + tz) false within ∙ ap (λ b. nat_eq b 1) set;
       least = λ t from lt. unset STEP_LIMIT w t (bit_from w k t from ∙ least.2 (t - k) (omega (arith, from, lt)));
     }
-
-some_bit : (a b : ℕ) → a < 2 → b < 2 → nat_eq (max a b) 1 ≡ (nat_eq a 1 || nat_eq b 1)
-some_bit a b h k = grind (arith, nat_tests)
 
 -- the flags of either word
 pub flags_of-or : (n v w s : ℕ) →

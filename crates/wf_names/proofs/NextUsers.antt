@@ -7,7 +7,7 @@ use Rattle.std.proofs.lemmas.Bool.{cases_lt}
 use Rattle.std.proofs.lemmas.List.{get_or_past}
 use Rattle.wf_names.specs.UserSets.{has_bit, has_user, IsBitFrom, IsNextIn}
 
-shifted : (w k j : ℕ) → bit_at (w / 2 ^ k) j ≡ bit_at w (k + j)
+pub shifted : (w k j : ℕ) → bit_at (w / 2 ^ k) j ≡ bit_at w (k + j)
 shifted w k j = ap (λ x. x % 2) (shr-shr w k j)
 
 pub no_bits : (w k : ℕ) → w / 2 ^ k ≡ 0 → (i : ℕ) → k ≤ i → has_bit w i ≡ false

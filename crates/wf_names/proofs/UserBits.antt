@@ -72,7 +72,7 @@ taken_out words u v within =
 both_bits : (a b : ℕ) → a < 2 → b < 2 → nat_eq (min a b) 1 ≡ (nat_eq a 1 && nat_eq b 1)
 both_bits a b h k = grind (arith, nat_tests)
 
-some_bit : (a b : ℕ) → a < 2 → b < 2 → nat_eq (max a b) 1 ≡ (nat_eq a 1 || nat_eq b 1)
+pub some_bit : (a b : ℕ) → a < 2 → b < 2 → nat_eq (max a b) 1 ≡ (nat_eq a 1 || nat_eq b 1)
 some_bit a b h k = grind (arith, nat_tests)
 
 own_bit : (a b : ℕ) → a < 2 → b < 2 → nat_eq ((a + min a b) % 2) 1 ≡ (nat_eq a 1 && not (nat_eq b 1))
