@@ -21,7 +21,7 @@ use Rattle.wsp_solver.proofs.search.+search.Goals as goal
 
 pub decide-returns-in-None-clause-searched : goal.decide-returns-in-None-clause-searched
 decide-returns-in-None-clause-searched t c =
-    valid_full (asked c.args.task.now) c.args.a.now c.args.task.now.done.now c.plan_of.result c.rules.ensures.well_formed c.requires.asked.within
+    valid_full (asked c.args.task.now) c.args.a.now c.args.task.now.done.now c.plan_of.result c.rules.ensures.well_formed c.requires.fits.within
     c.requires.quiet c.plan_of.ensures
 
 -- a free step is a step, and has no user
@@ -57,17 +57,14 @@ try_users-try_user-requires t c =
       omega (arith, c.decreases, less, same),
       (
         record {
-          flow = c.requires.asked.flow;
-          within = subst (IsWithin p) (sym c.with-given.ensures.given) (within_given p a s u c.requires.asked.within c.requires.free within);
+          within = subst (IsWithin p) (sym c.with-given.ensures.given) (within_given p a s u c.requires.fits.within c.requires.free within);
+          assigned = subst (AreAssigned c.args.task.now.done.now) (sym c.with-given.ensures.given)
+              (assigned_given a c.args.task.now.done.now s u c.requires.fits.assigned (step_open p a s c.requires.free));
         },
         (
-          subst (AreAssigned c.args.task.now.done.now) (sym c.with-given.ensures.given)
-              (assigned_given a c.args.task.now.done.now s u c.requires.assigned (step_open p a s c.requires.free)),
-          (
-            c.know_class.ensures,
-            subst (λ x. NoLeafRefutesWithout p x c.args.task.now.done.now s) (sym c.with-given.ensures.given)
-                (quiet_given p a c.args.task.now.done.now s u (omega (arith, c.requires.room, c.with-given.ensures.len)) may c.requires.quiet),
-          ),
+          c.know_class.ensures,
+          subst (λ x. NoLeafRefutesWithout p x c.args.task.now.done.now s) (sym c.with-given.ensures.given)
+              (quiet_given p a c.args.task.now.done.now s u (omega (arith, c.requires.room, c.with-given.ensures.len)) may c.requires.quiet),
         ),
       ),
     )
@@ -178,4 +175,4 @@ try_users-returns-clause-searched t c =
 
 pub try_user-decide-requires : goal.try_user-decide-requires
 try_user-decide-requires t c =
-    (omega (arith, c.decreases), (c.requires.asked, (c.requires.assigned, (c.requires.crew, c.in-None.ensures))))
+    (omega (arith, c.decreases), (c.requires.fits, (c.requires.crew, c.in-None.ensures)))
