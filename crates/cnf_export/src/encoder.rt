@@ -16,7 +16,7 @@ use crate::tally::count;
 use crate::terms::Terms;
 use crate::{CnfFault, Literals};
 use constraint_forms::{Assign, StepSet};
-use policy_book::Policy;
+use policy_book::{Course, Policy};
 use std::alloc::{AllocError, Global};
 use std::marker::Model;
 use wf_names::{FlowId, STEP_LIMIT};
@@ -63,7 +63,11 @@ impl Encoder {
         ensures large { IsErrOf result TooLarge
             → LITERAL_LIMIT < literals (clauses_of (problem_of p.now f) a.now done.now) }
     {
-        let terms = terms_of(alloc, p, f, a, done)?;
+        let course = Course {
+            policy: p,
+            number: f,
+        };
+        let terms = terms_of(alloc, &course, a, done)?;
         let steps = p.flow(f).steps().len();
         prove!(steps as usize <= STEP_LIMIT);
         let groups = groups_of(alloc, steps as u8, p.rules(f))?;

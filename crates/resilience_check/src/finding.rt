@@ -30,7 +30,7 @@ pub(crate) fn first_breaking(
     from: u16,
     left: u8,
 ) -> Result<Option<Tree>, AllocError>
-    requires users { AreUsers (length course.now.policy.now.roster.users) absent.old }
+    requires users { AreUsers (problem_in course.now).users absent.old }
     requires family { AreValidPlans (problem_in course.now) family.old }
     ensures { IfOk result
         (HasTriedAbsences course.now.policy.now course.now.number family.old absent.old
@@ -66,8 +66,8 @@ fn with_user(
     u: UserId,
     left: u8,
 ) -> Result<Option<Tree>, AllocError>
-    requires users { AreUsers (length course.now.policy.now.roster.users) absent.old }
-    requires user { u < length course.now.policy.now.roster.users }
+    requires users { AreUsers (problem_in course.now).users absent.old }
+    requires user { u < (problem_in course.now).users }
     requires room { u + 1 < 2 ^ 16 }
     requires family { AreValidPlans (problem_in course.now) family.old }
     ensures { IfOk result
@@ -90,7 +90,7 @@ fn try_absence(
     family: &mut Plans,
     absent: &Absent,
 ) -> Result<Option<Tree>, AllocError>
-    requires users { AreUsers (length course.now.policy.now.roster.users) absent.now }
+    requires users { AreUsers (problem_in course.now).users absent.now }
     requires family { AreValidPlans (problem_in course.now) family.old }
     ensures { IfOk result (HasTriedOne course.now.policy.now course.now.number
         family.old absent.now family.new) }
@@ -106,7 +106,7 @@ fn try_absence(
 
 // What a search finds without some users.
 fn solve_without(alloc: Global, course: &Course, absent: &Absent) -> Result<Outcome, AllocError>
-    requires users { AreUsers (length course.now.policy.now.roster.users) absent.now }
+    requires users { AreUsers (problem_in course.now).users absent.now }
     ensures { IfOk result (HasSolved (problem_without course.now.policy.now course.now.number
         absent.now) no_users no_steps) }
 {

@@ -9,6 +9,6 @@ abbrev pub asked : Task → Problem
 asked task = problem_in task.course.now
 
 -- what is assigned fits the workflow, and each finished step is assigned
-pub record Fits (task : Task) (given : List (Option ℕ)) : Type 0 where
+pub record FitsTask (task : Task) (given : List (Option ℕ)) : Type 0 where
   pub within : IsWithin (asked task) given
   pub assigned : AreAssigned task.done.now given

@@ -8,7 +8,7 @@ ghost use Rattle.policy_book.specs.Refuting.{is_unassigned};
 ghost use Rattle.wsp_solver.specs.Crews.{IsCrewOf};
 ghost use Rattle.wsp_solver.specs.Searches.{HasDecided, FitsRoom, HasSolved, HasSearched};
 ghost use Rattle.wsp_solver.specs.Searches.{NoLeafRefutes, NoLeafRefutesWithout};
-ghost use Rattle.wsp_solver.specs.Task.{Fits, asked};
+ghost use Rattle.wsp_solver.specs.Task.{FitsTask, asked};
 
 use crate::crew::{Crew, know_class};
 use crate::found::found;
@@ -147,7 +147,7 @@ fn search_and_trim(
     crew: &mut Crew,
     finder: &mut Finder,
 ) -> Result<Searched, AllocError>
-    requires fits { Fits task.now a.now }
+    requires fits { FitsTask task.now a.now }
     requires crew { IsCrewOf (asked task.now) crew.old }
     requires quiet { NoLeafRefutes (asked task.now) a.now task.now.done.now }
     ensures { IfOk result
@@ -171,7 +171,7 @@ fn search(
     crew: &mut Crew,
     finder: &mut Finder,
 ) -> Result<Searched, AllocError>
-    requires fits { Fits task.now a.now }
+    requires fits { FitsTask task.now a.now }
     requires crew { IsCrewOf (asked task.now) crew.old }
     requires quiet { NoLeafRefutes (asked task.now) a.now task.now.done.now }
     ensures searched { IfOk result
@@ -210,7 +210,7 @@ fn decide(
     finder: &mut Finder,
     depth: u8,
 ) -> Result<Searched, AllocError>
-    requires fits { Fits task.now a.now }
+    requires fits { FitsTask task.now a.now }
     requires crew { IsCrewOf (asked task.now) crew.old }
     requires quiet { NoLeafRefutes (asked task.now) a.now task.now.done.now }
     ensures searched { IfOk result
@@ -236,7 +236,7 @@ fn try_users(
     finder: &mut Finder,
     depth: u8,
 ) -> Result<Searched, AllocError>
-    requires fits { Fits task.now a.now }
+    requires fits { FitsTask task.now a.now }
     requires crew { IsCrewOf (asked task.now) crew.old }
     requires quiet { NoLeafRefutes (asked task.now) a.now task.now.done.now }
     requires room { s < STEP_LIMIT }
@@ -299,7 +299,7 @@ fn try_user(
     finder: &mut Finder,
     depth: u8,
 ) -> Result<Searched, AllocError>
-    requires fits { Fits task.now a.now }
+    requires fits { FitsTask task.now a.now }
     requires crew { IsCrewOf (asked task.now) crew.old }
     requires others { NoLeafRefutesWithout (asked task.now) a.now task.now.done.now s }
     ensures searched { IfOk result

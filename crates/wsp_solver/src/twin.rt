@@ -27,8 +27,9 @@ pub(crate) fn twin_among(
     requires crew { IsCrewOf (problem_in course.now) crew.now }
     requires users { AreUsersBelow u branches.now }
     requires user { u < (problem_in course.now).users }
-    ensures { MatchOption result (has_twin (problem_in course.now) a.now u (kid_users [] branches.now)
-        ≡ false) (λ v. (is_one_of (kid_users [] branches.now) v ≡ true)
+    ensures { MatchOption result
+        (has_twin (problem_in course.now) a.now u (kid_users [] branches.now) ≡ false)
+        (λ v. (is_one_of (kid_users [] branches.now) v ≡ true)
         × (are_twins (problem_in course.now) a.now u v ≡ true)) }
 {
     if first_twin(course, crew, finder, u) == u {
