@@ -6,9 +6,9 @@ ghost use Rattle.policy_book.specs.Course.{problem_in};
 ghost use Rattle.policy_book.specs.Policies.{problem_of};
 ghost use Rattle.policy_book.specs.Refuting.{is_unassigned};
 ghost use Rattle.wsp_solver.specs.Crews.{IsCrewOf};
-ghost use Rattle.wsp_solver.specs.Searches.{HasDecided, FitsRoom, HasSolved, HasSearched};
+ghost use Rattle.wsp_solver.specs.Searches.{HasDecided, FitsRoom, HasSolved};
 ghost use Rattle.wsp_solver.specs.Searches.{NoLeafRefutes, NoLeafRefutesWithout};
-ghost use Rattle.wsp_solver.specs.Task.{FitsTask, asked};
+ghost use Rattle.wsp_solver.specs.Task.{FitsTask, HasSearched, asked};
 
 use crate::crew::{Crew, know_class};
 use crate::found::found;
@@ -147,8 +147,7 @@ fn search_and_trim(
     crew: &mut Crew,
     finder: &mut Finder,
 ) -> Result<Searched, AllocError>
-    requires fits { FitsTask task.now a.now }
-    requires crew { IsCrewOf (asked task.now) crew.old }
+    requires fits { FitsTask task.now a.now crew.old }
     requires quiet { NoLeafRefutes (asked task.now) a.now task.now.done.now }
     ensures { IfOk result
         (HasDecided (asked task.now) a.now task.now.done.now task.now.bounded) }
@@ -171,11 +170,9 @@ fn search(
     crew: &mut Crew,
     finder: &mut Finder,
 ) -> Result<Searched, AllocError>
-    requires fits { FitsTask task.now a.now }
-    requires crew { IsCrewOf (asked task.now) crew.old }
+    requires fits { FitsTask task.now a.now crew.old }
     requires quiet { NoLeafRefutes (asked task.now) a.now task.now.done.now }
-    ensures searched { IfOk result
-        (HasSearched (asked task.now) a.now task.now.done.now task.now.bounded) }
+    ensures searched { IfOk result (HasSearched task.now a.now) }
     ensures crew { IsCrewOf (asked task.now) crew.new }
 {
     let run = Task {
@@ -210,11 +207,9 @@ fn decide(
     finder: &mut Finder,
     depth: u8,
 ) -> Result<Searched, AllocError>
-    requires fits { FitsTask task.now a.now }
-    requires crew { IsCrewOf (asked task.now) crew.old }
+    requires fits { FitsTask task.now a.now crew.old }
     requires quiet { NoLeafRefutes (asked task.now) a.now task.now.done.now }
-    ensures searched { IfOk result
-        (HasSearched (asked task.now) a.now task.now.done.now task.now.bounded) }
+    ensures searched { IfOk result (HasSearched task.now a.now) }
     ensures crew { IsCrewOf (asked task.now) crew.new }
 {
     let _ = task.course.rules();
@@ -236,13 +231,11 @@ fn try_users(
     finder: &mut Finder,
     depth: u8,
 ) -> Result<Searched, AllocError>
-    requires fits { FitsTask task.now a.now }
-    requires crew { IsCrewOf (asked task.now) crew.old }
+    requires fits { FitsTask task.now a.now crew.old }
     requires quiet { NoLeafRefutes (asked task.now) a.now task.now.done.now }
     requires room { s < STEP_LIMIT }
     requires free { IsTrue (is_unassigned (asked task.now) a.now s) }
-    ensures searched { IfOk result
-        (HasSearched (asked task.now) a.now task.now.done.now task.now.bounded) }
+    ensures searched { IfOk result (HasSearched task.now a.now) }
     ensures crew { IsCrewOf (asked task.now) crew.new }
 {
     let row = task.course.authorised_users(s);
@@ -299,11 +292,9 @@ fn try_user(
     finder: &mut Finder,
     depth: u8,
 ) -> Result<Searched, AllocError>
-    requires fits { FitsTask task.now a.now }
-    requires crew { IsCrewOf (asked task.now) crew.old }
+    requires fits { FitsTask task.now a.now crew.old }
     requires others { NoLeafRefutesWithout (asked task.now) a.now task.now.done.now s }
-    ensures searched { IfOk result
-        (HasSearched (asked task.now) a.now task.now.done.now task.now.bounded) }
+    ensures searched { IfOk result (HasSearched task.now a.now) }
     ensures crew { IsCrewOf (asked task.now) crew.new }
 {
     let reason = finder.reason(depth, u);
