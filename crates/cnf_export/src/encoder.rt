@@ -12,6 +12,7 @@ use crate::group::Group;
 use crate::grouping::{all_blocks, groups_of};
 use crate::making::terms_of;
 use crate::position::{Position, give, start};
+use crate::sizes::step_count;
 use crate::tally::count;
 use crate::terms::Terms;
 use crate::{CnfFault, Literals};
@@ -19,7 +20,7 @@ use constraint_forms::{Assign, StepSet};
 use policy_book::{Course, Policy};
 use std::alloc::{AllocError, Global};
 use std::marker::Model;
-use wf_names::{FlowId, STEP_LIMIT};
+use wf_names::FlowId;
 
 /// An encoder: it gives the clauses in their order, and holds one part of them at a time.
 #[derive(Drop)]
@@ -68,10 +69,9 @@ impl Encoder {
             number: f,
         };
         let terms = terms_of(alloc, &course, a, done)?;
-        let steps = p.flow(f).steps().len();
-        prove!(steps as usize <= STEP_LIMIT);
-        let groups = groups_of(alloc, steps as u8, p.rules(f))?;
-        let variables = terms.block(all_blocks(steps as u8, p.rules(f)));
+        let steps = step_count(&course);
+        let groups = groups_of(alloc, steps, course.rules())?;
+        let variables = terms.block(all_blocks(steps, course.rules()));
         let mut at = Position::before(alloc);
         let mut one = Literals::new(alloc);
         let clauses = count(&terms, &groups, &mut at, &mut one)?;

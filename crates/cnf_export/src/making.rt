@@ -8,6 +8,7 @@ ghost use Rattle.constraint_forms.specs.Assign.{user_at};
 ghost use Rattle.cnf_export.specs.Encodings.{encoding_of, may_be};
 ghost use Rattle.cnf_export.specs.Terms.{AreDomains, encoding_in};
 
+use crate::sizes::{step_count, user_count};
 use crate::terms::Terms;
 use constraint_forms::{Assign, StepSet};
 use policy_book::Course;
@@ -27,10 +28,7 @@ pub(crate) fn terms_of(
 {
     let domains = domains_of(alloc, course, a, done)?;
     let relations = course.policy.relations().copy()?;
-    let steps = course.flow().steps().len();
-    let users = course.policy.roster().users().len();
-    prove!(users <= USER_LIMIT && steps as usize <= STEP_LIMIT);
-    Ok(Terms::new(users, steps as u8, domains, relations))
+    Ok(Terms::new(user_count(course), step_count(course), domains, relations))
 }
 
 fn domains_of(
@@ -60,8 +58,7 @@ fn domain_of(course: &Course, a: &Assign, done: &StepSet, s: StepId) -> UserSet
     match a.at(s) {
         None => course.authorised_users(s),
         Some(v) => {
-            let known = course.policy.roster().users().len();
-            prove!(known <= USER_LIMIT);
+            prove!(user_count(course) <= USER_LIMIT);
             alone_if(v, done.has(s) || course.authorised(s, v))
         }
     }

@@ -12,12 +12,13 @@ ghost use Rattle.cnf_export.specs.Readings.{first_false, IsReading};
 
 use crate::laws::models_are_plans;
 use crate::seen::{last_seen, satisfied};
+use crate::sizes::{step_count, user_count};
 use crate::{CnfFault, Encoder, Literals, Model};
 use basics::List;
 use constraint_forms::{Assign, StepSet};
 use policy_book::{Course, Plan, Policy};
 use std::alloc::{AllocError, Global};
-use wf_names::{FlowId, STEP_LIMIT, USER_LIMIT, UserId};
+use wf_names::{FlowId, UserId};
 
 /// What a model says.
 #[derive(Clone, Copy, PartialEq, Eq)]
@@ -90,9 +91,8 @@ fn plan_said(alloc: Global, course: &Course, m: &Model) -> Result<Plan, AllocErr
         (λ u. has_variable m.now (s * (problem_in course.now).users + u)))
         (numbers 0 (problem_in course.now).steps)) }
 {
-    let steps = course.flow().steps().len();
-    let users = course.policy.roster().users().len();
-    prove!(users <= USER_LIMIT && steps as usize <= STEP_LIMIT);
+    let steps = step_count(course);
+    let users = user_count(course);
     let mut chosen = List::new(alloc);
     'steps: for s in 0..steps {
         chosen.push(UserId(last_seen(m, s as usize * users as usize, users)))?;
