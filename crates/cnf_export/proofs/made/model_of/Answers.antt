@@ -1,5 +1,5 @@
 use Rattle.std.proofs.Common.{◌≡◌, ◌∙◌, ◌++◌, ◌==◌, nat_le, sym, ap, append_assoc}
-use Rattle.std.proofs.Common.{length, subst}
+use Rattle.std.proofs.Common.{subst}
 use Rattle.constraint_forms.specs.Assign.{planned}
 use Rattle.policy_book.specs.Policies.{problem_of}
 use Rattle.cnf_export.specs.Clauses.{IsModelOf}

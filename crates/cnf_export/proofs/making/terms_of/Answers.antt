@@ -1,4 +1,4 @@
-use Rattle.std.proofs.Common.{◌≡◌, ◌∙◌, ℕ, List, length, sym, ap, subst}
+use Rattle.std.proofs.Common.{◌∙◌, ℕ, List, sym, ap, subst}
 use Rattle.policy_book.specs.Course.{problem_in}
 use Rattle.user_relations.specs.Relations.{is_related}
 use Rattle.cnf_export.specs.Terms.{AreDomains}

@@ -1,4 +1,4 @@
-use Rattle.std.proofs.Common.{◌≡◌, ◌∙◌, ◌<◌, ◌≤◌, List, length, sym, ap, subst, arith}
+use Rattle.std.proofs.Common.{◌≡◌, ◌∙◌, ◌<◌, ◌≤◌, List, sym, ap, subst, arith}
 use Rattle.std.specs.Prelude.{ℤ, Err}
 use Rattle.std.specs.List.{flat_map}
 use Rattle.wf_names.specs.declared.limits.TheConstants.{STEP_LIMIT}
