@@ -1,6 +1,6 @@
 -- Models as flags, one for each variable, and the model that says a plan.
-use Rattle.std.specs.Prelude.{ℕ, suc, ◌==◌, nat_le, nat_lt, Bool, true, false, List, [], ◌∷◌, ◌++◌}
-use Rattle.std.specs.Prelude.{map, slice_index_or}
+use Rattle.std.specs.Prelude.{◌≡◌, ℕ, suc, ◌<◌, ◌==◌, nat_le, nat_lt, Bool, true, false, List}
+use Rattle.std.specs.Prelude.{[], ◌∷◌, ◌++◌, map, slice_index_or}
 use Rattle.std.specs.List.{flat_map}
 use Rattle.wf_names.specs.UserSets.{count_below}
 use Rattle.constraint_forms.specs.declared.rule.Rule.{Rule}
@@ -42,3 +42,7 @@ abbrev pub plan_flags : Problem → List ℕ → List Bool
 plan_flags p plan =
     grid (λ s u. planned plan s == u) p.steps p.users
     ++ (grid (λ s u. nat_le (planned plan s) u) p.steps p.users ++ rules_flags p.users plan p.rules)
+
+-- a test that is run says of each number below n what it is to say
+abbrev pub Says : (ℕ → Bool → Type 0) → ℕ → (ℕ → Bool) → Type 0
+Says answers n said = (k : ℕ) → k < n → (b : Bool) → answers k b → b ≡ said k

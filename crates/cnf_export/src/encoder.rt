@@ -12,14 +12,15 @@ use crate::group::Group;
 use crate::grouping::{all_blocks, groups_of};
 use crate::making::terms_of;
 use crate::position::{Position, give, start};
+use crate::sizes::step_count;
 use crate::tally::count;
 use crate::terms::Terms;
 use crate::{CnfFault, Literals};
 use constraint_forms::{Assign, StepSet};
-use policy_book::Policy;
+use policy_book::{Course, Policy};
 use std::alloc::{AllocError, Global};
 use std::marker::Model;
-use wf_names::{FlowId, STEP_LIMIT};
+use wf_names::FlowId;
 
 /// An encoder: it gives the clauses in their order, and holds one part of them at a time.
 #[derive(Drop)]
@@ -63,11 +64,14 @@ impl Encoder {
         ensures large { IsErrOf result TooLarge
             → LITERAL_LIMIT < literals (clauses_of (problem_of p.now f) a.now done.now) }
     {
-        let terms = terms_of(alloc, p, f, a, done)?;
-        let steps = p.flow(f).steps().len();
-        prove!(steps as usize <= STEP_LIMIT);
-        let groups = groups_of(alloc, steps as u8, p.rules(f))?;
-        let variables = terms.block(all_blocks(steps as u8, p.rules(f)));
+        let course = Course {
+            policy: p,
+            number: f,
+        };
+        let terms = terms_of(alloc, &course, a, done)?;
+        let steps = step_count(&course);
+        let groups = groups_of(alloc, steps, course.rules())?;
+        let variables = terms.block(all_blocks(steps, course.rules()));
         let mut at = Position::before(alloc);
         let mut one = Literals::new(alloc);
         let clauses = count(&terms, &groups, &mut at, &mut one)?;

@@ -21,6 +21,7 @@ mod position;
 mod reading;
 mod saying;
 mod seen;
+mod sizes;
 mod tally;
 mod terms;
 mod text;

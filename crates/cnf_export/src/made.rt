@@ -7,9 +7,10 @@ ghost use Rattle.cnf_export.specs.Readings.{ReadsBack, SatisfiesWherever};
 use crate::Model;
 use crate::laws::plans_are_models;
 use crate::saying::{say_rules, say_until, say_users};
-use policy_book::{Plan, Policy};
+use crate::sizes::{step_count, user_count};
+use policy_book::{Course, Plan, Policy};
 use std::alloc::{AllocError, Global};
-use wf_names::{FlowId, STEP_LIMIT};
+use wf_names::FlowId;
 
 /// The model that says a plan of a workflow: wherever the plan is valid, it satisfies all clauses,
 /// and is read back as the plan.
@@ -21,12 +22,15 @@ pub fn model_of(alloc: Global, p: &Policy, f: FlowId, plan: &Plan) -> Result<Mod
     ensures back { IfOk result (λ m. ReadsBack (problem_of p.now f) plan.now (has_variable m)) }
 {
     plans_are_models();
-    let steps = p.flow(f).steps().len();
-    let users = p.roster().users().len();
-    prove!(steps as usize <= STEP_LIMIT);
+    let course = Course {
+        policy: p,
+        number: f,
+    };
+    let steps = step_count(&course);
+    let users = user_count(&course);
     let mut said = Model::new(alloc);
-    say_users(plan, steps as u8, users, &mut said)?;
-    say_until(plan, steps as u8, users, &mut said)?;
-    say_rules(plan, users, p.rules(f), &mut said)?;
+    say_users(plan, steps, users, &mut said)?;
+    say_until(plan, steps, users, &mut said)?;
+    say_rules(plan, users, course.rules(), &mut said)?;
     Ok(said)
 }

@@ -1,6 +1,6 @@
 //! Models read from text.
-ghost use Rattle.std.specs.Prelude.{◌≡◌, ◌≤◌, ◌<◌, ◌+◌, ◌^◌, suc, [], ◌∷◌, length, Some, IfErr};
-ghost use Rattle.std.specs.Prelude.{IfOk};
+ghost use Rattle.std.specs.Prelude.{◌≡◌, ◌≤◌, ◌<◌, ◌+◌, ◌^◌, ℕ, suc, Bool, [], ◌∷◌, length, Some};
+ghost use Rattle.std.specs.Prelude.{IfErr, IfOk, IfSome};
 ghost use Rattle.std.specs.Option.{option_map_or};
 ghost use Rattle.std.specs.List.{slice_split};
 ghost use Rattle.memchr.specs.Find.{IsFirstByte};
@@ -56,7 +56,7 @@ fn read_lines(limit: u32, text: &[u8], flags: &mut [bool]) -> Result<Option<usiz
     let mut words = Some(0);
     let mut rest = text;
     'lines: loop {
-        let (line, behind) = first_line(rest);
+        let (line, behind) = cut(rest, memchr(b'\n', rest));
         words = read_line(limit, words, line, flags)?;
         match behind {
             Some(behind) => rest = behind,
@@ -105,7 +105,7 @@ fn read_parts(
     let mut after = words;
     let mut rest = line;
     'parts: loop {
-        let (part, behind) = first_part(rest);
+        let (part, behind) = cut(rest, find_blank(rest));
         after = read_part(limit, after, part, flags)?;
         match behind {
             Some(behind) => rest = behind,
@@ -114,37 +114,21 @@ fn read_parts(
     }
 }
 
-// The first line, and what stands behind its end.
+// What stands before the first byte that passes a test, and what stands behind that byte.
 #[tactic(auto, using(crate::proofs::Splits::no_cut))]
-fn first_line(text: &[u8]) -> (&[u8], Option<&[u8]>)
-    ensures parts { slice_split is_lf text.now
-        ≡ result.0.now ∷ option_map_or (λ rest. slice_split is_lf rest.now) result.1 [] }
+fn cut(text: &[u8], first: Option<usize>) -> (&[u8], Option<&[u8]>)
+    requires { IfSome first (λ n. n < length text.now) }
+    ensures parts { (test : ℕ → Bool) → IsFirstByte test text.now first → slice_split test text.now
+        ≡ result.0.now ∷ option_map_or (λ rest. slice_split test rest.now) result.1 [] }
     ensures lengths { length result.0.now
         + option_map_or (λ rest. suc (length rest.now)) result.1 0 ≡ length text.now }
 {
-    match memchr(b'\n', text) {
+    match first {
         Some(n) => {
-            let (line, behind) = text.split_at(n);
-            (line, Some(&behind[1..]))
-        }
-        None => (text, None),
-    }
-}
-
-// What stands before the first blank, and what stands behind it.
-#[tactic(auto, using(crate::proofs::Splits::no_cut))]
-fn first_part(line: &[u8]) -> (&[u8], Option<&[u8]>)
-    ensures parts { slice_split is_blank line.now
-        ≡ result.0.now ∷ option_map_or (λ rest. slice_split is_blank rest.now) result.1 [] }
-    ensures lengths { length result.0.now
-        + option_map_or (λ rest. suc (length rest.now)) result.1 0 ≡ length line.now }
-{
-    match find_blank(line) {
-        Some(n) => {
-            let (part, behind) = line.split_at(n);
+            let (part, behind) = text.split_at(n);
             (part, Some(&behind[1..]))
         }
-        None => (line, None),
+        None => (text, None),
     }
 }
 

@@ -1,6 +1,7 @@
 //! A model read as a plan, or as the first clause that it does not satisfy.
 ghost use Rattle.std.specs.Prelude.{◌≡◌, ◌≤◌, ◌<◌, ◌+◌, ◌*◌, length, map, OnOk, IfOk, IsErrOf};
-ghost use Rattle.policy_book.specs.Policies.{flow_at, problem_of};
+ghost use Rattle.policy_book.specs.Course.{problem_in};
+ghost use Rattle.policy_book.specs.Policies.{problem_of};
 ghost use Rattle.policy_book.specs.Plans.{IsWithin};
 ghost use Rattle.cnf_export.specs.Encodings.{clauses_of, literals, numbers};
 ghost use Rattle.cnf_export.specs.Models.{last_below};
@@ -11,12 +12,13 @@ ghost use Rattle.cnf_export.specs.Readings.{first_false, IsReading};
 
 use crate::laws::models_are_plans;
 use crate::seen::{last_seen, satisfied};
+use crate::sizes::{step_count, user_count};
 use crate::{CnfFault, Encoder, Literals, Model};
 use basics::List;
 use constraint_forms::{Assign, StepSet};
-use policy_book::{Plan, Policy};
+use policy_book::{Course, Plan, Policy};
 use std::alloc::{AllocError, Global};
-use wf_names::{FlowId, STEP_LIMIT, USER_LIMIT, UserId};
+use wf_names::{FlowId, UserId};
 
 /// What a model says.
 #[derive(Clone, Copy, PartialEq, Eq)]
@@ -47,35 +49,17 @@ pub fn plan_of(
         → LITERAL_LIMIT < literals (clauses_of (problem_of p.now f) a.now done.now) }
 {
     models_are_plans();
-    let _ruled = p.rules(f);
-    match first_of_case(alloc, p, f, a, done, m)? {
-        Some(i) => Ok(Reading::Clause(i)),
-        None => Ok(Reading::Plan(plan_said(alloc, p, f, m)?)),
-    }
-}
-
-// The first clause of a case that a model does not satisfy, if there is one.
-fn first_of_case(
-    alloc: Global,
-    p: &Policy,
-    f: FlowId,
-    a: &Assign,
-    done: &StepSet,
-    m: &Model,
-) -> Result<Option<u32>, CnfFault>
-    requires flow { f < length p.now.flows }
-    requires within { IsWithin (problem_of p.now f) a.now }
-    ensures first { IfOk result (λ found. found ≡ first_false 0 (has_variable m.now)
-        (clauses_of (problem_of p.now f) a.now done.now)) }
-    ensures few { OnOk result (literals
-        (clauses_of (problem_of p.now f) a.now done.now) ≤ LITERAL_LIMIT) }
-    ensures large { IsErrOf result TooLarge
-        → LITERAL_LIMIT < literals (clauses_of (problem_of p.now f) a.now done.now) }
-{
+    let course = Course {
+        policy: p,
+        number: f,
+    };
+    let _ruled = course.rules();
     let mut encoder = Encoder::new(alloc, p, f, a, done)?;
     let mut one = Literals::new(alloc);
-    let first = first_unsatisfied(&mut encoder, &mut one, m)?;
-    Ok(first)
+    match first_unsatisfied(&mut encoder, &mut one, m)? {
+        Some(i) => Ok(Reading::Clause(i)),
+        None => Ok(Reading::Plan(plan_said(alloc, &course, m)?)),
+    }
 }
 
 // The first clause that a model does not satisfy, if there is one.
@@ -102,15 +86,13 @@ fn first_unsatisfied(
 }
 
 // The plan that a model says.
-fn plan_said(alloc: Global, p: &Policy, f: FlowId, m: &Model) -> Result<Plan, AllocError>
-    requires { f < length p.now.flows }
-    ensures { IfOk result (λ plan. plan ≡ map (λ s. last_below (length p.now.roster.users)
-        (λ u. has_variable m.now (s * length p.now.roster.users + u)))
-        (numbers 0 (length (flow_at p.now f).flow.steps))) }
+fn plan_said(alloc: Global, course: &Course, m: &Model) -> Result<Plan, AllocError>
+    ensures { IfOk result (λ plan. plan ≡ map (λ s. last_below (problem_in course.now).users
+        (λ u. has_variable m.now (s * (problem_in course.now).users + u)))
+        (numbers 0 (problem_in course.now).steps)) }
 {
-    let steps = p.flow(f).steps().len();
-    let users = p.roster().users().len();
-    prove!(users <= USER_LIMIT && steps as usize <= STEP_LIMIT);
+    let steps = step_count(course);
+    let users = user_count(course);
     let mut chosen = List::new(alloc);
     'steps: for s in 0..steps {
         chosen.push(UserId(last_seen(m, s as usize * users as usize, users)))?;

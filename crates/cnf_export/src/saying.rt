@@ -1,11 +1,11 @@
 //! The flags of a model that says a plan, part by part.
 ghost use Rattle.std.specs.Prelude.{◌≡◌, ◌≤◌, ◌<◌, ◌==◌, ◌+◌, ◌++◌, ℕ, suc, cond, nat_le, nat_lt};
-ghost use Rattle.std.specs.Prelude.{map, OnOk, IfOk};
+ghost use Rattle.std.specs.Prelude.{map, Bool, OnOk, IfOk};
 ghost use Rattle.wf_names.specs.UserSets.{count_below};
 ghost use Rattle.constraint_forms.specs.Assign.{planned};
 ghost use Rattle.cnf_export.specs.Encodings.{height, numbers};
 ghost use Rattle.cnf_export.specs.Models.{has_some};
-ghost use Rattle.cnf_export.specs.Saying.{count_flags, grid, rule_flags, rules_flags};
+ghost use Rattle.cnf_export.specs.Saying.{Says, count_flags, grid, rule_flags, rules_flags};
 
 use crate::Model;
 use constraint_forms::{Rule, Rules, StepSet};
@@ -18,6 +18,18 @@ fn user_of(plan: &Plan, s: StepId) -> u16
     ensures { result ≡ planned plan.now s }
 {
     if s.0 < plan.len() { plan.at(s).0 } else { 0 }
+}
+
+// What a test says of each of the first `n` numbers.
+fn say_each<F: Fn(u16) -> bool>(n: u16, test: F, into: &mut Model) -> Result<(), AllocError>
+    requires { F.IsAlwaysCallable test }
+    ensures { (said : ℕ → Bool) → Says (F.post test) n said
+        → OnOk result (into.new ≡ into.old ++ map said (numbers 0 n)) }
+{
+    'numbers: for k in 0..n {
+        into.push(test(k))?;
+    }
+    Ok(())
 }
 
 /// Of each step and user, whether the step has the user.
@@ -39,10 +51,7 @@ pub(crate) fn say_users(
 fn say_user(v: u16, users: u16, into: &mut Model) -> Result<(), AllocError>
     ensures { OnOk result (into.new ≡ into.old ++ map (λ u. v == u) (numbers 0 users)) }
 {
-    'users: for u in 0..users {
-        into.push(v == u)?;
-    }
-    Ok(())
+    say_each(users, |u| v == u, into)
 }
 
 /// Of each step and user, whether the step has the user or one before.
@@ -64,10 +73,7 @@ pub(crate) fn say_until(
 fn say_from(v: u16, users: u16, into: &mut Model) -> Result<(), AllocError>
     ensures { OnOk result (into.new ≡ into.old ++ map (λ u. nat_le v u) (numbers 0 users)) }
 {
-    'users: for u in 0..users {
-        into.push(v <= u)?;
-    }
-    Ok(())
+    say_each(users, |u| v <= u, into)
 }
 
 /// What the rules that count are asked.
@@ -116,10 +122,7 @@ fn say_takers(plan: &Plan, users: u16, group: &StepSet, into: &mut Model) -> Res
     ensures { OnOk result (into.new
         ≡ into.old ++ map (has_some group.now plan.now) (numbers 0 users)) }
 {
-    'users: for u in 0..users {
-        into.push(takes_some(plan, group, u))?;
-    }
-    Ok(())
+    say_each(users, |u| takes_some(plan, group, u), into)
 }
 
 fn say_counts(
@@ -152,10 +155,7 @@ fn count_on(count: u16, more: bool) -> u16
 fn say_below(count: u16, high: u16, into: &mut Model) -> Result<(), AllocError>
     ensures { OnOk result (into.new ≡ into.old ++ map (λ j. nat_lt j count) (numbers 0 high)) }
 {
-    'numbers: for j in 0..high {
-        into.push(j < count)?;
-    }
-    Ok(())
+    say_each(high, |j| j < count, into)
 }
 
 // Whether a user has some step of a group.

@@ -4,7 +4,7 @@ ghost use Rattle.std.specs.Prelude.{None, Some, IfOk, OnOk};
 ghost use Rattle.constraint_forms.specs.Assign.{no_steps, no_users};
 ghost use Rattle.wsp_solver.specs.Searches.{HasSolved};
 ghost use Rattle.resilience_check.specs.Left.{AreUsers, problem_without};
-ghost use Rattle.policy_book.specs.Policies.{problem_of};
+ghost use Rattle.policy_book.specs.Course.{problem_in};
 ghost use Rattle.resilience_check.specs.Covering.{AreValidPlans};
 ghost use Rattle.resilience_check.specs.Searches.{HasTriedAbsences, HasTriedOne, HasTriedWith};
 
@@ -12,10 +12,10 @@ use crate::away::Away;
 use crate::covering::can_break;
 use crate::left::without;
 use crate::{Absent, Plans};
-use policy_book::{Assign, Policy, StepSet};
+use policy_book::{Assign, Course, StepSet};
 use refutation_tree::Tree;
 use std::alloc::{AllocError, Global};
-use wf_names::{FlowId, UserId};
+use wf_names::UserId;
 use wsp_solver::{Outcome, solve};
 
 /// The first absence of `left` more users, numbered from `from` on, that leaves with those who are
@@ -24,18 +24,17 @@ use wsp_solver::{Outcome, solve};
 #[cycle(finding)]
 pub(crate) fn first_breaking(
     alloc: Global,
-    p: &Policy,
-    f: FlowId,
+    course: &Course,
     family: &mut Plans,
     absent: &mut Absent,
     from: u16,
     left: u8,
 ) -> Result<Option<Tree>, AllocError>
-    requires flow { f < length p.now.flows }
-    requires users { AreUsers (length p.now.roster.users) absent.old }
-    requires family { AreValidPlans (problem_of p.now f) family.old }
+    requires users { AreUsers (problem_in course.now).users absent.old }
+    requires family { AreValidPlans (problem_in course.now) family.old }
     ensures { IfOk result
-        (HasTriedAbsences p.now f family.old absent.old from left family.new absent.new) }
+        (HasTriedAbsences course.now.policy.now course.now.number family.old absent.old
+        from left family.new absent.new) }
 {
     if !can_break(
         family.as_slice(),
@@ -46,10 +45,10 @@ pub(crate) fn first_breaking(
         return Ok(None);
     }
     if left == 0 {
-        return try_absence(alloc, p, f, family, absent);
+        return try_absence(alloc, course, family, absent);
     }
-    'users: for u in from..p.roster().users().len() {
-        match with_user(alloc, p, f, family, absent, UserId(u), left - 1)? {
+    'users: for u in from..course.policy.roster().users().len() {
+        match with_user(alloc, course, family, absent, UserId(u), left - 1)? {
             Some(tree) => return Ok(Some(tree)),
             None => {}
         }
@@ -61,24 +60,23 @@ pub(crate) fn first_breaking(
 #[cycle(finding)]
 fn with_user(
     alloc: Global,
-    p: &Policy,
-    f: FlowId,
+    course: &Course,
     family: &mut Plans,
     absent: &mut Absent,
     u: UserId,
     left: u8,
 ) -> Result<Option<Tree>, AllocError>
-    requires flow { f < length p.now.flows }
-    requires users { AreUsers (length p.now.roster.users) absent.old }
-    requires user { u < length p.now.roster.users }
+    requires users { AreUsers (problem_in course.now).users absent.old }
+    requires user { u < (problem_in course.now).users }
     requires room { u + 1 < 2 ^ 16 }
-    requires family { AreValidPlans (problem_of p.now f) family.old }
+    requires family { AreValidPlans (problem_in course.now) family.old }
     ensures { IfOk result
-        (HasTriedWith p.now f family.old absent.old u left family.new absent.new) }
+        (HasTriedWith course.now.policy.now course.now.number family.old absent.old
+        u left family.new absent.new) }
 {
     let count = absent.len();
     absent.push(u)?;
-    let found = first_breaking(alloc, p, f, family, absent, u.0 + 1, left)?;
+    let found = first_breaking(alloc, course, family, absent, u.0 + 1, left)?;
     if found.is_none() {
         absent.truncate(count);
     }
@@ -88,17 +86,16 @@ fn with_user(
 // A tree that refutes what is left without some users; or a valid plan without them, in the family.
 fn try_absence(
     alloc: Global,
-    p: &Policy,
-    f: FlowId,
+    course: &Course,
     family: &mut Plans,
     absent: &Absent,
 ) -> Result<Option<Tree>, AllocError>
-    requires flow { f < length p.now.flows }
-    requires users { AreUsers (length p.now.roster.users) absent.now }
-    requires family { AreValidPlans (problem_of p.now f) family.old }
-    ensures { IfOk result (HasTriedOne p.now f family.old absent.now family.new) }
+    requires users { AreUsers (problem_in course.now).users absent.now }
+    requires family { AreValidPlans (problem_in course.now) family.old }
+    ensures { IfOk result (HasTriedOne course.now.policy.now course.now.number
+        family.old absent.now family.new) }
 {
-    match solve_without(alloc, p, f, absent)? {
+    match solve_without(alloc, course, absent)? {
         Outcome::Plan(plan) => {
             family.push(plan)?;
             Ok(None)
@@ -108,16 +105,17 @@ fn try_absence(
 }
 
 // What a search finds without some users.
-fn solve_without(
-    alloc: Global,
-    p: &Policy,
-    f: FlowId,
-    absent: &Absent,
-) -> Result<Outcome, AllocError>
-    requires flow { f < length p.now.flows }
-    requires users { AreUsers (length p.now.roster.users) absent.now }
-    ensures { IfOk result (HasSolved (problem_without p.now f absent.now) no_users no_steps) }
+fn solve_without(alloc: Global, course: &Course, absent: &Absent) -> Result<Outcome, AllocError>
+    requires users { AreUsers (problem_in course.now).users absent.now }
+    ensures { IfOk result (HasSolved (problem_without course.now.policy.now course.now.number
+        absent.now) no_users no_steps) }
 {
-    let left = without(p, absent)?;
-    solve(alloc, &left, f, &Assign::empty(), &StepSet::empty())
+    let left = without(course.policy, absent)?;
+    solve(
+        alloc,
+        &left,
+        course.number,
+        &Assign::empty(),
+        &StepSet::empty(),
+    )
 }

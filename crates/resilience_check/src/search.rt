@@ -5,7 +5,7 @@ ghost use Rattle.resilience_check.specs.Covering.{holds, AnswersAbsence};
 
 use crate::finding::first_breaking;
 use basics::List;
-use policy_book::{Plan, Policy};
+use policy_book::{Course, Plan, Policy};
 use refutation_tree::Tree;
 use std::alloc::{AllocError, Global};
 use wf_names::{FlowId, UserId};
@@ -31,11 +31,15 @@ pub fn resilience(alloc: Global, p: &Policy, f: FlowId, t: u8) -> Result<Absence
     ensures answer { IfOk result (AnswersAbsence p.now f t) }
     ensures holds { IfOk result (λ answer. (holds answer ≡ true) ↔ IsResilient p.now f t) }
 {
-    let _ = p.rules(f);
+    let course = Course {
+        policy: p,
+        number: f,
+    };
+    let _ = course.rules();
     let mut family = Plans::new(alloc);
     let mut absent = Absent::new(alloc);
     'sizes: for size in 0..t as u16 + 1 {
-        match first_breaking(alloc, p, f, &mut family, &mut absent, 0, size as u8)? {
+        match first_breaking(alloc, &course, &mut family, &mut absent, 0, size as u8)? {
             Some(tree) => return Ok(AbsenceAnswer::Breaks { absent, tree }),
             None => {}
         }

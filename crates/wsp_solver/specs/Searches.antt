@@ -52,13 +52,6 @@ pub record IsRefutation (p : Problem) (assigned : List (Option ℕ)) (finished :
   pub refutes : IsTrue (refutes p assigned finished (shape_of r.tree))
   pub steps : AreMentioned p.rules (shape_of r.tree) r.steps
 
--- a plan that is valid, or a tree that refutes with the steps that it mentions; or neither, where
--- the search is bounded
-abbrev pub HasSearched : Problem → List (Option ℕ) → List Bool → Bool → Searched → Type 0
-HasSearched p assigned finished bounded (searched.Plan plan) = IsValidPlan p assigned finished plan
-HasSearched p assigned finished bounded (searched.Refuted r) = IsRefutation p assigned finished r
-HasSearched p assigned finished bounded searched.Stopped = IsTrue bounded
-
 -- a plan that is valid, or a lean tree that refutes; or neither, where the search is limited
 abbrev pub HasDecided : Problem → List (Option ℕ) → List Bool → Bool → Searched → Type 0
 HasDecided p assigned finished limited (searched.Plan plan) = IsValidPlan p assigned finished plan

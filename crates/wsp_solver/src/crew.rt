@@ -2,7 +2,7 @@
 //! twin, so that users with one first twin are twins wherever neither has a step.
 ghost use Rattle.std.specs.Prelude.{◌≡◌, ◌<◌, ◌≤◌, ℕ, [], None, length};
 ghost use Rattle.std.specs.Prelude.{replicate, slice_get, false, IfOk, IsTrue, MatchOption};
-ghost use Rattle.policy_book.specs.Policies.{problem_of};
+ghost use Rattle.policy_book.specs.Course.{problem_in};
 ghost use Rattle.constraint_forms.specs.Rules.{any_read};
 ghost use Rattle.policy_book.specs.Twins.{are_related_alike, are_twins};
 ghost use Rattle.wsp_solver.specs.Crews.{AreDutiesBelow, AreFirstTwins, IsCrewOf, IsFirstTwin};
@@ -15,9 +15,9 @@ use crate::steps::step_count;
 use certificate_check::are_related_alike;
 use constraint_forms::{Holds, Rule};
 use plan_finder::Finder;
-use policy_book::{Policy, StepSet};
+use policy_book::{Course, StepSet};
 use std::alloc::{AllocError, Global};
-use wf_names::{FlowId, RelId, STEP_LIMIT, UserId};
+use wf_names::{RelId, STEP_LIMIT, UserId};
 
 /// The users of a policy, as the search for a tree sees them.
 #[derive(Drop)]
@@ -32,14 +32,13 @@ pub(crate) struct Crew {
 
 impl Crew {
     /// The users of a workflow's policy.
-    pub(crate) fn new(alloc: Global, p: &Policy, f: FlowId) -> Result<Crew, AllocError>
-        requires flow { f < length p.now.flows }
-        ensures { IfOk result (IsCrewOf (problem_of p.now f)) }
+    pub(crate) fn new(alloc: Global, course: &Course) -> Result<Crew, AllocError>
+        ensures { IfOk result (IsCrewOf (problem_in course.now)) }
     {
-        prove!(step_count(p, f) <= STEP_LIMIT);
-        let duties = all_duties(alloc, p, f)?;
-        let classes = no_classes(alloc, p.roster().users().len())?;
-        let named = all_named(alloc, p, f)?;
+        prove!(step_count(course) <= STEP_LIMIT);
+        let duties = all_duties(alloc, course)?;
+        let classes = no_classes(alloc, course.policy.roster().users().len())?;
+        let named = all_named(alloc, course)?;
         Ok(Crew {
             duties,
             classes,
@@ -48,35 +47,32 @@ impl Crew {
     }
 }
 
-fn all_named(alloc: Global, p: &Policy, f: FlowId) -> Result<Vec<StepSet>, AllocError>
-    requires flow { f < length p.now.flows }
-    ensures { IfOk result (λ named. NamesSteps (problem_of p.now f) named.items) }
+fn all_named(alloc: Global, course: &Course) -> Result<Vec<StepSet>, AllocError>
+    ensures { IfOk result (λ named. NamesSteps (problem_in course.now) named.items) }
 {
     let mut named = Vec::new(alloc);
-    'rules: for k in 0..p.rules(f).len() {
-        named.push(steps_of_rule(p, f, k as u8))?;
+    'rules: for k in 0..course.rules().len() {
+        named.push(steps_of_rule(course, k as u8))?;
     }
     Ok(named)
 }
 
-fn all_duties(alloc: Global, p: &Policy, f: FlowId) -> Result<Vec<StepSet>, AllocError>
-    requires flow { f < length p.now.flows }
-    ensures { IfOk result (λ rows. AreDutiesBelow (problem_of p.now f) rows.items) }
+fn all_duties(alloc: Global, course: &Course) -> Result<Vec<StepSet>, AllocError>
+    ensures { IfOk result (λ rows. AreDutiesBelow (problem_in course.now) rows.items) }
 {
     let mut rows = Vec::new(alloc);
-    'users: for u in 0..p.roster().users().len() {
-        rows.push(duties(p, f, UserId(u)))?;
+    'users: for u in 0..course.policy.roster().users().len() {
+        rows.push(duties(course, UserId(u)))?;
     }
     Ok(rows)
 }
 
 // The steps for which a user is authorised, as the policy keeps them.
-fn duties(p: &Policy, f: FlowId, u: UserId) -> StepSet
-    requires flow { f < length p.now.flows }
-    requires user { u < (problem_of p.now f).users }
-    ensures { result ≡ duties_below (problem_of p.now f) u (problem_of p.now f).steps }
+fn duties(course: &Course, u: UserId) -> StepSet
+    requires user { u < (problem_in course.now).users }
+    ensures { result ≡ duties_below (problem_in course.now) u (problem_in course.now).steps }
 {
-    p.duties(f, u)
+    course.policy.duties(course.number, u)
 }
 
 // The table of classes where nobody was asked for.
@@ -88,35 +84,27 @@ fn no_classes(alloc: Global, users: u16) -> Result<Vec<Option<UserId>>, AllocErr
 }
 
 /// Finds the first twin of a user, where it is not known yet.
-pub(crate) fn know_class(p: &Policy, f: FlowId, crew: &mut Crew, finder: &mut Finder, u: UserId)
-    requires flow { f < length p.now.flows }
-    requires crew { IsCrewOf (problem_of p.now f) crew.old }
-    requires user { u < (problem_of p.now f).users }
-    ensures { IsCrewOf (problem_of p.now f) crew.new }
+pub(crate) fn know_class(course: &Course, crew: &mut Crew, finder: &mut Finder, u: UserId)
+    requires crew { IsCrewOf (problem_in course.now) crew.old }
+    requires user { u < (problem_in course.now).users }
+    ensures { IsCrewOf (problem_in course.now) crew.new }
 {
     let at = u.0 as usize;
     if at < crew.classes.len() && crew.classes[at].is_none() {
-        let class = find_twin(p, f, finder, &crew.duties, u);
+        let class = find_twin(course, finder, &crew.duties, u);
         crew.classes[at] = Some(class);
     }
 }
 
 /// The first twin of a user where nothing is assigned, which may be the same user.
-pub(crate) fn first_twin(
-    p: &Policy,
-    f: FlowId,
-    crew: &Crew,
-    finder: &mut Finder,
-    u: UserId,
-) -> UserId
-    requires flow { f < length p.now.flows }
-    requires crew { IsCrewOf (problem_of p.now f) crew.now }
-    requires user { u < (problem_of p.now f).users }
-    ensures { IsFirstTwin (problem_of p.now f) u result }
+pub(crate) fn first_twin(course: &Course, crew: &Crew, finder: &mut Finder, u: UserId) -> UserId
+    requires crew { IsCrewOf (problem_in course.now) crew.now }
+    requires user { u < (problem_in course.now).users }
+    ensures { IsFirstTwin (problem_in course.now) u result }
 {
     match class_in(&crew.classes, u) {
         Some(class) => class,
-        None => find_twin(p, f, finder, &crew.duties, u),
+        None => find_twin(course, finder, &crew.duties, u),
     }
 }
 
@@ -130,17 +118,16 @@ fn class_in(classes: &[Option<UserId>], u: UserId) -> Option<UserId>
 }
 
 // The first twin of a user among those up to the user.
-fn find_twin(p: &Policy, f: FlowId, finder: &mut Finder, duties: &[StepSet], u: UserId) -> UserId
-    requires flow { f < length p.now.flows }
-    requires user { u < (problem_of p.now f).users }
-    requires duties { AreDutiesBelow (problem_of p.now f) duties.now }
-    ensures { IsFirstTwin (problem_of p.now f) u result }
+fn find_twin(course: &Course, finder: &mut Finder, duties: &[StepSet], u: UserId) -> UserId
+    requires user { u < (problem_in course.now).users }
+    requires duties { AreDutiesBelow (problem_in course.now) duties.now }
+    ensures { IsFirstTwin (problem_in course.now) u result }
 {
     let end = u.0;
     let own = duties_at(duties, u);
     let mut from = 0;
     'earlier: while let Some(v) = next_with(duties, &own, from, end) {
-        if are_alike(p, f, finder, duties, v, u) {
+        if are_alike(course, finder, duties, v, u) {
             return v;
         }
         from = v.0 + 1;
@@ -174,66 +161,58 @@ pub(crate) fn duties_at(duties: &[StepSet], u: UserId) -> StepSet
 
 // Whether two users are twins where nothing is assigned. Most who are not are told apart by their
 // steps, and most others by one third user.
-fn are_alike(
-    p: &Policy,
-    f: FlowId,
-    finder: &mut Finder,
-    duties: &[StepSet],
-    u: UserId,
-    v: UserId,
-) -> bool
-    requires flow { f < length p.now.flows }
-    requires duties { AreDutiesBelow (problem_of p.now f) duties.now }
-    requires first { u < (problem_of p.now f).users }
-    requires second { v < (problem_of p.now f).users }
-    ensures { result ≡ are_twins (problem_of p.now f) [] u v }
+fn are_alike(course: &Course, finder: &mut Finder, duties: &[StepSet], u: UserId, v: UserId) -> bool
+    requires duties { AreDutiesBelow (problem_in course.now) duties.now }
+    requires first { u < (problem_in course.now).users }
+    requires second { v < (problem_in course.now).users }
+    ensures { result ≡ are_twins (problem_in course.now) [] u v }
 {
-    prove!(step_count(p, f) <= STEP_LIMIT);
+    prove!(step_count(course) <= STEP_LIMIT);
     if duties_at(duties, u) != duties_at(duties, v) {
         return false;
     }
-    if are_told_apart(p, f, finder, u, v) {
+    if are_told_apart(course, finder, u, v) {
         return false;
     }
-    are_related_alike(p, f, u, v)
+    are_related_alike(course.policy, course.number, u, v)
 }
 
 // Whether some relation that a rule reads is known to tell two users apart.
-fn are_told_apart(p: &Policy, f: FlowId, finder: &mut Finder, u: UserId, v: UserId) -> bool
-    requires flow { f < length p.now.flows }
-    ensures { IsTrue result → are_related_alike (problem_of p.now f) u v ≡ false }
+fn are_told_apart(course: &Course, finder: &mut Finder, u: UserId, v: UserId) -> bool
+    ensures { IsTrue result → are_related_alike (problem_in course.now) u v ≡ false }
 {
-    match finder.clue(p, u, v) {
-        Some(clue) => tells_apart(p, f, clue.rule, u, v, clue.user),
+    match finder.clue(course.policy, u, v) {
+        Some(clue) => tells_apart(course, clue.rule, u, v, clue.user),
         None => false,
     }
 }
 
 // Whether some relation that a rule reads treats two users differently at a third one.
-fn tells_apart(p: &Policy, f: FlowId, k: u8, u: UserId, v: UserId, w: UserId) -> bool
-    requires flow { f < length p.now.flows }
-    ensures { result ≡ is_told_apart (problem_of p.now f) u v w
-        (slice_get (problem_of p.now f).rules k) }
+fn tells_apart(course: &Course, k: u8, u: UserId, v: UserId, w: UserId) -> bool
+    ensures { result ≡ is_told_apart (problem_in course.now) u v w
+        (slice_get (problem_in course.now).rules k) }
 {
-    match p.rules(f).as_slice().get(k as usize) {
-        Some(rule) => w.0 < p.roster().users().len() && is_read_apart(p, f, rule, u, v, w),
+    let users = course.policy.roster().users().len();
+    match course.rules().as_slice().get(k as usize) {
+        Some(rule) => w.0 < users && is_read_apart(course, rule, u, v, w),
         None => false,
     }
 }
 
-fn is_read_apart(p: &Policy, f: FlowId, rule: &Rule, u: UserId, v: UserId, w: UserId) -> bool
+fn is_read_apart(course: &Course, rule: &Rule, u: UserId, v: UserId, w: UserId) -> bool
     ensures { result ≡ any_read rule.now
-        (λ rho. tells_apart ((problem_of p.now f).related rho) u v w) }
+        (λ rho. tells_apart ((problem_in course.now).related rho) u v w) }
 {
     match rule.relation() {
-        Some(rho) => is_treated_apart(p, f, rho, u, v, w),
+        Some(rho) => is_treated_apart(course, rho, u, v, w),
         None => false,
     }
 }
 
-fn is_treated_apart(p: &Policy, f: FlowId, rho: RelId, u: UserId, v: UserId, w: UserId) -> bool
-    ensures { result ≡ tells_apart ((problem_of p.now f).related rho) u v w }
+fn is_treated_apart(course: &Course, rho: RelId, u: UserId, v: UserId, w: UserId) -> bool
+    ensures { result ≡ tells_apart ((problem_in course.now).related rho) u v w }
 {
+    let p = course.policy;
     w != u
         && w != v
         && (p.holds(rho, u, w) != p.holds(rho, v, w) || p.holds(rho, w, u) != p.holds(rho, w, v))

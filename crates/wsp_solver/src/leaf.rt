@@ -6,7 +6,7 @@ ghost use Rattle.constraint_forms.specs.declared.rule.Rule.{Rule as AnyRule};
 ghost use Rattle.refutation_tree.specs.Tree.{holder, rule};
 ghost use Rattle.refutation_tree.specs.Views.{shape_of};
 ghost use Rattle.policy_book.specs.Plans.{IsWellFormed, IsWithin};
-ghost use Rattle.policy_book.specs.Policies.{problem_of};
+ghost use Rattle.policy_book.specs.Course.{problem_in};
 ghost use Rattle.policy_book.specs.Refuting.{is_rule_naming, refutes};
 ghost use Rattle.policy_book.specs.Lean.{is_lean};
 ghost use Rattle.wsp_solver.specs.Crews.{IsCrewOf};
@@ -16,9 +16,9 @@ ghost use Rattle.wsp_solver.specs.Searches.{NoLeafRefutesWithout};
 use crate::crew::Crew;
 use crate::steps::{steps_named, with_if};
 use certificate_check::check_tree;
-use policy_book::{Assign, Policy, StepSet};
+use policy_book::{Assign, Course, StepSet};
 use refutation_tree::Tree;
-use wf_names::{FlowId, STEP_LIMIT, StepId};
+use wf_names::{STEP_LIMIT, StepId};
 
 /// A tree that refutes, and the steps that it mentions, and maybe more.
 #[derive(Drop)]
@@ -28,20 +28,19 @@ pub(crate) struct Refutation {
 }
 
 /// A leaf that refutes an assignment, if there is one.
-pub(crate) fn refuting_leaf(p: &Policy, f: FlowId, a: &Assign, done: &StepSet) -> Option<Refutation>
-    requires flow { f < length p.now.flows }
-    requires within { IsWithin (problem_of p.now f) a.now }
-    ensures leaf { MatchOption result (IsWellFormed (problem_of p.now f)
-        × NoLeafRefutes (problem_of p.now f) a.now done.now)
-        (IsRefutation (problem_of p.now f) a.now done.now) }
+pub(crate) fn refuting_leaf(course: &Course, a: &Assign, done: &StepSet) -> Option<Refutation>
+    requires within { IsWithin (problem_in course.now) a.now }
+    ensures leaf { MatchOption result (IsWellFormed (problem_in course.now)
+        × NoLeafRefutes (problem_in course.now) a.now done.now)
+        (IsRefutation (problem_in course.now) a.now done.now) }
     ensures lean { IfSome result (λ r. IsTrue
-        (is_lean (problem_of p.now f) a.now (shape_of r.tree))) }
+        (is_lean (problem_in course.now) a.now (shape_of r.tree))) }
 {
-    if let Some(s) = first_misheld(p, f, a, done) {
+    if let Some(s) = first_misheld(course, a, done) {
         return Some(held_wrongly(s));
     }
-    match first_falsified(p, f, a, done) {
-        Some(k) => Some(falsified_rule(p, f, k)),
+    match first_falsified(course, a, done) {
+        Some(k) => Some(falsified_rule(course, k)),
         None => None,
     }
 }
@@ -59,65 +58,61 @@ pub(crate) fn held_wrongly(s: StepId) -> Refutation
 }
 
 /// The leaf of a rule, by what a crew knows of it.
-pub(crate) fn leaf_of_rule(p: &Policy, f: FlowId, crew: &Crew, k: u8) -> Refutation
-    requires flow { f < length p.now.flows }
-    requires crew { IsCrewOf (problem_of p.now f) crew.now }
+pub(crate) fn leaf_of_rule(course: &Course, crew: &Crew, k: u8) -> Refutation
+    requires crew { IsCrewOf (problem_in course.now) crew.now }
     ensures tree { shape_of result.tree ≡ rule k }
-    ensures steps { AreMentioned (problem_of p.now f).rules (rule k) result.steps }
+    ensures steps { AreMentioned (problem_in course.now).rules (rule k) result.steps }
 {
     Refutation {
         tree: Tree::Rule(k),
-        steps: named_by(p, f, &crew.named, k),
+        steps: named_by(course, &crew.named, k),
     }
 }
 
 // The steps that a rule names, by a table.
-fn named_by(p: &Policy, f: FlowId, named: &[StepSet], k: u8) -> StepSet
-    requires flow { f < length p.now.flows }
-    requires named { NamesSteps (problem_of p.now f) named.now }
-    ensures { AreMentioned (problem_of p.now f).rules (rule k) result }
+fn named_by(course: &Course, named: &[StepSet], k: u8) -> StepSet
+    requires named { NamesSteps (problem_in course.now) named.now }
+    ensures { AreMentioned (problem_in course.now).rules (rule k) result }
 {
     match named.get(k as usize) {
         Some(steps) => *steps,
-        None => steps_of_rule(p, f, k),
+        None => steps_of_rule(course, k),
     }
 }
 
 /// The leaf of a rule.
-pub(crate) fn falsified_rule(p: &Policy, f: FlowId, k: u8) -> Refutation
-    requires { f < length p.now.flows }
+pub(crate) fn falsified_rule(course: &Course, k: u8) -> Refutation
     ensures tree { shape_of result.tree ≡ rule k }
-    ensures steps { AreMentioned (problem_of p.now f).rules (rule k) result.steps }
+    ensures steps { AreMentioned (problem_in course.now).rules (rule k) result.steps }
 {
     Refutation {
         tree: Tree::Rule(k),
-        steps: steps_of_rule(p, f, k),
+        steps: steps_of_rule(course, k),
     }
 }
 
 /// The steps that a rule names; none where there is no such rule.
-pub(crate) fn steps_of_rule(p: &Policy, f: FlowId, k: u8) -> StepSet
-    requires { f < length p.now.flows }
-    ensures { AreMentioned (problem_of p.now f).rules (rule k) result }
+pub(crate) fn steps_of_rule(course: &Course, k: u8) -> StepSet
+    ensures { AreMentioned (problem_in course.now).rules (rule k) result }
 {
-    prove!(p.flow(f).steps().len() as usize <= STEP_LIMIT);
-    match p.rules(f).as_slice().get(k as usize) {
+    prove!(course.flow().steps().len() as usize <= STEP_LIMIT);
+    match course.rules().as_slice().get(k as usize) {
         Some(rule) => steps_named(rule),
         None => StepSet::empty(),
     }
 }
 
 /// A step that is held by a user who is not authorised for it.
-fn first_misheld(p: &Policy, f: FlowId, a: &Assign, done: &StepSet) -> Option<StepId>
-    requires flow { f < length p.now.flows }
-    requires within { IsWithin (problem_of p.now f) a.now }
+fn first_misheld(course: &Course, a: &Assign, done: &StepSet) -> Option<StepId>
+    requires within { IsWithin (problem_in course.now) a.now }
     ensures { MatchOption result ((s : ℕ)
-        → refutes (problem_of p.now f) a.now done.now (holder s) ≡ false)
-        (λ s. (s < STEP_LIMIT) × IsTrue (refutes (problem_of p.now f) a.now done.now (holder s))) }
+        → refutes (problem_in course.now) a.now done.now (holder s) ≡ false)
+        (λ s. (s < STEP_LIMIT)
+        × IsTrue (refutes (problem_in course.now) a.now done.now (holder s))) }
 {
-    'steps: for s in 0..p.flow(f).steps().len() {
+    'steps: for s in 0..course.flow().steps().len() {
         let step = StepId(s as u8);
-        if check_tree(p, f, a, done, &Tree::Holder(step)) {
+        if check_tree(course.policy, course.number, a, done, &Tree::Holder(step)) {
             return Some(step);
         }
     }
@@ -125,16 +120,15 @@ fn first_misheld(p: &Policy, f: FlowId, a: &Assign, done: &StepSet) -> Option<St
 }
 
 /// A rule that is falsified.
-fn first_falsified(p: &Policy, f: FlowId, a: &Assign, done: &StepSet) -> Option<u8>
-    requires flow { f < length p.now.flows }
-    requires within { IsWithin (problem_of p.now f) a.now }
-    ensures formed { IsWellFormed (problem_of p.now f) }
+fn first_falsified(course: &Course, a: &Assign, done: &StepSet) -> Option<u8>
+    requires within { IsWithin (problem_in course.now) a.now }
+    ensures formed { IsWellFormed (problem_in course.now) }
     ensures falsified { MatchOption result
-        ((k : ℕ) → refutes (problem_of p.now f) a.now done.now (rule k) ≡ false)
-        (λ k. IsTrue (refutes (problem_of p.now f) a.now done.now (rule k))) }
+        ((k : ℕ) → refutes (problem_in course.now) a.now done.now (rule k) ≡ false)
+        (λ k. IsTrue (refutes (problem_in course.now) a.now done.now (rule k))) }
 {
-    'rules: for k in 0..p.rules(f).len() {
-        if check_tree(p, f, a, done, &Tree::Rule(k as u8)) {
+    'rules: for k in 0..course.rules().len() {
+        if check_tree(course.policy, course.number, a, done, &Tree::Rule(k as u8)) {
             return Some(k as u8);
         }
     }
@@ -144,47 +138,37 @@ fn first_falsified(p: &Policy, f: FlowId, a: &Assign, done: &StepSet) -> Option<
 /// The leaf of a rule that is falsified, if there is one, where only rules that name a step can be.
 /// One is looked at first.
 pub(crate) fn broken_rule(
-    p: &Policy,
-    f: FlowId,
+    course: &Course,
     a: &Assign,
     done: &StepSet,
     s: StepId,
     first: u8,
     crew: &Crew,
 ) -> Option<Refutation>
-    requires flow { f < length p.now.flows }
-    requires crew { IsCrewOf (problem_of p.now f) crew.now }
-    requires within { IsWithin (problem_of p.now f) a.now }
-    requires others { NoLeafRefutesWithout (problem_of p.now f) a.now done.now s }
-    ensures { MatchOption result (NoLeafRefutes (problem_of p.now f) a.now done.now)
-        (IsRefutation (problem_of p.now f) a.now done.now) }
+    requires crew { IsCrewOf (problem_in course.now) crew.now }
+    requires within { IsWithin (problem_in course.now) a.now }
+    requires others { NoLeafRefutesWithout (problem_in course.now) a.now done.now s }
+    ensures { MatchOption result (NoLeafRefutes (problem_in course.now) a.now done.now)
+        (IsRefutation (problem_in course.now) a.now done.now) }
 {
-    match falsified_with(p, f, a, done, s, first) {
-        Some(k) => Some(leaf_of_rule(p, f, crew, k)),
+    match falsified_with(course, a, done, s, first) {
+        Some(k) => Some(leaf_of_rule(course, crew, k)),
         None => None,
     }
 }
 
 // A rule that is falsified, where only rules that name a step can be. One is looked at first.
-fn falsified_with(
-    p: &Policy,
-    f: FlowId,
-    a: &Assign,
-    done: &StepSet,
-    s: StepId,
-    first: u8,
-) -> Option<u8>
-    requires flow { f < length p.now.flows }
-    requires within { IsWithin (problem_of p.now f) a.now }
-    requires others { NoLeafRefutesWithout (problem_of p.now f) a.now done.now s }
-    ensures { MatchOption result (NoLeafRefutes (problem_of p.now f) a.now done.now)
-        (λ k. IsTrue (refutes (problem_of p.now f) a.now done.now (rule k))) }
+fn falsified_with(course: &Course, a: &Assign, done: &StepSet, s: StepId, first: u8) -> Option<u8>
+    requires within { IsWithin (problem_in course.now) a.now }
+    requires others { NoLeafRefutesWithout (problem_in course.now) a.now done.now s }
+    ensures { MatchOption result (NoLeafRefutes (problem_in course.now) a.now done.now)
+        (λ k. IsTrue (refutes (problem_in course.now) a.now done.now (rule k))) }
 {
-    if check_tree(p, f, a, done, &Tree::Rule(first)) {
+    if check_tree(course.policy, course.number, a, done, &Tree::Rule(first)) {
         return Some(first);
     }
-    'rules: for k in 0..p.rules(f).len() {
-        if is_falsified_with(p, f, a, done, k as u8, s) {
+    'rules: for k in 0..course.rules().len() {
+        if is_falsified_with(course, a, done, k as u8, s) {
             return Some(k as u8);
         }
     }
@@ -192,20 +176,18 @@ fn falsified_with(
 }
 
 // Whether a rule names a step and is falsified.
-fn is_falsified_with(p: &Policy, f: FlowId, a: &Assign, done: &StepSet, k: u8, s: StepId) -> bool
-    requires flow { f < length p.now.flows }
-    requires within { IsWithin (problem_of p.now f) a.now }
-    ensures { result ≡ (is_rule_naming s (slice_get (problem_of p.now f).rules k) && refutes
-        (problem_of p.now f) a.now done.now (rule k)) }
+fn is_falsified_with(course: &Course, a: &Assign, done: &StepSet, k: u8, s: StepId) -> bool
+    requires within { IsWithin (problem_in course.now) a.now }
+    ensures { result ≡ (is_rule_naming s (slice_get (problem_in course.now).rules k) && refutes
+        (problem_in course.now) a.now done.now (rule k)) }
 {
-    names_step(p, f, k, s) && check_tree(p, f, a, done, &Tree::Rule(k))
+    names_step(course, k, s) && check_tree(course.policy, course.number, a, done, &Tree::Rule(k))
 }
 
-fn names_step(p: &Policy, f: FlowId, k: u8, s: StepId) -> bool
-    requires flow { f < length p.now.flows }
-    ensures { result ≡ is_rule_naming s (slice_get (problem_of p.now f).rules k) }
+fn names_step(course: &Course, k: u8, s: StepId) -> bool
+    ensures { result ≡ is_rule_naming s (slice_get (problem_in course.now).rules k) }
 {
-    match p.rules(f).as_slice().get(k as usize) {
+    match course.rules().as_slice().get(k as usize) {
         Some(rule) => rule.names(s),
         None => false,
     }

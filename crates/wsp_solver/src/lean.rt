@@ -8,7 +8,7 @@ ghost use Rattle.policy_book.specs.Policies.{problem_of};
 ghost use Rattle.policy_book.specs.Refuting.{all_refute, authorised_users, have_users};
 ghost use Rattle.policy_book.specs.Refuting.{is_unassigned, refutes};
 ghost use Rattle.wsp_solver.specs.Crews.{IsCrewOf};
-ghost use Rattle.wsp_solver.specs.Task.{CanBeAsked, asked};
+ghost use Rattle.wsp_solver.specs.Task.{asked};
 ghost use Rattle.wsp_solver.specs.Lean.{IsTrimmed, IsTrimming};
 
 use crate::crew::{Crew, know_class};
@@ -17,7 +17,7 @@ use crate::steps::{joined, step_count};
 use crate::task::Task;
 use crate::twin::twin_among;
 use plan_finder::Finder;
-use policy_book::{Assign, Policy, StepSet};
+use policy_book::{Assign, Course, Policy, StepSet};
 use refutation_tree::{Branch, Branches, Kid, Tree};
 use std::alloc::{AllocError, Global};
 use wf_names::{FlowId, STEP_LIMIT, StepId, UserId};
@@ -38,17 +38,20 @@ pub fn trim(
     requires refutes { IsTrue (refutes (problem_of p.now f) a.now done.now (shape_of tree)) }
     ensures { IfOk result (IsTrimmed (problem_of p.now f) a.now done.now (shape_of tree)) }
 {
+    let course = Course {
+        policy: p,
+        number: f,
+    };
     let task = Task {
         alloc,
-        policy: p,
-        flow: f,
+        course: &course,
         done,
         bounded: false,
     };
     let mut finder = Finder::new(alloc, p, f, u32::MAX)?;
-    let mut crew = Crew::new(alloc, p, f)?;
+    let mut crew = Crew::new(alloc, &course)?;
     'users: for u in 0..p.roster().users().len() {
-        know_class(p, f, &mut crew, &mut finder, UserId(u));
+        know_class(&course, &mut crew, &mut finder, UserId(u));
     }
     Ok(trim_tree(&task, a, &crew, &mut finder, &tree)?.tree)
 }
@@ -62,17 +65,17 @@ pub(crate) fn trim_tree(
     finder: &mut Finder,
     tree: &Tree,
 ) -> Result<Refutation, AllocError>
-    requires asked { CanBeAsked task.now.policy.now task.now.flow a.now }
+    requires within { IsWithin (asked task.now) a.now }
     requires crew { IsCrewOf (asked task.now) crew.now }
     requires refutes { IsTrue (refutes (asked task.now) a.now task.now.done.now
         (shape_of tree.now)) }
     ensures { IfOk result
         (IsTrimming (asked task.now) a.now task.now.done.now (shape_of tree.now)) }
 {
-    prove!(step_count(task.policy, task.flow) <= STEP_LIMIT);
+    prove!(step_count(task.course) <= STEP_LIMIT);
     match tree {
         Tree::Holder(s) => Ok(held_wrongly(*s)),
-        Tree::Rule(k) => Ok(leaf_of_rule(task.policy, task.flow, crew, *k)),
+        Tree::Rule(k) => Ok(leaf_of_rule(task.course, crew, *k)),
         Tree::Step(s, branches) => {
             let branches = branches.as_slice();
             trim_node(task, a, crew, finder, *s, branches)
@@ -92,7 +95,7 @@ fn trim_node(
     s: StepId,
     branches: &[Branch],
 ) -> Result<Refutation, AllocError>
-    requires asked { CanBeAsked task.now.policy.now task.now.flow a.now }
+    requires within { IsWithin (asked task.now) a.now }
     requires crew { IsCrewOf (asked task.now) crew.now }
     requires room { s < STEP_LIMIT }
     requires free { IsTrue (is_unassigned (asked task.now) a.now s) }
@@ -108,7 +111,7 @@ fn trim_node(
     let mut last = StepSet::empty();
     'branches: for branch in branches {
         let user = branch.user;
-        if let Some(twin) = twin_among(task.policy, task.flow, a, crew, finder, &kept, user) {
+        if let Some(twin) = twin_among(task.course, a, crew, finder, &kept, user) {
             kept.push(Branch {
                 user,
                 kid: Kid::Twin(twin),

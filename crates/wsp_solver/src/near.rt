@@ -7,7 +7,7 @@ ghost use Rattle.policy_book.specs.Policies.{problem_of};
 use crate::next::{is_unassigned, no_users};
 use certificate_check::is_valid_plan;
 use constraint_forms::{Rule, falsified};
-use policy_book::{Assign, Plan, Policy, StepSet};
+use policy_book::{Assign, Course, Plan, Policy, StepSet};
 use wf_names::{FlowId, STEP_LIMIT, StepId, UserId};
 
 /// A valid plan near another plan: what is assigned stands in it, and while it is not valid, one
@@ -18,35 +18,36 @@ pub fn plan_near(p: &Policy, f: FlowId, a: &Assign, done: &StepSet, plan: &Plan)
     requires within { IsWithin (problem_of p.now f) a.now }
     ensures { IfSome result (IsValidPlan (problem_of p.now f) a.now done.now) }
 {
+    let course = Course {
+        policy: p,
+        number: f,
+    };
     let mut near = with_assigned(plan, a);
     for _ in 0..STEP_LIMIT {
         if is_valid_plan(p, f, a, done, &near) {
             return Some(near);
         }
-        near = mended(p, f, a, &near)?;
+        near = mended(&course, a, &near)?;
     }
     None
 }
 
 // The plan with another user for one step that is not assigned: for the first whose user may not
 // perform it, or else for the first of a broken rule that can have another.
-fn mended(p: &Policy, f: FlowId, a: &Assign, plan: &Plan) -> Option<Plan>
-    requires { f < length p.now.flows }
-{
-    match first_unauthorised(p, f, a, plan) {
-        Some(step) => with_another(p, f, plan, step),
-        None => with_rule_kept(p, f, a, plan, &first_broken(p, f, plan)?),
+fn mended(course: &Course, a: &Assign, plan: &Plan) -> Option<Plan> {
+    match first_unauthorised(course, a, plan) {
+        Some(step) => with_another(course, plan, step),
+        None => with_rule_kept(course, a, plan, &first_broken(course, plan)?),
     }
 }
 
 // The first step that is not assigned and that a plan gives to a user who may not perform it.
-fn first_unauthorised(p: &Policy, f: FlowId, a: &Assign, plan: &Plan) -> Option<StepId>
-    requires { f < length p.now.flows }
+fn first_unauthorised(course: &Course, a: &Assign, plan: &Plan) -> Option<StepId>
     ensures { IfSome result (λ s. s < STEP_LIMIT) }
 {
-    for s in 0..p.flow(f).steps().len() {
+    for s in 0..course.flow().steps().len() {
         let step = StepId(s as u8);
-        if is_unassigned(p, f, a, step) && !may_perform(p, f, plan, step) {
+        if is_unassigned(course, a, step) && !may_perform(course, plan, step) {
             return Some(step);
         }
     }
@@ -54,23 +55,19 @@ fn first_unauthorised(p: &Policy, f: FlowId, a: &Assign, plan: &Plan) -> Option<
 }
 
 // Whether a plan gives a step to a user who may perform it.
-fn may_perform(p: &Policy, f: FlowId, plan: &Plan, step: StepId) -> bool
-    requires { f < length p.now.flows }
-{
-    if step.0 >= plan.len() || (step.0 as u16) >= p.flow(f).steps().len() {
+fn may_perform(course: &Course, plan: &Plan, step: StepId) -> bool {
+    if step.0 >= plan.len() || (step.0 as u16) >= course.flow().steps().len() {
         return false;
     }
     let user = plan.at(step);
-    user.0 < p.roster().users().len() && p.authorised(f, step, user)
+    user.0 < course.policy.roster().users().len() && course.authorised(step, user)
 }
 
 // The first rule that a plan breaks.
-fn first_broken(p: &Policy, f: FlowId, plan: &Plan) -> Option<Rule>
-    requires { f < length p.now.flows }
-{
+fn first_broken(course: &Course, plan: &Plan) -> Option<Rule> {
     let given = assignment_of(plan);
-    for rule in p.rules(f).as_slice() {
-        if falsified(rule, p, &given) {
+    for rule in course.rules().as_slice() {
+        if falsified(rule, course.policy, &given) {
             return Some(*rule);
         }
     }
@@ -87,13 +84,11 @@ fn assignment_of(plan: &Plan) -> Assign {
 }
 
 // The plan with another user for one step of a rule.
-fn with_rule_kept(p: &Policy, f: FlowId, a: &Assign, plan: &Plan, rule: &Rule) -> Option<Plan>
-    requires { f < length p.now.flows }
-{
-    for s in 0..p.flow(f).steps().len() {
+fn with_rule_kept(course: &Course, a: &Assign, plan: &Plan, rule: &Rule) -> Option<Plan> {
+    for s in 0..course.flow().steps().len() {
         let step = StepId(s as u8);
-        if rule.names(step) && is_unassigned(p, f, a, step) {
-            if let Some(other) = with_another(p, f, plan, step) {
+        if rule.names(step) && is_unassigned(course, a, step) {
+            if let Some(other) = with_another(course, plan, step) {
                 return Some(other);
             }
         }
@@ -103,15 +98,17 @@ fn with_rule_kept(p: &Policy, f: FlowId, a: &Assign, plan: &Plan, rule: &Rule) -
 
 // The plan with another user for a step, who breaks no rule: while the other steps stay as they
 // are, any candidate does as well as another.
-fn with_another(p: &Policy, f: FlowId, plan: &Plan, step: StepId) -> Option<Plan>
-    requires flow { f < length p.now.flows }
+fn with_another(course: &Course, plan: &Plan, step: StepId) -> Option<Plan>
     requires room { step < STEP_LIMIT }
 {
     let others = assignment_of(plan).without(step);
-    if !is_unassigned(p, f, &others, step) {
+    if !is_unassigned(course, &others, step) {
         return None;
     }
-    let user = p.candidates(f, step, &others).next(0)?;
+    let user = course
+        .policy
+        .candidates(course.number, step, &others)
+        .next(0)?;
     Some(with_assigned(plan, &Assign::empty().with(step, user)))
 }
 

@@ -3,50 +3,46 @@ ghost use Rattle.std.specs.Prelude.{◌≡◌, ◌<◌, ◌≤◌, ℕ, length, 
 ghost use Rattle.std.specs.Prelude.{MatchOption};
 ghost use Rattle.wf_names.specs.declared.limits.TheConstants.{STEP_LIMIT};
 ghost use Rattle.constraint_forms.specs.Assign.{user_at};
-ghost use Rattle.policy_book.specs.Policies.{problem_of};
+ghost use Rattle.policy_book.specs.Course.{problem_in};
 ghost use Rattle.policy_book.specs.Refuting.{is_unassigned};
 ghost use Rattle.wsp_solver.specs.Searches.{IsAssignedPlan};
 
 use plan_finder::Finder;
-use policy_book::{Assign, Plan, Policy};
-use wf_names::{FlowId, STEP_LIMIT, StepId, UserId};
+use policy_book::{Assign, Course, Plan};
+use wf_names::{STEP_LIMIT, StepId, UserId};
 
 /// A step that is not assigned: the one that the finder advises, where it is such a step.
 pub(crate) fn next_step(
-    p: &Policy,
-    f: FlowId,
+    course: &Course,
     a: &Assign,
     finder: &mut Finder,
     depth: u8,
 ) -> Option<StepId>
-    requires flow { f < length p.now.flows }
-    ensures { MatchOption result ((s : ℕ) → s < (problem_of p.now f).steps
+    ensures { MatchOption result ((s : ℕ) → s < (problem_in course.now).steps
         → is_some (user_at a.now s) ≡ true)
-        (λ s. (s < STEP_LIMIT) × IsTrue (is_unassigned (problem_of p.now f) a.now s)) }
+        (λ s. (s < STEP_LIMIT) × IsTrue (is_unassigned (problem_in course.now) a.now s)) }
 {
-    match finder.next_step(p, a, depth) {
-        Some(s) if is_unassigned(p, f, a, s) => Some(s),
-        _ => first_free(p, f, a),
+    match finder.next_step(course.policy, a, depth) {
+        Some(s) if is_unassigned(course, a, s) => Some(s),
+        _ => first_free(course, a),
     }
 }
 
 /// Whether a step is one of the workflow that is not assigned.
-pub(crate) fn is_unassigned(p: &Policy, f: FlowId, a: &Assign, s: StepId) -> bool
-    requires flow { f < length p.now.flows }
+pub(crate) fn is_unassigned(course: &Course, a: &Assign, s: StepId) -> bool
     ensures within { IsTrue result → s < STEP_LIMIT }
-    ensures free { result ≡ is_unassigned (problem_of p.now f) a.now s }
+    ensures free { result ≡ is_unassigned (problem_in course.now) a.now s }
 {
-    (s.0 as u16) < p.flow(f).steps().len() && a.at(s).is_none()
+    (s.0 as u16) < course.flow().steps().len() && a.at(s).is_none()
 }
 
 // A step that is not assigned.
-fn first_free(p: &Policy, f: FlowId, a: &Assign) -> Option<StepId>
-    requires flow { f < length p.now.flows }
-    ensures { MatchOption result ((s : ℕ) → s < (problem_of p.now f).steps
+fn first_free(course: &Course, a: &Assign) -> Option<StepId>
+    ensures { MatchOption result ((s : ℕ) → s < (problem_in course.now).steps
         → is_some (user_at a.now s) ≡ true)
-        (λ s. (s < STEP_LIMIT) × IsTrue (is_unassigned (problem_of p.now f) a.now s)) }
+        (λ s. (s < STEP_LIMIT) × IsTrue (is_unassigned (problem_in course.now) a.now s)) }
 {
-    'steps: for s in 0..p.flow(f).steps().len() {
+    'steps: for s in 0..course.flow().steps().len() {
         let step = StepId(s as u8);
         if a.at(step).is_none() {
             return Some(step);
@@ -56,12 +52,11 @@ fn first_free(p: &Policy, f: FlowId, a: &Assign) -> Option<StepId>
 }
 
 /// The plan that an assignment of every step is.
-pub(crate) fn plan_of(p: &Policy, f: FlowId, a: &Assign) -> Plan
-    requires flow { f < length p.now.flows }
-    requires full { (s : ℕ) → s < (problem_of p.now f).steps → is_some (user_at a.now s) ≡ true }
-    ensures { IsAssignedPlan (problem_of p.now f).steps a.now result }
+pub(crate) fn plan_of(course: &Course, a: &Assign) -> Plan
+    requires full { (s : ℕ) → s < (problem_in course.now).steps → is_some (user_at a.now s) ≡ true }
+    ensures { IsAssignedPlan (problem_in course.now).steps a.now result }
 {
-    let steps = p.flow(f).steps().len() as usize;
+    let steps = course.flow().steps().len() as usize;
     let mut users = no_users();
     'steps: for s in 0..steps {
         users[s] = holder_of(a, StepId(s as u8));

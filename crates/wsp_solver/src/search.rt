@@ -2,12 +2,13 @@
 ghost use Rattle.std.specs.Prelude.{◌≡◌, ◌<◌, ◌≤◌, length, IfOk, IsTrue};
 ghost use Rattle.wf_names.specs.declared.limits.TheConstants.{STEP_LIMIT};
 ghost use Rattle.policy_book.specs.Plans.{AreAssigned, IsWithin};
+ghost use Rattle.policy_book.specs.Course.{problem_in};
 ghost use Rattle.policy_book.specs.Policies.{problem_of};
 ghost use Rattle.policy_book.specs.Refuting.{is_unassigned};
 ghost use Rattle.wsp_solver.specs.Crews.{IsCrewOf};
-ghost use Rattle.wsp_solver.specs.Searches.{HasDecided, FitsRoom, HasSolved, HasSearched};
+ghost use Rattle.wsp_solver.specs.Searches.{HasDecided, FitsRoom, HasSolved};
 ghost use Rattle.wsp_solver.specs.Searches.{NoLeafRefutes, NoLeafRefutesWithout};
-ghost use Rattle.wsp_solver.specs.Task.{CanBeAsked, asked};
+ghost use Rattle.wsp_solver.specs.Task.{FitsTask, HasSearched, asked};
 
 use crate::crew::{Crew, know_class};
 use crate::found::found;
@@ -18,7 +19,7 @@ use crate::steps::joined;
 use crate::task::Task;
 use crate::twin::twin_among;
 use plan_finder::Finder;
-use policy_book::{Assign, Plan, Policy, StepSet};
+use policy_book::{Assign, Course, Plan, Policy, StepSet};
 use refutation_tree::{Branch, Branches, Kid, Tree};
 use std::alloc::{AllocError, Global};
 use wf_names::{FlowId, StepId, UserId};
@@ -64,7 +65,11 @@ pub fn solve(
     requires assigned { AreAssigned done.now a.now }
     ensures { IfOk result (HasSolved (problem_of p.now f) a.now done.now) }
 {
-    match decided(alloc, p, f, a, done, u32::MAX, false)? {
+    let course = Course {
+        policy: p,
+        number: f,
+    };
+    match decided(alloc, &course, a, done, u32::MAX, false)? {
         Searched::Plan(plan) => Ok(Outcome::Plan(plan)),
         Searched::Refuted(found) => Ok(Outcome::Refuted(found.tree)),
         Searched::Stopped => unreachable!(),
@@ -87,7 +92,11 @@ pub fn solve_within(
     ensures solved { IfOk result (HasSolved (problem_of p.now f) a.now done.now) }
     ensures room { IfOk result (FitsRoom branches) }
 {
-    let searched = match decided(alloc, p, f, a, done, branches, true) {
+    let course = Course {
+        policy: p,
+        number: f,
+    };
+    let searched = match decided(alloc, &course, a, done, branches, true) {
         Ok(searched) => searched,
         Err(_) => return Err(Unsolved::NoMemory),
     };
@@ -106,30 +115,27 @@ pub fn solve_within(
 // A plan or a lean tree; or neither, where a limited search would keep more branches than that.
 fn decided(
     alloc: Global,
-    p: &Policy,
-    f: FlowId,
+    course: &Course,
     a: &Assign,
     done: &StepSet,
     branches: u32,
     limited: bool,
 ) -> Result<Searched, AllocError>
-    requires flow { f < length p.now.flows }
-    requires within { IsWithin (problem_of p.now f) a.now }
+    requires within { IsWithin (problem_in course.now) a.now }
     requires assigned { AreAssigned done.now a.now }
-    ensures { IfOk result (HasDecided (problem_of p.now f) a.now done.now limited) }
+    ensures { IfOk result (HasDecided (problem_in course.now) a.now done.now limited) }
 {
-    if let Some(leaf) = refuting_leaf(p, f, a, done) {
+    if let Some(leaf) = refuting_leaf(course, a, done) {
         return Ok(Searched::Refuted(leaf));
     }
     let task = Task {
         alloc,
-        policy: p,
-        flow: f,
+        course,
         done,
         bounded: limited,
     };
-    let mut finder = Finder::new(alloc, p, f, branches)?;
-    let mut crew = Crew::new(alloc, p, f)?;
+    let mut finder = Finder::new(alloc, course.policy, course.number, branches)?;
+    let mut crew = Crew::new(alloc, course)?;
     finder.make_room(alloc)?;
     search_and_trim(&task, a, &mut crew, &mut finder)
 }
@@ -141,9 +147,7 @@ fn search_and_trim(
     crew: &mut Crew,
     finder: &mut Finder,
 ) -> Result<Searched, AllocError>
-    requires asked { CanBeAsked task.now.policy.now task.now.flow a.now }
-    requires assigned { AreAssigned task.now.done.now a.now }
-    requires crew { IsCrewOf (asked task.now) crew.old }
+    requires fits { FitsTask task.now a.now crew.old }
     requires quiet { NoLeafRefutes (asked task.now) a.now task.now.done.now }
     ensures { IfOk result
         (HasDecided (asked task.now) a.now task.now.done.now task.now.bounded) }
@@ -166,29 +170,25 @@ fn search(
     crew: &mut Crew,
     finder: &mut Finder,
 ) -> Result<Searched, AllocError>
-    requires asked { CanBeAsked task.now.policy.now task.now.flow a.now }
-    requires assigned { AreAssigned task.now.done.now a.now }
-    requires crew { IsCrewOf (asked task.now) crew.old }
+    requires fits { FitsTask task.now a.now crew.old }
     requires quiet { NoLeafRefutes (asked task.now) a.now task.now.done.now }
-    ensures searched { IfOk result
-        (HasSearched (asked task.now) a.now task.now.done.now task.now.bounded) }
+    ensures searched { IfOk result (HasSearched task.now a.now) }
     ensures crew { IsCrewOf (asked task.now) crew.new }
 {
     let run = Task {
         alloc: task.alloc,
-        policy: task.policy,
-        flow: task.flow,
+        course: task.course,
         done: task.done,
         bounded: true,
     };
     'runs: for _ in 0..RUNS {
-        finder.begin_run(task.policy, a)?;
+        finder.begin_run(task.course.policy, a)?;
         match decide(&run, a, crew, finder, 0)? {
             Searched::Plan(found) => return Ok(Searched::Plan(found)),
             Searched::Refuted(found) => return Ok(Searched::Refuted(found)),
             Searched::Stopped => {}
         }
-        if let Some(plan) = found(task.alloc, task.policy, task.flow, a, task.done, finder)? {
+        if let Some(plan) = found(task.alloc, task.course, a, task.done, finder)? {
             return Ok(Searched::Plan(plan));
         }
         if task.bounded && finder.is_spent() {
@@ -207,18 +207,15 @@ fn decide(
     finder: &mut Finder,
     depth: u8,
 ) -> Result<Searched, AllocError>
-    requires asked { CanBeAsked task.now.policy.now task.now.flow a.now }
-    requires assigned { AreAssigned task.now.done.now a.now }
-    requires crew { IsCrewOf (asked task.now) crew.old }
+    requires fits { FitsTask task.now a.now crew.old }
     requires quiet { NoLeafRefutes (asked task.now) a.now task.now.done.now }
-    ensures searched { IfOk result
-        (HasSearched (asked task.now) a.now task.now.done.now task.now.bounded) }
+    ensures searched { IfOk result (HasSearched task.now a.now) }
     ensures crew { IsCrewOf (asked task.now) crew.new }
 {
-    let _ = task.policy.rules(task.flow);
-    match next_step(task.policy, task.flow, a, finder, depth) {
+    let _ = task.course.rules();
+    match next_step(task.course, a, finder, depth) {
         Some(s) => try_users(task, a, s, crew, finder, depth),
-        None => Ok(Searched::Plan(plan_of(task.policy, task.flow, a))),
+        None => Ok(Searched::Plan(plan_of(task.course, a))),
     }
 }
 
@@ -234,17 +231,14 @@ fn try_users(
     finder: &mut Finder,
     depth: u8,
 ) -> Result<Searched, AllocError>
-    requires asked { CanBeAsked task.now.policy.now task.now.flow a.now }
-    requires assigned { AreAssigned task.now.done.now a.now }
-    requires crew { IsCrewOf (asked task.now) crew.old }
+    requires fits { FitsTask task.now a.now crew.old }
     requires quiet { NoLeafRefutes (asked task.now) a.now task.now.done.now }
     requires room { s < STEP_LIMIT }
     requires free { IsTrue (is_unassigned (asked task.now) a.now s) }
-    ensures searched { IfOk result
-        (HasSearched (asked task.now) a.now task.now.done.now task.now.bounded) }
+    ensures searched { IfOk result (HasSearched task.now a.now) }
     ensures crew { IsCrewOf (asked task.now) crew.new }
 {
-    let row = task.policy.authorised_users(task.flow, s);
+    let row = task.course.authorised_users(s);
     let mut branches = Branches::new(task.alloc);
     let mut steps = StepSet::empty();
     let mut last = StepSet::empty();
@@ -253,8 +247,8 @@ fn try_users(
     let mut from = 0;
     'users: while let Some(user) = row.next(from) {
         from = user.0 as u32 + 1;
-        know_class(task.policy, task.flow, crew, finder, user);
-        if let Some(twin) = twin_among(task.policy, task.flow, a, crew, finder, &branches, user) {
+        know_class(task.course, crew, finder, user);
+        if let Some(twin) = twin_among(task.course, a, crew, finder, &branches, user) {
             finder.keep();
             let kid = Kid::Twin(twin);
             branches.push(Branch { user, kid })?;
@@ -298,16 +292,13 @@ fn try_user(
     finder: &mut Finder,
     depth: u8,
 ) -> Result<Searched, AllocError>
-    requires asked { CanBeAsked task.now.policy.now task.now.flow a.now }
-    requires assigned { AreAssigned task.now.done.now a.now }
-    requires crew { IsCrewOf (asked task.now) crew.old }
+    requires fits { FitsTask task.now a.now crew.old }
     requires others { NoLeafRefutesWithout (asked task.now) a.now task.now.done.now s }
-    ensures searched { IfOk result
-        (HasSearched (asked task.now) a.now task.now.done.now task.now.bounded) }
+    ensures searched { IfOk result (HasSearched task.now a.now) }
     ensures crew { IsCrewOf (asked task.now) crew.new }
 {
     let reason = finder.reason(depth, u);
-    match broken_rule(task.policy, task.flow, a, task.done, s, reason, crew) {
+    match broken_rule(task.course, a, task.done, s, reason, crew) {
         Some(leaf) => Ok(Searched::Refuted(leaf)),
         None => decide(task, a, crew, finder, depth.saturating_add(1)),
     }

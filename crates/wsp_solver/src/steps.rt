@@ -3,12 +3,12 @@ ghost use Rattle.std.specs.Prelude.{◌≡◌, ◌<◌, ◌≤◌, length, ◌||
 ghost use Rattle.std.specs.Prelude.{slice_set, if◌then◌else◌};
 ghost use Rattle.constraint_forms.specs.Assign.{is_member};
 ghost use Rattle.constraint_forms.specs.Rules.{names};
-ghost use Rattle.policy_book.specs.Policies.{problem_of};
+ghost use Rattle.policy_book.specs.Course.{problem_in};
 ghost use Rattle.wf_names.specs.declared.limits.TheConstants.{STEP_LIMIT};
 
 use constraint_forms::{Rule, StepSet};
-use policy_book::Policy;
-use wf_names::{FlowId, STEP_LIMIT, StepId};
+use policy_book::Course;
+use wf_names::{STEP_LIMIT, StepId};
 
 /// The steps of either set.
 pub(crate) fn united(a: &StepSet, b: &StepSet) -> StepSet
@@ -52,10 +52,9 @@ pub(crate) fn with_if(set: &StepSet, s: StepId, wanted: bool) -> StepSet
 }
 
 /// How many steps a workflow has.
-pub(crate) fn step_count(p: &Policy, f: FlowId) -> usize
-    requires { f < length p.now.flows }
-    ensures count { result ≡ (problem_of p.now f).steps }
+pub(crate) fn step_count(course: &Course) -> usize
+    ensures count { result ≡ (problem_in course.now).steps }
     ensures few { result ≤ STEP_LIMIT }
 {
-    p.flow(f).steps().len() as usize
+    course.flow().steps().len() as usize
 }

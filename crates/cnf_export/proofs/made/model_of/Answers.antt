@@ -1,5 +1,5 @@
 use Rattle.std.proofs.Common.{◌≡◌, ◌∙◌, ◌++◌, ◌==◌, nat_le, sym, ap, append_assoc}
-use Rattle.std.proofs.Common.{length, subst}
+use Rattle.std.proofs.Common.{subst}
 use Rattle.constraint_forms.specs.Assign.{planned}
 use Rattle.policy_book.specs.Policies.{problem_of}
 use Rattle.cnf_export.specs.Clauses.{IsModelOf}
@@ -13,12 +13,11 @@ pub returns-clause-flags : goal.returns-clause-flags
 returns-clause-flags c =
     let problem = problem_of c.args.p.now c.args.f in
     let plan = c.args.plan.now in
-    let steps : c.len-steps.result ≡ problem.steps = c.len-steps.ensures.count ∙ ap length (c.steps.ensures.names ∙ ap (λ w. w.steps) c.flow.ensures.flow) in
-    let users : c.len-users.result ≡ problem.users = c.len-users.ensures.count ∙
-    ap length (c.users.ensures.names ∙ ap (λ r. r.users) c.roster.ensures.roster) in
-    let first = grid (λ s u. planned plan s == u) c.len-steps.result c.len-users.result in
-    let second = grid (λ s u. nat_le (planned plan s) u) c.len-steps.result c.len-users.result in
-    let third = rules_flags c.len-users.result plan c.rules.result.now in
+    let steps = c.step_count-steps.ensures.count in
+    let users = c.user_count-users.ensures.count in
+    let first = grid (λ s u. planned plan s == u) c.step_count-steps.result c.user_count-users.result in
+    let second = grid (λ s u. nat_le (planned plan s) u) c.step_count-steps.result c.user_count-users.result in
+    let third = rules_flags c.user_count-users.result plan c.rules.result.now in
     let until = c.in_ok-say_until.ensures ∙ ap (λ xs. xs ++ second) (c.in_ok-say_users.ensures ∙ ap (λ xs. xs ++ first) c.new-said.ensures) in
     c.in_ok-say_rules.ensures
     ∙ ap (λ xs. xs ++ third) until

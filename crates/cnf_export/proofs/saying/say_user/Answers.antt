@@ -1,8 +1,5 @@
-use Rattle.std.proofs.Common.{◌∙◌, ◌==◌, arith}
-use Rattle.cnf_export.proofs.Grids.{next_mapped}
+use Rattle.std.proofs.Common.{◌==◌, of_calls}
 use Rattle.cnf_export.proofs.saying.say_user.Goals as goal
 
-pub users-preserved : goal.users-preserved
-users-preserved c =
-    next_mapped (λ u. c.args.v == u) c.users.into c.push.new.self c.users.u c.args.users (omega (arith, c.users-test.true)) c.in_ok-push.ensures.pushed ∙
-    c.users.invariant
+pub returns : goal.returns
+returns c = c.say_each.ensures (λ u. c.args.v == u) (λ k below b said. search of_calls)

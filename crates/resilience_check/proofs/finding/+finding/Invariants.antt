@@ -13,7 +13,7 @@ decreases-with_user l = 2 * l.left + 1
 abbrev pub invariant-first_breaking-users : goal.invariant-first_breaking-users
 invariant-first_breaking-users l = record {
   same : l.absent ≡ l.fn.absent;
-  grown : FamilyGrows l.p l.f l.fn.family l.family;
-  each : (v : ℕ) → l.from ≤ v → v < l.u → (other : List ℕ) → AreUsersInOrder (v + 1) (length l.p.roster.users) other → length other + 1 ≡ l.left
+  grown : FamilyGrows l.course.policy.now l.course.number l.fn.family l.family;
+  each : (v : ℕ) → l.from ≤ v → v < l.u → (other : List ℕ) → AreUsersInOrder (v + 1) (length l.course.policy.now.roster.users) other → length other + 1 ≡ l.left
       → leaves_some l.family (l.fn.absent ++ (v ∷ other)) ≡ true;
 }

@@ -8,16 +8,18 @@ use Rattle.resilience_check.proofs.finding.try_absence.Goals as goal
 
 pub returns-in_ok-push-in-Plan : goal.returns-in_ok-push-in-Plan
 returns-in_ok-push-in-Plan c =
-    let f = c.args.f in
-    let problem = problem_without c.args.p.now f c.args.absent.now in
+    let p = c.args.course.now.policy.now in
+    let f = c.args.course.now.number in
+    let problem = problem_without p f c.args.absent.now in
     let valid = subst (λ (o : Outcome). HasSolved problem no_users no_steps o) c.in-Plan.is c.in_ok-plan.ensures in
-    grown_by c.args.p.now f c.args.absent.now c.args.family.now c.push.new.self c.in-Plan.plan c.requires.family c.in_ok-push-in-Plan.ensures.pushed valid
+    grown_by p f c.args.absent.now c.args.family.now c.push.new.self c.in-Plan.plan c.requires.family c.in_ok-push-in-Plan.ensures.pushed valid
 
 pub returns-in-Refuted : goal.returns-in-Refuted
 returns-in-Refuted c =
-    let f = c.args.f in
-    let problem = problem_without c.args.p.now f c.args.absent.now in
+    let p = c.args.course.now.policy.now in
+    let f = c.args.course.now.number in
+    let problem = problem_without p f c.args.absent.now in
     let found = subst (λ (o : Outcome). HasSolved problem no_users no_steps o) c.in-Refuted.is c.in_ok-plan.ensures in (
-      stays_grown c.args.p.now f c.args.family.now c.requires.family,
+      stays_grown p f c.args.family.now c.requires.family,
       found.refutes,
     )

@@ -1,6 +1,6 @@
 use Rattle.std.proofs.Common.{◌≡◌, ◌<◌, ◌≤◌, ℕ, false, [], sym, arith}
+use Rattle.policy_book.specs.Course.{problem_in}
 use Rattle.policy_book.specs.Plans.{Problem}
-use Rattle.policy_book.specs.Policies.{problem_of}
 use Rattle.policy_book.specs.Twins.{are_twins}
 use Rattle.wsp_solver.specs.Crews.{IsFirstTwin}
 use Rattle.wsp_solver.proofs.Crews.{twins_own}
@@ -9,7 +9,7 @@ use Rattle.wsp_solver.proofs.crew.find_twin.Goals as goal
 
 pub returns-then-are_alike : goal.returns-then-are_alike
 returns-then-are_alike c =
-    let p = problem_of c.args.p.now c.args.f in
+    let p = problem_in c.args.course.now in
     let next = c.in-Some.ensures in
     let v = c.in-Some.v in
     record {
@@ -22,7 +22,7 @@ returns-then-are_alike c =
 
 pub earlier-preserved : goal.earlier-preserved
 earlier-preserved c =
-    let p = problem_of c.args.p.now c.args.f in
+    let p = problem_in c.args.course.now in
     let next = c.in-Some.ensures in
     let v = c.in-Some.v in
     record {
@@ -36,7 +36,7 @@ earlier-preserved c =
 
 pub returns : goal.returns
 returns c =
-    let p = problem_of c.args.p.now c.args.f in
+    let p = problem_in c.args.course.now in
     alone p c.args.u
     (none_between p c.args.duties.now c.duties_at-own.result c.args.u c.earlier.from c.args.u c.requires.duties c.requires.user
     (omega arith) c.duties_at-own.ensures c.earlier.invariant.none (λ w from below. c.in_default.ensures w from (omega (arith, below, c.u.view_is))))

@@ -1,12 +1,12 @@
 use Rattle.std.proofs.Common.{◌≡◌, ◌<◌, ◌≤◌, ◌-◌, ℕ, [], false}
-use Rattle.policy_book.specs.Policies.{problem_of}
+use Rattle.policy_book.specs.Course.{problem_in}
 use Rattle.policy_book.specs.Twins.{are_twins}
 use Rattle.wsp_solver.proofs.crew.find_twin.Given as goal
 
 abbrev pub invariant-earlier : goal.invariant-earlier
 invariant-earlier l = record {
   within : l.from ≤ l.end;
-  none : (w : ℕ) → 0 ≤ w → w < l.from → are_twins (problem_of l.p l.f) [] w l.u ≡ false;
+  none : (w : ℕ) → 0 ≤ w → w < l.from → are_twins (problem_in l.course) [] w l.u ≡ false;
 }
 
 abbrev pub decreases-earlier : goal.decreases-earlier

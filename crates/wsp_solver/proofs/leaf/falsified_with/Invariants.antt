@@ -1,9 +1,9 @@
 use Rattle.std.proofs.Common.{◌≡◌, ◌<◌, ℕ, ◌&&◌, false, slice_get}
-use Rattle.policy_book.specs.Policies.{problem_of}
+use Rattle.policy_book.specs.Course.{problem_in}
 use Rattle.policy_book.specs.Refuting.{is_broken, is_rule_naming}
 use Rattle.wsp_solver.proofs.leaf.falsified_with.Given as goal
 
 abbrev pub invariant-rules : goal.invariant-rules
 invariant-rules l =
     (j : ℕ) → j < l.k →
-    (is_rule_naming l.s (slice_get (problem_of l.p l.f).rules j) && is_broken (problem_of l.p l.f) l.a (slice_get (problem_of l.p l.f).rules j)) ≡ false
+    (is_rule_naming l.s (slice_get (problem_in l.course).rules j) && is_broken (problem_in l.course) l.a (slice_get (problem_in l.course).rules j)) ≡ false

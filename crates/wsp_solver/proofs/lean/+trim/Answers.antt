@@ -58,7 +58,7 @@ trim_tree-trim_node-requires t c =
     let nodes = ap (λ (tree : Tree). nodes_of (shape_of tree)) c.in-Step.is in (
       omega (arith, c.decreases, nodes, ap nodes_of_kids items),
       (
-        c.requires.asked,
+        c.requires.within,
         (
           c.requires.crew,
           (
@@ -126,10 +126,7 @@ trim_node-trim_tree-requires t c =
     let nodes = ap (λ (k : Kid). nodes_of_kids (kid_onto k b.user no_kids)) c.in-Tree.is in (
       omega (arith, c.decreases, nodes, nodes_within bs i b c.branches-test.true c.branch-item.is),
       (
-        record {
-          flow = c.requires.asked.flow;
-          within = subst (IsWithin p) (sym c.with.ensures.given) (within_given p a c.args.s b.user c.requires.asked.within c.requires.free known);
-        },
+        subst (IsWithin p) (sym c.with.ensures.given) (within_given p a c.args.s b.user c.requires.within c.requires.free known),
         (
           c.requires.crew,
           ap (λ x. refutes p x c.args.task.now.done.now (shape_of c.in-Tree.tree)) c.with.ensures.given
@@ -168,7 +165,7 @@ trim_node-trim_tree-requires-then-not-has t c =
     let nodes = ap (λ (k : Kid). nodes_of_kids (kid_onto k b.user no_kids)) c.in-Tree.is in (
       omega (arith, c.decreases, nodes, kid.ensures.tree.few, nodes_within bs i b c.branches-test.true c.branch-item.is),
       (
-        c.requires.asked,
+        c.requires.within,
         (
           c.requires.crew,
           unmentioned p a c.with.result c.args.task.now.done.now c.args.s b.user (shape_of c.in-Tree.tree) kid.kid

@@ -10,8 +10,8 @@ use Rattle.certificate_check.proofs.Assigned.{not_some}
 use Rattle.certificate_check.proofs.Refuted.{assigned_given}
 use Rattle.certificate_check.proofs.Trees.{within_given}
 use Rattle.certificate_check.specs.Walks.{AreUsersBelow}
-use Rattle.wsp_solver.specs.Searches.{AreOfUsersBelow, AreMentionedIn, HasSearched, NoLeafRefutesWithout, free_count}
-use Rattle.wsp_solver.specs.Task.{asked}
+use Rattle.wsp_solver.specs.Searches.{AreOfUsersBelow, AreMentionedIn, NoLeafRefutesWithout, free_count}
+use Rattle.wsp_solver.specs.Task.{HasSearched, asked}
 use Rattle.wsp_solver.proofs.Members.{mentioned_push, mentioned_push_twin}
 use Rattle.certificate_check.proofs.Dropped.{unmentioned_step_drops as drops}
 use Rattle.wsp_solver.proofs.Searching.{quiet_given, valid_full, valid_without, count_less}
@@ -21,7 +21,7 @@ use Rattle.wsp_solver.proofs.search.+search.Goals as goal
 
 pub decide-returns-in-None-clause-searched : goal.decide-returns-in-None-clause-searched
 decide-returns-in-None-clause-searched t c =
-    valid_full (asked c.args.task.now) c.args.a.now c.args.task.now.done.now c.plan_of.result c.rules.ensures.well_formed c.requires.asked.within
+    valid_full (asked c.args.task.now) c.args.a.now c.args.task.now.done.now c.plan_of.result c.rules.ensures.well_formed c.requires.fits.within
     c.requires.quiet c.plan_of.ensures
 
 -- a free step is a step, and has no user
@@ -57,18 +57,13 @@ try_users-try_user-requires t c =
       omega (arith, c.decreases, less, same),
       (
         record {
-          flow = c.requires.asked.flow;
-          within = subst (IsWithin p) (sym c.with-given.ensures.given) (within_given p a s u c.requires.asked.within c.requires.free within);
+          within = subst (IsWithin p) (sym c.with-given.ensures.given) (within_given p a s u c.requires.fits.within c.requires.free within);
+          assigned = subst (AreAssigned c.args.task.now.done.now) (sym c.with-given.ensures.given)
+              (assigned_given a c.args.task.now.done.now s u c.requires.fits.assigned (step_open p a s c.requires.free));
+          crew = c.know_class.ensures;
         },
-        (
-          subst (AreAssigned c.args.task.now.done.now) (sym c.with-given.ensures.given)
-              (assigned_given a c.args.task.now.done.now s u c.requires.assigned (step_open p a s c.requires.free)),
-          (
-            c.know_class.ensures,
-            subst (λ x. NoLeafRefutesWithout p x c.args.task.now.done.now s) (sym c.with-given.ensures.given)
-                (quiet_given p a c.args.task.now.done.now s u (omega (arith, c.requires.room, c.with-given.ensures.len)) may c.requires.quiet),
-          ),
-        ),
+        subst (λ x. NoLeafRefutesWithout p x c.args.task.now.done.now s) (sym c.with-given.ensures.given)
+            (quiet_given p a c.args.task.now.done.now s u (omega (arith, c.requires.room, c.with-given.ensures.len)) may c.requires.quiet),
       ),
     )
 
@@ -76,13 +71,13 @@ pub try_users-returns-in-Plan-clause-searched : goal.try_users-returns-in-Plan-c
 try_users-returns-in-Plan-clause-searched t c =
     let p = asked c.args.task.now in
     let done = c.args.task.now.done.now in
-    let found = subst (HasSearched p c.with-given.result done c.args.task.now.bounded) c.in-Plan.is c.in_ok-plan.ensures.searched in
+    let found = subst (HasSearched c.args.task.now c.with-given.result) c.in-Plan.is c.in_ok-plan.ensures.searched in
     valid_without p c.args.a.now done c.in-Plan.plan c.args.s c.in-Some.user (step_open p c.args.a.now c.args.s c.requires.free)
     (subst (λ x. IsValidPlan p x done c.in-Plan.plan) c.with-given.ensures.given found)
 
 pub try_users-returns-in-Stopped-clause-searched : goal.try_users-returns-in-Stopped-clause-searched
 try_users-returns-in-Stopped-clause-searched t c =
-    subst (HasSearched (asked c.args.task.now) c.with-given.result c.args.task.now.done.now c.args.task.now.bounded) c.in-Stopped.is
+    subst (HasSearched c.args.task.now c.with-given.result) c.in-Stopped.is
     c.in_ok-plan.ensures.searched
 
 pub try_users-returns-then-not-has-clause-searched : goal.try_users-returns-then-not-has-clause-searched
@@ -92,7 +87,7 @@ try_users-returns-then-not-has-clause-searched t c =
     let a = c.args.a.now in
     let s = c.args.s in
     let kid = c.in-Refuted.kid in
-    let found = subst (HasSearched p c.with-given.result done c.args.task.now.bounded) c.in-Refuted.is c.in_ok-plan.ensures.searched in
+    let found = subst (HasSearched c.args.task.now c.with-given.result) c.in-Refuted.is c.in_ok-plan.ensures.searched in
     let here = subst (λ x. refutes p x done (shape_of kid.tree) ≡ true) c.with-given.ensures.given found.refutes in
     let quiet = found.steps s ∙ sym c.if-not-has.ensures.flag in record {
       refutes = drops p a done s c.in-Some.user (shape_of kid.tree) (omega (arith, c.requires.room, c.with-given.ensures.len))
@@ -144,7 +139,7 @@ try_users-users-preserved t c =
     let tree = shape_of kid.tree in
     let n = c.user.inside.0 in
     let same : n ≡ u = c.user.view_is in
-    let found = subst (HasSearched p c.with-given.result done c.args.task.now.bounded) c.in-Refuted.is c.in_ok-plan.ensures.searched in
+    let found = subst (HasSearched c.args.task.now c.with-given.result) c.in-Refuted.is c.in_ok-plan.ensures.searched in
     let here = subst (λ x. refutes p x done tree ≡ true) c.with-given.ensures.given found.refutes in
     let said = mentioned_push p.rules front u tree c.users.steps kid.steps c.joined-steps.result c.users.invariant.2 found.steps c.joined-steps.ensures in
     let pushed = c.in_ok-push-in-Refuted.ensures.ok in
@@ -178,4 +173,4 @@ try_users-returns-clause-searched t c =
 
 pub try_user-decide-requires : goal.try_user-decide-requires
 try_user-decide-requires t c =
-    (omega (arith, c.decreases), (c.requires.asked, (c.requires.assigned, (c.requires.crew, c.in-None.ensures))))
+    (omega (arith, c.decreases), (c.requires.fits, c.in-None.ensures))

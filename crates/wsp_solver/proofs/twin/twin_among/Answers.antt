@@ -1,7 +1,7 @@
 use Rattle.std.proofs.Common.{◌≡◌, ◌+◌, ◌||◌, [], take, sym, ap, subst, ◌∙◌, arith}
 use Rattle.std.proofs.lemmas.List.{take_all}
 use Rattle.refutation_tree.specs.Tree.{Kids}
-use Rattle.policy_book.specs.Policies.{problem_of}
+use Rattle.policy_book.specs.Course.{problem_in}
 use Rattle.policy_book.specs.Twins.{has_twin, is_one_of}
 use Rattle.basics.proofs.Booleans.{eq_back, or_left}
 use Rattle.certificate_check.specs.Walks.{AreUsersBelow, tree_users, kid_user_onto}
@@ -21,7 +21,7 @@ is_twin_branch-requires-clause-first c =
 
 pub returns-then-is_twin_branch : goal.returns-then-is_twin_branch
 returns-then-is_twin_branch c =
-    let p = problem_of c.args.p.now c.args.f in
+    let p = problem_in c.args.course.now in
     let bs = c.as_slice-items.result.now in
     let i = c.branches.branch-index in
     let b = c.branch-item.result in
@@ -32,7 +32,7 @@ returns-then-is_twin_branch c =
 
 pub branches-preserved : goal.branches-preserved
 branches-preserved c =
-    let p = problem_of c.args.p.now c.args.f in
+    let p = problem_in c.args.course.now in
     let bs = c.as_slice-items.result.now in
     let i = c.branches.branch-index in
     let b = c.branch-item.result in
@@ -42,7 +42,7 @@ branches-preserved c =
 
 pub returns : goal.returns
 returns c =
-    let p = problem_of c.args.p.now c.args.f in
+    let p = problem_in c.args.course.now in
     let bs = c.as_slice-items.result.now in
     let all : take c.branches.branch-index bs ≡ bs = take_all c.branches.branch-index bs c.branches-test.false in
     ap (has_twin p c.args.a.now c.args.u) (ap (kid_users []) c.as_slice-items.ensures ∙ kid_users-items bs [] ∙ ap (tree_users []) (sym all)) ∙
@@ -50,11 +50,11 @@ returns c =
 
 pub returns-then-not-has_no_step : goal.returns-then-not-has_no_step
 returns-then-not-has_no_step c =
-    busy_alone (problem_of c.args.p.now c.args.f) c.args.a.now c.args.u (kid_users [] c.args.branches.now) (sym c.if-not-has_no_step.ensures)
+    busy_alone (problem_in c.args.course.now) c.args.a.now c.args.u (kid_users [] c.args.branches.now) (sym c.if-not-has_no_step.ensures)
 
 pub returns-then-eq : goal.returns-then-eq
 returns-then-eq c =
-    let p = problem_of c.args.p.now c.args.f in
+    let p = problem_in c.args.course.now in
     first_alone p c.args.a.now c.args.u (kid_users [] c.args.branches.now)
     (subst (IsFirstTwin p c.args.u) (eq_back c.first_twin.result c.args.u (sym c.if-eq.ensures)) c.first_twin.ensures)
     (λ w h. kid_user_below c.args.u c.args.branches.now w c.requires.users h)
