@@ -1,5 +1,6 @@
 //! The decider for changes of the policy, on one thread.
 ghost use Rattle.std.specs.Prelude.{◌≡◌, ◌<◌, IfOk, IfSome, length};
+ghost use Rattle.policy_book.specs.Course.{problem_in};
 ghost use Rattle.policy_book.specs.Policies.{problem_of};
 ghost use Rattle.policy_book.specs.Plans.{AreAssigned, IsValidPlan, IsWithin};
 ghost use Rattle.case_record.specs.Cases.{assigned_of, finished_of};
@@ -15,19 +16,19 @@ ghost use Rattle.case_views.specs.Deciding.{IsVerdictOn};
 ghost use Rattle.case_views.specs.Listing.{IsLeftAt, open_in};
 
 use crate::decider::verdict_without;
-use crate::found::{Unfound, outcome_near};
+use crate::found::outcome_near;
 use admin_edits::{Amendment, amended};
 use basics::{List, Shared};
 use case_record::Case;
 use constraint_forms::{Assign, Plan, StepSet};
 use grant_table::{Cases, Row};
-use policy_book::Policy;
+use policy_book::{Course, Policy};
 use refutation_tree::Tree;
 use std::alloc::{AllocError, Global};
 use std::sync::Arc;
 use wf_board::{Edition, Plans, Verdict, may_break};
-use wf_names::{CaseId, FlowId};
-use wsp_solver::{Outcome, plan_near};
+use wf_names::CaseId;
+use wsp_solver::{Outcome, Unsolved, plan_near};
 
 /// What a change leaves the open cases.
 #[derive(Drop)]
@@ -51,7 +52,7 @@ pub(crate) fn edit_verdict(alloc: Global, p: &Policy, cases: &Cases, a: &Amendme
     }
 }
 
-fn edited(alloc: Global, p: &Policy, cases: &Cases, a: &Amendment) -> Result<Verdict, Unfound>
+fn edited(alloc: Global, p: &Policy, cases: &Cases, a: &Amendment) -> Result<Verdict, Unsolved>
     requires kept { ArePlanned p.now cases.now.rows }
     requires allowed { IsAllowed p.now a.now }
     ensures { IfOk result (DecidesChange (book_of p.now cases.now) a.now) }
@@ -78,7 +79,7 @@ fn left_open(
     a: &Amendment,
     after: &Policy,
     rows: &[Row],
-) -> Result<Left, Unfound>
+) -> Result<Left, Unsolved>
     requires allowed { IsAllowed p.now a.now }
     requires after { after.now ≡ amended p.now a.now }
     requires kept { ArePlanned p.now rows.now }
@@ -105,7 +106,7 @@ fn add_plan(
     row: &Row,
     recent: &mut Option<Plan>,
     plans: &mut Vec<Plan>,
-) -> Result<Option<Shared<Tree>>, Unfound>
+) -> Result<Option<Shared<Tree>>, Unsolved>
     requires allowed { IsAllowed p.now a.now }
     requires after { after.now ≡ amended p.now a.now }
     requires known { IsOfPolicy p.now row.now.case }
@@ -151,7 +152,7 @@ pub(crate) fn left_at(
     after: &Policy,
     row: &Row,
     recent: &mut Option<Plan>,
-) -> Result<Option<Outcome>, Unfound>
+) -> Result<Option<Outcome>, Unsolved>
     requires allowed { IsAllowed p.now a.now }
     requires after { after.now ≡ amended p.now a.now }
     requires known { IsOfPolicy p.now row.now.case }
@@ -175,7 +176,7 @@ fn plan_for(
     case: &Case,
     kept: Plan,
     recent: &mut Option<Plan>,
-) -> Result<Outcome, Unfound>
+) -> Result<Outcome, Unsolved>
     requires allowed { IsAllowed p.now a.now }
     requires after { after.now ≡ amended p.now a.now }
     requires known { IsOfPolicy p.now case.now }
@@ -197,14 +198,18 @@ pub(crate) fn outcome_of(
     case: &Case,
     kept: &Plan,
     recent: &mut Option<Plan>,
-) -> Result<Outcome, Unfound>
+) -> Result<Outcome, Unsolved>
     requires flow { case.now.flow < length p.now.flows }
     requires within { IsWithin (problem_of p.now case.now.flow) (assigned_of case.now) }
     ensures { IfOk result (HasSolved (problem_of p.now case.now.flow) (assigned_of case.now)
         (finished_of case.now)) }
 {
+    let course = Course {
+        policy: p,
+        number: case.flow(),
+    };
     let (assigned, done) = progress_of(case);
-    let outcome = outcome_by(alloc, p, case.flow(), &assigned, &done, recent, kept)?;
+    let outcome = outcome_by(alloc, &course, &assigned, &done, recent, kept)?;
     if let Outcome::Plan(plan) = &outcome {
         *recent = Some(*plan);
     }
@@ -215,37 +220,33 @@ pub(crate) fn outcome_of(
 // is kept, where one is valid, and else what a search finds.
 fn outcome_by(
     alloc: Global,
-    p: &Policy,
-    f: FlowId,
+    course: &Course,
     a: &Assign,
     done: &StepSet,
     recent: &Option<Plan>,
     kept: &Plan,
-) -> Result<Outcome, Unfound>
-    requires flow { f < length p.now.flows }
-    requires within { IsWithin (problem_of p.now f) a.now }
+) -> Result<Outcome, Unsolved>
+    requires within { IsWithin (problem_in course.now) a.now }
     requires assigned { AreAssigned done.now a.now }
-    ensures { IfOk result (HasSolved (problem_of p.now f) a.now done.now) }
+    ensures { IfOk result (HasSolved (problem_in course.now) a.now done.now) }
 {
-    match near_recent(p, f, a, done, recent) {
+    match near_recent(course, a, done, recent) {
         Some(near) => Ok(Outcome::Plan(near)),
-        None => outcome_near(alloc, p, f, a, done, kept),
+        None => outcome_near(alloc, course, a, done, kept),
     }
 }
 
 fn near_recent(
-    p: &Policy,
-    f: FlowId,
+    course: &Course,
     a: &Assign,
     done: &StepSet,
     recent: &Option<Plan>,
 ) -> Option<Plan>
-    requires flow { f < length p.now.flows }
-    requires within { IsWithin (problem_of p.now f) a.now }
-    ensures { IfSome result (IsValidPlan (problem_of p.now f) a.now done.now) }
+    requires within { IsWithin (problem_in course.now) a.now }
+    ensures { IfSome result (IsValidPlan (problem_in course.now) a.now done.now) }
 {
     match recent {
-        Some(plan) => plan_near(p, f, a, done, plan),
+        Some(plan) => plan_near(course.policy, course.number, a, done, plan),
         None => None,
     }
 }

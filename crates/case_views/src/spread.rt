@@ -14,7 +14,6 @@ ghost use Rattle.case_views.specs.Listing.{IsLeftAt, list_of, open_in};
 
 use crate::decider::{near_plan, no_verdict, verdict_on, verdict_without, what_if_view, work_view};
 use crate::edit_decider::{Left, add_part, edition_of};
-use crate::found::Unfound;
 use crate::spread_parts::{left_parts, stranded_parts, work_parts};
 use crate::stranded::add_number;
 use admin_edits::{Amendment, amended};
@@ -27,7 +26,7 @@ use std::thread::Threads;
 use wf_board::{Decider, Deed, Snap, Verdict, decision_aside};
 use wf_names::{CaseId, UserId};
 use wf_talk::{Ask, CaseList, WorkList};
-use wsp_solver::Outcome;
+use wsp_solver::{Outcome, Unsolved};
 
 /// Finds right verdicts, as `PlainDecider` does, and the same lists. For an edit or a view it goes
 /// over the open cases in as many threads as are worth it; openings and claims stay on one.
@@ -113,7 +112,7 @@ fn edited<R: Threads + Sync>(
     p: &Policy,
     cases: &Cases,
     a: &Amendment,
-) -> Result<Verdict, Unfound>
+) -> Result<Verdict, Unsolved>
     requires kept { ArePlanned p.now cases.now.rows }
     requires allowed { IsAllowed p.now a.now }
     ensures { IfOk result (DecidesChange (book_of p.now cases.now) a.now) }
@@ -162,7 +161,7 @@ fn spread_work<R: Threads + Sync>(
     p: &Policy,
     cases: &Cases,
     u: UserId,
-) -> Result<WorkList, Unfound>
+) -> Result<WorkList, Unsolved>
     requires kept { ArePlanned p.now cases.now.rows }
     requires user { u < length p.now.roster.users }
     ensures { IfOk result (IsWorkOf (book_of p.now cases.now) u) }
@@ -203,7 +202,7 @@ fn spread_stranded<R: Threads + Sync>(
     p: &Policy,
     cases: &Cases,
     a: &Amendment,
-) -> Result<CaseList, Unfound>
+) -> Result<CaseList, Unsolved>
     requires kept { ArePlanned p.now cases.now.rows }
     requires allowed { IsAllowed p.now a.now }
     ensures { IfOk result (AreStranded (amended p.now a.now)

@@ -15,7 +15,6 @@ ghost use Rattle.case_views.specs.Listing.{AreStrandedIn, list_of};
 ghost use Rattle.case_views.specs.Seeing.{IsTold, TellsRight};
 
 use crate::edit_decider::outcome_of;
-use crate::found::Unfound;
 use crate::seen::Seen;
 use crate::work_lists::is_plan;
 use admin_edits::{Amendment, amended, amendment_of};
@@ -27,11 +26,12 @@ use std::alloc::{AllocError, Global};
 use wf_board::{Snap, may_break};
 use wf_names::{CaseId, Name};
 use wf_talk::{CaseList, Edit};
+use wsp_solver::Unsolved;
 
 /// The open cases that an edit against which there is no cause would leave without a valid plan,
 /// ascending. The plan that is kept for a case is taken where the edit cannot hurt it, else a plan
 /// near it where one is valid, and else a search is made. Nothing is changed.
-pub fn what_if(alloc: Global, snap: &Snap, by: &Name, e: &Edit) -> Result<CaseList, Unfound>
+pub fn what_if(alloc: Global, snap: &Snap, by: &Name, e: &Edit) -> Result<CaseList, Unsolved>
     requires { edit_cause snap.now.policy by.now e.now ≡ None }
     ensures { IfOk result (AreStranded (edited_policy snap.now.policy by.now e.now)
         (open_cases (book_on snap.now).cases)) }
@@ -48,7 +48,7 @@ pub(crate) fn stranded_by(
     p: &Policy,
     cases: &Cases,
     a: &Amendment,
-) -> Result<CaseList, Unfound>
+) -> Result<CaseList, Unsolved>
     requires kept { ArePlanned p.now cases.now.rows }
     requires allowed { IsAllowed p.now a.now }
     ensures { IfOk result (AreStranded (amended p.now a.now)
@@ -65,7 +65,7 @@ fn stranded_in(
     a: &Amendment,
     after: &Policy,
     rows: &[Row],
-) -> Result<CaseList, Unfound>
+) -> Result<CaseList, Unsolved>
     requires allowed { IsAllowed p.now a.now }
     requires after { after.now ≡ amended p.now a.now }
     requires kept { ArePlanned p.now rows.now }
@@ -89,7 +89,7 @@ pub(crate) fn stranded_at(
     after: &Policy,
     row: &Row,
     seen: &mut Seen,
-) -> Result<Option<CaseId>, Unfound>
+) -> Result<Option<CaseId>, Unsolved>
     requires allowed { IsAllowed p.now a.now }
     requires after { after.now ≡ amended p.now a.now }
     requires known { IsOfPolicy p.now row.now.case }
@@ -116,7 +116,7 @@ fn stranded_with(
     row: &Row,
     kept: &Plan,
     seen: &mut Seen,
-) -> Result<Option<CaseId>, Unfound>
+) -> Result<Option<CaseId>, Unsolved>
     requires allowed { IsAllowed p.now a.now }
     requires after { after.now ≡ amended p.now a.now }
     requires known { IsOfPolicy p.now row.now.case }
@@ -153,7 +153,7 @@ fn stays_completable(
     case: &Case,
     kept: &Plan,
     seen: &mut Seen,
-) -> Result<bool, Unfound>
+) -> Result<bool, Unsolved>
     requires allowed { IsAllowed p.now a.now }
     requires after { after.now ≡ amended p.now a.now }
     requires known { IsOfPolicy p.now case.now }
@@ -177,7 +177,7 @@ fn is_completable(
     case: &Case,
     kept: &Plan,
     seen: &mut Seen,
-) -> Result<bool, Unfound>
+) -> Result<bool, Unsolved>
     requires flow { case.now.flow < length p.now.flows }
     requires within { IsWithin (problem_of p.now case.now.flow) (assigned_of case.now) }
     requires right { TellsRight p.now seen.old }
