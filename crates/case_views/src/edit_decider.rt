@@ -13,7 +13,7 @@ ghost use Rattle.wf_board.specs.Kept.{ArePlanned, IsOfPolicy, IsPlanned};
 ghost use Rattle.case_views.specs.Deciding.{DecidesChange, AddsPlanOfRow, AddsPlan, IsLeft};
 ghost use Rattle.case_views.specs.Deciding.{IsPartAdded};
 ghost use Rattle.case_views.specs.Deciding.{IsVerdictOn};
-ghost use Rattle.case_views.specs.Listing.{IsLeftAt, open_in};
+ghost use Rattle.case_views.specs.Listing.{IsKeptRow, IsLeftAt, open_in};
 
 use crate::decider::verdict_without;
 use crate::found::outcome_near;
@@ -26,7 +26,7 @@ use policy_book::{Course, Policy};
 use refutation_tree::Tree;
 use std::alloc::{AllocError, Global};
 use std::sync::Arc;
-use wf_board::{Edition, Plans, Verdict, may_break};
+use wf_board::{Edition, Plans, Revision, Verdict, may_break};
 use wf_names::CaseId;
 use wsp_solver::{Outcome, Unsolved, plan_near};
 
@@ -58,7 +58,12 @@ fn edited(alloc: Global, p: &Policy, cases: &Cases, a: &Amendment) -> Result<Ver
     ensures { IfOk result (DecidesChange (book_of p.now cases.now) a.now) }
 {
     let after = amended(p, *a)?;
-    let left = left_open(alloc, p, a, &after, cases.rows())?;
+    let revision = Revision {
+        before: p,
+        amendment: a,
+        after: &after,
+    };
+    let left = left_open(alloc, &revision, cases.rows())?;
     Ok(edition_of(alloc, after, left)?)
 }
 
@@ -75,21 +80,17 @@ pub(crate) fn edition_of(alloc: Global, after: Policy, left: Left) -> Result<Ver
 // What the changed policy leaves the open cases among these rows.
 fn left_open(
     alloc: Global,
-    p: &Policy,
-    a: &Amendment,
-    after: &Policy,
+    revision: &Revision,
     rows: &[Row],
 ) -> Result<Left, Unsolved>
-    requires allowed { IsAllowed p.now a.now }
-    requires after { after.now ≡ amended p.now a.now }
-    requires kept { ArePlanned p.now rows.now }
-    ensures { IfOk result (IsLeft after.now (open_in rows.now)) }
+    requires { ArePlanned revision.now.before.now rows.now }
+    ensures { IfOk result (IsLeft revision.now.after.now (open_in rows.now)) }
 {
     let mut plans = Vec::with_capacity(alloc, rows.len())?;
     let mut recent = None;
     'rows: for i in 0..rows.len() {
         let row = &rows[i];
-        if let Some(tree) = add_plan(alloc, p, a, after, row, &mut recent, &mut plans)? {
+        if let Some(tree) = add_plan(alloc, revision, row, &mut recent, &mut plans)? {
             return Ok(Left::Stranded(row.number(), tree));
         }
     }
@@ -100,20 +101,16 @@ fn left_open(
 // none.
 fn add_plan(
     alloc: Global,
-    p: &Policy,
-    a: &Amendment,
-    after: &Policy,
+    revision: &Revision,
     row: &Row,
     recent: &mut Option<Plan>,
     plans: &mut Vec<Plan>,
 ) -> Result<Option<Shared<Tree>>, Unsolved>
-    requires allowed { IsAllowed p.now a.now }
-    requires after { after.now ≡ amended p.now a.now }
-    requires known { IsOfPolicy p.now row.now.case }
-    requires planned { IsPlanned p.now row.now.case row.now.plan }
-    ensures { IfOk result (AddsPlanOfRow after.now row.now plans.old.items plans.new.items) }
+    requires { IsKeptRow revision.now.before.now row.now }
+    ensures { IfOk result (AddsPlanOfRow revision.now.after.now row.now plans.old.items
+        plans.new.items) }
 {
-    let left = left_at(alloc, p, a, after, row, recent)?;
+    let left = left_at(alloc, revision, row, recent)?;
     Ok(add_part(&left, plans)?)
 }
 
@@ -147,21 +144,16 @@ fn add_outcome(outcome: &Outcome, plans: &mut Vec<Plan>) -> Result<Option<Shared
 /// one that was found for another case is tried first, and what is found here is kept for the next.
 pub(crate) fn left_at(
     alloc: Global,
-    p: &Policy,
-    a: &Amendment,
-    after: &Policy,
+    revision: &Revision,
     row: &Row,
     recent: &mut Option<Plan>,
 ) -> Result<Option<Outcome>, Unsolved>
-    requires allowed { IsAllowed p.now a.now }
-    requires after { after.now ≡ amended p.now a.now }
-    requires known { IsOfPolicy p.now row.now.case }
-    requires planned { IsPlanned p.now row.now.case row.now.plan }
-    ensures { IfOk result (IsLeftAt after.now row.now) }
+    requires { IsKeptRow revision.now.before.now row.now }
+    ensures { IfOk result (IsLeftAt revision.now.after.now row.now) }
 {
     match row.plan() {
         Some(kept) if row.case().phase().is_live() => {
-            Ok(Some(plan_for(alloc, p, a, after, row.case(), kept, recent)?))
+            Ok(Some(plan_for(alloc, revision, row.case(), kept, recent)?))
         }
         _ => Ok(None),
     }
@@ -170,22 +162,18 @@ pub(crate) fn left_at(
 // A plan for a case under the changed policy: the one that it has, where it stays valid.
 fn plan_for(
     alloc: Global,
-    p: &Policy,
-    a: &Amendment,
-    after: &Policy,
+    revision: &Revision,
     case: &Case,
     kept: Plan,
     recent: &mut Option<Plan>,
 ) -> Result<Outcome, Unsolved>
-    requires allowed { IsAllowed p.now a.now }
-    requires after { after.now ≡ amended p.now a.now }
-    requires known { IsOfPolicy p.now case.now }
-    requires valid { IsPlanOf p.now case.now kept }
-    ensures { IfOk result (HasSolved (problem_of after.now case.now.flow) (assigned_of case.now)
-        (finished_of case.now)) }
+    requires known { IsOfPolicy revision.now.before.now case.now }
+    requires valid { IsPlanOf revision.now.before.now case.now kept }
+    ensures { IfOk result (HasSolved (problem_of revision.now.after.now case.now.flow)
+        (assigned_of case.now) (finished_of case.now)) }
 {
-    if may_break(p, after, a, case, &kept) {
-        outcome_of(alloc, after, case, &kept, recent)
+    if may_break(revision, case, &kept) {
+        outcome_of(alloc, revision.after, case, &kept, recent)
     } else {
         Ok(Outcome::Plan(kept))
     }

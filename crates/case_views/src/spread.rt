@@ -23,7 +23,7 @@ use grant_table::{Cases, Row};
 use policy_book::Policy;
 use std::alloc::{AllocError, Global};
 use std::thread::Threads;
-use wf_board::{Decider, Deed, Snap, Verdict, decision_aside};
+use wf_board::{Decider, Deed, Revision, Snap, Verdict, decision_aside};
 use wf_names::{CaseId, UserId};
 use wf_talk::{Ask, CaseList, WorkList};
 use wsp_solver::{Outcome, Unsolved};
@@ -118,8 +118,13 @@ fn edited<R: Threads + Sync>(
     ensures { IfOk result (DecidesChange (book_of p.now cases.now) a.now) }
 {
     let after = amended(p, *a)?;
+    let revision = Revision {
+        before: p,
+        amendment: a,
+        after: &after,
+    };
     let rows = cases.rows();
-    let parts = left_parts(rt, alloc, p, a, &after, rows)?;
+    let parts = left_parts(rt, alloc, &revision, rows)?;
     let left = left_of(alloc, rows, &parts)?;
     Ok(edition_of(alloc, after, left)?)
 }
@@ -209,7 +214,12 @@ fn spread_stranded<R: Threads + Sync>(
         (open_cases (book_of p.now cases.now).cases)) }
 {
     let after = amended(p, *a)?;
-    let parts = stranded_parts(rt, alloc, p, a, &after, cases.rows())?;
+    let revision = Revision {
+        before: p,
+        amendment: a,
+        after: &after,
+    };
+    let parts = stranded_parts(rt, alloc, &revision, cases.rows())?;
     Ok(joined_cases(alloc, &parts)?)
 }
 

@@ -8,7 +8,8 @@ ghost use Rattle.wf_board.specs.Boards.{book_of, book_on, numbered};
 ghost use Rattle.wf_board.specs.Edition.{IsPlanOf};
 ghost use Rattle.wf_board.specs.Kept.{ArePlanned, IsOfPolicy, IsPlanned};
 ghost use Rattle.wf_board.specs.Views.{IsGrantable, IsWorkOf, item_of, steps_from};
-ghost use Rattle.case_views.specs.Listing.{AreGrantable, HasListed, IsWorkIn, is_plan};
+ghost use Rattle.case_views.specs.Listing.{AreGrantable, HasListed, IsKeptRow, IsWorkIn};
+ghost use Rattle.case_views.specs.Listing.{is_plan};
 ghost use Rattle.case_views.specs.Granting.{TellsSteps, TellsWork};
 
 use crate::found::outcome_with;
@@ -72,8 +73,7 @@ pub(crate) fn work_at(
     row: &Row,
     work: &mut Work,
 ) -> Result<WorkList, Unsolved>
-    requires known { IsOfPolicy p.now row.now.case }
-    requires planned { IsPlanned p.now row.now.case row.now.plan }
+    requires row { IsKeptRow p.now row.now }
     requires user { u < length p.now.roster.users }
     requires right { TellsWork p.now u work.old }
     ensures work { IfOk result (IsWorkIn p.now u (row.now ∷ [])) }

@@ -9,7 +9,7 @@ ghost use Rattle.wf_board.specs.Admit.{HasVerdict};
 ghost use Rattle.wf_board.specs.Boards.{book_of, state_on};
 ghost use Rattle.wf_board.specs.Decisions.{cause_aside, decision_of};
 ghost use Rattle.wf_board.specs.Found.{IsFound, IsOpenAt};
-ghost use Rattle.wf_board.specs.Taking.{board_of, full_or, keeps_policy, IsKept};
+ghost use Rattle.wf_board.specs.Taking.{board_of, full_or, keeps_policy, IsHeldAt, IsKept};
 ghost use Rattle.wf_board.specs.Verdicts.{IsRight};
 
 use crate::alike::{is_denied, is_face};
@@ -21,7 +21,7 @@ use crate::views::{admit_what_if, admit_work};
 use crate::{Deed, Verdict};
 use case_record::Case;
 use grant_table::Cases;
-use policy_book::Policy;
+use policy_book::{Course, Policy};
 use std::alloc::{AllocError, Global};
 use wf_names::{CaseId, StepId, UserId};
 use wf_talk::{Ask, Bad, Reply};
@@ -107,7 +107,13 @@ fn perform(
     ensures { HasAdmitted p.now cases.old cases.new (Ok deed) reply.now result }
 {
     match deed {
-        Deed::Open { flow } => admit_opening(p, cases, flow, reply),
+        Deed::Open { flow } => {
+            let course = Course {
+                policy: p,
+                number: flow,
+            };
+            admit_opening(&course, cases, reply)
+        }
         Deed::Claim {
             number,
             case,
@@ -148,9 +154,7 @@ fn admit_finish(
     u: UserId,
     reply: &Reply,
 ) -> Result<(), AdmitFault>
-    requires kept { IsKept p.now cases.old }
-    requires found { IsOpenAt p.now cases.old.rows n case.now }
-    requires held { is_held (state_at case.now s) ≡ true }
+    requires held { IsHeldAt p.now cases.old n case.now s }
     requires given { reply.now ≢ replies.NoMemory }
     ensures { HasAdmitted p.now cases.old cases.new (Ok (deeds.Finish n case.now s u))
         reply.now result }
@@ -171,9 +175,7 @@ fn finish_as(
     u: UserId,
     done: bool,
 ) -> Result<(), AdmitFault>
-    requires kept { IsKept p.now cases.old }
-    requires found { IsOpenAt p.now cases.old.rows n case.now }
-    requires held { is_held (state_at case.now s) ≡ true }
+    requires { IsHeldAt p.now cases.old n case.now s }
     ensures { HasAdmitted p.now cases.old cases.new (Ok (deeds.Finish n case.now s u))
         (replies.Finished done) result }
 {
@@ -211,9 +213,7 @@ fn admit_return(
     u: UserId,
     reply: &Reply,
 ) -> Result<(), AdmitFault>
-    requires kept { IsKept p.now cases.old }
-    requires found { IsOpenAt p.now cases.old.rows n case.now }
-    requires held { is_held (state_at case.now s) ≡ true }
+    requires held { IsHeldAt p.now cases.old n case.now s }
     requires given { reply.now ≢ replies.NoMemory }
     ensures { HasAdmitted p.now cases.old cases.new (Ok (deeds.GiveBack n case.now s u))
         reply.now result }
@@ -237,9 +237,7 @@ fn admit_release(
     s: StepId,
     reply: &Reply,
 ) -> Result<(), AdmitFault>
-    requires kept { IsKept p.now cases.old }
-    requires found { IsOpenAt p.now cases.old.rows n case.now }
-    requires held { is_held (state_at case.now s) ≡ true }
+    requires held { IsHeldAt p.now cases.old n case.now s }
     requires given { reply.now ≢ replies.NoMemory }
     ensures { HasAdmitted p.now cases.old cases.new (Ok (deeds.Release n case.now s))
         reply.now result }
