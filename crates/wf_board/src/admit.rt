@@ -17,7 +17,7 @@ use crate::decision::{Refused, decision_of};
 use crate::granted::{admit_claim, admit_opening};
 use crate::strands::admit_change;
 use crate::taking::{finish, give_back, withdraw};
-use crate::views::{admit_what_if, admit_work};
+use crate::views::admit_view;
 use crate::{Deed, Verdict};
 use case_record::Case;
 use grant_table::Cases;
@@ -138,8 +138,7 @@ fn perform(
         Deed::Withdraw { number } => admit_withdrawal(p, cases, number, reply),
         Deed::Change { amendment } => admit_change(p, cases, amendment, reply, verdict),
         Deed::Show { case } => admit_showing(p, cases, &case, reply),
-        Deed::Work { user } => admit_work(p, cases, user, reply, verdict),
-        Deed::WhatIf { amendment } => admit_what_if(p, cases, amendment, reply, verdict),
+        Deed::Work { .. } | Deed::WhatIf { .. } => admit_view(p, cases, &deed, reply, verdict),
         Deed::TurnAway { bad } => admit_bad(p, cases, bad, reply),
     }
 }
