@@ -1,6 +1,6 @@
 -- Inside: how a board answers over its policy and its table of cases.
 use Rattle.std.specs.Prelude.{◌≡◌, ◌≢◌, ℕ, ◌+◌, ◌≤◌, Bool, false, true, List, Option, Result}
-use Rattle.std.specs.Prelude.{IsTrue, Ok}
+use Rattle.std.specs.Prelude.{IsTrue, None, Ok}
 use Rattle.basics.specs.Reading.{◌>>=◌}
 use Rattle.wf_names.specs.States.{is_held}
 use Rattle.refutation_tree.specs.Views.{shape_of}
@@ -26,7 +26,7 @@ use Rattle.wf_board.specs.declared.verdict.Answered.TheVariants.{Done, Needs}
 use Rattle.wf_board.specs.States.{Book}
 use Rattle.wf_board.specs.Boards.{BoardShape, book_of, state_on}
 use Rattle.wf_board.specs.KeptPlans.{rows_after}
-use Rattle.wf_board.specs.Found.{IsOpenAt}
+use Rattle.wf_board.specs.Found.{IsFound, IsOpenAt}
 use Rattle.wf_board.specs.Decisions.{cause_aside, cause_full, decision_of, needs_verdict}
 use Rattle.wf_board.specs.Decisions.{takes_memory, unless_denied}
 use Rattle.wf_board.specs.Steps.{Answers, room_taken, state_after_decision, with_changed}
@@ -45,6 +45,13 @@ pub record IsHeldAt (p : PolicyShape) (t : CasesShape) (n : ℕ) (c : CaseShape)
   pub kept : IsKept p t
   pub found : IsOpenAt p t.rows n c
   pub held : is_held (state_at c s) ≡ true
+
+-- a table is kept, the numbers of a deed are those of things that are there, and no cause is
+-- against it, `full` of an opening aside
+pub record CanBeDone (p : PolicyShape) (t : CasesShape) (d : Deed) : Type 0 where
+  pub kept : IsKept p t
+  pub found : IsFound p t.rows d
+  pub cause : cause_aside (book_of p t) d ≡ None
 
 -- a board of a policy and a table
 abbrev pub board_of : PolicyShape → CasesShape → ℕ → BoardShape

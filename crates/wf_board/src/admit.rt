@@ -9,7 +9,7 @@ ghost use Rattle.wf_board.specs.Admit.{HasVerdict};
 ghost use Rattle.wf_board.specs.Boards.{book_of, state_on};
 ghost use Rattle.wf_board.specs.Decisions.{cause_aside, decision_of};
 ghost use Rattle.wf_board.specs.Found.{IsFound, IsOpenAt};
-ghost use Rattle.wf_board.specs.Taking.{board_of, full_or, keeps_policy, IsHeldAt, IsKept};
+ghost use Rattle.wf_board.specs.Taking.{board_of, full_or, keeps_policy, CanBeDone, IsHeldAt, IsKept};
 ghost use Rattle.wf_board.specs.Verdicts.{IsRight};
 
 use crate::alike::{is_denied, is_face};
@@ -98,9 +98,7 @@ fn perform(
     reply: &Reply,
     verdict: &Verdict,
 ) -> Result<(), AdmitFault>
-    requires kept { IsKept p.now cases.old }
-    requires found { IsFound p.now cases.old.rows deed }
-    requires cause { cause_aside (book_of p.now cases.old) deed ≡ None }
+    requires ready { CanBeDone p.now cases.old deed }
     requires room { full_or (book_of p.now cases.old) deed ≡ Ok deed }
     requires given { reply.now ≢ replies.NoMemory }
     requires verdict { IsVerdictFor (book_of p.now cases.old) deed verdict.now }
@@ -257,8 +255,7 @@ fn admit_withdrawal(
     n: CaseId,
     reply: &Reply,
 ) -> Result<(), AdmitFault>
-    requires kept { IsKept p.now cases.old }
-    requires found { (c : CaseShape) × IsOpenAt p.now cases.old.rows n c }
+    requires ready { CanBeDone p.now cases.old (deeds.Withdraw n) }
     requires given { reply.now ≢ replies.NoMemory }
     ensures { HasAdmitted p.now cases.old cases.new (Ok (deeds.Withdraw n)) reply.now result }
 {

@@ -27,7 +27,13 @@ pub fn may_break(revision: &Revision, case: &Case, plan: &Plan) -> bool
     ensures { result ≡ false → IsPlanOf revision.now.after.now case.now plan.now }
 {
     let _sound = revision.before.admin();
-    breaks(revision.before, revision.after, revision.amendment, case, plan)
+    breaks(
+        revision.before,
+        revision.after,
+        revision.amendment,
+        case,
+        plan,
+    )
 }
 
 fn breaks(p: &Policy, after: &Policy, a: &Amendment, case: &Case, plan: &Plan) -> bool

@@ -82,7 +82,12 @@ fn decides_claim(
         policy: p,
         number: case.flow(),
     };
-    is_certificate(&course, &assigned_with(case, step, user), &case.finished(), verdict)
+    is_certificate(
+        &course,
+        &assigned_with(case, step, user),
+        &case.finished(),
+        verdict,
+    )
 }
 
 /// Whether a verdict is a valid plan, or a tree that refutes.

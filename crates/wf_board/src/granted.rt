@@ -14,7 +14,7 @@ ghost use Rattle.wf_board.specs.Admission.{HasAdmitted};
 ghost use Rattle.wf_board.specs.Boards.{book_of};
 ghost use Rattle.wf_board.specs.Decisions.{cause_aside};
 ghost use Rattle.wf_board.specs.Found.{AreFound};
-ghost use Rattle.wf_board.specs.Taking.{HasRoomFor, IsKept};
+ghost use Rattle.wf_board.specs.Taking.{CanBeDone, HasRoomFor, IsKept};
 
 use crate::AdmitFault;
 use crate::admit::when;
@@ -90,11 +90,7 @@ fn is_opening_plan(course: &Course, plan: &Plan) -> bool
 }
 
 /// Whether a denial shows by its tree that a workflow has no valid plan.
-fn admit_unsatisfiable(
-    course: &Course,
-    cases: &Cases,
-    denial: &Denial,
-) -> Result<(), AdmitFault>
+fn admit_unsatisfiable(course: &Course, cases: &Cases, denial: &Denial) -> Result<(), AdmitFault>
     requires { IsKept course.now.policy.now cases.now }
     ensures { HasAdmitted course.now.policy.now cases.now cases.now
         (Ok (deeds.Open course.now.number)) (replies.Denied denial.now) result }
@@ -127,9 +123,7 @@ pub(crate) fn admit_claim(
     u: UserId,
     reply: &Reply,
 ) -> Result<(), AdmitFault>
-    requires kept { IsKept p.now cases.old }
-    requires found { AreFound p.now cases.old.rows n case.now s u }
-    requires cause { cause_aside (book_of p.now cases.old) (deeds.Claim n case.now s u) ≡ None }
+    requires ready { CanBeDone p.now cases.old (deeds.Claim n case.now s u) }
     requires given { reply.now ≢ replies.NoMemory }
     ensures { HasAdmitted p.now cases.old cases.new (Ok (deeds.Claim n case.now s u))
         reply.now result }
@@ -151,9 +145,7 @@ fn claim_as(
     u: UserId,
     plan: &Plan,
 ) -> Result<(), AdmitFault>
-    requires kept { IsKept p.now cases.old }
-    requires found { AreFound p.now cases.old.rows n case.now s u }
-    requires cause { cause_aside (book_of p.now cases.old) (deeds.Claim n case.now s u) ≡ None }
+    requires { CanBeDone p.now cases.old (deeds.Claim n case.now s u) }
     ensures { HasAdmitted p.now cases.old cases.new (Ok (deeds.Claim n case.now s u))
         (replies.Granted plan.now) result }
 {

@@ -1,6 +1,3 @@
-use Rattle.std.proofs.Common.{sym, subst}
-use Rattle.policy_book.specs.Plans.{IsWithin}
-use Rattle.policy_book.specs.Policies.{problem_of}
 use Rattle.case_record.specs.Cases.{finished_of}
 use Rattle.admin_edits.specs.ClaimCauses.{assigned_with}
 use Rattle.wf_board.proofs.Certificates.{certificate_same, claim_within}
