@@ -68,8 +68,8 @@ pub(crate) fn stranded_parts<R: Threads + Sync>(
         .map(
             |row: &Row| -> Result<Option<CaseId>, Unsolved>
                 requires { IsKeptRow revision.now.before.now row.now }
-                ensures { IfOk result (λ part. AreStrandedIn revision.entry.now.after.now (row.now ∷ [])
-                    (list_of part)) }
+                ensures { IfOk result (λ part. AreStrandedIn revision.entry.now.after.now
+                    (row.now ∷ []) (list_of part)) }
             { stranded_at(alloc, revision, row, &mut Seen::nothing(alloc)) },
         )
         .collect(rt, alloc)?;

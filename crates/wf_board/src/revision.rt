@@ -20,5 +20,5 @@ pub struct Revision<'p> {
     /// The policy after it.
     pub after: &'p Policy,
     ghost allowed: { IsAllowed before.now amendment.now } by { Prim.hlevel (known-prop, props) },
-    ghost made: { after.now ≡ amended before.now amendment.now } by { Coded-set policy_code after.now (amended before.now amendment.now) },
+    ghost made: { after.now ≡ amended before.now amendment.now } by { Coded-set policy_code _ _ },
 }

@@ -23,8 +23,8 @@ pub(crate) fn take_case<S: Source>(
     course: &Course,
     source: &mut S,
 ) -> Result<Case, RunFault>
-    ensures case { IfSome (S.left source.old) (λ input. GivesCase course.now.policy.now course.now.number
-        input result) }
+    ensures case { IfSome (S.left source.old)
+        (λ input. GivesCase course.now.policy.now course.now.number input result) }
     ensures sound { IfOk result (IsCaseOf (problem_in course.now)) }
     ensures ending { IfErr result IsCaseEnding }
     ensures reads { CountsReadsAlone (fault_in result) (S.faults source.old) (S.faults source.new) }

@@ -79,8 +79,8 @@ fn judge_plan(alloc: Global, course: &Course, plan: &Plan) -> Result<Answer, All
 
 // The line that names the first fault of a plan.
 fn fault_text(alloc: Global, course: &Course, fault: PlanFault) -> Result<String, AllocError>
-    ensures { IfOk result (λ text.
-        string_bytes text ≡ fault_line (flow_at course.now.policy.now course.now.number).flow.steps fault) }
+    ensures { IfOk result (λ text. string_bytes text
+        ≡ fault_line (flow_at course.now.policy.now course.now.number).flow.steps fault) }
 {
     match fault {
         PlanFault::Moved(_) => Ok(String::new(alloc)),

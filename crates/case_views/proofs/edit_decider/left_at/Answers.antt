@@ -8,7 +8,8 @@ use Rattle.case_views.proofs.edit_decider.left_at.Goals as goal
 
 pub plan_for-requires-clause-valid : goal.plan_for-requires-clause-valid
 plan_for-requires-clause-valid c =
-    plan_of_row c.args.revision.now.before.now c.args.row.now.case c.case-in-Some.result.now c.args.row.now.plan c.in-Some.kept c.in-Some.ensures c.case-in-Some.ensures
+    plan_of_row c.args.revision.now.before.now c.args.row.now.case c.case-in-Some.result.now c.args.row.now.plan c.in-Some.kept c.in-Some.ensures
+    c.case-in-Some.ensures
     c.requires.planned
 
 pub returns-in_ok-plan_for-in-Some : goal.returns-in_ok-plan_for-in-Some

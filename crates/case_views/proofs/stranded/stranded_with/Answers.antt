@@ -5,7 +5,8 @@ use Rattle.case_views.specs.Seeing.{IsTold}
 use Rattle.case_views.proofs.stranded.stranded_with.Goals as goal
 
 pub stays_completable-requires-clause-valid : goal.stays_completable-requires-clause-valid
-stays_completable-requires-clause-valid c = subst (λ (k : CaseShape). IsPlanOf c.args.revision.now.before.now k c.args.kept.now) (sym c.case.ensures) c.requires.valid
+stays_completable-requires-clause-valid c = subst (λ (k : CaseShape). IsPlanOf c.args.revision.now.before.now k c.args.kept.now) (sym c.case.ensures)
+    c.requires.valid
 
 pub returns : goal.returns
 returns c =

@@ -34,6 +34,7 @@ open_case-case-requires-clause-ever c =
 
 pub returns-clause-taken : goal.returns-clause-taken
 returns-clause-taken c =
-    opened_taken c.args.course.now.policy.now c.args.cases.now c.make_room.new.cases c.open_case-case.new.self c.args.course.now.number c.open_case-case.result c.args.plan
+    opened_taken c.args.course.now.policy.now c.args.cases.now c.make_room.new.cases c.open_case-case.new.self c.args.course.now.number
+    c.open_case-case.result c.args.plan
     c.requires.kept c.args.course.now.known c.requires.valid (sym c.is_full.ensures ∙ c.if-is_full.false)
     c.make_room.ensures.same c.make_room.ensures.kept c.open_case-case.ensures.number c.open_case-case.ensures.opened

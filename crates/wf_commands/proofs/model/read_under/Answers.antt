@@ -6,7 +6,8 @@ use Rattle.wf_commands.proofs.model.read_under.Goals as goal
 
 pub returns-in_err-text-clause-answer : goal.returns-in_err-text-clause-answer
 returns-in_err-text-clause-answer g c =
-    answers_no_model c.args.p.now c.args.flow.now c.in_ok-find_flow.field-0 (g.F.Shelf.file c.args.shelf.now c.args.model.now) (g.S.Source.left c.args.source.now)
+    answers_no_model c.args.p.now c.args.flow.now c.in_ok-find_flow.field-0 (g.F.Shelf.file c.args.shelf.now c.args.model.now)
+    (g.S.Source.left c.args.source.now)
     c.from_residual-in_err-text.result c.in_err-text.field-0.0 c.from_residual-in_err-text.ensures.1 c.in_ok-find_flow.ensures.0 c.in_err-text.ensures.bytes
     c.in_err-text.ensures.ending
 
