@@ -78,11 +78,7 @@ pub(crate) fn edition_of(alloc: Global, after: Policy, left: Left) -> Result<Ver
 }
 
 // What the changed policy leaves the open cases among these rows.
-fn left_open(
-    alloc: Global,
-    revision: &Revision,
-    rows: &[Row],
-) -> Result<Left, Unsolved>
+fn left_open(alloc: Global, revision: &Revision, rows: &[Row]) -> Result<Left, Unsolved>
     requires { ArePlanned revision.now.before.now rows.now }
     ensures { IfOk result (IsLeft revision.now.after.now (open_in rows.now)) }
 {
@@ -224,12 +220,7 @@ fn outcome_by(
     }
 }
 
-fn near_recent(
-    course: &Course,
-    a: &Assign,
-    done: &StepSet,
-    recent: &Option<Plan>,
-) -> Option<Plan>
+fn near_recent(course: &Course, a: &Assign, done: &StepSet, recent: &Option<Plan>) -> Option<Plan>
     requires within { IsWithin (problem_in course.now) a.now }
     ensures { IfSome result (IsValidPlan (problem_in course.now) a.now done.now) }
 {

@@ -42,7 +42,14 @@ pub(crate) fn outcome_with(
         Some(plan) => Ok(Outcome::Plan(plan)),
         None => {
             let assigned = assigned_with(case, step, user);
-            solve_within(alloc, p, case.flow(), &assigned, &case.finished(), TREE_LIMIT)
+            solve_within(
+                alloc,
+                p,
+                case.flow(),
+                &assigned,
+                &case.finished(),
+                TREE_LIMIT,
+            )
         }
     }
 }
@@ -108,7 +115,14 @@ pub(crate) fn outcome_fresh(
     let (assigned, done) = (Assign::empty(), StepSet::empty());
     match recent {
         Some(kept) => outcome_near(alloc, course, &assigned, &done, &kept),
-        None => solve_within(alloc, course.policy, course.number, &assigned, &done, TREE_LIMIT),
+        None => solve_within(
+            alloc,
+            course.policy,
+            course.number,
+            &assigned,
+            &done,
+            TREE_LIMIT,
+        ),
     }
 }
 

@@ -64,11 +64,7 @@ pub(crate) fn stranded_by(
 }
 
 // Those among the cases of rows.
-fn stranded_in(
-    alloc: Global,
-    revision: &Revision,
-    rows: &[Row],
-) -> Result<CaseList, Unsolved>
+fn stranded_in(alloc: Global, revision: &Revision, rows: &[Row]) -> Result<CaseList, Unsolved>
     requires { ArePlanned revision.now.before.now rows.now }
     ensures { IfOk result (AreStrandedIn revision.now.after.now rows.now) }
 {

@@ -48,7 +48,7 @@ pub record IsHeldAt (p : PolicyShape) (t : CasesShape) (n : ℕ) (c : CaseShape)
 
 -- a table is kept, the numbers of a deed are those of things that are there, and no cause is
 -- against it, `full` of an opening aside
-pub record CanBeDone (p : PolicyShape) (t : CasesShape) (d : Deed) : Type 0 where
+pub record IsUnhindered (p : PolicyShape) (t : CasesShape) (d : Deed) : Type 0 where
   pub kept : IsKept p t
   pub found : IsFound p t.rows d
   pub cause : cause_aside (book_of p t) d ≡ None
@@ -79,8 +79,8 @@ abbrev pub full_or : Book → Deed → Result Deed Denial
 full_or b given = unless_denied given (cause_full b given)
 
 -- no limit is against one more case of a workflow
-abbrev pub HasRoomFor : Course → CasesShape → Type 0
-HasRoomFor c t =
+abbrev pub HasRoomToOpen : Course → CasesShape → Type 0
+HasRoomToOpen c t =
     full_or (book_of c.policy.now t) (deed.Open c.number) ≡ Ok (deed.Open c.number)
 
 -- a deed, or the first cause against it

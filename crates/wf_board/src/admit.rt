@@ -9,7 +9,7 @@ ghost use Rattle.wf_board.specs.Admit.{HasVerdict};
 ghost use Rattle.wf_board.specs.Boards.{book_of, state_on};
 ghost use Rattle.wf_board.specs.Decisions.{cause_aside, decision_of};
 ghost use Rattle.wf_board.specs.Found.{IsFound, IsOpenAt};
-ghost use Rattle.wf_board.specs.Taking.{board_of, full_or, keeps_policy, CanBeDone, IsHeldAt};
+ghost use Rattle.wf_board.specs.Taking.{board_of, full_or, keeps_policy, IsUnhindered, IsHeldAt};
 ghost use Rattle.wf_board.specs.Taking.{IsKept};
 ghost use Rattle.wf_board.specs.Verdicts.{IsRight};
 
@@ -99,7 +99,7 @@ fn perform(
     reply: &Reply,
     verdict: &Verdict,
 ) -> Result<(), AdmitFault>
-    requires ready { CanBeDone p.now cases.old deed }
+    requires ready { IsUnhindered p.now cases.old deed }
     requires room { full_or (book_of p.now cases.old) deed ≡ Ok deed }
     requires given { reply.now ≢ replies.NoMemory }
     requires verdict { IsVerdictFor (book_of p.now cases.old) deed verdict.now }
@@ -256,7 +256,7 @@ fn admit_withdrawal(
     n: CaseId,
     reply: &Reply,
 ) -> Result<(), AdmitFault>
-    requires ready { CanBeDone p.now cases.old (deeds.Withdraw n) }
+    requires ready { IsUnhindered p.now cases.old (deeds.Withdraw n) }
     requires given { reply.now ≢ replies.NoMemory }
     ensures { HasAdmitted p.now cases.old cases.new (Ok (deeds.Withdraw n)) reply.now result }
 {

@@ -14,7 +14,7 @@ ghost use Rattle.wf_board.specs.Admission.{HasAdmitted};
 ghost use Rattle.wf_board.specs.Boards.{book_of};
 ghost use Rattle.wf_board.specs.Decisions.{cause_aside};
 ghost use Rattle.wf_board.specs.Found.{AreFound};
-ghost use Rattle.wf_board.specs.Taking.{CanBeDone, HasRoomFor, IsKept};
+ghost use Rattle.wf_board.specs.Taking.{IsUnhindered, HasRoomToOpen, IsKept};
 
 use crate::AdmitFault;
 use crate::admit::when;
@@ -36,7 +36,7 @@ pub(crate) fn admit_opening(
     reply: &Reply,
 ) -> Result<(), AdmitFault>
     requires kept { IsKept course.now.policy.now cases.old }
-    requires room { HasRoomFor course.now cases.old }
+    requires room { HasRoomToOpen course.now cases.old }
     requires given { reply.now ≢ replies.NoMemory }
     ensures { HasAdmitted course.now.policy.now cases.old cases.new
         (Ok (deeds.Open course.now.number)) reply.now result }
@@ -57,7 +57,7 @@ fn open_as(
     plan: &Plan,
 ) -> Result<(), AdmitFault>
     requires kept { IsKept course.now.policy.now cases.old }
-    requires room { HasRoomFor course.now cases.old }
+    requires room { HasRoomToOpen course.now cases.old }
     ensures { HasAdmitted course.now.policy.now cases.old cases.new
         (Ok (deeds.Open course.now.number)) (replies.Opened number plan.now) result }
 {
@@ -123,7 +123,7 @@ pub(crate) fn admit_claim(
     u: UserId,
     reply: &Reply,
 ) -> Result<(), AdmitFault>
-    requires ready { CanBeDone p.now cases.old (deeds.Claim n case.now s u) }
+    requires ready { IsUnhindered p.now cases.old (deeds.Claim n case.now s u) }
     requires given { reply.now ≢ replies.NoMemory }
     ensures { HasAdmitted p.now cases.old cases.new (Ok (deeds.Claim n case.now s u))
         reply.now result }
@@ -145,7 +145,7 @@ fn claim_as(
     u: UserId,
     plan: &Plan,
 ) -> Result<(), AdmitFault>
-    requires { CanBeDone p.now cases.old (deeds.Claim n case.now s u) }
+    requires { IsUnhindered p.now cases.old (deeds.Claim n case.now s u) }
     ensures { HasAdmitted p.now cases.old cases.new (Ok (deeds.Claim n case.now s u))
         (replies.Granted plan.now) result }
 {

@@ -20,7 +20,7 @@ ghost use Rattle.wf_board.specs.Deeds.{answered_of, FitsDeed, IsLeftTo, IsUndeci
 ghost use Rattle.wf_board.specs.Found.{AreFound, IsFound, IsOpenAt};
 ghost use Rattle.wf_board.specs.States.{is_full};
 ghost use Rattle.wf_board.specs.Steps.{face_of};
-ghost use Rattle.wf_board.specs.Taking.{full_or, keeps_policy, CanBeDone, HasAnsweredAlone};
+ghost use Rattle.wf_board.specs.Taking.{full_or, keeps_policy, IsUnhindered, HasAnsweredAlone};
 ghost use Rattle.wf_board.specs.Taking.{HasAnsweredBy};
 ghost use Rattle.wf_board.specs.Taking.{HasChanged, HasTakenStep, IsHeldAt, IsKept, IsUsable};
 ghost use Rattle.wf_board.specs.Taking.{LacksRoom};
@@ -202,7 +202,7 @@ fn by_plan(p: &Policy, cases: &mut Cases, ask: &Ask, plan: Plan) -> Reply
 
 /// Does a deed by a plan that shows that its case can be completed.
 fn plan_for(p: &Policy, cases: &mut Cases, deed: Deed, plan: Plan) -> Reply
-    requires ready { CanBeDone p.now cases.old deed }
+    requires ready { IsUnhindered p.now cases.old deed }
     requires plan { IsPlanFor (book_of p.now cases.old) (Ok deed) plan }
     ensures taken { HasTakenStep p.now cases.old cases.new (full_or (book_of p.now cases.old)
         deed) result }
@@ -318,7 +318,7 @@ fn by_stranding(p: &Policy, cases: &Cases, ask: &Ask, number: CaseId, tree: Shar
 
 /// Does a deed that needs no verdict.
 fn perform(p: &Policy, cases: &mut Cases, deed: Deed) -> Reply
-    requires ready { CanBeDone p.now cases.old deed }
+    requires ready { IsUnhindered p.now cases.old deed }
     requires aside { needs_plan deed ≡ false }
     ensures taken { HasTakenStep p.now cases.old cases.new (Ok deed) result }
     ensures memory { result ≢ replies.NoMemory }
@@ -449,7 +449,7 @@ pub(crate) fn give_back(p: &Policy, cases: &mut Cases, n: CaseId, case: &Case, s
 
 /// Ends an open case.
 pub(crate) fn withdraw(p: &Policy, cases: &mut Cases, n: CaseId)
-    requires { CanBeDone p.now cases.old (deeds.Withdraw n) }
+    requires { IsUnhindered p.now cases.old (deeds.Withdraw n) }
     ensures { HasChanged p.now cases.old cases.new n withdrawn_row
         (λ c. with_phase c WithdrawnCase) }
 {

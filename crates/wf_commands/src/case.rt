@@ -31,11 +31,7 @@ pub(crate) struct Case {
 }
 
 /// The case of a workflow that an input is.
-pub(crate) fn read_case(
-    alloc: Global,
-    course: &Course,
-    input: &[u8],
-) -> Result<Case, InputError>
+pub(crate) fn read_case(alloc: Global, course: &Course, input: &[u8]) -> Result<Case, InputError>
     ensures case { Gives input_fault (λ c. c) result
         (case_of_input course.now.policy.now (problem_in course.now).steps input.now) }
     ensures fault { IfErr result IsOfInput }

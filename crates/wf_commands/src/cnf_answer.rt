@@ -56,18 +56,20 @@ fn model_in(alloc: Global, text: &[u8], variables: u32) -> Result<Model, RunFaul
 }
 
 // What a model says of a case.
-fn answer_model(
-    alloc: Global,
-    course: &Course,
-    c: &Case,
-    m: &Model,
-) -> Result<Answer, RunFault>
+fn answer_model(alloc: Global, course: &Course, c: &Case, m: &Model) -> Result<Answer, RunFault>
     requires sound { IsCaseOf (problem_in course.now) c.now }
     ensures answer { let p = course.now.policy.now in let f = course.now.number in
         AnswersAs (UnlessLarge p f c.now (TellsReading p f c.now (has_variable m.now))) result }
     ensures ending { IfErr result IsLateEnding }
 {
-    match plan_of(alloc, course.policy, course.number, &c.assigned, &c.finished, m) {
+    match plan_of(
+        alloc,
+        course.policy,
+        course.number,
+        &c.assigned,
+        &c.finished,
+        m,
+    ) {
         Ok(reading) => Ok(answer_with(alloc, course.policy, &reading)?),
         Err(CnfFault::TooLarge) => Err(RunFault::TooLarge),
         Err(CnfFault::NoMemory) => Err(RunFault::NoMemory),

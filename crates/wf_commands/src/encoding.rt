@@ -55,7 +55,13 @@ pub(crate) fn encode(alloc: Global, course: &Course, c: &Case) -> Result<Encoder
     ensures left { IfOk result (λ e. e.left ≡ e.all) }
     ensures ending { IfErr result IsLateEnding }
 {
-    match Encoder::new(alloc, course.policy, course.number, &c.assigned, &c.finished) {
+    match Encoder::new(
+        alloc,
+        course.policy,
+        course.number,
+        &c.assigned,
+        &c.finished,
+    ) {
         Ok(encoder) => Ok(encoder),
         Err(CnfFault::TooLarge) => Err(RunFault::TooLarge),
         Err(CnfFault::NoMemory) => Err(RunFault::NoMemory),

@@ -50,7 +50,12 @@ fn judge(alloc: Global, course: &Course, input: &[u8]) -> Result<Answer, RunFaul
     ensures judged { JudgesAs course.now.policy.now course.now.number input.now result }
     ensures ending { IfErr result IsJudgedEnding }
 {
-    match read_plan(alloc, course.policy, course.flow().steps().len() as u8, input) {
+    match read_plan(
+        alloc,
+        course.policy,
+        course.flow().steps().len() as u8,
+        input,
+    ) {
         Ok(plan) => Ok(judge_plan(alloc, course, &plan)?),
         Err(InputError::Fault(fault)) => Err(RunFault::BadInput(fault)),
         Err(InputError::NoMemory) => Err(RunFault::NoMemory),
@@ -65,7 +70,13 @@ fn judge_plan(alloc: Global, course: &Course, plan: &Plan) -> Result<Answer, All
     ensures { IfOk result (λ answer. Judges course.now.policy.now course.now.number plan.now
         (ending_with answer.found) answer.text.items) }
 {
-    match check_plan(course.policy, course.number, &Assign::empty(), &StepSet::empty(), plan) {
+    match check_plan(
+        course.policy,
+        course.number,
+        &Assign::empty(),
+        &StepSet::empty(),
+        plan,
+    ) {
         Ok(()) => Ok(Answer {
             found: false,
             text: String::from_str(alloc, "valid\n")?.into_bytes(),
