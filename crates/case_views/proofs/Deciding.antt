@@ -36,8 +36,8 @@ use Rattle.wf_board.proofs.Exact.{finished_assigned}
 use Rattle.admin_edits.specs.declared.amendment.Amendment.{Amendment}
 use Rattle.wf_board.specs.Deeds.{DecidesDeed}
 use Rattle.admin_edits.specs.Edits.{amended}
-use Rattle.case_views.specs.declared.found.Unfound.{Unfound}
-use Rattle.case_views.specs.declared.found.Unfound.TheVariants as unfound
+use Rattle.wsp_solver.specs.declared.search.Unsolved.{Unsolved}
+use Rattle.wsp_solver.specs.declared.search.Unsolved.TheVariants as unsolved
 use Rattle.case_views.specs.Deciding.{DecidesChange, DecidesFor, DecidesWhatIf, DecidesWork, IsVerdictOf, verdict_without}
 
 -- finished steps stay assigned where one more step is given
@@ -73,17 +73,17 @@ tree_verdict tree (Ok t) v is told = inl (told ∙ ap verdict.Refuted is)
 tree_verdict tree (Err e) v is told = inr told
 
 -- what was not found out is one of two verdicts
-pub unfound_is : (Q : Verdict → Type 0) (u : Unfound) (v : Verdict) → v ≡ verdict_without u → Q verdict.NoMemory → Q verdict.OverBudget → Q v
-unfound_is Q unfound.NoMemory v is memory budget = subst Q (sym is) memory
-unfound_is Q unfound.OverBudget v is memory budget = subst Q (sym is) budget
+pub unfound_is : (Q : Verdict → Type 0) (u : Unsolved) (v : Verdict) → v ≡ verdict_without u → Q verdict.NoMemory → Q verdict.OverBudget → Q v
+unfound_is Q unsolved.NoMemory v is memory budget = subst Q (sym is) memory
+unfound_is Q unsolved.OverBudget v is memory budget = subst Q (sym is) budget
 
 -- a list is a verdict
-pub work_decides : (b : Book) (u : ℕ) (listed : Result (List WorkItem) Unfound) (v : Verdict) → IfOk listed (IsWorkOf b u) →
+pub work_decides : (b : Book) (u : ℕ) (listed : Result (List WorkItem) Unsolved) (v : Verdict) → IfOk listed (IsWorkOf b u) →
     MatchResult listed (λ items. v ≡ verdict.View (view.Work items)) (λ e. v ≡ verdict_without e) → DecidesWork b u v
 work_decides b u (Ok items) v found is = subst (DecidesWork b u) (sym is) found
 work_decides b u (Err e) v found is = unfound_is (DecidesWork b u) e v is tt tt
 
-pub what_if_decides : (b : Book) (a : Amendment) (listed : Result (List ℕ) Unfound) (v : Verdict) →
+pub what_if_decides : (b : Book) (a : Amendment) (listed : Result (List ℕ) Unsolved) (v : Verdict) →
     IfOk listed (AreStranded (amended b.policy a) (open_cases b.cases)) →
     MatchResult listed (λ numbers. v ≡ verdict.View (view.WhatIf numbers)) (λ e. v ≡ verdict_without e) → DecidesWhatIf b a v
 what_if_decides b a (Ok numbers) v found is = subst (DecidesWhatIf b a) (sym is) found

@@ -22,19 +22,26 @@ use Rattle.wsp_solver.specs.Searches.{HasSolved}
 use Rattle.wsp_solver.specs.declared.search.Outcome.{Outcome}
 use Rattle.wsp_solver.specs.declared.search.Outcome.TheVariants as outcome
 use Rattle.wf_board.specs.Edition.{CanBeCompleted}
-use Rattle.wf_board.specs.Kept.{EachRow}
+use Rattle.wf_board.specs.Kept.{ArePlanned, EachRow, IsOfPolicy, IsPlanned}
 use Rattle.wf_board.specs.States.{Numbered}
 use Rattle.wf_board.specs.Views.{AreThose, IsGrantable, Place, item_of, steps_from, steps_of}
 use Rattle.wf_board.proofs.Exact.{claimed_assigned}
-use Rattle.case_views.specs.Listing.{AreGrantable, AreStrandedIn, HasListed, IsWorkIn, is_plan, open_in}
+use Rattle.case_views.specs.Listing.{AreGrantable, AreStrandedIn, HasListed, IsKeptRow, IsWorkIn, is_plan, open_in}
 use Rattle.case_views.proofs.Editing.{open_append}
 use Rattle.case_views.proofs.Lists.{none_those, one_those, place, steps_append, steps_more, those_append}
 
 -- what holds of each row holds of one of them
-pub each_in : (P : Row → Type 0) (rows : List Row) (i : ℕ) (r : Row) → i < length rows → r ≡ get_or rows i r → EachRow P rows → P r
+each_in : (P : Row → Type 0) (rows : List Row) (i : ℕ) (r : Row) → i < length rows → r ≡ get_or rows i r → EachRow P rows → P r
 each_in P [] i r below is each = absurd (omega arith)
 each_in P (x ∷ xs) zero r below is each = subst P (sym is) each.0
 each_in P (x ∷ xs) (suc i) r below is each = each_in P xs i r (omega arith) is each.1
+
+-- one row of a table that is kept is kept
+pub kept_row : (p : PolicyShape) (rows : List Row) (i : ℕ) (r : Row) → i < length rows → r ≡ get_or rows i r → ArePlanned p rows → IsKeptRow p r
+kept_row p rows i r below is kept = record {
+  known = each_in (λ x. IsOfPolicy p x.case) rows i r below is kept.cases;
+  planned = each_in (λ x. IsPlanned p x.case x.plan) rows i r below is kept.plans;
+}
 
 -- ---- work lists
 

@@ -20,13 +20,13 @@ use Rattle.wf_board.specs.Edition.{ArePlansOf, IsFirstStranded, IsTreeOf}
 use Rattle.wf_board.specs.Verdicts.{IsEditionFor, IsStrandingFor, IsViewFor}
 use Rattle.case_views.specs.declared.edit_decider.Left.{Left}
 use Rattle.case_views.specs.declared.edit_decider.Left.TheVariants as left
-use Rattle.case_views.specs.declared.found.Unfound.{Unfound}
-use Rattle.case_views.specs.declared.found.Unfound.TheVariants as unfound
+use Rattle.wsp_solver.specs.declared.search.Unsolved.{Unsolved}
+use Rattle.wsp_solver.specs.declared.search.Unsolved.TheVariants as unsolved
 
 -- why there is no other verdict, as one
-abbrev pub verdict_without : Unfound → Verdict
-verdict_without unfound.NoMemory = verdict.NoMemory
-verdict_without unfound.OverBudget = verdict.OverBudget
+abbrev pub verdict_without : Unsolved → Verdict
+verdict_without unsolved.NoMemory = verdict.NoMemory
+verdict_without unsolved.OverBudget = verdict.OverBudget
 
 -- a plan or a tree for an assignment, unless it was not found out
 abbrev pub DecidesFor : Problem → List (Option ℕ) → List Bool → Verdict → Type 0

@@ -2,6 +2,7 @@
 ghost use Rattle.std.specs.Prelude.{◌≡◌, ◌<◌, length, IfSome, MatchResult, Ok};
 ghost use Rattle.constraint_forms.specs.Assign.{no_steps, no_users};
 ghost use Rattle.policy_book.specs.Plans.{IsValidPlan};
+ghost use Rattle.policy_book.specs.Course.{problem_in};
 ghost use Rattle.policy_book.specs.Policies.{problem_of};
 ghost use Rattle.case_record.specs.Cases.{finished_of};
 ghost use Rattle.admin_edits.specs.ClaimCauses.{assigned_with};
@@ -14,7 +15,7 @@ ghost use Rattle.case_views.specs.Deciding.{verdict_without, DecidesFor, Decides
 ghost use Rattle.case_views.specs.Deciding.{DecidesWork, IsVerdictOf};
 
 use crate::edit_decider::edit_verdict;
-use crate::found::{Unfound, outcome_fresh, outcome_with, plan_fresh, plan_with};
+use crate::found::{outcome_fresh, outcome_with, plan_fresh, plan_with};
 use crate::stranded::stranded_by;
 use crate::work_lists::work_of;
 use admin_edits::Amendment;
@@ -22,13 +23,13 @@ use basics::Shared;
 use case_record::Case;
 use constraint_forms::Plan;
 use grant_table::Cases;
-use policy_book::Policy;
+use policy_book::{Course, Policy};
 use refutation_tree::Tree;
 use std::alloc::{AllocError, Global};
 use wf_board::{Decider, Deed, Refused, Snap, Verdict, View, decision_aside};
-use wf_names::{CaseId, FlowId, StepId, UserId};
+use wf_names::{CaseId, StepId, UserId};
 use wf_talk::{Ask, CaseList, WorkList};
-use wsp_solver::Outcome;
+use wsp_solver::{Outcome, Unsolved};
 
 /// Finds verdicts one after the other, on one thread. For a claim the plan that is kept for the
 /// case decides where it gives the step to the user, else a plan near it where one is valid, and
@@ -60,7 +61,13 @@ pub(crate) fn near_plan(p: &Policy, cases: &Cases, deed: &Deed) -> Option<Plan>
     ensures { IfSome result (IsPlanFor (book_of p.now cases.now) (Ok deed.now)) }
 {
     match deed {
-        Deed::Open { flow } => near_opening(p, *flow, cases.recent_plan(*flow)),
+        Deed::Open { flow } => {
+            let course = Course {
+                policy: p,
+                number: *flow,
+            };
+            near_opening(&course, cases.recent_plan(*flow))
+        }
         Deed::Claim {
             number,
             case,
@@ -93,12 +100,11 @@ fn near_claim(
 }
 
 // A plan for an opening, by a plan with which a case of the workflow was opened before.
-fn near_opening(p: &Policy, f: FlowId, recent: Option<Plan>) -> Option<Plan>
-    requires { f < length p.now.flows }
-    ensures { IfSome result (IsValidPlan (problem_of p.now f) no_users no_steps) }
+fn near_opening(course: &Course, recent: Option<Plan>) -> Option<Plan>
+    ensures { IfSome result (IsValidPlan (problem_in course.now) no_users no_steps) }
 {
     match recent {
-        Some(kept) => plan_fresh(p, f, &kept),
+        Some(kept) => plan_fresh(course, &kept),
         None => None,
     }
 }
@@ -117,7 +123,13 @@ pub(crate) fn verdict_on(alloc: Global, p: &Policy, cases: &Cases, deed: &Deed) 
     ensures { DecidesDeed (book_of p.now cases.now) deed.now result }
 {
     match deed {
-        Deed::Open { flow } => open_verdict(alloc, p, *flow, cases.recent_plan(*flow)),
+        Deed::Open { flow } => {
+            let course = Course {
+                policy: p,
+                number: *flow,
+            };
+            open_verdict(alloc, &course, cases.recent_plan(*flow))
+        }
         Deed::Claim {
             number,
             case,
@@ -157,11 +169,10 @@ fn claim_verdict(
 }
 
 // The verdict on an opening, by a plan with which a case of the workflow was opened before.
-fn open_verdict(alloc: Global, p: &Policy, f: FlowId, recent: Option<Plan>) -> Verdict
-    requires { f < length p.now.flows }
-    ensures { DecidesFor (problem_of p.now f) no_users no_steps result }
+fn open_verdict(alloc: Global, course: &Course, recent: Option<Plan>) -> Verdict
+    ensures { DecidesFor (problem_in course.now) no_users no_steps result }
 {
-    match outcome_fresh(alloc, p, f, recent) {
+    match outcome_fresh(alloc, course, recent) {
         Ok(outcome) => verdict_of(alloc, outcome),
         Err(unfound) => verdict_without(unfound),
     }
@@ -187,12 +198,12 @@ fn verdict_by(tree: Result<Shared<Tree>, AllocError>) -> Verdict
 }
 
 /// Why there is no other verdict, as one.
-pub(crate) fn verdict_without(unfound: Unfound) -> Verdict
+pub(crate) fn verdict_without(unfound: Unsolved) -> Verdict
     ensures { result ≡ verdict_without unfound }
 {
     match unfound {
-        Unfound::NoMemory => Verdict::NoMemory,
-        Unfound::OverBudget => Verdict::OverBudget,
+        Unsolved::NoMemory => Verdict::NoMemory,
+        Unsolved::OverBudget => Verdict::OverBudget,
     }
 }
 
@@ -206,7 +217,7 @@ fn work_verdict(alloc: Global, p: &Policy, cases: &Cases, user: UserId) -> Verdi
 }
 
 /// A work list as a verdict.
-pub(crate) fn work_view(listed: Result<WorkList, Unfound>) -> Verdict
+pub(crate) fn work_view(listed: Result<WorkList, Unsolved>) -> Verdict
     ensures { MatchResult listed (λ items. result ≡ Verdict.View (View.Work items))
         (λ unfound. result ≡ verdict_without unfound) }
 {
@@ -226,7 +237,7 @@ fn what_if_verdict(alloc: Global, p: &Policy, cases: &Cases, a: &Amendment) -> V
 }
 
 /// A list of stranded cases as a verdict.
-pub(crate) fn what_if_view(listed: Result<CaseList, Unfound>) -> Verdict
+pub(crate) fn what_if_view(listed: Result<CaseList, Unsolved>) -> Verdict
     ensures { MatchResult listed (λ cases. result ≡ Verdict.View (View.WhatIf cases))
         (λ unfound. result ≡ verdict_without unfound) }
 {

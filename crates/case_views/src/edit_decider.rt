@@ -1,5 +1,6 @@
 //! The decider for changes of the policy, on one thread.
 ghost use Rattle.std.specs.Prelude.{◌≡◌, ◌<◌, IfOk, IfSome, length};
+ghost use Rattle.policy_book.specs.Course.{problem_in};
 ghost use Rattle.policy_book.specs.Policies.{problem_of};
 ghost use Rattle.policy_book.specs.Plans.{AreAssigned, IsValidPlan, IsWithin};
 ghost use Rattle.case_record.specs.Cases.{assigned_of, finished_of};
@@ -12,22 +13,22 @@ ghost use Rattle.wf_board.specs.Kept.{ArePlanned, IsOfPolicy, IsPlanned};
 ghost use Rattle.case_views.specs.Deciding.{DecidesChange, AddsPlanOfRow, AddsPlan, IsLeft};
 ghost use Rattle.case_views.specs.Deciding.{IsPartAdded};
 ghost use Rattle.case_views.specs.Deciding.{IsVerdictOn};
-ghost use Rattle.case_views.specs.Listing.{IsLeftAt, open_in};
+ghost use Rattle.case_views.specs.Listing.{IsKeptRow, IsLeftAt, open_in};
 
 use crate::decider::verdict_without;
-use crate::found::{Unfound, outcome_near};
+use crate::found::outcome_near;
 use admin_edits::{Amendment, amended};
 use basics::{List, Shared};
 use case_record::Case;
 use constraint_forms::{Assign, Plan, StepSet};
 use grant_table::{Cases, Row};
-use policy_book::Policy;
+use policy_book::{Course, Policy};
 use refutation_tree::Tree;
 use std::alloc::{AllocError, Global};
 use std::sync::Arc;
-use wf_board::{Edition, Plans, Verdict, may_break};
-use wf_names::{CaseId, FlowId};
-use wsp_solver::{Outcome, plan_near};
+use wf_board::{Edition, Plans, Revision, Verdict, may_break};
+use wf_names::CaseId;
+use wsp_solver::{Outcome, Unsolved, plan_near};
 
 /// What a change leaves the open cases.
 #[derive(Drop)]
@@ -51,13 +52,18 @@ pub(crate) fn edit_verdict(alloc: Global, p: &Policy, cases: &Cases, a: &Amendme
     }
 }
 
-fn edited(alloc: Global, p: &Policy, cases: &Cases, a: &Amendment) -> Result<Verdict, Unfound>
+fn edited(alloc: Global, p: &Policy, cases: &Cases, a: &Amendment) -> Result<Verdict, Unsolved>
     requires kept { ArePlanned p.now cases.now.rows }
     requires allowed { IsAllowed p.now a.now }
     ensures { IfOk result (DecidesChange (book_of p.now cases.now) a.now) }
 {
     let after = amended(p, *a)?;
-    let left = left_open(alloc, p, a, &after, cases.rows())?;
+    let revision = Revision {
+        before: p,
+        amendment: a,
+        after: &after,
+    };
+    let left = left_open(alloc, &revision, cases.rows())?;
     Ok(edition_of(alloc, after, left)?)
 }
 
@@ -72,23 +78,15 @@ pub(crate) fn edition_of(alloc: Global, after: Policy, left: Left) -> Result<Ver
 }
 
 // What the changed policy leaves the open cases among these rows.
-fn left_open(
-    alloc: Global,
-    p: &Policy,
-    a: &Amendment,
-    after: &Policy,
-    rows: &[Row],
-) -> Result<Left, Unfound>
-    requires allowed { IsAllowed p.now a.now }
-    requires after { after.now ≡ amended p.now a.now }
-    requires kept { ArePlanned p.now rows.now }
-    ensures { IfOk result (IsLeft after.now (open_in rows.now)) }
+fn left_open(alloc: Global, revision: &Revision, rows: &[Row]) -> Result<Left, Unsolved>
+    requires { ArePlanned revision.now.before.now rows.now }
+    ensures { IfOk result (IsLeft revision.now.after.now (open_in rows.now)) }
 {
     let mut plans = Vec::with_capacity(alloc, rows.len())?;
     let mut recent = None;
     'rows: for i in 0..rows.len() {
         let row = &rows[i];
-        if let Some(tree) = add_plan(alloc, p, a, after, row, &mut recent, &mut plans)? {
+        if let Some(tree) = add_plan(alloc, revision, row, &mut recent, &mut plans)? {
             return Ok(Left::Stranded(row.number(), tree));
         }
     }
@@ -99,20 +97,16 @@ fn left_open(
 // none.
 fn add_plan(
     alloc: Global,
-    p: &Policy,
-    a: &Amendment,
-    after: &Policy,
+    revision: &Revision,
     row: &Row,
     recent: &mut Option<Plan>,
     plans: &mut Vec<Plan>,
-) -> Result<Option<Shared<Tree>>, Unfound>
-    requires allowed { IsAllowed p.now a.now }
-    requires after { after.now ≡ amended p.now a.now }
-    requires known { IsOfPolicy p.now row.now.case }
-    requires planned { IsPlanned p.now row.now.case row.now.plan }
-    ensures { IfOk result (AddsPlanOfRow after.now row.now plans.old.items plans.new.items) }
+) -> Result<Option<Shared<Tree>>, Unsolved>
+    requires { IsKeptRow revision.now.before.now row.now }
+    ensures { IfOk result (AddsPlanOfRow revision.now.after.now row.now plans.old.items
+        plans.new.items) }
 {
-    let left = left_at(alloc, p, a, after, row, recent)?;
+    let left = left_at(alloc, revision, row, recent)?;
     Ok(add_part(&left, plans)?)
 }
 
@@ -146,21 +140,16 @@ fn add_outcome(outcome: &Outcome, plans: &mut Vec<Plan>) -> Result<Option<Shared
 /// one that was found for another case is tried first, and what is found here is kept for the next.
 pub(crate) fn left_at(
     alloc: Global,
-    p: &Policy,
-    a: &Amendment,
-    after: &Policy,
+    revision: &Revision,
     row: &Row,
     recent: &mut Option<Plan>,
-) -> Result<Option<Outcome>, Unfound>
-    requires allowed { IsAllowed p.now a.now }
-    requires after { after.now ≡ amended p.now a.now }
-    requires known { IsOfPolicy p.now row.now.case }
-    requires planned { IsPlanned p.now row.now.case row.now.plan }
-    ensures { IfOk result (IsLeftAt after.now row.now) }
+) -> Result<Option<Outcome>, Unsolved>
+    requires { IsKeptRow revision.now.before.now row.now }
+    ensures { IfOk result (IsLeftAt revision.now.after.now row.now) }
 {
     match row.plan() {
         Some(kept) if row.case().phase().is_live() => {
-            Ok(Some(plan_for(alloc, p, a, after, row.case(), kept, recent)?))
+            Ok(Some(plan_for(alloc, revision, row.case(), kept, recent)?))
         }
         _ => Ok(None),
     }
@@ -169,22 +158,18 @@ pub(crate) fn left_at(
 // A plan for a case under the changed policy: the one that it has, where it stays valid.
 fn plan_for(
     alloc: Global,
-    p: &Policy,
-    a: &Amendment,
-    after: &Policy,
+    revision: &Revision,
     case: &Case,
     kept: Plan,
     recent: &mut Option<Plan>,
-) -> Result<Outcome, Unfound>
-    requires allowed { IsAllowed p.now a.now }
-    requires after { after.now ≡ amended p.now a.now }
-    requires known { IsOfPolicy p.now case.now }
-    requires valid { IsPlanOf p.now case.now kept }
-    ensures { IfOk result (HasSolved (problem_of after.now case.now.flow) (assigned_of case.now)
-        (finished_of case.now)) }
+) -> Result<Outcome, Unsolved>
+    requires known { IsOfPolicy revision.now.before.now case.now }
+    requires valid { IsPlanOf revision.now.before.now case.now kept }
+    ensures { IfOk result (HasSolved (problem_of revision.now.after.now case.now.flow)
+        (assigned_of case.now) (finished_of case.now)) }
 {
-    if may_break(p, after, a, case, &kept) {
-        outcome_of(alloc, after, case, &kept, recent)
+    if may_break(revision, case, &kept) {
+        outcome_of(alloc, revision.after, case, &kept, recent)
     } else {
         Ok(Outcome::Plan(kept))
     }
@@ -197,14 +182,18 @@ pub(crate) fn outcome_of(
     case: &Case,
     kept: &Plan,
     recent: &mut Option<Plan>,
-) -> Result<Outcome, Unfound>
+) -> Result<Outcome, Unsolved>
     requires flow { case.now.flow < length p.now.flows }
     requires within { IsWithin (problem_of p.now case.now.flow) (assigned_of case.now) }
     ensures { IfOk result (HasSolved (problem_of p.now case.now.flow) (assigned_of case.now)
         (finished_of case.now)) }
 {
+    let course = Course {
+        policy: p,
+        number: case.flow(),
+    };
     let (assigned, done) = progress_of(case);
-    let outcome = outcome_by(alloc, p, case.flow(), &assigned, &done, recent, kept)?;
+    let outcome = outcome_by(alloc, &course, &assigned, &done, recent, kept)?;
     if let Outcome::Plan(plan) = &outcome {
         *recent = Some(*plan);
     }
@@ -215,37 +204,28 @@ pub(crate) fn outcome_of(
 // is kept, where one is valid, and else what a search finds.
 fn outcome_by(
     alloc: Global,
-    p: &Policy,
-    f: FlowId,
+    course: &Course,
     a: &Assign,
     done: &StepSet,
     recent: &Option<Plan>,
     kept: &Plan,
-) -> Result<Outcome, Unfound>
-    requires flow { f < length p.now.flows }
-    requires within { IsWithin (problem_of p.now f) a.now }
+) -> Result<Outcome, Unsolved>
+    requires within { IsWithin (problem_in course.now) a.now }
     requires assigned { AreAssigned done.now a.now }
-    ensures { IfOk result (HasSolved (problem_of p.now f) a.now done.now) }
+    ensures { IfOk result (HasSolved (problem_in course.now) a.now done.now) }
 {
-    match near_recent(p, f, a, done, recent) {
+    match near_recent(course, a, done, recent) {
         Some(near) => Ok(Outcome::Plan(near)),
-        None => outcome_near(alloc, p, f, a, done, kept),
+        None => outcome_near(alloc, course, a, done, kept),
     }
 }
 
-fn near_recent(
-    p: &Policy,
-    f: FlowId,
-    a: &Assign,
-    done: &StepSet,
-    recent: &Option<Plan>,
-) -> Option<Plan>
-    requires flow { f < length p.now.flows }
-    requires within { IsWithin (problem_of p.now f) a.now }
-    ensures { IfSome result (IsValidPlan (problem_of p.now f) a.now done.now) }
+fn near_recent(course: &Course, a: &Assign, done: &StepSet, recent: &Option<Plan>) -> Option<Plan>
+    requires within { IsWithin (problem_in course.now) a.now }
+    ensures { IfSome result (IsValidPlan (problem_in course.now) a.now done.now) }
 {
     match recent {
-        Some(plan) => plan_near(p, f, a, done, plan),
+        Some(plan) => plan_near(course.policy, course.number, a, done, plan),
         None => None,
     }
 }

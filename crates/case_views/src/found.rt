@@ -1,6 +1,7 @@
 //! Whether an assignment can be completed, as a plan that is known and then a search tells.
 ghost use Rattle.std.specs.Prelude.{◌≡◌, ◌<◌, length, IfOk, IfSome};
 ghost use Rattle.constraint_forms.specs.Assign.{no_steps, no_users};
+ghost use Rattle.policy_book.specs.Course.{problem_in};
 ghost use Rattle.policy_book.specs.Policies.{problem_of};
 ghost use Rattle.policy_book.specs.Plans.{AreAssigned, IsValidPlan, IsWithin};
 ghost use Rattle.wf_names.specs.declared.limits.TheConstants.{STEP_LIMIT};
@@ -13,30 +14,11 @@ ghost use Rattle.wf_board.specs.Kept.{IsOfPolicy};
 use case_record::Case;
 use certificate_check::moved_plan;
 use constraint_forms::{Assign, Plan, StepSet};
-use policy_book::Policy;
-use std::alloc::{AllocError, Global};
+use policy_book::{Course, Policy};
+use std::alloc::Global;
 use wf_board::TREE_LIMIT;
-use wf_names::{FlowId, StepId, UserId};
+use wf_names::{StepId, UserId};
 use wsp_solver::{Outcome, Unsolved, plan_near, solve_within};
-
-/// Why something was not found out.
-#[derive(Clone, Copy)]
-pub enum Unfound {
-    /// An allocation was refused.
-    NoMemory,
-    /// A search would keep more than its budget.
-    OverBudget,
-}
-
-impl From<AllocError> for Unfound {
-    ghost use Rattle.case_views.specs.declared.found.Unfound.TheVariants.{NoMemory};
-
-    ghost from_gives = { λ _ r. r ≡ NoMemory };
-
-    fn from(_: AllocError) -> Unfound {
-        Unfound::NoMemory
-    }
-}
 
 /// A plan for a case with one of its steps given to a user: one that `plan_with` finds, and else
 /// what a search finds.
@@ -47,7 +29,7 @@ pub(crate) fn outcome_with(
     kept: &Plan,
     step: StepId,
     user: UserId,
-) -> Result<Outcome, Unfound>
+) -> Result<Outcome, Unsolved>
     requires known { IsOfPolicy p.now case.now }
     requires valid { IsPlanOf p.now case.now kept.now }
     requires step { step < length case.now.states }
@@ -60,7 +42,14 @@ pub(crate) fn outcome_with(
         Some(plan) => Ok(Outcome::Plan(plan)),
         None => {
             let assigned = assigned_with(case, step, user);
-            solve_for_entry(alloc, p, case.flow(), &assigned, &case.finished())
+            solve_within(
+                alloc,
+                p,
+                case.flow(),
+                &assigned,
+                &case.finished(),
+                TREE_LIMIT,
+            )
         }
     }
 }
@@ -96,12 +85,11 @@ pub(crate) fn plan_with(
 }
 
 /// A plan for a fresh case of a workflow near another, if one is valid.
-pub(crate) fn plan_fresh(p: &Policy, f: FlowId, kept: &Plan) -> Option<Plan>
-    requires { f < length p.now.flows }
-    ensures { IfSome result (IsValidPlan (problem_of p.now f) no_users no_steps) }
+pub(crate) fn plan_fresh(course: &Course, kept: &Plan) -> Option<Plan>
+    ensures { IfSome result (IsValidPlan (problem_in course.now) no_users no_steps) }
 {
     let (assigned, done) = (Assign::empty(), StepSet::empty());
-    plan_near(p, f, &assigned, &done, kept)
+    plan_near(course.policy, course.number, &assigned, &done, kept)
 }
 
 // What is assigned in a case, with one of its steps given to a user.
@@ -119,17 +107,22 @@ fn assigned_with(case: &Case, step: StepId, user: UserId) -> Assign
 /// is valid, and else what a search finds.
 pub(crate) fn outcome_fresh(
     alloc: Global,
-    p: &Policy,
-    f: FlowId,
+    course: &Course,
     recent: Option<Plan>,
-) -> Result<Outcome, Unfound>
-    requires { f < length p.now.flows }
-    ensures { IfOk result (HasSolved (problem_of p.now f) no_users no_steps) }
+) -> Result<Outcome, Unsolved>
+    ensures { IfOk result (HasSolved (problem_in course.now) no_users no_steps) }
 {
     let (assigned, done) = (Assign::empty(), StepSet::empty());
     match recent {
-        Some(kept) => outcome_near(alloc, p, f, &assigned, &done, &kept),
-        None => solve_for_entry(alloc, p, f, &assigned, &done),
+        Some(kept) => outcome_near(alloc, course, &assigned, &done, &kept),
+        None => solve_within(
+            alloc,
+            course.policy,
+            course.number,
+            &assigned,
+            &done,
+            TREE_LIMIT,
+        ),
     }
 }
 
@@ -137,39 +130,17 @@ pub(crate) fn outcome_fresh(
 /// finds.
 pub(crate) fn outcome_near(
     alloc: Global,
-    p: &Policy,
-    f: FlowId,
+    course: &Course,
     a: &Assign,
     done: &StepSet,
     kept: &Plan,
-) -> Result<Outcome, Unfound>
-    requires flow { f < length p.now.flows }
-    requires within { IsWithin (problem_of p.now f) a.now }
+) -> Result<Outcome, Unsolved>
+    requires within { IsWithin (problem_in course.now) a.now }
     requires assigned { AreAssigned done.now a.now }
-    ensures { IfOk result (HasSolved (problem_of p.now f) a.now done.now) }
+    ensures { IfOk result (HasSolved (problem_in course.now) a.now done.now) }
 {
-    match plan_near(p, f, a, done, kept) {
+    match plan_near(course.policy, course.number, a, done, kept) {
         Some(near) => Ok(Outcome::Plan(near)),
-        None => solve_for_entry(alloc, p, f, a, done),
-    }
-}
-
-// What a search finds that has room in an entry.
-fn solve_for_entry(
-    alloc: Global,
-    p: &Policy,
-    f: FlowId,
-    a: &Assign,
-    done: &StepSet,
-) -> Result<Outcome, Unfound>
-    requires flow { f < length p.now.flows }
-    requires within { IsWithin (problem_of p.now f) a.now }
-    requires assigned { AreAssigned done.now a.now }
-    ensures { IfOk result (HasSolved (problem_of p.now f) a.now done.now) }
-{
-    match solve_within(alloc, p, f, a, done, TREE_LIMIT) {
-        Ok(outcome) => Ok(outcome),
-        Err(Unsolved::NoMemory) => Err(Unfound::NoMemory),
-        Err(Unsolved::OverBudget) => Err(Unfound::OverBudget),
+        None => solve_within(alloc, course.policy, course.number, a, done, TREE_LIMIT),
     }
 }

@@ -16,7 +16,6 @@ mod work_lists;
 
 pub use caching::CachingDecider;
 pub use decider::PlainDecider;
-pub use found::Unfound;
 pub use spread::SpreadDecider;
 pub use stranded::what_if;
 pub use verdict_cache::VerdictCache;

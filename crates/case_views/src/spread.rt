@@ -14,7 +14,6 @@ ghost use Rattle.case_views.specs.Listing.{IsLeftAt, list_of, open_in};
 
 use crate::decider::{near_plan, no_verdict, verdict_on, verdict_without, what_if_view, work_view};
 use crate::edit_decider::{Left, add_part, edition_of};
-use crate::found::Unfound;
 use crate::spread_parts::{left_parts, stranded_parts, work_parts};
 use crate::stranded::add_number;
 use admin_edits::{Amendment, amended};
@@ -24,10 +23,10 @@ use grant_table::{Cases, Row};
 use policy_book::Policy;
 use std::alloc::{AllocError, Global};
 use std::thread::Threads;
-use wf_board::{Decider, Deed, Snap, Verdict, decision_aside};
+use wf_board::{Decider, Deed, Revision, Snap, Verdict, decision_aside};
 use wf_names::{CaseId, UserId};
 use wf_talk::{Ask, CaseList, WorkList};
-use wsp_solver::Outcome;
+use wsp_solver::{Outcome, Unsolved};
 
 /// Finds right verdicts, as `PlainDecider` does, and the same lists. For an edit or a view it goes
 /// over the open cases in as many threads as are worth it; openings and claims stay on one.
@@ -113,14 +112,19 @@ fn edited<R: Threads + Sync>(
     p: &Policy,
     cases: &Cases,
     a: &Amendment,
-) -> Result<Verdict, Unfound>
+) -> Result<Verdict, Unsolved>
     requires kept { ArePlanned p.now cases.now.rows }
     requires allowed { IsAllowed p.now a.now }
     ensures { IfOk result (DecidesChange (book_of p.now cases.now) a.now) }
 {
     let after = amended(p, *a)?;
+    let revision = Revision {
+        before: p,
+        amendment: a,
+        after: &after,
+    };
     let rows = cases.rows();
-    let parts = left_parts(rt, alloc, p, a, &after, rows)?;
+    let parts = left_parts(rt, alloc, &revision, rows)?;
     let left = left_of(alloc, rows, &parts)?;
     Ok(edition_of(alloc, after, left)?)
 }
@@ -162,7 +166,7 @@ fn spread_work<R: Threads + Sync>(
     p: &Policy,
     cases: &Cases,
     u: UserId,
-) -> Result<WorkList, Unfound>
+) -> Result<WorkList, Unsolved>
     requires kept { ArePlanned p.now cases.now.rows }
     requires user { u < length p.now.roster.users }
     ensures { IfOk result (IsWorkOf (book_of p.now cases.now) u) }
@@ -203,14 +207,19 @@ fn spread_stranded<R: Threads + Sync>(
     p: &Policy,
     cases: &Cases,
     a: &Amendment,
-) -> Result<CaseList, Unfound>
+) -> Result<CaseList, Unsolved>
     requires kept { ArePlanned p.now cases.now.rows }
     requires allowed { IsAllowed p.now a.now }
     ensures { IfOk result (AreStranded (amended p.now a.now)
         (open_cases (book_of p.now cases.now).cases)) }
 {
     let after = amended(p, *a)?;
-    let parts = stranded_parts(rt, alloc, p, a, &after, cases.rows())?;
+    let revision = Revision {
+        before: p,
+        amendment: a,
+        after: &after,
+    };
+    let parts = stranded_parts(rt, alloc, &revision, cases.rows())?;
     Ok(joined_cases(alloc, &parts)?)
 }
 

@@ -7,20 +7,19 @@ ghost use Rattle.wf_board.specs.Kept.{ArePlanned};
 ghost use Rattle.case_views.specs.Listing.{AreStrandedIn, IsKeptRow, IsLeftAt, IsWorkIn, list_of};
 
 use crate::edit_decider::left_at;
-use crate::found::Unfound;
 use crate::granted::Work;
 use crate::seen::Seen;
 use crate::stranded::stranded_at;
 use crate::work_lists::work_at;
-use admin_edits::Amendment;
 use grant_table::Row;
 use policy_book::Policy;
 use rayon::prelude::*;
 use std::alloc::Global;
 use std::thread::Threads;
+use wf_board::Revision;
 use wf_names::{CaseId, UserId};
 use wf_talk::WorkList;
-use wsp_solver::Outcome;
+use wsp_solver::{Outcome, Unsolved};
 
 /// So few cases stay on one thread.
 const PIECE: usize = 16;
@@ -32,17 +31,17 @@ pub(crate) fn work_parts<R: Threads + Sync>(
     p: &Policy,
     u: UserId,
     rows: &[Row],
-) -> Result<Vec<WorkList>, Unfound>
+) -> Result<Vec<WorkList>, Unsolved>
     requires kept { ArePlanned p.now rows.now }
     requires user { u < length p.now.roster.users }
     ensures { IfOk result (λ parts. AllZip (λ r part. IsWorkIn p.now u (r ∷ []) part) rows.now
         parts.items) }
 {
-    let parts: Result<Vec<WorkList>, Unfound> = rows
+    let parts: Result<Vec<WorkList>, Unsolved> = rows
         .par_iter()
         .with_min_len(PIECE)
         .map(
-            |row: &Row| -> Result<WorkList, Unfound>
+            |row: &Row| -> Result<WorkList, Unsolved>
                 requires { IsKeptRow p.now row.now × (u < length p.now.roster.users) }
                 ensures { IfOk result (IsWorkIn p.entry.now u (row.now ∷ [])) }
             { work_at(alloc, p, u, row, &mut Work::nothing(alloc)) },
@@ -55,27 +54,23 @@ pub(crate) fn work_parts<R: Threads + Sync>(
 pub(crate) fn stranded_parts<R: Threads + Sync>(
     rt: &R,
     alloc: Global,
-    p: &Policy,
-    a: &Amendment,
-    after: &Policy,
+    revision: &Revision,
     rows: &[Row],
-) -> Result<Vec<Option<CaseId>>, Unfound>
-    requires allowed { IsAllowed p.now a.now }
-    requires after { after.now ≡ amended p.now a.now }
-    requires kept { ArePlanned p.now rows.now }
+) -> Result<Vec<Option<CaseId>>, Unsolved>
+    requires { ArePlanned revision.now.before.now rows.now }
     ensures { IfOk result (λ parts. AllZip
-        (λ r part. AreStrandedIn after.now (r ∷ []) (list_of part)) rows.now parts.items) }
+        (λ r part. AreStrandedIn revision.now.after.now (r ∷ []) (list_of part)) rows.now
+        parts.items) }
 {
-    let parts: Result<Vec<Option<CaseId>>, Unfound> = rows
+    let parts: Result<Vec<Option<CaseId>>, Unsolved> = rows
         .par_iter()
         .with_min_len(PIECE)
         .map(
-            |row: &Row| -> Result<Option<CaseId>, Unfound>
-                requires { IsKeptRow p.now row.now × IsAllowed p.now a.now
-                    × (after.now ≡ amended p.now a.now) }
-                ensures { IfOk result (λ part. AreStrandedIn after.entry.now (row.now ∷ [])
-                    (list_of part)) }
-            { stranded_at(alloc, p, a, after, row, &mut Seen::nothing(alloc)) },
+            |row: &Row| -> Result<Option<CaseId>, Unsolved>
+                requires { IsKeptRow revision.now.before.now row.now }
+                ensures { IfOk result (λ part. AreStrandedIn revision.entry.now.after.now
+                    (row.now ∷ []) (list_of part)) }
+            { stranded_at(alloc, revision, row, &mut Seen::nothing(alloc)) },
         )
         .collect(rt, alloc)?;
     parts
@@ -85,25 +80,20 @@ pub(crate) fn stranded_parts<R: Threads + Sync>(
 pub(crate) fn left_parts<R: Threads + Sync>(
     rt: &R,
     alloc: Global,
-    p: &Policy,
-    a: &Amendment,
-    after: &Policy,
+    revision: &Revision,
     rows: &[Row],
-) -> Result<Vec<Option<Outcome>>, Unfound>
-    requires allowed { IsAllowed p.now a.now }
-    requires after { after.now ≡ amended p.now a.now }
-    requires kept { ArePlanned p.now rows.now }
-    ensures { IfOk result (λ parts. AllZip (IsLeftAt after.now) rows.now parts.items) }
+) -> Result<Vec<Option<Outcome>>, Unsolved>
+    requires { ArePlanned revision.now.before.now rows.now }
+    ensures { IfOk result (λ parts. AllZip (IsLeftAt revision.now.after.now) rows.now parts.items) }
 {
-    let parts: Result<Vec<Option<Outcome>>, Unfound> = rows
+    let parts: Result<Vec<Option<Outcome>>, Unsolved> = rows
         .par_iter()
         .with_min_len(PIECE)
         .map(
-            |row: &Row| -> Result<Option<Outcome>, Unfound>
-                requires { IsKeptRow p.now row.now × IsAllowed p.now a.now
-                    × (after.now ≡ amended p.now a.now) }
-                ensures { IfOk result (IsLeftAt after.entry.now row.now) }
-            { left_at(alloc, p, a, after, row, &mut None) },
+            |row: &Row| -> Result<Option<Outcome>, Unsolved>
+                requires { IsKeptRow revision.now.before.now row.now }
+                ensures { IfOk result (IsLeftAt revision.entry.now.after.now row.now) }
+            { left_at(alloc, revision, row, &mut None) },
         )
         .collect(rt, alloc)?;
     parts

@@ -11,11 +11,10 @@ ghost use Rattle.wf_board.specs.Found.{IsAllowed};
 ghost use Rattle.wf_board.specs.Kept.{ArePlanned, IsOfPolicy, IsPlanned};
 ghost use Rattle.wf_board.specs.States.{open_cases};
 ghost use Rattle.wf_board.specs.Views.{AreStranded};
-ghost use Rattle.case_views.specs.Listing.{AreStrandedIn, list_of};
+ghost use Rattle.case_views.specs.Listing.{AreStrandedIn, IsKeptRow, list_of};
 ghost use Rattle.case_views.specs.Seeing.{IsTold, TellsRight};
 
 use crate::edit_decider::outcome_of;
-use crate::found::Unfound;
 use crate::seen::Seen;
 use crate::work_lists::is_plan;
 use admin_edits::{Amendment, amended, amendment_of};
@@ -24,14 +23,15 @@ use constraint_forms::Plan;
 use grant_table::{Cases, Row};
 use policy_book::Policy;
 use std::alloc::{AllocError, Global};
-use wf_board::{Snap, may_break};
+use wf_board::{Revision, Snap, may_break};
 use wf_names::{CaseId, Name};
 use wf_talk::{CaseList, Edit};
+use wsp_solver::Unsolved;
 
 /// The open cases that an edit against which there is no cause would leave without a valid plan,
 /// ascending. The plan that is kept for a case is taken where the edit cannot hurt it, else a plan
 /// near it where one is valid, and else a search is made. Nothing is changed.
-pub fn what_if(alloc: Global, snap: &Snap, by: &Name, e: &Edit) -> Result<CaseList, Unfound>
+pub fn what_if(alloc: Global, snap: &Snap, by: &Name, e: &Edit) -> Result<CaseList, Unsolved>
     requires { edit_cause snap.now.policy by.now e.now ≡ None }
     ensures { IfOk result (AreStranded (edited_policy snap.now.policy by.now e.now)
         (open_cases (book_on snap.now).cases)) }
@@ -48,33 +48,30 @@ pub(crate) fn stranded_by(
     p: &Policy,
     cases: &Cases,
     a: &Amendment,
-) -> Result<CaseList, Unfound>
+) -> Result<CaseList, Unsolved>
     requires kept { ArePlanned p.now cases.now.rows }
     requires allowed { IsAllowed p.now a.now }
     ensures { IfOk result (AreStranded (amended p.now a.now)
         (open_cases (book_of p.now cases.now).cases)) }
 {
     let after = amended(p, *a)?;
-    stranded_in(alloc, p, a, &after, cases.rows())
+    let revision = Revision {
+        before: p,
+        amendment: a,
+        after: &after,
+    };
+    stranded_in(alloc, &revision, cases.rows())
 }
 
 // Those among the cases of rows.
-fn stranded_in(
-    alloc: Global,
-    p: &Policy,
-    a: &Amendment,
-    after: &Policy,
-    rows: &[Row],
-) -> Result<CaseList, Unfound>
-    requires allowed { IsAllowed p.now a.now }
-    requires after { after.now ≡ amended p.now a.now }
-    requires kept { ArePlanned p.now rows.now }
-    ensures { IfOk result (AreStrandedIn after.now rows.now) }
+fn stranded_in(alloc: Global, revision: &Revision, rows: &[Row]) -> Result<CaseList, Unsolved>
+    requires { ArePlanned revision.now.before.now rows.now }
+    ensures { IfOk result (AreStrandedIn revision.now.after.now rows.now) }
 {
     let mut numbers = CaseList::new(alloc);
     let mut seen = Seen::nothing(alloc);
     'rows: for i in 0..rows.len() {
-        let number = stranded_at(alloc, p, a, after, &rows[i], &mut seen)?;
+        let number = stranded_at(alloc, revision, &rows[i], &mut seen)?;
         add_number(number, &mut numbers)?;
     }
     Ok(numbers)
@@ -84,24 +81,19 @@ fn stranded_in(
 /// the next.
 pub(crate) fn stranded_at(
     alloc: Global,
-    p: &Policy,
-    a: &Amendment,
-    after: &Policy,
+    revision: &Revision,
     row: &Row,
     seen: &mut Seen,
-) -> Result<Option<CaseId>, Unfound>
-    requires allowed { IsAllowed p.now a.now }
-    requires after { after.now ≡ amended p.now a.now }
-    requires known { IsOfPolicy p.now row.now.case }
-    requires planned { IsPlanned p.now row.now.case row.now.plan }
-    requires right { TellsRight after.now seen.old }
+) -> Result<Option<CaseId>, Unsolved>
+    requires row { IsKeptRow revision.now.before.now row.now }
+    requires right { TellsRight revision.now.after.now seen.old }
     ensures number { IfOk result
-        (λ number. AreStrandedIn after.now (row.now ∷ []) (list_of number)) }
-    ensures right { TellsRight after.now seen.new }
+        (λ number. AreStrandedIn revision.now.after.now (row.now ∷ []) (list_of number)) }
+    ensures right { TellsRight revision.now.after.now seen.new }
 {
     match row.plan() {
         Some(kept) if row.case().phase().is_live() => {
-            stranded_with(alloc, p, a, after, row, &kept, seen)
+            stranded_with(alloc, revision, row, &kept, seen)
         }
         _ => Ok(None),
     }
@@ -110,24 +102,20 @@ pub(crate) fn stranded_at(
 // The same of an open case and the plan that is kept for it.
 fn stranded_with(
     alloc: Global,
-    p: &Policy,
-    a: &Amendment,
-    after: &Policy,
+    revision: &Revision,
     row: &Row,
     kept: &Plan,
     seen: &mut Seen,
-) -> Result<Option<CaseId>, Unfound>
-    requires allowed { IsAllowed p.now a.now }
-    requires after { after.now ≡ amended p.now a.now }
-    requires known { IsOfPolicy p.now row.now.case }
+) -> Result<Option<CaseId>, Unsolved>
+    requires known { IsOfPolicy revision.now.before.now row.now.case }
     requires live { is_open row.now.case ≡ true }
-    requires valid { IsPlanOf p.now row.now.case kept.now }
-    requires right { TellsRight after.now seen.old }
+    requires valid { IsPlanOf revision.now.before.now row.now.case kept.now }
+    requires right { TellsRight revision.now.after.now seen.old }
     ensures number { IfOk result
-        (λ number. AreStrandedIn after.now (row.now ∷ []) (list_of number)) }
-    ensures right { TellsRight after.now seen.new }
+        (λ number. AreStrandedIn revision.now.after.now (row.now ∷ []) (list_of number)) }
+    ensures right { TellsRight revision.now.after.now seen.new }
 {
-    let completable = stays_completable(alloc, p, a, after, row.case(), kept, seen)?;
+    let completable = stays_completable(alloc, revision, row.case(), kept, seen)?;
     Ok(number_unless(row, completable))
 }
 
@@ -147,23 +135,19 @@ fn number_unless(row: &Row, completable: bool) -> Option<CaseId>
 // Whether a case can be completed under the changed policy.
 fn stays_completable(
     alloc: Global,
-    p: &Policy,
-    a: &Amendment,
-    after: &Policy,
+    revision: &Revision,
     case: &Case,
     kept: &Plan,
     seen: &mut Seen,
-) -> Result<bool, Unfound>
-    requires allowed { IsAllowed p.now a.now }
-    requires after { after.now ≡ amended p.now a.now }
-    requires known { IsOfPolicy p.now case.now }
-    requires valid { IsPlanOf p.now case.now kept.now }
-    requires right { TellsRight after.now seen.old }
-    ensures told { IfOk result (IsTold after.now case.now) }
-    ensures right { TellsRight after.now seen.new }
+) -> Result<bool, Unsolved>
+    requires known { IsOfPolicy revision.now.before.now case.now }
+    requires valid { IsPlanOf revision.now.before.now case.now kept.now }
+    requires right { TellsRight revision.now.after.now seen.old }
+    ensures told { IfOk result (IsTold revision.now.after.now case.now) }
+    ensures right { TellsRight revision.now.after.now seen.new }
 {
-    if may_break(p, after, a, case, kept) {
-        is_completable(alloc, after, case, kept, seen)
+    if may_break(revision, case, kept) {
+        is_completable(alloc, revision.after, case, kept, seen)
     } else {
         Ok(true)
     }
@@ -177,7 +161,7 @@ fn is_completable(
     case: &Case,
     kept: &Plan,
     seen: &mut Seen,
-) -> Result<bool, Unfound>
+) -> Result<bool, Unsolved>
     requires flow { case.now.flow < length p.now.flows }
     requires within { IsWithin (problem_of p.now case.now.flow) (assigned_of case.now) }
     requires right { TellsRight p.now seen.old }

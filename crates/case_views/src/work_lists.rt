@@ -8,10 +8,11 @@ ghost use Rattle.wf_board.specs.Boards.{book_of, book_on, numbered};
 ghost use Rattle.wf_board.specs.Edition.{IsPlanOf};
 ghost use Rattle.wf_board.specs.Kept.{ArePlanned, IsOfPolicy, IsPlanned};
 ghost use Rattle.wf_board.specs.Views.{IsGrantable, IsWorkOf, item_of, steps_from};
-ghost use Rattle.case_views.specs.Listing.{AreGrantable, HasListed, IsWorkIn, is_plan};
+ghost use Rattle.case_views.specs.Listing.{AreGrantable, HasListed, IsKeptRow, IsWorkIn};
+ghost use Rattle.case_views.specs.Listing.{is_plan};
 ghost use Rattle.case_views.specs.Granting.{TellsSteps, TellsWork};
 
-use crate::found::{Unfound, outcome_with};
+use crate::found::outcome_with;
 use crate::granted::Work;
 use admin_edits::has_cause;
 use case_record::Case;
@@ -22,13 +23,13 @@ use std::alloc::{AllocError, Global};
 use wf_board::Snap;
 use wf_names::{StepId, UserId};
 use wf_talk::{WorkItem, WorkList};
-use wsp_solver::Outcome;
+use wsp_solver::{Outcome, Unsolved};
 
 /// The work of a user: the steps of the open cases that the user would be granted now, by ascending
 /// case and step. A step against which there is a cause is left at once; for the others the plan
 /// that is kept for the case decides where it gives the user the step, else a plan near it where
 /// one is valid, and else a search.
-pub fn worklist(alloc: Global, snap: &Snap, u: UserId) -> Result<WorkList, Unfound>
+pub fn worklist(alloc: Global, snap: &Snap, u: UserId) -> Result<WorkList, Unsolved>
     requires { u < length snap.now.policy.roster.users }
     ensures { IfOk result (IsWorkOf (book_on snap.now) u) }
 {
@@ -41,7 +42,7 @@ pub(crate) fn work_of(
     p: &Policy,
     cases: &Cases,
     u: UserId,
-) -> Result<WorkList, Unfound>
+) -> Result<WorkList, Unsolved>
     requires kept { ArePlanned p.now cases.now.rows }
     requires user { u < length p.now.roster.users }
     ensures { IfOk result (IsWorkOf (book_of p.now cases.now) u) }
@@ -50,7 +51,7 @@ pub(crate) fn work_of(
 }
 
 // The work of a user in the cases of rows.
-fn work_in(alloc: Global, p: &Policy, u: UserId, rows: &[Row]) -> Result<WorkList, Unfound>
+fn work_in(alloc: Global, p: &Policy, u: UserId, rows: &[Row]) -> Result<WorkList, Unsolved>
     requires kept { ArePlanned p.now rows.now }
     requires user { u < length p.now.roster.users }
     ensures { IfOk result (IsWorkIn p.now u rows.now) }
@@ -71,9 +72,8 @@ pub(crate) fn work_at(
     u: UserId,
     row: &Row,
     work: &mut Work,
-) -> Result<WorkList, Unfound>
-    requires known { IsOfPolicy p.now row.now.case }
-    requires planned { IsPlanned p.now row.now.case row.now.plan }
+) -> Result<WorkList, Unsolved>
+    requires row { IsKeptRow p.now row.now }
     requires user { u < length p.now.roster.users }
     requires right { TellsWork p.now u work.old }
     ensures work { IfOk result (IsWorkIn p.now u (row.now ∷ [])) }
@@ -95,7 +95,7 @@ fn granted_steps(
     row: &Row,
     kept: &Plan,
     work: &mut Work,
-) -> Result<WorkList, Unfound>
+) -> Result<WorkList, Unsolved>
     requires known { IsOfPolicy p.now row.now.case }
     requires valid { IsPlanOf p.now row.now.case kept.now }
     requires user { u < length p.now.roster.users }
@@ -116,7 +116,7 @@ fn known_steps(
     case: &Case,
     kept: &Plan,
     work: &mut Work,
-) -> Result<StepSet, Unfound>
+) -> Result<StepSet, Unsolved>
     requires known { IsOfPolicy p.now case.now }
     requires valid { IsPlanOf p.now case.now kept.now }
     requires user { u < length p.now.roster.users }
@@ -138,7 +138,7 @@ fn found_steps(
     u: UserId,
     case: &Case,
     kept: &Plan,
-) -> Result<StepSet, Unfound>
+) -> Result<StepSet, Unsolved>
     requires known { IsOfPolicy p.now case.now }
     requires valid { IsPlanOf p.now case.now kept.now }
     requires user { u < length p.now.roster.users }
@@ -207,7 +207,7 @@ fn is_granted(
     case: &Case,
     kept: &Plan,
     step: StepId,
-) -> Result<bool, Unfound>
+) -> Result<bool, Unsolved>
     requires known { IsOfPolicy p.now case.now }
     requires valid { IsPlanOf p.now case.now kept.now }
     requires user { u < length p.now.roster.users }

@@ -3,13 +3,14 @@
 
 use crate::fixture::{FLOW, PAY};
 use admin_edits::edit_cause;
-use case_views::{PlainDecider, SpreadDecider, Unfound, what_if, worklist};
+use case_views::{PlainDecider, SpreadDecider, what_if, worklist};
 use std::alloc::{AllocError, Global};
 use std::test::Fail;
 use std::thread::Threads;
 use wf_board::{Board, Decider, Snap, Verdict};
 use wf_names::{CaseId, Name, StepId, UserId};
 use wf_talk::{Ask, Denial, Edit, Reply, Request, WorkItem};
+use wsp_solver::Unsolved;
 
 /// More than stay on one thread.
 const CASES: u16 = 40;
@@ -157,19 +158,19 @@ fn lists(alloc: Global, board: &Board) -> Result<bool, AllocError> {
     let snap = board.snap(alloc, &Ask::Request(Request::Worklist { user }))?;
     match has_lists(alloc, &snap) {
         Ok(told) => Ok(told),
-        Err(Unfound::NoMemory) => Err(AllocError),
-        Err(Unfound::OverBudget) => Ok(false),
+        Err(Unsolved::NoMemory) => Err(AllocError),
+        Err(Unsolved::OverBudget) => Ok(false),
     }
 }
 
-fn has_lists(alloc: Global, snap: &Snap) -> Result<bool, Unfound> {
+fn has_lists(alloc: Global, snap: &Snap) -> Result<bool, Unsolved> {
     if snap.policy().roster().users().len() != 4 {
         return Ok(false);
     }
     Ok(are_approvals(worklist(alloc, snap, CYD)?.as_slice()) && strands(alloc, snap)?)
 }
 
-fn strands(alloc: Global, snap: &Snap) -> Result<bool, Unfound> {
+fn strands(alloc: Global, snap: &Snap) -> Result<bool, Unsolved> {
     let (Some(by), Some(edit)) = (Name::read("eve"), dismissal()) else {
         return Ok(false);
     };

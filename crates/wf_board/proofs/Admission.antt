@@ -31,8 +31,11 @@ use Rattle.wf_talk.specs.declared.reply.Denial.TheVariants as denial
 use Rattle.wf_board.specs.declared.admit.AdmitFault.{AdmitFault}
 use Rattle.wf_board.specs.declared.deed.Deed.{Deed}
 use Rattle.wf_board.specs.declared.deed.Deed.TheVariants as deed
+use Rattle.wf_board.specs.declared.verdict.Verdict.{Verdict}
 use Rattle.wf_board.specs.declared.verdict.Verdict.TheVariants as verdict
-use Rattle.wf_board.specs.Admission.{has_no_tree, when, HasAdmitted, IsNoAnswer}
+use Rattle.wf_board.specs.declared.verdict.View.{View}
+use Rattle.wf_board.specs.declared.verdict.View.TheVariants as view
+use Rattle.wf_board.specs.Admission.{has_no_tree, is_view_deed, reply_of, when, HasAdmitted, IsNoAnswer, IsVerdictFor}
 use Rattle.wf_board.specs.Boards.{EditionShape, book_of, state_on}
 use Rattle.wf_board.specs.Decisions.{cause_aside, cause_full, decision_aside, decision_of, is_held_by, unless_denied}
 use Rattle.wf_board.specs.Edition.{ArePlansOf, CanAllBeCompleted, IsFirstStranded, IsTreeOf}
@@ -44,7 +47,7 @@ use Rattle.wf_board.specs.Views.{AreStranded, IsWorkOf, steps_of}
 use Rattle.wf_talk.specs.declared.reply.WorkItem.{WorkItem}
 use Rattle.wf_board.specs.Steps.{Answers, IsReplyTo, IsStep, state_after_decision}
 use Rattle.wf_board.specs.Taking.{board_of, full_or, HasTakenStep, IsKept}
-use Rattle.wf_board.specs.Verdicts.{IsEditionFor, IsMadeOf, IsStrandingFor}
+use Rattle.wf_board.specs.Verdicts.{IsEditionFor, IsMadeOf, IsStrandingFor, IsViewFor}
 use Rattle.wf_board.proofs.Amended.{IsChange, IsFoundCase, change_decided, edition_change, plans_complete, same_case, stranded_case}
 use Rattle.wf_board.specs.KeptPlans.{rows_after}
 use Rattle.wf_board.proofs.Answering.{same_taken}
@@ -219,19 +222,6 @@ work_only s u items (reply.Work told) memory work other is =
     other (ap reply.Work (one_list _ _ _ (steps_of (open_cases s.book.cases)) told items (λ x is not. not is) is work))
 work_only s u items given memory work other is = is
 
--- a list of a user's work is taken where it is the one that is right
-pub work_admitted : (p : PolicyShape) (t : CasesShape) (u : ℕ) (items : List WorkItem) (given : Reply) (b : Bool) (result : Result (Unit {0}) AdmitFault) →
-    IsKept p t → given ≢ reply.NoMemory →
-    IsWorkOf (book_of p t) u items → b ≡ true ↔ given ≡ reply.Work items → result ≡ when b → HasAdmitted p t t (Ok (deed.Work u)) given result
-work_admitted p t u items given b result kept memory work test is =
-    test_admitted p t (Ok (deed.Work u)) given b result kept is
-    (λ passed edits. subst (IsReplyTo (state_on (board_of p t edits)) (deed.Work u)) (sym (test.0 passed)) work)
-    (λ failed edits. work_only (state_on (board_of p t edits)) u items given memory work (not_told failed))
-    (λ s. refl) refl
-  where
-    not_told : b ≡ false → given ≢ reply.Work items
-    not_told failed told = let apart : true ≡ false = sym (test.1 told) ∙ failed in cc
-
 what_if_only : (s : State) (a : Amendment) (numbers : List ℕ) (given : Reply) → given ≢ reply.NoMemory →
     AreStranded (amended s.book.policy a) (open_cases s.book.cases) numbers →
     given ≢ reply.WhatIf numbers → ¬ IsReplyTo s (deed.WhatIf a) given
@@ -240,18 +230,44 @@ what_if_only s a numbers (reply.WhatIf told) memory stranded other is =
     other (ap reply.WhatIf (one_list _ _ _ (open_cases s.book.cases) told numbers (λ e not is. not is) is stranded))
 what_if_only s a numbers given memory stranded other is = is
 
--- a list of stranded cases is taken where it is the one that is right
-pub what_if_admitted : (p : PolicyShape) (t : CasesShape) (a : Amendment) (numbers : List ℕ) (given : Reply) (b : Bool)
-    (result : Result (Unit {0}) AdmitFault) → IsKept p t → given ≢ reply.NoMemory →
-    AreStranded (amended p a) (open_cases (book_of p t).cases) numbers → b ≡ true ↔ given ≡ reply.WhatIf numbers → result ≡ when b →
-    HasAdmitted p t t (Ok (deed.WhatIf a)) given result
-what_if_admitted p t a numbers given b result kept memory stranded test is =
-    test_admitted p t (Ok (deed.WhatIf a)) given b result kept is
-    (λ passed edits. subst (IsReplyTo (state_on (board_of p t edits)) (deed.WhatIf a)) (sym (test.0 passed)) stranded)
-    (λ failed edits. what_if_only (state_on (board_of p t edits)) a numbers given memory stranded (not_told failed))
-    (λ s. refl) refl
+view_only : (s : State) (d : Deed) (v : View) (given : Reply) → given ≢ reply.NoMemory → IsViewFor s.book (Ok d) v → given ≢ reply_of v → ¬ IsReplyTo s d given
+view_only s (deed.Work u) (view.Work items) given memory right other = work_only s u items given memory right other
+view_only s (deed.WhatIf a) (view.WhatIf numbers) given memory right other = what_if_only s a numbers given memory right other
+view_only s d v given memory right other = absurd right
+
+view_tells : (s : State) (d : Deed) (v : View) → IsViewFor s.book (Ok d) v → IsReplyTo s d (reply_of v)
+view_tells s (deed.Work u) (view.Work items) right = right
+view_tells s (deed.WhatIf a) (view.WhatIf numbers) right = right
+view_tells s d v right = absurd right
+
+view_stays : (s : State) (d : Deed) (given : Reply) → is_view_deed d ≡ true → state_after_decision s (Ok d) given ≡ s
+view_stays s (deed.Work u) given is = refl
+view_stays s (deed.WhatIf a) given is = refl
+view_stays s d given is = cc
+
+view_rows : (p : PolicyShape) (t : CasesShape) (d : Deed) (given : Reply) → is_view_deed d ≡ true → rows_after p t (Ok d) given ≡ t.rows
+view_rows p t (deed.Work u) given is = refl
+view_rows p t (deed.WhatIf a) given is = refl
+view_rows p t d given is = cc
+
+pub view_right : (b : Book) (d : Deed) (v : Verdict) → is_view_deed d ≡ true → IsVerdictFor b d v → (w : View) × ((v ≡ verdict.View w) × IsViewFor b (Ok d) w)
+view_right b (deed.Work u) (verdict.View w) is right = (w, (refl, right))
+view_right b (deed.WhatIf a) (verdict.View w) is right = (w, (refl, right))
+view_right b (deed.Work u) v is right = absurd right
+view_right b (deed.WhatIf a) v is right = absurd right
+view_right b d v is right = cc
+
+-- the reply to a view is taken where it tells the one that is right
+pub view_admitted : (p : PolicyShape) (t : CasesShape) (d : Deed) (v : View) (given : Reply) (b : Bool) (result : Result (Unit {0}) AdmitFault) →
+    IsKept p t → given ≢ reply.NoMemory → is_view_deed d ≡ true →
+    IsViewFor (book_of p t) (Ok d) v → b ≡ true ↔ given ≡ reply_of v → result ≡ when b → HasAdmitted p t t (Ok d) given result
+view_admitted p t d v given b result kept memory is right test done =
+    test_admitted p t (Ok d) given b result kept done
+    (λ passed edits. subst (IsReplyTo (state_on (board_of p t edits)) d) (sym (test.0 passed)) (view_tells (state_on (board_of p t edits)) d v right))
+    (λ failed edits. view_only (state_on (board_of p t edits)) d v given memory right (not_told failed))
+    (λ s. view_stays s d given is) (view_rows p t d given is)
   where
-    not_told : b ≡ false → given ≢ reply.WhatIf numbers
+    not_told : b ≡ false → given ≢ reply_of v
     not_told failed told = let apart : true ≡ false = sym (test.1 told) ∙ failed in cc
 
 pub change_only : (s : State) (a : Amendment) (given : Reply) → given ≢ reply.NoMemory →

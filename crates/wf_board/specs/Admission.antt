@@ -3,6 +3,7 @@ use Rattle.std.specs.Prelude.{◌≡◌, ℕ, Bool, false, true, Result, Ok, Err
 use Rattle.policy_book.specs.Shapes.{PolicyShape}
 use Rattle.grant_table.specs.Cases.{CasesShape}
 use Rattle.wf_talk.specs.declared.reply.Reply.{Reply}
+use Rattle.wf_talk.specs.declared.reply.Reply.TheVariants as reply
 use Rattle.wf_talk.specs.declared.reply.Denial.{Denial}
 use Rattle.wf_talk.specs.declared.reply.Denial.TheVariants as denial
 use Rattle.wf_board.specs.declared.admit.AdmitFault.{AdmitFault}
@@ -11,6 +12,8 @@ use Rattle.wf_board.specs.declared.deed.Deed.{Deed}
 use Rattle.wf_board.specs.declared.deed.Deed.TheVariants as deed
 use Rattle.wf_board.specs.declared.verdict.Verdict.{Verdict}
 use Rattle.wf_board.specs.declared.verdict.Verdict.TheVariants as verdict
+use Rattle.wf_board.specs.declared.verdict.View.{View}
+use Rattle.wf_board.specs.declared.verdict.View.TheVariants as view
 use Rattle.wf_board.specs.Admit.{MayLackMemoryFor}
 use Rattle.wf_board.specs.States.{Book}
 use Rattle.wf_board.specs.Boards.{state_on}
@@ -44,6 +47,17 @@ HasAdmitted p before after decision given (Err NotStep) = (after ≡ before) ×
     IsNoAnswer p before decision given
 HasAdmitted p before after decision given (Err NoMemory) = (after ≡ before) ×
     MayLackMemoryFor before.spare decision
+
+-- a view is asked for
+abbrev pub is_view_deed : Deed → Bool
+is_view_deed (deed.Work u) = true
+is_view_deed (deed.WhatIf a) = true
+is_view_deed d = false
+
+-- the reply that tells a view
+abbrev pub reply_of : View → Reply
+reply_of (view.Work items) = reply.Work items
+reply_of (view.WhatIf numbers) = reply.WhatIf numbers
 
 -- a change of the policy comes with the case that it strands, and a view with its lists; no other
 -- deed needs a verdict to take a reply

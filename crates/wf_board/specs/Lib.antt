@@ -2,6 +2,7 @@ pub mod States
 pub mod Edition
 pub mod Views
 pub mod Resolve
+pub mod Revision
 pub mod Decisions
 pub mod Refusals
 pub mod Steps

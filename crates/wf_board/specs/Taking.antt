@@ -1,12 +1,14 @@
 -- Inside: how a board answers over its policy and its table of cases.
 use Rattle.std.specs.Prelude.{◌≡◌, ◌≢◌, ℕ, ◌+◌, ◌≤◌, Bool, false, true, List, Option, Result}
-use Rattle.std.specs.Prelude.{IsTrue}
+use Rattle.std.specs.Prelude.{IsTrue, None, Ok}
 use Rattle.basics.specs.Reading.{◌>>=◌}
+use Rattle.wf_names.specs.States.{is_held}
 use Rattle.refutation_tree.specs.Views.{shape_of}
 use Rattle.policy_book.specs.Shapes.{PolicyShape}
+use Rattle.policy_book.specs.declared.course.Course.{Course}
 use Rattle.policy_book.specs.Plans.{IsValidPlan, Problem}
 use Rattle.policy_book.specs.Refuting.{refutes}
-use Rattle.case_record.specs.Cases.{CaseShape}
+use Rattle.case_record.specs.Cases.{CaseShape, state_at}
 use Rattle.grant_table.specs.declared.rows.Row.{Row}
 use Rattle.grant_table.specs.Cases.{CasesShape, change_row}
 use Rattle.wf_talk.specs.declared.request.Ask.{Ask}
@@ -16,6 +18,7 @@ use Rattle.wf_talk.specs.declared.reply.Denial.{Denial}
 use Rattle.admin_edits.specs.declared.amendment.Amendment.{Amendment}
 use Rattle.admin_edits.specs.Edits.{amended}
 use Rattle.wf_board.specs.declared.deed.Deed.{Deed}
+use Rattle.wf_board.specs.declared.deed.Deed.TheVariants as deed
 use Rattle.wf_board.specs.declared.verdict.Verdict.{Verdict}
 use Rattle.wf_board.specs.declared.verdict.Verdict.TheVariants as verdict
 use Rattle.wf_board.specs.declared.verdict.Answered.{Answered}
@@ -23,6 +26,7 @@ use Rattle.wf_board.specs.declared.verdict.Answered.TheVariants.{Done, Needs}
 use Rattle.wf_board.specs.States.{Book}
 use Rattle.wf_board.specs.Boards.{BoardShape, book_of, state_on}
 use Rattle.wf_board.specs.KeptPlans.{rows_after}
+use Rattle.wf_board.specs.Found.{IsFound, IsOpenAt}
 use Rattle.wf_board.specs.Decisions.{cause_aside, cause_full, decision_of, needs_verdict}
 use Rattle.wf_board.specs.Decisions.{takes_memory, unless_denied}
 use Rattle.wf_board.specs.Steps.{Answers, room_taken, state_after_decision, with_changed}
@@ -34,6 +38,20 @@ use Rattle.wf_board.specs.Verdicts.{room_used}
 pub record IsKept (p : PolicyShape) (t : CasesShape) : Type 0 where
   pub planned : ArePlanned p t.rows
   pub numbered : AreNumbered t.rows t.ever
+
+-- a table is kept, and in it an open case stands at its number with a step that is held
+pub record IsHeldAt (p : PolicyShape) (t : CasesShape) (n : ℕ) (c : CaseShape) (s : ℕ)
+    : Type 0 where
+  pub kept : IsKept p t
+  pub found : IsOpenAt p t.rows n c
+  pub held : is_held (state_at c s) ≡ true
+
+-- a table is kept, the numbers of a deed are those of things that are there, and no cause is
+-- against it, `full` of an opening aside
+pub record IsUnhindered (p : PolicyShape) (t : CasesShape) (d : Deed) : Type 0 where
+  pub kept : IsKept p t
+  pub found : IsFound p t.rows d
+  pub cause : cause_aside (book_of p t) d ≡ None
 
 -- a board of a policy and a table
 abbrev pub board_of : PolicyShape → CasesShape → ℕ → BoardShape
@@ -59,6 +77,11 @@ pub record KeepsAll (p : PolicyShape) (a : Amendment) (rows : List Row) (q : Pol
 -- a deed, or the cause that no more cases can be opened
 abbrev pub full_or : Book → Deed → Result Deed Denial
 full_or b given = unless_denied given (cause_full b given)
+
+-- no limit is against one more case of a workflow
+abbrev pub HasRoomToOpen : Course → CasesShape → Type 0
+HasRoomToOpen c t =
+    full_or (book_of c.policy.now t) (deed.Open c.number) ≡ Ok (deed.Open c.number)
 
 -- a deed, or the first cause against it
 abbrev pub undenied : Book → Deed → Result Deed Denial

@@ -9,7 +9,8 @@ ghost use Rattle.wf_board.specs.Admit.{HasVerdict};
 ghost use Rattle.wf_board.specs.Boards.{book_of, state_on};
 ghost use Rattle.wf_board.specs.Decisions.{cause_aside, decision_of};
 ghost use Rattle.wf_board.specs.Found.{IsFound, IsOpenAt};
-ghost use Rattle.wf_board.specs.Taking.{board_of, full_or, keeps_policy, IsKept};
+ghost use Rattle.wf_board.specs.Taking.{board_of, full_or, keeps_policy, IsUnhindered, IsHeldAt};
+ghost use Rattle.wf_board.specs.Taking.{IsKept};
 ghost use Rattle.wf_board.specs.Verdicts.{IsRight};
 
 use crate::alike::{is_denied, is_face};
@@ -17,11 +18,11 @@ use crate::decision::{Refused, decision_of};
 use crate::granted::{admit_claim, admit_opening};
 use crate::strands::admit_change;
 use crate::taking::{finish, give_back, withdraw};
-use crate::views::{admit_what_if, admit_work};
+use crate::views::admit_view;
 use crate::{Deed, Verdict};
 use case_record::Case;
 use grant_table::Cases;
-use policy_book::Policy;
+use policy_book::{Course, Policy};
 use std::alloc::{AllocError, Global};
 use wf_names::{CaseId, StepId, UserId};
 use wf_talk::{Ask, Bad, Reply};
@@ -98,16 +99,20 @@ fn perform(
     reply: &Reply,
     verdict: &Verdict,
 ) -> Result<(), AdmitFault>
-    requires kept { IsKept p.now cases.old }
-    requires found { IsFound p.now cases.old.rows deed }
-    requires cause { cause_aside (book_of p.now cases.old) deed ≡ None }
+    requires ready { IsUnhindered p.now cases.old deed }
     requires room { full_or (book_of p.now cases.old) deed ≡ Ok deed }
     requires given { reply.now ≢ replies.NoMemory }
     requires verdict { IsVerdictFor (book_of p.now cases.old) deed verdict.now }
     ensures { HasAdmitted p.now cases.old cases.new (Ok deed) reply.now result }
 {
     match deed {
-        Deed::Open { flow } => admit_opening(p, cases, flow, reply),
+        Deed::Open { flow } => {
+            let course = Course {
+                policy: p,
+                number: flow,
+            };
+            admit_opening(&course, cases, reply)
+        }
         Deed::Claim {
             number,
             case,
@@ -132,8 +137,7 @@ fn perform(
         Deed::Withdraw { number } => admit_withdrawal(p, cases, number, reply),
         Deed::Change { amendment } => admit_change(p, cases, amendment, reply, verdict),
         Deed::Show { case } => admit_showing(p, cases, &case, reply),
-        Deed::Work { user } => admit_work(p, cases, user, reply, verdict),
-        Deed::WhatIf { amendment } => admit_what_if(p, cases, amendment, reply, verdict),
+        Deed::Work { .. } | Deed::WhatIf { .. } => admit_view(p, cases, &deed, reply, verdict),
         Deed::TurnAway { bad } => admit_bad(p, cases, bad, reply),
     }
 }
@@ -148,9 +152,7 @@ fn admit_finish(
     u: UserId,
     reply: &Reply,
 ) -> Result<(), AdmitFault>
-    requires kept { IsKept p.now cases.old }
-    requires found { IsOpenAt p.now cases.old.rows n case.now }
-    requires held { is_held (state_at case.now s) ≡ true }
+    requires held { IsHeldAt p.now cases.old n case.now s }
     requires given { reply.now ≢ replies.NoMemory }
     ensures { HasAdmitted p.now cases.old cases.new (Ok (deeds.Finish n case.now s u))
         reply.now result }
@@ -171,9 +173,7 @@ fn finish_as(
     u: UserId,
     done: bool,
 ) -> Result<(), AdmitFault>
-    requires kept { IsKept p.now cases.old }
-    requires found { IsOpenAt p.now cases.old.rows n case.now }
-    requires held { is_held (state_at case.now s) ≡ true }
+    requires { IsHeldAt p.now cases.old n case.now s }
     ensures { HasAdmitted p.now cases.old cases.new (Ok (deeds.Finish n case.now s u))
         (replies.Finished done) result }
 {
@@ -211,9 +211,7 @@ fn admit_return(
     u: UserId,
     reply: &Reply,
 ) -> Result<(), AdmitFault>
-    requires kept { IsKept p.now cases.old }
-    requires found { IsOpenAt p.now cases.old.rows n case.now }
-    requires held { is_held (state_at case.now s) ≡ true }
+    requires held { IsHeldAt p.now cases.old n case.now s }
     requires given { reply.now ≢ replies.NoMemory }
     ensures { HasAdmitted p.now cases.old cases.new (Ok (deeds.GiveBack n case.now s u))
         reply.now result }
@@ -237,9 +235,7 @@ fn admit_release(
     s: StepId,
     reply: &Reply,
 ) -> Result<(), AdmitFault>
-    requires kept { IsKept p.now cases.old }
-    requires found { IsOpenAt p.now cases.old.rows n case.now }
-    requires held { is_held (state_at case.now s) ≡ true }
+    requires held { IsHeldAt p.now cases.old n case.now s }
     requires given { reply.now ≢ replies.NoMemory }
     ensures { HasAdmitted p.now cases.old cases.new (Ok (deeds.Release n case.now s))
         reply.now result }
@@ -260,8 +256,7 @@ fn admit_withdrawal(
     n: CaseId,
     reply: &Reply,
 ) -> Result<(), AdmitFault>
-    requires kept { IsKept p.now cases.old }
-    requires found { (c : CaseShape) × IsOpenAt p.now cases.old.rows n c }
+    requires ready { IsUnhindered p.now cases.old (deeds.Withdraw n) }
     requires given { reply.now ≢ replies.NoMemory }
     ensures { HasAdmitted p.now cases.old cases.new (Ok (deeds.Withdraw n)) reply.now result }
 {

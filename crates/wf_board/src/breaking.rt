@@ -4,13 +4,12 @@ ghost use Rattle.wf_names.specs.States.{is_finished};
 ghost use Rattle.constraint_forms.specs.Assign.{planned};
 ghost use Rattle.policy_book.specs.Policies.{flow_at, is_authorised};
 ghost use Rattle.case_record.specs.Cases.{state_at};
-ghost use Rattle.admin_edits.specs.Edits.{amended};
 ghost use Rattle.wf_board.specs.Breaking.{breaks, breaks_rule, gives, is_barred, is_broken_over};
 ghost use Rattle.wf_board.specs.Breaking.{loses_step, HasPlanFor, NamesStep};
 ghost use Rattle.wf_board.specs.Edition.{IsPlanOf};
-ghost use Rattle.wf_board.specs.Found.{IsAllowed};
 ghost use Rattle.wf_board.specs.Kept.{ArePlanned, EachRow, IsOfPolicy, IsPlanned};
 
+use crate::Revision;
 use admin_edits::{Amendment, is_over};
 use case_record::Case;
 use constraint_forms::{Plan, satisfied};
@@ -22,15 +21,19 @@ use wf_names::{FlowId, RelId, StepId, UserId};
 /// Whether a change may make a valid plan of a case invalid. Only what the change touches is looked
 /// at: the steps of the user who loses a role, the step that is forbidden, or, where the plan gives
 /// steps to both users of a pair, the rules over its relation. Takes no memory.
-pub fn may_break(p: &Policy, after: &Policy, a: &Amendment, case: &Case, plan: &Plan) -> bool
-    requires allowed { IsAllowed p.now a.now }
-    requires after { after.now ≡ amended p.now a.now }
-    requires known { IsOfPolicy p.now case.now }
-    requires valid { IsPlanOf p.now case.now plan.now }
-    ensures { result ≡ false → IsPlanOf after.now case.now plan.now }
+pub fn may_break(revision: &Revision, case: &Case, plan: &Plan) -> bool
+    requires known { IsOfPolicy revision.now.before.now case.now }
+    requires valid { IsPlanOf revision.now.before.now case.now plan.now }
+    ensures { result ≡ false → IsPlanOf revision.now.after.now case.now plan.now }
 {
-    let _sound = p.admin();
-    breaks(p, after, a, case, plan)
+    let _sound = revision.before.admin();
+    breaks(
+        revision.before,
+        revision.after,
+        revision.amendment,
+        case,
+        plan,
+    )
 }
 
 fn breaks(p: &Policy, after: &Policy, a: &Amendment, case: &Case, plan: &Plan) -> bool
@@ -141,24 +144,22 @@ fn is_broken(
 }
 
 /// Whether the plan that is kept for each open case stays valid under a change.
-pub(crate) fn all_stay(p: &Policy, after: &Policy, a: &Amendment, cases: &Cases) -> bool
-    requires allowed { IsAllowed p.now a.now }
-    requires after { after.now ≡ amended p.now a.now }
-    requires kept { ArePlanned p.now cases.now.rows }
-    ensures { result ≡ true → EachRow (λ r. IsPlanned after.now r.case r.plan) cases.now.rows }
+pub(crate) fn all_stay(revision: &Revision, cases: &Cases) -> bool
+    requires { ArePlanned revision.now.before.now cases.now.rows }
+    ensures { result ≡ true
+        → EachRow (λ r. IsPlanned revision.now.after.now r.case r.plan) cases.now.rows }
 {
     let _planned = cases.live();
-    these_stay(p, after, a, cases.open_part())
+    these_stay(revision, cases.open_part())
 }
 
-fn these_stay(p: &Policy, after: &Policy, a: &Amendment, rows: &[Row]) -> bool
-    requires allowed { IsAllowed p.now a.now }
-    requires after { after.now ≡ amended p.now a.now }
-    requires kept { ArePlanned p.now rows.now }
-    ensures { result ≡ true → EachRow (λ r. IsPlanned after.now r.case r.plan) rows.now }
+fn these_stay(revision: &Revision, rows: &[Row]) -> bool
+    requires { ArePlanned revision.now.before.now rows.now }
+    ensures { result ≡ true
+        → EachRow (λ r. IsPlanned revision.now.after.now r.case r.plan) rows.now }
 {
     'rows: for i in 0..rows.len() {
-        if !stays(p, after, a, &rows[i]) {
+        if !stays(revision, &rows[i]) {
             return false;
         }
     }
@@ -166,15 +167,13 @@ fn these_stay(p: &Policy, after: &Policy, a: &Amendment, rows: &[Row]) -> bool
 }
 
 /// Whether the plan of a row stays valid, if it has one.
-fn stays(p: &Policy, after: &Policy, a: &Amendment, row: &Row) -> bool
-    requires allowed { IsAllowed p.now a.now }
-    requires after { after.now ≡ amended p.now a.now }
-    requires known { IsOfPolicy p.now row.now.case }
-    requires planned { IsPlanned p.now row.now.case row.now.plan }
-    ensures { result ≡ true → IsPlanned after.now row.now.case row.now.plan }
+fn stays(revision: &Revision, row: &Row) -> bool
+    requires known { IsOfPolicy revision.now.before.now row.now.case }
+    requires planned { IsPlanned revision.now.before.now row.now.case row.now.plan }
+    ensures { result ≡ true → IsPlanned revision.now.after.now row.now.case row.now.plan }
 {
     match row.plan() {
-        Some(plan) => !may_break(p, after, a, row.case(), &plan),
+        Some(plan) => !may_break(revision, row.case(), &plan),
         None => true,
     }
 }

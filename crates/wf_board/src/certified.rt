@@ -3,6 +3,7 @@ ghost use Rattle.std.specs.Prelude.{◌≡◌, ◌<◌, ◌↔◌, Ok, length, t
 ghost use Rattle.wf_names.specs.declared.limits.TheConstants.{STEP_LIMIT};
 ghost use Rattle.refutation_tree.specs.Views.{shape_of};
 ghost use Rattle.policy_book.specs.Plans.{IsValidPlan, IsWithin};
+ghost use Rattle.policy_book.specs.Course.{problem_in};
 ghost use Rattle.policy_book.specs.Policies.{problem_of};
 ghost use Rattle.policy_book.specs.Refuting.{refutes};
 ghost use Rattle.case_record.specs.Cases.{assigned_of, finished_of};
@@ -13,15 +14,15 @@ ghost use Rattle.wf_board.specs.Kept.{ArePlanned};
 ghost use Rattle.wf_board.specs.Taking.{IsCertificateOf};
 ghost use Rattle.wf_board.specs.Verdicts.{IsCertificate, IsCertified};
 
-use crate::decision::is_undecided;
+use crate::decision::{assigned_with, is_undecided};
 use crate::resolve::resolve;
 use crate::{Deed, Verdict};
 use case_record::Case;
 use certificate_check::{check_tree, is_valid_plan};
 use constraint_forms::{Assign, StepSet};
 use grant_table::Cases;
-use policy_book::Policy;
-use wf_names::{CaseId, FlowId, StepId, UserId};
+use policy_book::{Course, Policy};
+use wf_names::{CaseId, StepId, UserId};
 use wf_talk::Ask;
 
 /// Whether a verdict is a plan or a tree that decides what is asked.
@@ -43,7 +44,11 @@ pub fn decides(p: &Policy, cases: &Cases, deed: &Deed, verdict: &Verdict) -> boo
 {
     match deed {
         Deed::Open { flow } => {
-            is_certificate(p, *flow, &Assign::empty(), &StepSet::empty(), verdict)
+            let course = Course {
+                policy: p,
+                number: *flow,
+            };
+            is_certificate(&course, &Assign::empty(), &StepSet::empty(), verdict)
         }
         Deed::Claim {
             number,
@@ -73,17 +78,24 @@ fn decides_claim(
 {
     let _ = cases;
     let _ = number;
-    let _within = case.steps();
-    let assigned = case.assigned().with(step, user);
-    is_certificate(p, case.flow(), &assigned, &case.finished(), verdict)
+    let course = Course {
+        policy: p,
+        number: case.flow(),
+    };
+    is_certificate(
+        &course,
+        &assigned_with(case, step, user),
+        &case.finished(),
+        verdict,
+    )
 }
 
 /// Whether a verdict is a valid plan, or a tree that refutes.
-fn is_certificate(p: &Policy, f: FlowId, a: &Assign, done: &StepSet, verdict: &Verdict) -> bool
-    requires flow { f < length p.now.flows }
-    requires within { IsWithin (problem_of p.now f) a.now }
-    ensures { result ≡ true ↔ IsCertificateOf (problem_of p.now f) a.now done.now verdict.now }
+fn is_certificate(course: &Course, a: &Assign, done: &StepSet, verdict: &Verdict) -> bool
+    requires { IsWithin (problem_in course.now) a.now }
+    ensures { result ≡ true ↔ IsCertificateOf (problem_in course.now) a.now done.now verdict.now }
 {
+    let (p, f) = (course.policy, course.number);
     match verdict {
         Verdict::Plan(plan) => is_valid_plan(p, f, a, done, plan),
         Verdict::Refuted(tree) => check_tree(p, f, a, done, tree.get()),

@@ -263,7 +263,7 @@ fn breaks(p: &Policy, f: FlowId, rule: &Rule, s: StepId, given: &Assign) -> bool
 }
 
 /// What is assigned in a case, and a step given to a user with it.
-fn assigned_with(case: &Case, s: StepId, u: UserId) -> Assign
+pub(crate) fn assigned_with(case: &Case, s: StepId, u: UserId) -> Assign
     requires { s < length case.now.states }
     ensures { result ≡ assigned_with case.now s u }
 {

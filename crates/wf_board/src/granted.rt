@@ -3,6 +3,7 @@ ghost use Rattle.std.specs.Prelude.{◌≡◌, ◌≢◌, ◌<◌, ◌↔◌, No
 ghost use Rattle.constraint_forms.specs.Assign.{no_steps, no_users};
 ghost use Rattle.refutation_tree.specs.Views.{shape_of};
 ghost use Rattle.policy_book.specs.Plans.{IsValidPlan, IsWithin};
+ghost use Rattle.policy_book.specs.Course.{problem_in};
 ghost use Rattle.policy_book.specs.Policies.{problem_of};
 ghost use Rattle.policy_book.specs.Refuting.{refutes};
 ghost use Rattle.case_record.specs.Cases.{finished_of};
@@ -13,36 +14,36 @@ ghost use Rattle.wf_board.specs.Admission.{HasAdmitted};
 ghost use Rattle.wf_board.specs.Boards.{book_of};
 ghost use Rattle.wf_board.specs.Decisions.{cause_aside};
 ghost use Rattle.wf_board.specs.Found.{AreFound};
-ghost use Rattle.wf_board.specs.Taking.{full_or, IsKept};
+ghost use Rattle.wf_board.specs.Taking.{IsUnhindered, HasRoomToOpen, IsKept};
 
 use crate::AdmitFault;
 use crate::admit::when;
+use crate::decision::assigned_with;
 use crate::taking::{claim, open};
 use case_record::Case;
 use certificate_check::{check_tree, is_valid_plan};
 use constraint_forms::{Assign, Plan, StepSet};
 use grant_table::Cases;
-use policy_book::Policy;
+use policy_book::{Course, Policy};
 use refutation_tree::Tree;
-use wf_names::{CaseId, FlowId, StepId, UserId};
+use wf_names::{CaseId, StepId, UserId};
 use wf_talk::{Denial, Reply};
 
 /// Opens a case as a reply says, if the reply is one to it.
 pub(crate) fn admit_opening(
-    p: &Policy,
+    course: &Course,
     cases: &mut Cases,
-    flow: FlowId,
     reply: &Reply,
 ) -> Result<(), AdmitFault>
-    requires kept { IsKept p.now cases.old }
-    requires flow { flow < length p.now.flows }
-    requires room { full_or (book_of p.now cases.old) (deeds.Open flow) ≡ Ok (deeds.Open flow) }
+    requires kept { IsKept course.now.policy.now cases.old }
+    requires room { HasRoomToOpen course.now cases.old }
     requires given { reply.now ≢ replies.NoMemory }
-    ensures { HasAdmitted p.now cases.old cases.new (Ok (deeds.Open flow)) reply.now result }
+    ensures { HasAdmitted course.now.policy.now cases.old cases.new
+        (Ok (deeds.Open course.now.number)) reply.now result }
 {
     match reply {
-        Reply::Opened { case, plan } => open_as(p, cases, flow, *case, plan),
-        Reply::Denied(denial) => admit_unsatisfiable(p, cases, flow, denial),
+        Reply::Opened { case, plan } => open_as(course, cases, *case, plan),
+        Reply::Denied(denial) => admit_unsatisfiable(course, cases, denial),
         _ => Err(AdmitFault::NotStep),
     }
 }
@@ -50,25 +51,23 @@ pub(crate) fn admit_opening(
 /// Opens a case with a number and a plan, if the number is the next and the plan valid. Room is
 /// made last.
 fn open_as(
-    p: &Policy,
+    course: &Course,
     cases: &mut Cases,
-    flow: FlowId,
     number: CaseId,
     plan: &Plan,
 ) -> Result<(), AdmitFault>
-    requires kept { IsKept p.now cases.old }
-    requires flow { flow < length p.now.flows }
-    requires room { full_or (book_of p.now cases.old) (deeds.Open flow) ≡ Ok (deeds.Open flow) }
-    ensures { HasAdmitted p.now cases.old cases.new (Ok (deeds.Open flow))
-        (replies.Opened number plan.now) result }
+    requires kept { IsKept course.now.policy.now cases.old }
+    requires room { HasRoomToOpen course.now cases.old }
+    ensures { HasAdmitted course.now.policy.now cases.old cases.new
+        (Ok (deeds.Open course.now.number)) (replies.Opened number plan.now) result }
 {
     if !is_next(cases, number) {
         return Err(AdmitFault::NotStep);
     }
-    if !is_opening_plan(p, flow, plan) {
+    if !is_opening_plan(course, plan) {
         return Err(AdmitFault::NotStep);
     }
-    match open(p, cases, flow, *plan) {
+    match open(course, cases, *plan) {
         Reply::NoMemory => Err(AdmitFault::NoMemory),
         _ => Ok(()),
     }
@@ -82,44 +81,36 @@ fn is_next(cases: &Cases, number: CaseId) -> bool
 }
 
 /// Whether a plan is valid for a fresh case of a workflow.
-fn is_opening_plan(p: &Policy, flow: FlowId, plan: &Plan) -> bool
-    requires { flow < length p.now.flows }
-    ensures { result ≡ true ↔ IsValidPlan (problem_of p.now flow) no_users no_steps plan.now }
+fn is_opening_plan(course: &Course, plan: &Plan) -> bool
+    ensures { result ≡ true ↔ IsValidPlan (problem_in course.now) no_users no_steps plan.now }
 {
     let assigned = Assign::empty();
     let finished = StepSet::empty();
-    is_valid_plan(p, flow, &assigned, &finished, plan)
+    is_valid_plan(course.policy, course.number, &assigned, &finished, plan)
 }
 
 /// Whether a denial shows by its tree that a workflow has no valid plan.
-fn admit_unsatisfiable(
-    p: &Policy,
-    cases: &Cases,
-    flow: FlowId,
-    denial: &Denial,
-) -> Result<(), AdmitFault>
-    requires kept { IsKept p.now cases.now }
-    requires flow { flow < length p.now.flows }
-    ensures { HasAdmitted p.now cases.now cases.now (Ok (deeds.Open flow))
-        (replies.Denied denial.now) result }
+fn admit_unsatisfiable(course: &Course, cases: &Cases, denial: &Denial) -> Result<(), AdmitFault>
+    requires { IsKept course.now.policy.now cases.now }
+    ensures { HasAdmitted course.now.policy.now cases.now cases.now
+        (Ok (deeds.Open course.now.number)) (replies.Denied denial.now) result }
 {
     let _ = cases;
     match denial {
         Denial::Unsatisfiable { flow: named, tree } => {
-            when(*named == flow && is_opening_tree(p, flow, tree.get()))
+            when(*named == course.number && is_opening_tree(course, tree.get()))
         }
         _ => Err(AdmitFault::NotStep),
     }
 }
 
 /// Whether a tree shows that a workflow has no valid plan.
-fn is_opening_tree(p: &Policy, flow: FlowId, tree: &Tree) -> bool
-    requires { flow < length p.now.flows }
-    ensures { result ≡ refutes (problem_of p.now flow) no_users no_steps (shape_of tree.now) }
+fn is_opening_tree(course: &Course, tree: &Tree) -> bool
+    ensures { result ≡ refutes (problem_in course.now) no_users no_steps (shape_of tree.now) }
 {
     let assigned = Assign::empty();
     let finished = StepSet::empty();
-    check_tree(p, flow, &assigned, &finished, tree)
+    check_tree(course.policy, course.number, &assigned, &finished, tree)
 }
 
 /// Gives a step to a user as a reply says, if the reply is one to it.
@@ -132,9 +123,7 @@ pub(crate) fn admit_claim(
     u: UserId,
     reply: &Reply,
 ) -> Result<(), AdmitFault>
-    requires kept { IsKept p.now cases.old }
-    requires found { AreFound p.now cases.old.rows n case.now s u }
-    requires cause { cause_aside (book_of p.now cases.old) (deeds.Claim n case.now s u) ≡ None }
+    requires ready { IsUnhindered p.now cases.old (deeds.Claim n case.now s u) }
     requires given { reply.now ≢ replies.NoMemory }
     ensures { HasAdmitted p.now cases.old cases.new (Ok (deeds.Claim n case.now s u))
         reply.now result }
@@ -156,9 +145,7 @@ fn claim_as(
     u: UserId,
     plan: &Plan,
 ) -> Result<(), AdmitFault>
-    requires kept { IsKept p.now cases.old }
-    requires found { AreFound p.now cases.old.rows n case.now s u }
-    requires cause { cause_aside (book_of p.now cases.old) (deeds.Claim n case.now s u) ≡ None }
+    requires { IsUnhindered p.now cases.old (deeds.Claim n case.now s u) }
     ensures { HasAdmitted p.now cases.old cases.new (Ok (deeds.Claim n case.now s u))
         (replies.Granted plan.now) result }
 {
@@ -183,7 +170,9 @@ fn is_claim_plan(
     ensures { result ≡ true ↔ IsValidPlan (problem_of p.now case.now.flow)
         (assigned_with case.now s u) (finished_of case.now) plan.now }
 {
-    let assigned = claimed(p, cases, n, case, s, u);
+    let _ = cases;
+    let _ = n;
+    let assigned = assigned_with(case, s, u);
     is_valid_plan(p, case.flow(), &assigned, &case.finished(), plan)
 }
 
@@ -225,19 +214,8 @@ fn is_claim_tree(
     ensures { result ≡ refutes (problem_of p.now case.now.flow) (assigned_with case.now s u)
         (finished_of case.now) (shape_of tree.now) }
 {
-    let assigned = claimed(p, cases, n, case, s, u);
-    check_tree(p, case.flow(), &assigned, &case.finished(), tree)
-}
-
-/// What is assigned in a case once its step is given to a user.
-fn claimed(p: &Policy, cases: &Cases, n: CaseId, case: &Case, s: StepId, u: UserId) -> Assign
-    requires { AreFound p.now cases.now.rows n case.now s u }
-    ensures assigned { result ≡ assigned_with case.now s u }
-    ensures within { IsWithin (problem_of p.now case.now.flow) result }
-{
-    let _ = p;
     let _ = cases;
     let _ = n;
-    let _within = case.steps();
-    case.assigned().with(s, u)
+    let assigned = assigned_with(case, s, u);
+    check_tree(p, case.flow(), &assigned, &case.finished(), tree)
 }

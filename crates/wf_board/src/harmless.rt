@@ -1,14 +1,13 @@
 //! Changes of the policy that make no kept plan invalid.
 ghost use Rattle.std.specs.Prelude.{◌≡◌, true, IfOk, IfSome};
 ghost use Rattle.std.specs.Arc.{arc_value};
-ghost use Rattle.admin_edits.specs.Edits.{amended};
 ghost use Rattle.wf_board.specs.Found.{IsAllowed};
 ghost use Rattle.wf_board.specs.Deeds.{is_harmless, is_harmless_deed};
 ghost use Rattle.wf_board.specs.Kept.{ArePlanned};
 ghost use Rattle.wf_board.specs.Taking.{KeepsAll};
 
-use crate::Deed;
 use crate::breaking::all_stay;
+use crate::{Deed, Revision};
 use admin_edits::{Amendment, amended};
 use grant_table::Cases;
 use policy_book::Policy;
@@ -51,7 +50,12 @@ pub(crate) fn unbroken(
         (λ q. KeepsAll p.now a.now cases.now.rows (arc_value q))) }
 {
     let after = amended(p, *a)?;
-    if keeps_all(p, &after, a, cases) {
+    let revision = Revision {
+        before: p,
+        amendment: a,
+        after: &after,
+    };
+    if keeps_all(&revision, cases) {
         Ok(Some(Arc::new(alloc, after)?))
     } else {
         Ok(None)
@@ -59,11 +63,10 @@ pub(crate) fn unbroken(
 }
 
 /// Whether each kept plan stays valid under a change.
-fn keeps_all(p: &Policy, after: &Policy, a: &Amendment, cases: &Cases) -> bool
-    requires allowed { IsAllowed p.now a.now }
-    requires after { after.now ≡ amended p.now a.now }
-    requires kept { ArePlanned p.now cases.now.rows }
-    ensures { result ≡ true → KeepsAll p.now a.now cases.now.rows after.now }
+fn keeps_all(revision: &Revision, cases: &Cases) -> bool
+    requires { ArePlanned revision.now.before.now cases.now.rows }
+    ensures { result ≡ true → KeepsAll revision.now.before.now revision.now.amendment.now
+        cases.now.rows revision.now.after.now }
 {
-    is_harmless(a) || all_stay(p, after, a, cases)
+    is_harmless(revision.amendment) || all_stay(revision, cases)
 }

@@ -13,7 +13,7 @@ ghost use Rattle.wf_board.specs.Admission.{HasAdmitted, IsVerdictFor};
 ghost use Rattle.wf_board.specs.Boards.{book_of};
 ghost use Rattle.wf_board.specs.Found.{IsAllowed};
 ghost use Rattle.wf_board.specs.Kept.{IsOfPolicy};
-ghost use Rattle.wf_board.specs.Taking.{IsKept};
+ghost use Rattle.wf_board.specs.Taking.{IsUnhindered};
 ghost use Rattle.wf_board.specs.Verdicts.{IsStrandingFor};
 
 use crate::admit::when;
@@ -36,8 +36,7 @@ pub(crate) fn admit_change(
     reply: &Reply,
     verdict: &Verdict,
 ) -> Result<(), AdmitFault>
-    requires kept { IsKept p.now cases.now }
-    requires allowed { IsAllowed p.now a }
+    requires ready { IsUnhindered p.now cases.now (deeds.Change a) }
     requires given { reply.now ≢ replies.NoMemory }
     requires verdict { IsVerdictFor (book_of p.now cases.now) (deeds.Change a) verdict.now }
     ensures { HasAdmitted p.now cases.now cases.now (Ok (deeds.Change a)) reply.now result }
@@ -57,8 +56,7 @@ fn admit_denied_change(
     n: CaseId,
     shown: &Tree,
 ) -> Result<(), AdmitFault>
-    requires kept { IsKept p.now cases.now }
-    requires allowed { IsAllowed p.now a }
+    requires ready { IsUnhindered p.now cases.now (deeds.Change a) }
     requires given { reply.now ≢ replies.NoMemory }
     requires stranded { IsStrandingFor (book_of p.now cases.now) (Ok (deeds.Change a)) n shown.now }
     ensures { HasAdmitted p.now cases.now cases.now (Ok (deeds.Change a)) reply.now result }
@@ -79,8 +77,7 @@ fn admit_strands(
     n: CaseId,
     shown: &Tree,
 ) -> Result<(), AdmitFault>
-    requires kept { IsKept p.now cases.now }
-    requires allowed { IsAllowed p.now a }
+    requires ready { IsUnhindered p.now cases.now (deeds.Change a) }
     requires stranded { IsStrandingFor (book_of p.now cases.now) (Ok (deeds.Change a)) n shown.now }
     ensures { HasAdmitted p.now cases.now cases.now (Ok (deeds.Change a))
         (replies.Denied denial.now) result }
@@ -105,8 +102,7 @@ fn admit_strands_of(
     tree: &Tree,
     n: CaseId,
 ) -> Result<(), AdmitFault>
-    requires kept { IsKept p.now cases.now }
-    requires allowed { IsAllowed p.now a }
+    requires ready { IsUnhindered p.now cases.now (deeds.Change a) }
     requires stranded { (shown : Tree)
         × IsStrandingFor (book_of p.now cases.now) (Ok (deeds.Change a)) n shown }
     ensures { HasAdmitted p.now cases.now cases.now (Ok (deeds.Change a))

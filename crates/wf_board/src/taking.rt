@@ -5,6 +5,7 @@ ghost use Rattle.wf_names.specs.declared.states.StepState.TheVariants.{Free as F
 ghost use Rattle.wf_names.specs.declared.states.Phase.TheVariants.{Withdrawn as WithdrawnCase};
 ghost use Rattle.constraint_forms.specs.Assign.{no_steps, no_users};
 ghost use Rattle.policy_book.specs.Plans.{IsValidPlan};
+ghost use Rattle.policy_book.specs.Course.{problem_in};
 ghost use Rattle.policy_book.specs.Policies.{problem_of};
 ghost use Rattle.case_record.specs.Cases.{finished_of, state_at, with_phase, with_state, CaseShape};
 ghost use Rattle.grant_table.specs.Cases.{freed_row, withdrawn_row};
@@ -19,8 +20,10 @@ ghost use Rattle.wf_board.specs.Deeds.{answered_of, FitsDeed, IsLeftTo, IsUndeci
 ghost use Rattle.wf_board.specs.Found.{AreFound, IsFound, IsOpenAt};
 ghost use Rattle.wf_board.specs.States.{is_full};
 ghost use Rattle.wf_board.specs.Steps.{face_of};
-ghost use Rattle.wf_board.specs.Taking.{full_or, keeps_policy, HasAnsweredAlone, HasAnsweredBy};
-ghost use Rattle.wf_board.specs.Taking.{HasChanged, HasTakenStep, IsKept, IsUsable, LacksRoom};
+ghost use Rattle.wf_board.specs.Taking.{full_or, keeps_policy, IsUnhindered, HasAnsweredAlone};
+ghost use Rattle.wf_board.specs.Taking.{HasAnsweredBy};
+ghost use Rattle.wf_board.specs.Taking.{HasChanged, HasTakenStep, IsHeldAt, IsKept, IsUsable};
+ghost use Rattle.wf_board.specs.Taking.{LacksRoom};
 ghost use Rattle.wf_board.specs.Trees.{is_large, shows_large};
 ghost use Rattle.wf_board.specs.Verdicts.{is_opening, is_unusable, IsMadeOf, IsPlanFor, IsRight};
 ghost use Rattle.wf_board.specs.Verdicts.{IsStrandingFor, IsTreeFor};
@@ -33,7 +36,7 @@ use basics::Shared;
 use case_record::Case;
 use constraint_forms::Plan;
 use grant_table::Cases;
-use policy_book::Policy;
+use policy_book::{Course, Policy};
 use refutation_tree::Tree;
 use std::alloc::{AllocError, Global};
 use wf_names::{CaseId, FlowId, StepId, UserId};
@@ -199,9 +202,7 @@ fn by_plan(p: &Policy, cases: &mut Cases, ask: &Ask, plan: Plan) -> Reply
 
 /// Does a deed by a plan that shows that its case can be completed.
 fn plan_for(p: &Policy, cases: &mut Cases, deed: Deed, plan: Plan) -> Reply
-    requires kept { IsKept p.now cases.old }
-    requires found { IsFound p.now cases.old.rows deed }
-    requires cause { cause_aside (book_of p.now cases.old) deed ≡ None }
+    requires ready { IsUnhindered p.now cases.old deed }
     requires plan { IsPlanFor (book_of p.now cases.old) (Ok deed) plan }
     ensures taken { HasTakenStep p.now cases.old cases.new (full_or (book_of p.now cases.old)
         deed) result }
@@ -212,7 +213,13 @@ fn plan_for(p: &Policy, cases: &mut Cases, deed: Deed, plan: Plan) -> Reply
         → LacksRoom cases.old cases.new (full_or (book_of p.now cases.old) deed) }
 {
     match deed {
-        Deed::Open { flow } => open(p, cases, flow, plan),
+        Deed::Open { flow } => {
+            let course = Course {
+                policy: p,
+                number: flow,
+            };
+            open(&course, cases, plan)
+        }
         Deed::Claim {
             number,
             case,
@@ -311,9 +318,7 @@ fn by_stranding(p: &Policy, cases: &Cases, ask: &Ask, number: CaseId, tree: Shar
 
 /// Does a deed that needs no verdict.
 fn perform(p: &Policy, cases: &mut Cases, deed: Deed) -> Reply
-    requires kept { IsKept p.now cases.old }
-    requires found { IsFound p.now cases.old.rows deed }
-    requires cause { cause_aside (book_of p.now cases.old) deed ≡ None }
+    requires ready { IsUnhindered p.now cases.old deed }
     requires aside { needs_plan deed ≡ false }
     ensures taken { HasTakenStep p.now cases.old cases.new (Ok deed) result }
     ensures memory { result ≢ replies.NoMemory }
@@ -355,26 +360,25 @@ fn perform(p: &Policy, cases: &mut Cases, deed: Deed) -> Reply
 }
 
 /// Opens a case with a plan.
-pub(crate) fn open(p: &Policy, cases: &mut Cases, flow: FlowId, plan: Plan) -> Reply
-    requires kept { IsKept p.now cases.old }
-    requires flow { flow < length p.now.flows }
-    requires valid { IsValidPlan (problem_of p.now flow) no_users no_steps plan }
-    ensures taken { HasTakenStep p.now cases.old cases.new
-        (full_or (book_of p.now cases.old) (deeds.Open flow)) result }
-    ensures made { is_full (book_of p.now cases.old) ≡ false
+pub(crate) fn open(course: &Course, cases: &mut Cases, plan: Plan) -> Reply
+    requires kept { IsKept course.now.policy.now cases.old }
+    requires valid { IsValidPlan (problem_in course.now) no_users no_steps plan }
+    ensures taken { HasTakenStep course.now.policy.now cases.old cases.new
+        (full_or (book_of course.now.policy.now cases.old) (deeds.Open course.now.number)) result }
+    ensures made { is_full (book_of course.now.policy.now cases.old) ≡ false
         → IsMadeOf (verdicts.Plan plan) result }
     ensures small { shows_large result ≡ false }
     ensures memory { result ≡ replies.NoMemory
-        → (is_full (book_of p.now cases.old) ≡ false) × (cases.old.spare ≡ 0) }
+        → (is_full (book_of course.now.policy.now cases.old) ≡ false) × (cases.old.spare ≡ 0) }
     ensures unchanged { result ≡ replies.NoMemory → cases.new ≡ cases.old }
 {
-    if is_full(p, cases) {
+    if is_full(course.policy, cases) {
         return Reply::Denied(Denial::Full);
     }
     if make_room(cases).is_err() {
         return Reply::NoMemory;
     }
-    let case = cases.open_case(p, flow, plan);
+    let case = cases.open_case(course.policy, course.number, plan);
     Reply::Opened { case, plan }
 }
 
@@ -423,9 +427,7 @@ pub(crate) fn finish(
     s: StepId,
     u: UserId,
 ) -> bool
-    requires kept { IsKept p.now cases.old }
-    requires found { IsOpenAt p.now cases.old.rows n case.now }
-    requires held { is_held (state_at case.now s) ≡ true }
+    requires { IsHeldAt p.now cases.old n case.now s }
     ensures { HasTakenStep p.now cases.old cases.new (Ok (deeds.Finish n case.now s u))
         (replies.Finished result) }
 {
@@ -437,9 +439,7 @@ pub(crate) fn finish(
 
 /// Takes a held step from its holder.
 pub(crate) fn give_back(p: &Policy, cases: &mut Cases, n: CaseId, case: &Case, s: StepId)
-    requires kept { IsKept p.now cases.old }
-    requires found { IsOpenAt p.now cases.old.rows n case.now }
-    requires held { is_held (state_at case.now s) ≡ true }
+    requires { IsHeldAt p.now cases.old n case.now s }
     ensures { HasChanged p.now cases.old cases.new n (freed_row s) (λ c. with_state c s FreeStep) }
 {
     let _ = p;
@@ -449,8 +449,7 @@ pub(crate) fn give_back(p: &Policy, cases: &mut Cases, n: CaseId, case: &Case, s
 
 /// Ends an open case.
 pub(crate) fn withdraw(p: &Policy, cases: &mut Cases, n: CaseId)
-    requires kept { IsKept p.now cases.old }
-    requires found { (c : CaseShape) × IsOpenAt p.now cases.old.rows n c }
+    requires { IsUnhindered p.now cases.old (deeds.Withdraw n) }
     ensures { HasChanged p.now cases.old cases.new n withdrawn_row
         (λ c. with_phase c WithdrawnCase) }
 {

@@ -1,22 +1,19 @@
 //! Answers views over the open cases, and takes the replies to them that somebody else gave.
 ghost use Rattle.std.specs.Prelude.{◌≡◌, ◌≢◌, ◌↔◌, Ok, false, true};
 ghost use Rattle.wf_talk.specs.declared.reply.Reply.TheVariants as replies;
-ghost use Rattle.wf_board.specs.declared.deed.Deed.TheVariants as deeds;
 ghost use Rattle.wf_board.specs.declared.verdict.Verdict.TheVariants as verdicts;
-ghost use Rattle.wf_board.specs.Admission.{HasAdmitted, IsVerdictFor};
+ghost use Rattle.wf_board.specs.Admission.{is_view_deed, reply_of, HasAdmitted, IsVerdictFor};
 ghost use Rattle.wf_board.specs.Boards.{book_of};
 ghost use Rattle.wf_board.specs.Decisions.{decision_aside, decision_of};
-ghost use Rattle.wf_board.specs.Found.{IsAllowed};
 ghost use Rattle.wf_board.specs.Taking.{HasTakenStep, IsKept};
 ghost use Rattle.wf_board.specs.Trees.{shows_large};
 ghost use Rattle.wf_board.specs.Verdicts.{IsMadeOf, IsViewFor};
 
 use crate::admit::when;
-use crate::{AdmitFault, Verdict, View};
-use admin_edits::Amendment;
+use crate::{AdmitFault, Deed, Verdict, View};
 use grant_table::Cases;
 use policy_book::Policy;
-use wf_names::{CaseId, UserId};
+use wf_names::CaseId;
 use wf_talk::{Ask, Reply, WorkItem};
 
 /// Answers by a view of what is asked for.
@@ -39,54 +36,36 @@ pub(crate) fn by_view(p: &Policy, cases: &Cases, ask: &Ask, view: View) -> Reply
     }
 }
 
-/// Whether a reply lists the work of a user, as the verdict does.
-pub(crate) fn admit_work(
+/// Whether a reply is the view that the verdict is.
+pub(crate) fn admit_view(
     p: &Policy,
     cases: &Cases,
-    user: UserId,
+    deed: &Deed,
     reply: &Reply,
     verdict: &Verdict,
 ) -> Result<(), AdmitFault>
     requires kept { IsKept p.now cases.now }
+    requires view { is_view_deed deed.now ≡ true }
     requires given { reply.now ≢ replies.NoMemory }
-    requires verdict { IsVerdictFor (book_of p.now cases.now) (deeds.Work user) verdict.now }
-    ensures { HasAdmitted p.now cases.now cases.now (Ok (deeds.Work user)) reply.now result }
+    requires verdict { IsVerdictFor (book_of p.now cases.now) deed.now verdict.now }
+    ensures { HasAdmitted p.now cases.now cases.now (Ok deed.now) reply.now result }
 {
     let _ = p;
     let _ = cases;
-    let _ = user;
+    let _ = deed;
     match verdict {
-        Verdict::View(view) => match view {
-            View::Work(items) => when(is_work(reply, items.as_slice())),
-            View::WhatIf(_) => unreachable!(),
-        },
+        Verdict::View(view) => when(is_told(reply, view)),
         _ => unreachable!(),
     }
 }
 
-/// Whether a reply lists the cases that a change would strand, as the verdict does.
-pub(crate) fn admit_what_if(
-    p: &Policy,
-    cases: &Cases,
-    a: Amendment,
-    reply: &Reply,
-    verdict: &Verdict,
-) -> Result<(), AdmitFault>
-    requires kept { IsKept p.now cases.now }
-    requires allowed { IsAllowed p.now a }
-    requires given { reply.now ≢ replies.NoMemory }
-    requires verdict { IsVerdictFor (book_of p.now cases.now) (deeds.WhatIf a) verdict.now }
-    ensures { HasAdmitted p.now cases.now cases.now (Ok (deeds.WhatIf a)) reply.now result }
+/// Whether a reply tells a view.
+fn is_told(reply: &Reply, view: &View) -> bool
+    ensures { result ≡ true ↔ reply.now ≡ reply_of view.now }
 {
-    let _ = p;
-    let _ = cases;
-    let _ = a;
-    match verdict {
-        Verdict::View(view) => match view {
-            View::WhatIf(stranded) => when(is_what_if(reply, stranded.as_slice())),
-            View::Work(_) => unreachable!(),
-        },
-        _ => unreachable!(),
+    match view {
+        View::Work(items) => is_work(reply, items.as_slice()),
+        View::WhatIf(cases) => is_what_if(reply, cases.as_slice()),
     }
 }
 

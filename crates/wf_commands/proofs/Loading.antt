@@ -12,7 +12,6 @@ use Rattle.policy_book.specs.Shapes.{PolicyShape}
 use Rattle.policy_reader.specs.Files.{policy_of_file}
 use Rattle.run_record.specs.declared.fault.RunFault.{RunFault}
 use Rattle.run_record.specs.declared.fault.RunFault.TheVariants.{Load, NoMemory, FileTooLong}
-use Rattle.run_record.specs.declared.fault.RunFault.TheVariants as ending
 use Rattle.run_record.specs.Fault.{How, unloaded, unread, lacking, how_of}
 use Rattle.wf_commands.specs.declared.answer.Answer.{Answer}
 use Rattle.wf_commands.specs.Once.{OverPolicy}

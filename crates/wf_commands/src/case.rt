@@ -4,7 +4,7 @@ ghost use Rattle.std.specs.List.{list_all};
 ghost use Rattle.serde_json.specs.View.{view, items_view};
 ghost use Rattle.basics.specs.Reading.{Gives, each};
 ghost use Rattle.wf_names.specs.declared.limits.TheConstants.{STEP_LIMIT};
-ghost use Rattle.policy_book.specs.Policies.{flow_at, problem_of};
+ghost use Rattle.policy_book.specs.Course.{problem_in};
 ghost use Rattle.run_record.specs.declared.fault.InputFault.TheVariants.{NoUser};
 ghost use Rattle.wf_commands.specs.Input.{input_fault, listed_items, IsOfInput};
 ghost use Rattle.wf_commands.specs.Cases.{case_of_array, case_of_input, is_said, next_said};
@@ -13,11 +13,11 @@ ghost use Rattle.wf_commands.specs.Cases.{no_case, with_said, IsCaseOf, IsCaseSo
 use crate::said::said_in;
 use crate::{InputError, json_of};
 use constraint_forms::{Assign, StepSet};
-use policy_book::Policy;
+use policy_book::{Course, Policy};
 use run_record::InputFault;
 use serde_json::Value;
 use std::alloc::Global;
-use wf_names::{FlowId, StepId, StepState};
+use wf_names::{StepId, StepState};
 
 /// The state of a case, as it is said from the first step on.
 #[derive(Clone, Copy)]
@@ -31,23 +31,17 @@ pub(crate) struct Case {
 }
 
 /// The case of a workflow that an input is.
-pub(crate) fn read_case(
-    alloc: Global,
-    p: &Policy,
-    f: FlowId,
-    input: &[u8],
-) -> Result<Case, InputError>
-    requires { f < length p.now.flows }
+pub(crate) fn read_case(alloc: Global, course: &Course, input: &[u8]) -> Result<Case, InputError>
     ensures case { Gives input_fault (λ c. c) result
-        (case_of_input p.now (length (flow_at p.now f).flow.steps) input.now) }
+        (case_of_input course.now.policy.now (problem_in course.now).steps input.now) }
     ensures fault { IfErr result IsOfInput }
-    ensures sound { IfOk result (IsCaseOf (problem_of p.now f)) }
+    ensures sound { IfOk result (IsCaseOf (problem_in course.now)) }
 {
-    let steps = p.flow(f).steps().len();
+    let steps = course.flow().steps().len();
     if input.is_empty() {
         return Ok(first_case());
     }
-    read_array(alloc, p, steps as u8, input)
+    read_array(alloc, course.policy, steps as u8, input)
 }
 
 // A case of which no step was said: all are free.

@@ -15,7 +15,7 @@ use crate::encoding::{encode, take_case};
 use crate::{find_flow, load_policy};
 use cnf_export::model_laws::satisfiable_is_completable;
 use cnf_export::{Encoder, WriteFault, write_clauses};
-use policy_book::Policy;
+use policy_book::{Course, Policy};
 use run_record::{Report, RunFault, bare_report};
 use std::alloc::Global;
 use wf_outside::{Shelf, Sink, Source};
@@ -84,9 +84,12 @@ fn clauses_under<S: Source>(
     ensures input { ReadsInput (Some LINE_LIMIT) (fault_in result) (S.left source.old)
         (S.left source.new) }
 {
-    let f = find_flow(p, flow)?;
-    let c = take_case(alloc, p, f, source)?;
+    let course = Course {
+        policy: p,
+        number: find_flow(p, flow)?,
+    };
+    let c = take_case(alloc, &course, source)?;
     satisfiable_is_completable();
-    let _ruled = p.rules(f);
-    encode(alloc, p, f, &c)
+    let _ruled = course.rules();
+    encode(alloc, &course, &c)
 }

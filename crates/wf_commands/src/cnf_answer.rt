@@ -2,7 +2,7 @@
 ghost use Rattle.std.specs.Prelude.{◌≡◌, ◌<◌, ◌≤◌, ◌++◌, length, codes, string_bytes, IfErr, IfOk};
 ghost use Rattle.serde_json.specs.View.{view};
 ghost use Rattle.serde_json.specs.Written.{compact_text};
-ghost use Rattle.policy_book.specs.Policies.{problem_of};
+ghost use Rattle.policy_book.specs.Course.{problem_in};
 ghost use Rattle.cnf_export.specs.Encodings.{variables_of};
 ghost use Rattle.cnf_export.specs.Saying.{has_variable};
 ghost use Rattle.wire_json.specs.Entries.{named, plan_data};
@@ -18,30 +18,28 @@ use crate::encoding::encode;
 use crate::model_file::MODEL_FILE_LIMIT;
 use crate::{Answer, name_text};
 use cnf_export::{CnfFault, Model, ModelFault, Reading, plan_of, read_model};
-use policy_book::{Plan, Policy};
+use policy_book::{Course, Plan, Policy};
 use run_record::{InputFault, RunFault};
 use serde_json::Value;
 use std::alloc::{AllocError, Global};
-use wf_names::{FlowId, NameTable, StepId};
+use wf_names::{NameTable, StepId};
 
 /// What the model in a text says of a case.
 pub(crate) fn answer_case(
     alloc: Global,
-    p: &Policy,
-    f: FlowId,
+    course: &Course,
     c: &Case,
     text: &[u8],
 ) -> Result<Answer, RunFault>
-    requires flow { f < length p.now.flows }
-    requires sound { IsCaseOf (problem_of p.now f) c.now }
+    requires sound { IsCaseOf (problem_in course.now) c.now }
     requires short { length text.now ≤ MODEL_FILE_LIMIT }
-    ensures answer { AnswersAs
-        (UnlessLarge p.now f c.now (ReadsModel p.now f text.now c.now)) result }
+    ensures answer { let p = course.now.policy.now in let f = course.now.number in
+        AnswersAs (UnlessLarge p f c.now (ReadsModel p f text.now c.now)) result }
     ensures ending { IfErr result IsLateEnding }
 {
-    let encoder = encode(alloc, p, f, c)?;
+    let encoder = encode(alloc, course, c)?;
     let m = model_in(alloc, text, encoder.variables())?;
-    answer_model(alloc, p, f, c, &m)
+    answer_model(alloc, course, c, &m)
 }
 
 // The model that a text says, of `variables` variables.
@@ -58,21 +56,21 @@ fn model_in(alloc: Global, text: &[u8], variables: u32) -> Result<Model, RunFaul
 }
 
 // What a model says of a case.
-fn answer_model(
-    alloc: Global,
-    p: &Policy,
-    f: FlowId,
-    c: &Case,
-    m: &Model,
-) -> Result<Answer, RunFault>
-    requires flow { f < length p.now.flows }
-    requires sound { IsCaseOf (problem_of p.now f) c.now }
-    ensures answer { AnswersAs
-        (UnlessLarge p.now f c.now (TellsReading p.now f c.now (has_variable m.now))) result }
+fn answer_model(alloc: Global, course: &Course, c: &Case, m: &Model) -> Result<Answer, RunFault>
+    requires sound { IsCaseOf (problem_in course.now) c.now }
+    ensures answer { let p = course.now.policy.now in let f = course.now.number in
+        AnswersAs (UnlessLarge p f c.now (TellsReading p f c.now (has_variable m.now))) result }
     ensures ending { IfErr result IsLateEnding }
 {
-    match plan_of(alloc, p, f, &c.assigned, &c.finished, m) {
-        Ok(reading) => Ok(answer_with(alloc, p, &reading)?),
+    match plan_of(
+        alloc,
+        course.policy,
+        course.number,
+        &c.assigned,
+        &c.finished,
+        m,
+    ) {
+        Ok(reading) => Ok(answer_with(alloc, course.policy, &reading)?),
         Err(CnfFault::TooLarge) => Err(RunFault::TooLarge),
         Err(CnfFault::NoMemory) => Err(RunFault::NoMemory),
     }

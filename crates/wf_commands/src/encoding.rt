@@ -1,7 +1,7 @@
 //! The case in the input, and its clauses.
 ghost use Rattle.std.specs.Prelude.{◌≡◌, ◌<◌, length, Some, IfErr, IfOk, IfSome};
 ghost use Rattle.wf_names.specs.declared.limits.TheConstants.{LINE_LIMIT};
-ghost use Rattle.policy_book.specs.Policies.{problem_of};
+ghost use Rattle.policy_book.specs.Course.{problem_in};
 ghost use Rattle.run_record.specs.Fault.{fault_in, CountsReadsAlone};
 ghost use Rattle.wf_commands.specs.Once.{ReadsInput};
 ghost use Rattle.wf_commands.specs.Cases.{IsCaseOf};
@@ -11,39 +11,37 @@ ghost use Rattle.wf_commands.specs.CnfSteps.{IsReadingEnding, ReadsCase};
 use crate::case::{Case, read_case};
 use crate::{InputError, take_input};
 use cnf_export::{CnfFault, Encoder};
-use policy_book::Policy;
+use policy_book::Course;
 use run_record::RunFault;
 use std::alloc::Global;
-use wf_names::{FlowId, LINE_LIMIT};
+use wf_names::LINE_LIMIT;
 use wf_outside::Source;
 
 /// The case of a workflow that the input is.
 pub(crate) fn take_case<S: Source>(
     alloc: Global,
-    p: &Policy,
-    f: FlowId,
+    course: &Course,
     source: &mut S,
 ) -> Result<Case, RunFault>
-    requires { f < length p.now.flows }
-    ensures case { IfSome (S.left source.old) (λ input. GivesCase p.now f input result) }
-    ensures sound { IfOk result (IsCaseOf (problem_of p.now f)) }
+    ensures case { IfSome (S.left source.old)
+        (λ input. GivesCase course.now.policy.now course.now.number input result) }
+    ensures sound { IfOk result (IsCaseOf (problem_in course.now)) }
     ensures ending { IfErr result IsCaseEnding }
     ensures reads { CountsReadsAlone (fault_in result) (S.faults source.old) (S.faults source.new) }
     ensures taken { ReadsInput (Some LINE_LIMIT) (fault_in result) (S.left source.old)
         (S.left source.new) }
 {
     let input = take_input(alloc, source, LINE_LIMIT)?;
-    case_in(alloc, p, f, input.as_bytes())
+    case_in(alloc, course, input.as_bytes())
 }
 
 // The same of an input that is there.
-fn case_in(alloc: Global, p: &Policy, f: FlowId, input: &[u8]) -> Result<Case, RunFault>
-    requires { f < length p.now.flows }
-    ensures case { ReadsCase p.now f input.now result }
-    ensures sound { IfOk result (IsCaseOf (problem_of p.now f)) }
+fn case_in(alloc: Global, course: &Course, input: &[u8]) -> Result<Case, RunFault>
+    ensures case { ReadsCase course.now.policy.now course.now.number input.now result }
+    ensures sound { IfOk result (IsCaseOf (problem_in course.now)) }
     ensures ending { IfErr result IsReadingEnding }
 {
-    match read_case(alloc, p, f, input) {
+    match read_case(alloc, course, input) {
         Ok(c) => Ok(c),
         Err(InputError::Fault(fault)) => Err(RunFault::BadInput(fault)),
         Err(InputError::NoMemory) => Err(RunFault::NoMemory),
@@ -51,14 +49,19 @@ fn case_in(alloc: Global, p: &Policy, f: FlowId, input: &[u8]) -> Result<Case, R
 }
 
 /// An encoder of the clauses of a case.
-pub(crate) fn encode(alloc: Global, p: &Policy, f: FlowId, c: &Case) -> Result<Encoder, RunFault>
-    requires flow { f < length p.now.flows }
-    requires sound { IsCaseOf (problem_of p.now f) c.now }
-    ensures encoder { GivesEncoder p.now f c.now result }
+pub(crate) fn encode(alloc: Global, course: &Course, c: &Case) -> Result<Encoder, RunFault>
+    requires sound { IsCaseOf (problem_in course.now) c.now }
+    ensures encoder { GivesEncoder course.now.policy.now course.now.number c.now result }
     ensures left { IfOk result (λ e. e.left ≡ e.all) }
     ensures ending { IfErr result IsLateEnding }
 {
-    match Encoder::new(alloc, p, f, &c.assigned, &c.finished) {
+    match Encoder::new(
+        alloc,
+        course.policy,
+        course.number,
+        &c.assigned,
+        &c.finished,
+    ) {
         Ok(encoder) => Ok(encoder),
         Err(CnfFault::TooLarge) => Err(RunFault::TooLarge),
         Err(CnfFault::NoMemory) => Err(RunFault::NoMemory),

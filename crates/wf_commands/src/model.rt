@@ -14,7 +14,7 @@ use crate::cnf_answer::answer_case;
 use crate::encoding::take_case;
 use crate::model_file::MODEL_FILE_LIMIT;
 use crate::{Answer, find_flow, load_file, load_policy};
-use policy_book::Policy;
+use policy_book::{Course, Policy};
 use run_record::{Report, RunFault, bare_report};
 use std::alloc::Global;
 use wf_outside::{Shelf, Sink, Source, put_and_flush};
@@ -89,8 +89,11 @@ fn read_under<F: Shelf, S: Source>(
     ensures input { ReadsInput (Some LINE_LIMIT) (fault_in result) (S.left source.old)
         (S.left source.new) }
 {
-    let f = find_flow(p, flow)?;
+    let course = Course {
+        policy: p,
+        number: find_flow(p, flow)?,
+    };
     let text = load_file(alloc, shelf, model, MODEL_FILE_LIMIT)?;
-    let c = take_case(alloc, p, f, source)?;
-    answer_case(alloc, p, f, &c, text.as_bytes())
+    let c = take_case(alloc, &course, source)?;
+    answer_case(alloc, &course, &c, text.as_bytes())
 }

@@ -1,15 +1,14 @@
 //! The command `resilience`: whether a workflow can be done whichever of its users are absent.
-ghost use Rattle.std.specs.Prelude.{◌<◌, length, None, IfOk};
+ghost use Rattle.std.specs.Prelude.{None, IfOk};
 ghost use Rattle.wf_commands.specs.Answer.{ending_with};
 ghost use Rattle.wf_commands.specs.Resilience.{ChecksAbsences, ChecksFlow};
 
 use crate::answer::{Answer, Answers};
 use crate::given::find_flow;
-use policy_book::Policy;
+use policy_book::{Course, Policy};
 use resilience_check::{AbsenceAnswer, resilience};
 use run_record::RunFault;
 use std::alloc::{AllocError, Global};
-use wf_names::FlowId;
 use wf_outside::Source;
 use wire_json::{write_absence, write_family};
 
@@ -31,17 +30,20 @@ impl Answers for ResilienceCommand<'_> {
         p: &Policy,
         _source: &mut S,
     ) -> Result<Answer, RunFault> {
-        let f = find_flow(p, self.flow)?;
-        Ok(check_absences(alloc, p, f, self.absences)?)
+        let course = Course {
+            policy: p,
+            number: find_flow(p, self.flow)?,
+        };
+        Ok(check_absences(alloc, &course, self.absences)?)
     }
 }
 
 // Whether a workflow can be done whichever at most `t` users are absent.
-fn check_absences(alloc: Global, p: &Policy, f: FlowId, t: u8) -> Result<Answer, AllocError>
-    requires { f < length p.now.flows }
-    ensures { IfOk result (λ answer.
-        ChecksAbsences p.now f t (ending_with answer.found) answer.text.items) }
+fn check_absences(alloc: Global, course: &Course, t: u8) -> Result<Answer, AllocError>
+    ensures { IfOk result (λ answer. ChecksAbsences course.now.policy.now course.now.number t
+        (ending_with answer.found) answer.text.items) }
 {
+    let (p, f) = (course.policy, course.number);
     match resilience(alloc, p, f, t)? {
         AbsenceAnswer::Holds(plans) => Ok(Answer {
             found: false,

@@ -1,9 +1,9 @@
 //! The command `solve`: a plan for each workflow, or a tree that shows that there is none.
-ghost use Rattle.std.specs.Prelude.{◌<◌, length, None, IfOk, OnOk};
+ghost use Rattle.std.specs.Prelude.{length, None, IfOk, OnOk};
 ghost use Rattle.wf_commands.specs.Solve.{SolvesPolicy, TellsFirst, TellsNext};
 
 use crate::answer::{Answer, Answers};
-use policy_book::{Assign, Policy, StepSet};
+use policy_book::{Assign, Course, Policy, StepSet};
 use run_record::RunFault;
 use std::alloc::{AllocError, Global};
 use wf_names::FlowId;
@@ -39,16 +39,21 @@ fn solve_flows(alloc: Global, p: &Policy) -> Result<Vec<u8>, AllocError>
 {
     let mut text = Vec::new(alloc);
     'flows: for f in 0..p.flows().len() {
-        push_solved(alloc, &mut text, p, FlowId(f as u8))?;
+        let course = Course {
+            policy: p,
+            number: FlowId(f as u8),
+        };
+        push_solved(alloc, &mut text, &course)?;
     }
     Ok(text)
 }
 
 // Adds the line of a workflow.
-fn push_solved(alloc: Global, out: &mut Vec<u8>, p: &Policy, f: FlowId) -> Result<(), AllocError>
-    requires { f < length p.now.flows }
-    ensures { OnOk result (TellsNext p.now f out.old.items out.new.items) }
+fn push_solved(alloc: Global, out: &mut Vec<u8>, course: &Course) -> Result<(), AllocError>
+    ensures { OnOk result (TellsNext course.now.policy.now course.now.number
+        out.old.items out.new.items) }
 {
+    let (p, f) = (course.policy, course.number);
     match wsp_solver::solve(alloc, p, f, &Assign::empty(), &StepSet::empty())? {
         Outcome::Plan(plan) => push_plan_line(out, p, f, &plan),
         Outcome::Refuted(tree) => push_tree_line(out, p, f, &tree),

@@ -37,11 +37,23 @@ pub enum Outcome {
 }
 
 /// Why a search that may keep only a number of branches has no answer.
+#[derive(Clone, Copy)]
 pub enum Unsolved {
     /// An allocation was refused.
     NoMemory,
     /// The tree would have more branches than the search may keep.
     OverBudget,
+}
+
+impl From<AllocError> for Unsolved {
+    ghost use Rattle.std.specs.Prelude.{◌≡◌};
+    ghost use Rattle.wsp_solver.specs.declared.search.Unsolved.TheVariants.{NoMemory};
+
+    ghost from_gives = { λ _ r. r ≡ NoMemory };
+
+    fn from(_: AllocError) -> Unsolved {
+        Unsolved::NoMemory
+    }
 }
 
 // The same, with the steps that the tree mentions; or that a bounded search has come to its bound.
@@ -96,11 +108,7 @@ pub fn solve_within(
         policy: p,
         number: f,
     };
-    let searched = match decided(alloc, &course, a, done, branches, true) {
-        Ok(searched) => searched,
-        Err(_) => return Err(Unsolved::NoMemory),
-    };
-    match searched {
+    match decided(alloc, &course, a, done, branches, true)? {
         Searched::Plan(plan) => Ok(Outcome::Plan(plan)),
         Searched::Refuted(found) => {
             if found.tree.nodes() > branches as u64 {

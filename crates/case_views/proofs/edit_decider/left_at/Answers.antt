@@ -8,7 +8,8 @@ use Rattle.case_views.proofs.edit_decider.left_at.Goals as goal
 
 pub plan_for-requires-clause-valid : goal.plan_for-requires-clause-valid
 plan_for-requires-clause-valid c =
-    plan_of_row c.args.p.now c.args.row.now.case c.case-in-Some.result.now c.args.row.now.plan c.in-Some.kept c.in-Some.ensures c.case-in-Some.ensures
+    plan_of_row c.args.revision.now.before.now c.args.row.now.case c.case-in-Some.result.now c.args.row.now.plan c.in-Some.kept c.in-Some.ensures
+    c.case-in-Some.ensures
     c.requires.planned
 
 pub returns-in_ok-plan_for-in-Some : goal.returns-in_ok-plan_for-in-Some
@@ -16,6 +17,6 @@ returns-in_ok-plan_for-in-Some c =
     let k = c.args.row.now.case in
     let live : is_open k ≡ true = ap is_open (sym c.case.ensures) ∙ ap is_live (sym c.phase.ensures) ∙ sym c.is_live.ensures ∙ c.if-is_live.true in (
       live,
-      subst (λ (x : CaseShape). HasSolved (problem_of c.args.after.now x.flow) (assigned_of x) (finished_of x) c.in_ok-plan_for-in-Some.field-0)
+      subst (λ (x : CaseShape). HasSolved (problem_of c.args.revision.now.after.now x.flow) (assigned_of x) (finished_of x) c.in_ok-plan_for-in-Some.field-0)
           c.case-in-Some.ensures c.in_ok-plan_for-in-Some.ensures,
     )

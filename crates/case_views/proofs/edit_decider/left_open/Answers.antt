@@ -1,25 +1,17 @@
 use Rattle.std.proofs.Common.{arith, sym, subst, take_all}
 use Rattle.wf_board.specs.Edition.{ArePlansOf, IsFirstStranded}
-use Rattle.wf_board.specs.Kept.{IsOfPolicy, IsPlanned}
 use Rattle.case_views.specs.Deciding.{AddsPlanOfRow}
 use Rattle.case_views.specs.Listing.{open_in}
 use Rattle.case_views.proofs.Editing.{plans_more, stranded_here}
-use Rattle.case_views.proofs.Listing.{each_in}
+use Rattle.case_views.proofs.Listing.{kept_row}
 use Rattle.case_views.proofs.edit_decider.left_open.Goals as goal
 
-pub add_plan-requires-clause-known : goal.add_plan-requires-clause-known
-add_plan-requires-clause-known c =
-    each_in (λ r. IsOfPolicy c.args.p.now r.case) c.args.rows.now c.rows.i c.index-rows-i.result c.rows-test.true c.index-rows-i.is
-    c.requires.kept.cases
-
-pub add_plan-requires-clause-planned : goal.add_plan-requires-clause-planned
-add_plan-requires-clause-planned c =
-    each_in (λ r. IsPlanned c.args.p.now r.case r.plan) c.args.rows.now c.rows.i c.index-rows-i.result c.rows-test.true c.index-rows-i.is
-    c.requires.kept.plans
+pub add_plan-requires : goal.add_plan-requires
+add_plan-requires c = kept_row c.args.revision.now.before.now c.args.rows.now c.rows.i c.index-rows-i.result c.rows-test.true c.index-rows-i.is c.requires
 
 pub returns-in-Some : goal.returns-in-Some
 returns-in-Some c =
-    let q = c.args.after.now in
+    let q = c.args.revision.now.after.now in
     let row = c.index-rows-i.result in
     let added = subst (AddsPlanOfRow q row c.rows.plans.items c.add_plan.new.plans.items) c.in-Some.is c.in_ok-tree.ensures in
     let first = stranded_here q c.args.rows.now c.rows.i row c.rows.plans.items c.in-Some.tree c.rows-test.true c.index-rows-i.is c.rows.invariant added.0
@@ -28,7 +20,7 @@ returns-in-Some c =
 
 pub rows-preserved : goal.rows-preserved
 rows-preserved c =
-    let q = c.args.after.now in
+    let q = c.args.revision.now.after.now in
     let row = c.index-rows-i.result in
     let added = subst (AddsPlanOfRow q row c.rows.plans.items c.add_plan.new.plans.items) c.in_default.is c.in_ok-tree.ensures in
     plans_more q c.args.rows.now c.rows.i row c.rows.plans.items added.0 c.add_plan.new.plans.items c.rows-test.true c.index-rows-i.is c.rows.invariant
@@ -36,6 +28,6 @@ rows-preserved c =
 
 pub returns : goal.returns
 returns c =
-    subst (ArePlansOf c.args.after.now (open_in c.args.rows.now)) (sym c.from_vec.ensures)
-    (subst (λ rows. ArePlansOf c.args.after.now (open_in rows) c.rows.plans.items)
+    subst (ArePlansOf c.args.revision.now.after.now (open_in c.args.rows.now)) (sym c.from_vec.ensures)
+    (subst (λ rows. ArePlansOf c.args.revision.now.after.now (open_in rows) c.rows.plans.items)
     (take_all c.rows.i c.args.rows.now (omega (arith, c.rows-test.false))) c.rows.invariant)

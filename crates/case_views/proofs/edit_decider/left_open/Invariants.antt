@@ -5,4 +5,4 @@ use Rattle.case_views.proofs.edit_decider.left_open.Given as goal
 
 -- each open case so far has a plan
 abbrev pub invariant-rows : goal.invariant-rows
-invariant-rows l = ArePlansOf l.after (open_in (take l.i l.rows)) l.plans.items
+invariant-rows l = ArePlansOf l.revision.after.now (open_in (take l.i l.rows)) l.plans.items

@@ -6,19 +6,19 @@ use Rattle.case_views.proofs.Deciding.{search_assigned, search_within}
 use Rattle.case_views.proofs.Editing.{said_same}
 use Rattle.case_views.proofs.found.outcome_with.Goals as goal
 
-pub solve_for_entry-requires-clause-within : goal.solve_for_entry-requires-clause-within
-solve_for_entry-requires-clause-within c =
+pub solve_within-requires-clause-within : goal.solve_within-requires-clause-within
+solve_within-requires-clause-within c =
     rw (c.flow.ensures, c.assigned_with-assigned.ensures.given)
     (search_within c.args.p.now c.args.case.now c.args.kept.now c.args.step c.args.user c.requires.known c.requires.valid c.requires.step c.requires.user)
 
-pub solve_for_entry-requires-clause-assigned : goal.solve_for_entry-requires-clause-assigned
-solve_for_entry-requires-clause-assigned c =
+pub solve_within-requires-clause-assigned : goal.solve_within-requires-clause-assigned
+solve_within-requires-clause-assigned c =
     rw (c.finished.ensures.value, c.assigned_with-assigned.ensures.given)
     (search_assigned c.args.case.now c.args.step c.args.user (omega (arith, c.assigned_with-assigned.ensures.len, c.assigned_with-assigned.ensures.within)))
 
 pub returns-in-None : goal.returns-in-None
 returns-in-None c =
     let k = c.args.case.now in
-    said_same (λ q a d. IfOk c.solve_for_entry.result (HasSolved q a d)) c.args.p.now k.flow c.flow.result (assigned_with k c.args.step c.args.user)
+    said_same (λ q a d. IfOk c.solve_within.result (HasSolved q a d)) c.args.p.now k.flow c.flow.result (assigned_with k c.args.step c.args.user)
     c.assigned_with-assigned.result (finished_of k) c.finished.result
-    c.flow.ensures c.assigned_with-assigned.ensures.given c.finished.ensures.value c.solve_for_entry.ensures
+    c.flow.ensures c.assigned_with-assigned.ensures.given c.finished.ensures.value c.solve_within.ensures.solved

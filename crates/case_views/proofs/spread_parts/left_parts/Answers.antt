@@ -8,4 +8,4 @@ returns g c =
     let slice = ap (λ it. it.slice.now) c.with_min_len.ensures.base ∙ c.par_iter.ensures in
     let made = c.in_ok-parts.ensures in
     let chain = rw (c.map.ensures.base, c.map.ensures.f) at made.1 in
-    collected (λ v. v.items) (IsLeftAt c.args.after.now) chain.0 c.args.rows.now made.0 c.in_ok-parts.parts (chain.1 ∙ slice) chain.2 made.2
+    collected (λ v. v.items) (IsLeftAt c.args.revision.now.after.now) chain.0 c.args.rows.now made.0 c.in_ok-parts.parts (chain.1 ∙ slice) chain.2 made.2

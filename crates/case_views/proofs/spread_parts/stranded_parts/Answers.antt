@@ -8,5 +8,5 @@ returns g c =
     let slice = ap (λ it. it.slice.now) c.with_min_len.ensures.base ∙ c.par_iter.ensures in
     let made = c.in_ok-parts.ensures in
     let chain = rw (c.map.ensures.base, c.map.ensures.f) at made.1 in
-    collected (λ v. v.items) (λ r part. AreStrandedIn c.args.after.now (r ∷ []) (list_of part)) chain.0 c.args.rows.now made.0 c.in_ok-parts.parts
+    collected (λ v. v.items) (λ r part. AreStrandedIn c.args.revision.now.after.now (r ∷ []) (list_of part)) chain.0 c.args.rows.now made.0 c.in_ok-parts.parts
     (chain.1 ∙ slice) chain.2 made.2

@@ -6,6 +6,6 @@ use Rattle.case_views.proofs.stranded.stranded_in.Given as goal
 -- the stranded cases so far are listed
 abbrev pub invariant-rows : goal.invariant-rows
 invariant-rows l = record {
-  stranded : AreStrandedIn l.after (take l.i l.rows) l.numbers;
-  right : TellsRight l.after l.seen;
+  stranded : AreStrandedIn l.revision.after.now (take l.i l.rows) l.numbers;
+  right : TellsRight l.revision.after.now l.seen;
 }

@@ -1,18 +1,10 @@
 use Rattle.std.proofs.Common.{◌∙◌, ◌++◌, ap, arith, subst, take_all}
-use Rattle.wf_board.specs.Kept.{IsOfPolicy, IsPlanned}
 use Rattle.case_views.specs.Listing.{IsWorkIn}
-use Rattle.case_views.proofs.Listing.{each_in, work_more}
+use Rattle.case_views.proofs.Listing.{kept_row, work_more}
 use Rattle.case_views.proofs.work_lists.work_in.Goals as goal
 
-pub work_at-requires-clause-known : goal.work_at-requires-clause-known
-work_at-requires-clause-known c =
-    each_in (λ r. IsOfPolicy c.args.p.now r.case) c.args.rows.now c.rows.i c.index-rows-i.result c.rows-test.true c.index-rows-i.is
-    c.requires.kept.cases
-
-pub work_at-requires-clause-planned : goal.work_at-requires-clause-planned
-work_at-requires-clause-planned c =
-    each_in (λ r. IsPlanned c.args.p.now r.case r.plan) c.args.rows.now c.rows.i c.index-rows-i.result c.rows-test.true c.index-rows-i.is
-    c.requires.kept.plans
+pub work_at-requires-clause-row : goal.work_at-requires-clause-row
+work_at-requires-clause-row c = kept_row c.args.p.now c.args.rows.now c.rows.i c.index-rows-i.result c.rows-test.true c.index-rows-i.is c.requires.kept
 
 pub rows-preserved : goal.rows-preserved
 rows-preserved c = record {

@@ -4,4 +4,4 @@ use Rattle.wf_board.proofs.breaking.these_stay.Given as goal
 
 -- each row so far has a plan
 abbrev pub invariant-rows : goal.invariant-rows
-invariant-rows l = EachRow (λ r. IsPlanned l.after r.case r.plan) (take l.i l.rows)
+invariant-rows l = EachRow (λ r. IsPlanned l.revision.after.now r.case r.plan) (take l.i l.rows)

@@ -10,9 +10,9 @@ use Rattle.wf_board.proofs.granted.open_as.Goals as goal
 
 pub returns : goal.returns
 returns c =
-    let p = c.args.p.now in
+    let p = c.args.course.now.policy.now in
     let t = c.args.cases.now in
-    let f = c.args.flow in
+    let f = c.args.course.now.number in
     let given = replies.Opened c.args.number c.args.plan.now in
     elim c.match-open.branch [
       | in-NoMemory w ↦ subst (HasAdmitted p t c.open.new.cases (Ok (deeds.Open f)) given) (sym w.result-is)

@@ -10,6 +10,6 @@ returns-in_default c =
     let t = c.args.cases.now in (
       refl,
       λ edits. change_only (state_on (board_of p t edits)) c.args.a c.args.reply.now c.requires.given
-          (λ number is. strands_excludes p t edits c.args.a c.args.n c.args.shown.now number c.admin-sound.ensures.sound c.requires.allowed
+          (λ number is. strands_excludes p t edits c.args.a c.args.n c.args.shown.now number c.admin-sound.ensures.sound c.requires.ready.found
           c.requires.stranded) c.in_default.not-Denied,
     )

@@ -11,7 +11,7 @@ unreachable-requires c =
 pub returns-then-not-is_named : goal.returns-then-not-is_named
 returns-then-not-is_named c =
     let here = stranded_here c.args.p.now c.args.cases.now c.args.a c.args.n c.requires.stranded.0 c.in-Some.case.now c.admin-sound.ensures.sound
-    c.requires.allowed c.live-ascending.ensures.kept.ascend c.requires.stranded.1 c.in-Some.ensures in (
+    c.requires.ready.found c.live-ascending.ensures.kept.ascend c.requires.stranded.1 c.in-Some.ensures in (
       refl,
       λ edits step.
           let only = here.only edits c.args.named c.args.flow c.args.tree.now step in
@@ -21,13 +21,13 @@ returns-then-not-is_named c =
 
 pub is_tree_after-requires-clause-known : goal.is_tree_after-requires-clause-known
 is_tree_after-requires-clause-known c =
-    known_case c.args.p.now c.args.cases.now.rows c.args.n c.in-Some.case.now c.requires.kept.planned c.in-Some.ensures
+    known_case c.args.p.now c.args.cases.now.rows c.args.n c.in-Some.case.now c.requires.ready.kept.planned c.in-Some.ensures
 
 pub returns : goal.returns
 returns c =
     let here = stranded_here c.args.p.now c.args.cases.now c.args.a c.args.n c.requires.stranded.0 c.in-Some.case.now c.admin-sound.ensures.sound
-    c.requires.allowed c.live-ascending.ensures.kept.ascend c.requires.stranded.1 c.in-Some.ensures in
+    c.requires.ready.found c.live-ascending.ensures.kept.ascend c.requires.stranded.1 c.in-Some.ensures in
     let named = c.is_named.ensures.0 c.if-not-is_named.false in
     strands_admitted c.args.p.now c.args.cases.now c.args.a c.args.n c.in-Some.case.now c.args.named c.args.flow c.args.tree.now
     c.in_ok-is_tree_after.field-0 c.when.result
-    c.requires.kept here named.0 named.1 c.in_ok-is_tree_after.ensures c.when.ensures
+    c.requires.ready.kept here named.0 named.1 c.in_ok-is_tree_after.ensures c.when.ensures

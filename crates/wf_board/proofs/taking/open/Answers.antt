@@ -10,8 +10,8 @@ use Rattle.wf_board.proofs.taking.open.Goals as goal
 
 pub returns-then-is_full-clause-taken : goal.returns-then-is_full-clause-taken
 returns-then-is_full-clause-taken c =
-    let p = c.args.p.now in
-    let full = full_denied (book_of p c.args.cases.now) c.args.flow (sym c.is_full.ensures ∙ c.if-is_full.true) in
+    let p = c.args.course.now.policy.now in
+    let full = full_denied (book_of p c.args.cases.now) c.args.course.now.number (sym c.is_full.ensures ∙ c.if-is_full.true) in
     subst (λ d. HasTakenStep p c.args.cases.now c.args.cases.now d (replies.Denied Full)) (sym full) (denied_taken p c.args.cases.now Full c.requires.kept)
 
 pub returns-then-is_full-clause-made : goal.returns-then-is_full-clause-made
@@ -24,16 +24,17 @@ returns-then-is_err-clause-memory c =
 
 pub open_case-case-requires-clause-open : goal.open_case-case-requires-clause-open
 open_case-case-requires-clause-open c =
-    let below = below_limits c.args.p.now c.args.cases.now (sym c.is_full.ensures ∙ c.if-is_full.false) in
+    let below = below_limits c.args.course.now.policy.now c.args.cases.now (sym c.is_full.ensures ∙ c.if-is_full.false) in
     subst (λ t. open_count t.rows < OPEN_CASE_LIMIT) (sym c.make_room.ensures.same) below.0
 
 pub open_case-case-requires-clause-ever : goal.open_case-case-requires-clause-ever
 open_case-case-requires-clause-ever c =
-    let below = below_limits c.args.p.now c.args.cases.now (sym c.is_full.ensures ∙ c.if-is_full.false) in
+    let below = below_limits c.args.course.now.policy.now c.args.cases.now (sym c.is_full.ensures ∙ c.if-is_full.false) in
     subst (λ t. t.ever < CASE_LIMIT) (sym c.make_room.ensures.same) below.1
 
 pub returns-clause-taken : goal.returns-clause-taken
 returns-clause-taken c =
-    opened_taken c.args.p.now c.args.cases.now c.make_room.new.cases c.open_case-case.new.self c.args.flow c.open_case-case.result c.args.plan
-    c.requires.kept c.requires.flow c.requires.valid (sym c.is_full.ensures ∙ c.if-is_full.false)
+    opened_taken c.args.course.now.policy.now c.args.cases.now c.make_room.new.cases c.open_case-case.new.self c.args.course.now.number
+    c.open_case-case.result c.args.plan
+    c.requires.kept c.args.course.now.known c.requires.valid (sym c.is_full.ensures ∙ c.if-is_full.false)
     c.make_room.ensures.same c.make_room.ensures.kept c.open_case-case.ensures.number c.open_case-case.ensures.opened

@@ -7,18 +7,18 @@ use Rattle.wf_commands.proofs.cnf_answer.answer_case.Goals as goal
 
 pub returns-in_err-encoder-clause-answer : goal.returns-in_err-encoder-clause-answer
 returns-in_err-encoder-clause-answer c =
-    answers_large c.args.p.now c.args.f c.args.c.now
-    (ReadsModel c.args.p.now c.args.f c.args.text.now c.args.c.now) c.from_residual.result c.in_err-encoder.field-0.0
+    answers_large c.args.course.now.policy.now c.args.course.now.number c.args.c.now
+    (ReadsModel c.args.course.now.policy.now c.args.course.now.number c.args.text.now c.args.c.now) c.from_residual.result c.in_err-encoder.field-0.0
     c.from_residual.ensures.1 c.in_err-encoder.ensures.encoder
 
 pub returns-in_err-m-clause-answer : goal.returns-in_err-m-clause-answer
 returns-in_err-m-clause-answer c =
-    answers_word c.args.p.now c.args.f c.args.c.now c.args.text.now c.from_residual-in_err-m.result c.in_err-m.field-0.0
+    answers_word c.args.course.now.policy.now c.args.course.now.number c.args.c.now c.args.text.now c.from_residual-in_err-m.result c.in_err-m.field-0.0
     c.from_residual-in_err-m.ensures.1 c.in_ok-encoder.ensures.encoder.0
     (subst (λ n. GivesModel n c.args.text.now (Err c.in_err-m.field-0.0)) (c.variables.ensures ∙ c.in_ok-encoder.ensures.encoder.1.1) c.in_err-m.ensures.model)
 
 pub returns-clause-answer : goal.returns-clause-answer
 returns-clause-answer c =
-    answers_model c.args.p.now c.args.f c.args.c.now c.args.text.now c.in_ok-m.m c.answer_model.result
+    answers_model c.args.course.now.policy.now c.args.course.now.number c.args.c.now c.args.text.now c.in_ok-m.m c.answer_model.result
     (subst (λ n. model_of_text n c.args.text.now ≡ Ok c.in_ok-m.m) (c.variables.ensures ∙ c.in_ok-encoder.ensures.encoder.1.1) c.in_ok-m.ensures.model)
     c.answer_model.ensures.answer

@@ -2,7 +2,7 @@ use Rattle.std.proofs.Common.{◌≡◌, ℕ, List, Bool, Option, true, refl, in
 use Rattle.std.proofs.lemmas.Result.{on_ok_weaker}
 use Rattle.constraint_forms.specs.Assign.{no_steps}
 use Rattle.policy_book.specs.Plans.{IsValidPlan}
-use Rattle.policy_book.specs.Policies.{problem_of}
+use Rattle.policy_book.specs.Course.{problem_in}
 use Rattle.policy_book.specs.Refuting.{refutes}
 use Rattle.policy_book.specs.Lean.{is_lean}
 use Rattle.refutation_tree.specs.Views.{shape_of}
@@ -12,7 +12,7 @@ use Rattle.wf_commands.proofs.solve.push_solved.Goals as goal
 
 pub returns-in-Plan : goal.returns-in-Plan
 returns-in-Plan c =
-    let problem = problem_of c.args.p.now c.args.f in
+    let problem = problem_in c.args.course.now in
     let plan = c.in-Plan.plan in
     let found = subst (λ (o : Outcome). HasSolved problem c.empty.result c.empty-2.result o) c.in-Plan.is c.in_ok-plan.ensures in
     let valid = subst (λ (a : List (Option ℕ)). IsValidPlan problem a no_steps plan) c.empty.ensures.value
@@ -21,7 +21,7 @@ returns-in-Plan c =
 
 pub returns-in-Refuted : goal.returns-in-Refuted
 returns-in-Refuted c =
-    let problem = problem_of c.args.p.now c.args.f in
+    let problem = problem_in c.args.course.now in
     let tree = shape_of c.in-Refuted.tree in
     let found = subst (λ (o : Outcome). HasSolved problem c.empty.result c.empty-2.result o) c.in-Refuted.is c.in_ok-plan.ensures in
     let refuting = subst (λ (a : List (Option ℕ)). refutes problem a no_steps tree ≡ true) c.empty.ensures.value
