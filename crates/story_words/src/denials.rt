@@ -8,7 +8,7 @@ use crate::names::{
 };
 use crate::past::{Deed, push_which};
 use grant_table::Cases;
-use plain_words::{name_of, relation_name, say, text_of};
+use plain_words::{flow_name, name_of, relation_name, say, text_of};
 use policy_book::Policy;
 use std::alloc::{AllocError, Global};
 use wf_names::{
@@ -194,7 +194,7 @@ fn push_no_step(out: &mut String, p: &Policy, cases: &Cases, ask: &Ask) -> Resul
 }
 
 fn push_own_steps(out: &mut String, held: &Held<'_>, step: &str) -> Result<(), AllocError> {
-    let flow = name_of(held.policy.flows(), held.flow.0 as u16);
+    let flow = flow_name(&held.course);
     let tail = "\"; its steps are ";
     say(out, &[text_of(&flow), " has no step \"", step, tail])?;
     push_steps(out, held.steps())
@@ -262,7 +262,7 @@ fn push_takers(
 ) -> Result<(), AllocError> {
     if let Some(held) = held_asked(p, cases, ask) {
         if let Some(step) = step_in(&held, ask) {
-            let users = held.policy.authorised_users(held.flow, step);
+            let users = held.course.authorised_users(step);
             push_users(alloc, out, p, &users, "and")?;
         }
     }
