@@ -14,4 +14,4 @@ mod search;
 pub use crowd::{StepList, are_parted, is_strict};
 pub use fewer::{RuleList, with_rules};
 pub use progress::Progress;
-pub use search::{Why, why_of};
+pub use search::{Why, why_at_start, why_of};

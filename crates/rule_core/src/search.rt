@@ -1,6 +1,7 @@
 //! The rules that cannot be met together, by leaving out one after the other.
 ghost use Rattle.std.specs.Prelude.{◌≤◌, length, IfOk};
 ghost use Rattle.wf_names.specs.declared.limits.TheConstants.{RULE_LIMIT};
+ghost use Rattle.constraint_forms.specs.Assign.{no_steps, no_users};
 ghost use Rattle.policy_book.specs.Course.{problem_in};
 ghost use Rattle.rule_core.specs.Cases.{in_case};
 ghost use Rattle.rule_core.specs.Search.{IsCore, IsBlocked, problem_with};
@@ -13,7 +14,7 @@ use crate::fewer::{RuleList, with_rules};
 use crate::find::find_crowd;
 use crate::numbers::{all_numbers, has, used, without};
 use crate::progress::Progress;
-use policy_book::Plan;
+use policy_book::{Assign, Course, Plan, StepSet};
 use refutation_tree::Tree;
 use std::alloc::{AllocError, Global};
 use wf_names::FlowId;
@@ -40,6 +41,19 @@ pub fn why_of(alloc: Global, case: &Progress) -> Result<Why, AllocError>
         Some(steps) => Ok(Why::Crowd(steps)),
         None => plan_or_clash(alloc, case),
     }
+}
+
+/// Why a workflow can or cannot be done from its start.
+pub fn why_at_start(alloc: Global, course: &Course) -> Result<Why, AllocError>
+    ensures { IfOk result (IsWhy (problem_in course.now) no_users no_steps) }
+{
+    let (users, done) = (Assign::empty(), StepSet::empty());
+    let case = Progress {
+        course,
+        users: &users,
+        done: &done,
+    };
+    why_of(alloc, &case)
 }
 
 // A plan, or rules that cannot be met together.

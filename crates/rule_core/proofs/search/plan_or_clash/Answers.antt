@@ -1,4 +1,3 @@
-use Rattle.policy_book.specs.Course.{problem_in}
 use Rattle.rule_core.proofs.Assigned.{assigned_in}
 use Rattle.rule_core.proofs.Trying.{core_blocks}
 use Rattle.rule_core.proofs.search.plan_or_clash.Goals as goal
@@ -9,4 +8,4 @@ solve-requires-clause-assigned c = assigned_in c.args.case.now
 pub returns-in_ok-rules-in-Refuted : goal.returns-in_ok-rules-in-Refuted
 returns-in_ok-rules-in-Refuted c =
     let core = c.in_ok-rules-in-Refuted.ensures in
-    (core, core_blocks (problem_in c.args.case.now.course.now) c.args.case.now.users.now c.args.case.now.done.now c.in_ok-rules-in-Refuted.rules core)
+    (core, core_blocks _ _ _ _ core)

@@ -9,4 +9,4 @@ pub returns-in-Some : goal.returns-in-Some
 returns-in-Some c =
     let p = problem_in c.args.case.now.course.now in
     let crowd = subst (λ (found : Option (List ℕ)). IfSome found (IsCrowd p c.args.case.now.users.now)) c.in-Some.is c.in_ok-steps.ensures in
-    (crowd, crowds_block p c.args.case.now.users.now c.args.case.now.done.now c.in-Some.steps (assigned_in c.args.case.now) crowd)
+    (crowd, crowds_block p c.args.case.now.users.now _ c.in-Some.steps (assigned_in c.args.case.now) crowd)
