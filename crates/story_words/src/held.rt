@@ -6,6 +6,7 @@ ghost use Rattle.policy_book.specs.Plans.{IsWithin};
 ghost use Rattle.rule_core.specs.Finished.{HaveUsers};
 
 use crate::about::step_asked;
+use crate::told::Told;
 use constraint_forms::{Assign, StepSet};
 use grant_table::Cases;
 use policy_book::{Course, Policy};
@@ -62,9 +63,9 @@ pub(crate) fn held_as<'p>(
 }
 
 /// Who has the steps of the case whose step is asked about.
-pub(crate) fn held_asked<'p>(p: &'p Policy, cases: &Cases, ask: &Ask) -> Option<Held<'p>> {
-    let (case, _) = step_asked(ask)?;
-    held_in(p, cases, case)
+pub(crate) fn held_asked<'p>(told: &Told<'p>) -> Option<Held<'p>> {
+    let (case, _) = step_asked(&told.entry.ask)?;
+    held_in(told.policy, told.cases, case)
 }
 
 /// The step that is asked about, if the workflow has one of that name.
@@ -77,9 +78,9 @@ pub(crate) fn step_in(held: &Held<'_>, ask: &Ask) -> Option<StepId> {
 }
 
 /// Who has the steps of a case, and with them what is claimed, as if who claims it had it.
-pub(crate) fn held_with<'p>(p: &'p Policy, cases: &Cases, ask: &Ask) -> Option<Held<'p>> {
-    match held_asked(p, cases, ask) {
-        Some(held) => held_claimed(&held, ask),
+pub(crate) fn held_with<'p>(told: &Told<'p>) -> Option<Held<'p>> {
+    match held_asked(told) {
+        Some(held) => held_claimed(&held, &told.entry.ask),
         None => None,
     }
 }

@@ -10,24 +10,38 @@ use std::alloc::{AllocError, Global};
 use wf_names::{CaseId, NameTable, StepId, StepState, UserId};
 use wf_talk::Entry;
 
+// A case with its number and its workflow, and the entries up to where it stands so.
+#[derive(Clone, Copy)]
+struct Table<'a> {
+    course: Course<'a>,
+    case: &'a Case,
+    number: CaseId,
+    entries: &'a [Entry],
+}
+
 /// Adds a line for each step of a case: its number, its name, and where it stands or who may do it.
-pub fn push_case(
+pub fn push_case<'a>(
     alloc: Global,
     out: &mut String,
-    p: &Policy,
-    case: &Case,
+    p: &'a Policy,
+    case: &'a Case,
     number: CaseId,
-    entries: &[Entry],
+    entries: &'a [Entry],
 ) -> Result<(), AllocError> {
     if !is_flow(p, case.flow()) {
         return Ok(());
     }
-    let course = Course {
-        policy: p,
-        number: case.flow(),
+    let table = Table {
+        course: Course {
+            policy: p,
+            number: case.flow(),
+        },
+        case,
+        number,
+        entries,
     };
     for s in 0..case.steps() {
-        push_step_line(alloc, out, &course, case, number, entries, StepId(s))?;
+        push_step_line(alloc, out, &table, StepId(s))?;
     }
     Ok(())
 }
@@ -35,21 +49,13 @@ pub fn push_case(
 fn push_step_line(
     alloc: Global,
     out: &mut String,
-    course: &Course,
-    case: &Case,
-    number: CaseId,
-    entries: &[Entry],
+    table: &Table<'_>,
     s: StepId,
 ) -> Result<(), AllocError> {
-    let name = step_name(course, s);
-    push_front(
-        out,
-        case.steps(),
-        s,
-        text_of(&name),
-        widest(course.flow().steps()),
-    )?;
-    push_state(alloc, out, course, case, number, entries, s)?;
+    let width = widest(table.course.flow().steps());
+    let name = step_name(&table.course, s);
+    push_front(out, table.case.steps(), s, text_of(&name), width)?;
+    push_state(alloc, out, table, s, text_of(&name))?;
     out.push_str("\n")
 }
 
@@ -65,27 +71,24 @@ fn push_front(
     write!(out, "{blanks}{} {name:width$}  ", s.0)
 }
 
-// Adds where a step stands.
+// Adds where a step of this name stands.
 fn push_state(
     alloc: Global,
     out: &mut String,
-    course: &Course,
-    case: &Case,
-    number: CaseId,
-    entries: &[Entry],
+    table: &Table<'_>,
     s: StepId,
+    name: &str,
 ) -> Result<(), AllocError> {
-    let name = step_name(course, s);
-    let name = text_of(&name);
-    match case.state(s) {
-        StepState::Free => push_free(alloc, out, course, s),
+    let p = table.course.policy;
+    match table.case.state(s) {
+        StepState::Free => push_free(alloc, out, &table.course, s),
         StepState::Held(user) => {
-            push_by(out, "held by ", course.policy, user)?;
-            push_which(alloc, out, entries, number, Deed::Grant(name))
+            push_by(out, "held by ", p, user)?;
+            push_which(alloc, out, table.entries, table.number, Deed::Grant(name))
         }
         StepState::Finished(user) => {
-            push_by(out, "finished by ", course.policy, user)?;
-            push_which(alloc, out, entries, number, Deed::Finish(name))
+            push_by(out, "finished by ", p, user)?;
+            push_which(alloc, out, table.entries, table.number, Deed::Finish(name))
         }
     }
 }
