@@ -1,12 +1,12 @@
 //! What a policy may say and probably does not mean.
 ghost use Rattle.std.specs.Prelude.{◌<◌, length};
 
-use crate::lists::{name_of, text_of, users_text};
+use crate::lists::{flow_name, name_of, step_name, text_of, users_text};
 use crate::one_way::push_one_way;
 use crate::rules::relation_name;
 use crate::texts::{joined, say};
 use constraint_forms::Rule;
-use policy_book::Policy;
+use policy_book::{Course, Policy};
 use rule_core::are_parted;
 use std::alloc::{AllocError, Global};
 use wf_names::{FlowId, RelId, RoleId, StepId, UserId, UserSet};
@@ -28,9 +28,19 @@ pub fn push_advice(
         push_one_way(out, front, p, RelId(rho as u8))?;
     }
     for f in 0..p.flows().len() {
-        push_flow(alloc, out, front, p, FlowId(f as u8))?;
+        push_flow(alloc, out, front, &course_of(p, FlowId(f as u8)))?;
     }
     Ok(())
+}
+
+// One of the policy's workflows.
+fn course_of(p: &Policy, f: FlowId) -> Course<'_>
+    requires { f < length p.now.flows }
+{
+    Course {
+        policy: p,
+        number: f,
+    }
 }
 
 // One administrator alone.
@@ -67,17 +77,15 @@ fn push_role(out: &mut String, front: &str, p: &Policy, r: RoleId) -> Result<(),
 
 fn permits_some(p: &Policy, r: RoleId) -> bool {
     for f in 0..p.flows().len() {
-        if permits_in(p, FlowId(f as u8), r) {
+        if permits_in(&course_of(p, FlowId(f as u8)), r) {
             return true;
         }
     }
     false
 }
 
-fn permits_in(p: &Policy, f: FlowId, r: RoleId) -> bool
-    requires { f < length p.now.flows }
-{
-    let flow = p.flow(f);
+fn permits_in(course: &Course, r: RoleId) -> bool {
+    let flow = course.flow();
     for s in 0..flow.steps().len().min(256) {
         if flow.permits(r, StepId(s as u8)) {
             return true;
@@ -100,20 +108,18 @@ fn push_relation(out: &mut String, front: &str, p: &Policy, rho: RelId) -> Resul
 
 fn is_read(p: &Policy, rho: RelId) -> bool {
     for f in 0..p.flows().len() {
-        if is_read_in(p, FlowId(f as u8), rho) {
+        if is_read_in(&course_of(p, FlowId(f as u8)), rho) {
             return true;
         }
     }
     false
 }
 
-fn is_read_in(p: &Policy, f: FlowId, rho: RelId) -> bool
-    requires { f < length p.now.flows }
-{
-    for rule in p.rules(f).as_slice() {
+fn is_read_in(course: &Course, rho: RelId) -> bool {
+    for rule in course.rules().as_slice() {
         match rule.relation() {
             Some(read) => {
-                if read == rho || p.relations().complement_of(read) == Some(rho) {
+                if read == rho || course.policy.relations().complement_of(read) == Some(rho) {
                     return true;
                 }
             }
@@ -127,35 +133,24 @@ fn push_flow(
     alloc: Global,
     out: &mut String,
     front: &str,
-    p: &Policy,
-    f: FlowId,
-) -> Result<(), AllocError>
-    requires { f < length p.now.flows }
-{
-    for s in 0..p.flow(f).steps().len().min(256) {
-        push_step(out, front, p, f, StepId(s as u8))?;
+    course: &Course,
+) -> Result<(), AllocError> {
+    for s in 0..course.flow().steps().len().min(256) {
+        push_step(out, front, course, StepId(s as u8))?;
     }
-    for k in 0..p.rules(f).len() {
-        push_rule(alloc, out, front, p, f, k)?;
+    for k in 0..course.rules().len() {
+        push_rule(alloc, out, front, course, k)?;
     }
     Ok(())
 }
 
 // A step that nobody may do.
-fn push_step(
-    out: &mut String,
-    front: &str,
-    p: &Policy,
-    f: FlowId,
-    s: StepId,
-) -> Result<(), AllocError>
-    requires { f < length p.now.flows }
-{
-    if p.authorised_users(f, s).count() > 0 {
+fn push_step(out: &mut String, front: &str, course: &Course, s: StepId) -> Result<(), AllocError> {
+    if course.authorised_users(s).count() > 0 {
         return Ok(());
     }
-    let flow = name_of(p.flows(), f.0 as u16);
-    let step = name_of(p.flow(f).steps(), s.0 as u16);
+    let flow = flow_name(course);
+    let step = step_name(course, s);
     let (flow, step) = (text_of(&flow), text_of(&step));
     say(
         out,
@@ -168,16 +163,13 @@ fn push_rule(
     alloc: Global,
     out: &mut String,
     front: &str,
-    p: &Policy,
-    f: FlowId,
+    course: &Course,
     k: usize,
-) -> Result<(), AllocError>
-    requires { f < length p.now.flows }
-{
-    let Some(words) = rule_advice(alloc, p, f, k)? else {
+) -> Result<(), AllocError> {
+    let Some(words) = rule_advice(alloc, course, k)? else {
         return Ok(());
     };
-    let flow = name_of(p.flows(), f.0 as u16);
+    let flow = flow_name(course);
     write!(
         out,
         "{front}workflow {}, rule {k}: {words}\n",
@@ -185,14 +177,14 @@ fn push_rule(
     )
 }
 
-fn rule_advice(alloc: Global, p: &Policy, f: FlowId, k: usize) -> Result<Option<String>, AllocError>
-    requires { f < length p.now.flows }
-{
-    match p.rules(f).as_slice().get(k) {
-        Some(Rule::Pair { rho, first, second }) => pair_advice(alloc, p, f, *rho, *first, *second),
+fn rule_advice(alloc: Global, course: &Course, k: usize) -> Result<Option<String>, AllocError> {
+    match course.rules().as_slice().get(k) {
+        Some(Rule::Pair { rho, first, second }) => pair_advice(
+            alloc, course, *rho, *first, *second,
+        ),
         Some(Rule::AllOf { rho, group, step } | Rule::AllTo { rho, group, step }) => {
             if *rho == RelId::OTHER && group.has(*step) {
-                return own_group(alloc, p, f, *step);
+                return own_group(alloc, course, *step);
             }
             Ok(None)
         }
@@ -201,10 +193,8 @@ fn rule_advice(alloc: Global, p: &Policy, f: FlowId, k: usize) -> Result<Option<
 }
 
 // A step that is to be done by others than those who do it.
-fn own_group(alloc: Global, p: &Policy, f: FlowId, s: StepId) -> Result<Option<String>, AllocError>
-    requires { f < length p.now.flows }
-{
-    let step = name_of(p.flow(f).steps(), s.0 as u16);
+fn own_group(alloc: Global, course: &Course, s: StepId) -> Result<Option<String>, AllocError> {
+    let step = step_name(course, s);
     let words = joined(
         alloc,
         &[
@@ -217,36 +207,33 @@ fn own_group(alloc: Global, p: &Policy, f: FlowId, s: StepId) -> Result<Option<S
 
 fn pair_advice(
     alloc: Global,
-    p: &Policy,
-    f: FlowId,
+    course: &Course,
     rho: RelId,
     first: StepId,
     second: StepId,
-) -> Result<Option<String>, AllocError>
-    requires { f < length p.now.flows }
-{
-    let (from, to) = (p.authorised_users(f, first), p.authorised_users(f, second));
-    if p.relations().complement_of(rho).is_some() {
-        return both_advice(alloc, p, f, rho, &from, &to, (first, second));
+) -> Result<Option<String>, AllocError> {
+    let (from, to) = (
+        course.authorised_users(first),
+        course.authorised_users(second),
+    );
+    if course.policy.relations().complement_of(rho).is_some() {
+        return both_advice(alloc, course, rho, &from, &to, (first, second));
     }
-    if leads(p, rho, &from, &to) || !leads(p, rho, &to, &from) {
+    if leads(course.policy, rho, &from, &to) || !leads(course.policy, rho, &to, &from) {
         return Ok(None);
     }
-    Ok(Some(turned_words(alloc, p, f, first, second)?))
+    Ok(Some(turned_words(alloc, course, first, second)?))
 }
 
 // That a relation leads the other way.
 fn turned_words(
     alloc: Global,
-    p: &Policy,
-    f: FlowId,
+    course: &Course,
     first: StepId,
     second: StepId,
-) -> Result<String, AllocError>
-    requires { f < length p.now.flows }
-{
-    let x = name_of(p.flow(f).steps(), first.0 as u16);
-    let y = name_of(p.flow(f).steps(), second.0 as u16);
+) -> Result<String, AllocError> {
+    let x = step_name(course, first);
+    let y = step_name(course, second);
     let front = "the relation leads from nobody who may do ";
     let end = ", but the other way; exchange first and second?";
     let middle = " to anybody who may do ";
@@ -275,20 +262,17 @@ fn leads_from(p: &Policy, rho: RelId, u: UserId, to: &UserSet) -> bool {
 // That one user may do both steps of a pair, since a complement holds of the user and themselves.
 fn both_advice(
     alloc: Global,
-    p: &Policy,
-    f: FlowId,
+    course: &Course,
     rho: RelId,
     from: &UserSet,
     to: &UserSet,
     steps: (StepId, StepId),
-) -> Result<Option<String>, AllocError>
-    requires { f < length p.now.flows }
-{
-    if are_parted(p, f, steps.0, steps.1) {
+) -> Result<Option<String>, AllocError> {
+    if are_parted(course, steps.0, steps.1) {
         return Ok(None);
     }
-    match both_user(p, rho, from, to) {
-        Some(u) => Ok(Some(both_words(alloc, p, f, u, steps)?)),
+    match both_user(course.policy, rho, from, to) {
+        Some(u) => Ok(Some(both_words(alloc, course, u, steps)?)),
         None => Ok(None),
     }
 }
@@ -306,17 +290,14 @@ fn both_user(p: &Policy, rho: RelId, from: &UserSet, to: &UserSet) -> Option<Use
 
 fn both_words(
     alloc: Global,
-    p: &Policy,
-    f: FlowId,
+    course: &Course,
     u: UserId,
     steps: (StepId, StepId),
-) -> Result<String, AllocError>
-    requires { f < length p.now.flows }
-{
+) -> Result<String, AllocError> {
     let (first, second) = steps;
-    let user = name_of(p.roster().users(), u.0);
-    let x = name_of(p.flow(f).steps(), first.0 as u16);
-    let y = name_of(p.flow(f).steps(), second.0 as u16);
+    let user = name_of(course.policy.roster().users(), u.0);
+    let x = step_name(course, first);
+    let y = step_name(course, second);
     let end =
         ", since a complement holds of each user and themselves; add a rule with other if that \
                is not meant";

@@ -19,9 +19,9 @@ mod why;
 pub use advice::push_advice;
 pub use fault::fault_text;
 pub use lists::{
-    counted, flow_text, group_text, name_of, name_text, number_text, push_gap, step_text,
-    steps_text, text_of, users_text,
+    counted, flow_name, flow_text, group_text, name_of, name_text, number_text, push_gap,
+    step_name, step_text, steps_text, text_of, users_text,
 };
 pub use rules::{relation_name, rule_text};
 pub use texts::{joined, say};
-pub use why::{clash_text, crowd_text, plan_text};
+pub use why::{clash_text, crowd_text, plan_text, push_rule_lines};

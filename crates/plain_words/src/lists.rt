@@ -1,8 +1,7 @@
 //! Names, and lists of names, as texts.
-ghost use Rattle.std.specs.Prelude.{◌<◌, length};
 
 use constraint_forms::StepSet;
-use policy_book::Policy;
+use policy_book::{Course, Policy};
 use std::alloc::{AllocError, Global};
 use wf_names::{FlowId, Name, NameTable, StepId, UserId, UserSet};
 
@@ -21,6 +20,16 @@ pub fn name_of(names: &NameTable, n: u16) -> Option<Name> {
     }
 }
 
+/// The name of a workflow, if it has one.
+pub fn flow_name(course: &Course) -> Option<Name> {
+    name_of(course.policy.flows(), course.number.0 as u16)
+}
+
+/// The name of a step of a workflow, if there is one.
+pub fn step_name(course: &Course, s: StepId) -> Option<Name> {
+    name_of(course.flow().steps(), s.0 as u16)
+}
+
 /// A name as text; the empty text where there is none.
 pub fn text_of(name: &Option<Name>) -> &str {
     match name {
@@ -35,10 +44,8 @@ pub fn name_text(alloc: Global, names: &NameTable, n: u16) -> Result<String, All
 }
 
 /// The name of a step.
-pub fn step_text(alloc: Global, p: &Policy, f: FlowId, s: StepId) -> Result<String, AllocError>
-    requires { f < length p.now.flows }
-{
-    name_text(alloc, p.flow(f).steps(), s.0 as u16)
+pub fn step_text(alloc: Global, course: &Course, s: StepId) -> Result<String, AllocError> {
+    name_text(alloc, course.flow().steps(), s.0 as u16)
 }
 
 /// The name of a workflow.
@@ -49,16 +56,13 @@ pub fn flow_text(alloc: Global, p: &Policy, f: FlowId) -> Result<String, AllocEr
 /// The names of a set's steps, the last one behind this word.
 pub fn group_text(
     alloc: Global,
-    p: &Policy,
-    f: FlowId,
+    course: &Course,
     group: &StepSet,
     last: &str,
-) -> Result<String, AllocError>
-    requires { f < length p.now.flows }
-{
+) -> Result<String, AllocError> {
     let mut text = String::new(alloc);
     let mut place = 0u32;
-    let steps = p.flow(f).steps();
+    let steps = course.flow().steps();
     for s in 0..steps.len().min(256) {
         if group.has(StepId(s as u8)) {
             push_gap(&mut text, place, group.count() as u32, last)?;
@@ -70,20 +74,13 @@ pub fn group_text(
 }
 
 /// The names of the steps `some`.
-pub fn steps_text(
-    alloc: Global,
-    p: &Policy,
-    f: FlowId,
-    some: &[StepId],
-) -> Result<String, AllocError>
-    requires { f < length p.now.flows }
-{
+pub fn steps_text(alloc: Global, course: &Course, some: &[StepId]) -> Result<String, AllocError> {
     let mut text = String::new(alloc);
     let mut place = 0u32;
     let count = some.len().min(256) as u32;
     for s in some {
         push_gap(&mut text, place, count, "and")?;
-        push_name(&mut text, p.flow(f).steps(), s.0 as u16)?;
+        push_name(&mut text, course.flow().steps(), s.0 as u16)?;
         place = place.saturating_add(1);
     }
     Ok(text)

@@ -1,12 +1,11 @@
 //! Rules as sentences.
-ghost use Rattle.std.specs.Prelude.{◌<◌, length};
 
-use crate::lists::{group_text, name_of, text_of};
+use crate::lists::{group_text, step_name, text_of};
 use crate::texts::joined;
 use constraint_forms::{Rule, StepSet};
-use policy_book::Policy;
+use policy_book::{Course, Policy};
 use std::alloc::{AllocError, Global};
-use wf_names::{FlowId, Name, RelId, StepId};
+use wf_names::{Name, RelId, StepId};
 
 // What a relation says of two people.
 #[derive(Clone, Copy)]
@@ -33,22 +32,34 @@ enum Form {
 }
 
 /// What a rule of a workflow wants, as a sentence without its full stop.
-pub fn rule_text(alloc: Global, p: &Policy, f: FlowId, rule: &Rule) -> Result<String, AllocError>
-    requires { f < length p.now.flows }
-{
+pub fn rule_text(alloc: Global, course: &Course, rule: &Rule) -> Result<String, AllocError> {
     match *rule {
-        Rule::Pair { rho, first, second } => pair_text(alloc, p, f, rho, first, second),
+        Rule::Pair { rho, first, second } => pair_text(alloc, course, rho, first, second),
         Rule::SomeOf { rho, group, step } => {
-            group_rule(alloc, p, f, Form::SomeOf, rho, &group, step)
+            group_rule(alloc, course, Form::SomeOf, rho, &group, step)
         }
-        Rule::AllOf { rho, group, step } => group_rule(alloc, p, f, Form::AllOf, rho, &group, step),
+        Rule::AllOf { rho, group, step } => group_rule(
+            alloc,
+            course,
+            Form::AllOf,
+            rho,
+            &group,
+            step,
+        ),
         Rule::SomeTo { rho, group, step } => {
-            group_rule(alloc, p, f, Form::SomeTo, rho, &group, step)
+            group_rule(alloc, course, Form::SomeTo, rho, &group, step)
         }
-        Rule::AllTo { rho, group, step } => group_rule(alloc, p, f, Form::AllTo, rho, &group, step),
-        Rule::AtMost { limit, group } => limit_text(alloc, p, f, "at most ", "", limit, &group),
+        Rule::AllTo { rho, group, step } => group_rule(
+            alloc,
+            course,
+            Form::AllTo,
+            rho,
+            &group,
+            step,
+        ),
+        Rule::AtMost { limit, group } => limit_text(alloc, course, "at most ", "", limit, &group),
         Rule::AtLeast { limit, group } => {
-            limit_text(alloc, p, f, "at least ", "at least ", limit, &group)
+            limit_text(alloc, course, "at least ", "at least ", limit, &group)
         }
     }
 }
@@ -84,17 +95,19 @@ pub fn relation_name(p: &Policy, rho: RelId) -> Option<Name> {
 
 fn pair_text(
     alloc: Global,
-    p: &Policy,
-    f: FlowId,
+    course: &Course,
     rho: RelId,
     first: StepId,
     second: StepId,
-) -> Result<String, AllocError>
-    requires { f < length p.now.flows }
-{
-    let x = name_of(p.flow(f).steps(), first.0 as u16);
-    let y = name_of(p.flow(f).steps(), second.0 as u16);
-    pair_words(alloc, sense_of(p, rho), text_of(&x), text_of(&y))
+) -> Result<String, AllocError> {
+    let x = step_name(course, first);
+    let y = step_name(course, second);
+    pair_words(
+        alloc,
+        sense_of(course.policy, rho),
+        text_of(&x),
+        text_of(&y),
+    )
 }
 
 fn pair_words(alloc: Global, sense: Sense, x: &str, y: &str) -> Result<String, AllocError> {
@@ -126,18 +139,18 @@ fn has_words(
 // A rule over a group; that of a single step says what a pair says.
 fn group_rule(
     alloc: Global,
-    p: &Policy,
-    f: FlowId,
+    course: &Course,
     form: Form,
     rho: RelId,
     group: &StepSet,
     step: StepId,
-) -> Result<String, AllocError>
-    requires { f < length p.now.flows }
-{
-    let s = name_of(p.flow(f).steps(), step.0 as u16);
-    let (sense, last) = (sense_of(p, rho), last_word(sense_of(p, rho), form));
-    let all = group_text(alloc, p, f, group, last)?;
+) -> Result<String, AllocError> {
+    let s = step_name(course, step);
+    let (sense, last) = (
+        sense_of(course.policy, rho),
+        last_word(sense_of(course.policy, rho), form),
+    );
+    let all = group_text(alloc, course, group, last)?;
     if group.count() > 1 {
         return many_words(alloc, form, sense, all.as_str(), text_of(&s));
     }
@@ -225,16 +238,13 @@ fn many_lack(
 // A rule over the number of people; of one person the words differ.
 fn limit_text(
     alloc: Global,
-    p: &Policy,
-    f: FlowId,
+    course: &Course,
     most: &str,
     one: &str,
     limit: u8,
     group: &StepSet,
-) -> Result<String, AllocError>
-    requires { f < length p.now.flows }
-{
-    let all = group_text(alloc, p, f, group, "and")?;
+) -> Result<String, AllocError> {
+    let all = group_text(alloc, course, group, "and")?;
     if limit == 1 {
         return joined(alloc, &[all.as_str(), " are done by ", one, "one person"]);
     }

@@ -1,20 +1,19 @@
 //! Why a workflow has a valid plan or none, in words.
-ghost use Rattle.std.specs.Prelude.{◌<◌, length};
 
-use crate::lists::{counted, name_of, number_text, push_gap, steps_text, text_of, users_text};
+use crate::lists::{
+    counted, flow_name, name_of, push_gap, step_name, steps_text, text_of, users_text,
+};
 use crate::rules::rule_text;
 use crate::texts::{joined, say};
-use constraint_forms::Plan;
-use policy_book::Policy;
+use constraint_forms::{Plan, Rule};
+use policy_book::{Course, Policy};
 use std::alloc::{AllocError, Global};
-use wf_names::{FlowId, StepId, UserId, UserSet};
+use wf_names::{StepId, UserId, UserSet};
 
 /// That a workflow has a plan: who does which step.
-pub fn plan_text(alloc: Global, p: &Policy, f: FlowId, plan: &Plan) -> Result<String, AllocError>
-    requires { f < length p.now.flows }
-{
-    let flow = name_of(p.flows(), f.0 as u16);
-    let all = doers_text(alloc, p, f, plan)?;
+pub fn plan_text(alloc: Global, course: &Course, plan: &Plan) -> Result<String, AllocError> {
+    let flow = flow_name(course);
+    let all = doers_text(alloc, course, plan)?;
     joined(
         alloc,
         &[text_of(&flow), " has a plan: ", all.as_str(), ".\n"],
@@ -22,48 +21,31 @@ pub fn plan_text(alloc: Global, p: &Policy, f: FlowId, plan: &Plan) -> Result<St
 }
 
 // Who does which step.
-fn doers_text(alloc: Global, p: &Policy, f: FlowId, plan: &Plan) -> Result<String, AllocError>
-    requires { f < length p.now.flows }
-{
+fn doers_text(alloc: Global, course: &Course, plan: &Plan) -> Result<String, AllocError> {
     let mut text = String::new(alloc);
     let count = plan.len();
     for s in 0..count {
         push_gap(&mut text, s as u32, count as u32, "and")?;
-        push_doer(&mut text, p, f, StepId(s), plan.at(StepId(s)))?;
+        push_doer(&mut text, course, StepId(s), plan.at(StepId(s)))?;
     }
     Ok(text)
 }
 
-fn push_doer(
-    text: &mut String,
-    p: &Policy,
-    f: FlowId,
-    s: StepId,
-    u: UserId,
-) -> Result<(), AllocError>
-    requires { f < length p.now.flows }
-{
-    let user = name_of(p.roster().users(), u.0);
-    let step = name_of(p.flow(f).steps(), s.0 as u16);
+fn push_doer(text: &mut String, course: &Course, s: StepId, u: UserId) -> Result<(), AllocError> {
+    let user = name_of(course.policy.roster().users(), u.0);
+    let step = step_name(course, s);
     say(text, &[text_of(&user), " does ", text_of(&step)])
 }
 
 /// That a workflow has no plan, since some of its steps want more different users than may do them.
-pub fn crowd_text(
-    alloc: Global,
-    p: &Policy,
-    f: FlowId,
-    steps: &[StepId],
-) -> Result<String, AllocError>
-    requires { f < length p.now.flows }
-{
-    let flow = name_of(p.flows(), f.0 as u16);
-    let all = steps_text(alloc, p, f, steps)?;
+pub fn crowd_text(alloc: Global, course: &Course, steps: &[StepId]) -> Result<String, AllocError> {
+    let flow = flow_name(course);
+    let all = steps_text(alloc, course, steps)?;
     if steps.len() == 1 {
         let front = " has no plan: nobody may do ";
         return joined(alloc, &[text_of(&flow), front, all.as_str(), ".\n"]);
     }
-    let few = few_text(alloc, p, &takers(p, f, steps))?;
+    let few = few_text(alloc, course.policy, &takers(course, steps))?;
     let (flow, wanted) = (text_of(&flow), steps.len());
     format!(in alloc; "{flow} has no plan: {all} want {wanted} different people, and {few}.\n")
 }
@@ -79,34 +61,26 @@ fn few_text(alloc: Global, p: &Policy, users: &UserSet) -> Result<String, AllocE
 }
 
 // The users who may do one of the steps.
-fn takers(p: &Policy, f: FlowId, steps: &[StepId]) -> UserSet
-    requires { f < length p.now.flows }
-{
+fn takers(course: &Course, steps: &[StepId]) -> UserSet {
     let mut users = UserSet::empty();
     for s in steps {
-        users.join(&p.authorised_users(f, *s));
+        users.join(&course.authorised_users(*s));
     }
     users
 }
 
 /// That a workflow has no plan, with the rules of these numbers, which cannot be met together.
-pub fn clash_text(alloc: Global, p: &Policy, f: FlowId, rules: &[u8]) -> Result<String, AllocError>
-    requires { f < length p.now.flows }
-{
-    let mut text = clash_head(alloc, p, f)?;
+pub fn clash_text(alloc: Global, course: &Course, rules: &[u8]) -> Result<String, AllocError> {
+    let mut text = clash_head(alloc, course)?;
     push_together(&mut text, rules.len())?;
-    for k in rules {
-        push_rule(alloc, &mut text, p, f, *k)?;
-    }
+    push_rule_lines(alloc, &mut text, course, rules)?;
     Ok(text)
 }
 
-fn clash_head(alloc: Global, p: &Policy, f: FlowId) -> Result<String, AllocError>
-    requires { f < length p.now.flows }
-{
-    let flow = name_of(p.flows(), f.0 as u16);
-    let steps = counted(alloc, p.flow(f).steps().len() as u64, "step")?;
-    let rules = counted(alloc, p.rules(f).len() as u64, "rule")?;
+fn clash_head(alloc: Global, course: &Course) -> Result<String, AllocError> {
+    let flow = flow_name(course);
+    let steps = counted(alloc, course.flow().steps().len() as u64, "step")?;
+    let rules = counted(alloc, course.rules().len() as u64, "rule")?;
     let no_plan = " has no plan: no choice of people for its ";
     let (steps, rules) = (steps.as_str(), rules.as_str());
     joined(
@@ -125,25 +99,28 @@ fn push_together(text: &mut String, count: usize) -> Result<(), AllocError> {
     }
 }
 
-// Adds the line of a rule with its number.
-fn push_rule(
+/// Adds a line for each of the rules with these numbers: the number, and what the rule wants.
+pub fn push_rule_lines(
     alloc: Global,
-    text: &mut String,
-    p: &Policy,
-    f: FlowId,
-    k: u8,
-) -> Result<(), AllocError>
-    requires { f < length p.now.flows }
-{
-    match p.rules(f).as_slice().get(k as usize) {
-        Some(rule) => {
-            let words = rule_text(alloc, p, f, rule)?;
-            let number = number_text(alloc, k as u64)?;
-            say(
-                text,
-                &["  rule ", number.as_str(), ": ", words.as_str(), "\n"],
-            )
+    out: &mut String,
+    course: &Course,
+    rules: &[u8],
+) -> Result<(), AllocError> {
+    for k in rules {
+        if let Some(rule) = course.rules().as_slice().get(*k as usize) {
+            push_rule_line(alloc, out, course, rule, *k)?;
         }
-        None => Ok(()),
     }
+    Ok(())
+}
+
+fn push_rule_line(
+    alloc: Global,
+    out: &mut String,
+    course: &Course,
+    rule: &Rule,
+    k: u8,
+) -> Result<(), AllocError> {
+    let words = rule_text(alloc, course, rule)?;
+    write!(out, "  rule {k}: {words}\n")
 }

@@ -59,9 +59,13 @@ abbrev pub those_below : ℕ → (ℕ → Bool) → List ℕ
 those_below zero test = []
 those_below (suc n) test = if test n then n ∷ those_below n test else those_below n test
 
+-- each is a step of a workflow
+abbrev pub AreSteps : Problem → List ℕ → Type 0
+AreSteps p steps = (s : ℕ) → is_one_of steps s ≡ true → s < p.steps
+
 -- steps of a workflow that want different users each two of them, of whom there are fewer
 pub record IsCrowd (p : Problem) (assigned : List (Option ℕ)) (steps : List ℕ) : Type 0 where
-  pub known : (s : ℕ) → is_one_of steps s ≡ true → s < p.steps
+  pub known : AreSteps p steps
   pub parted : all_parted p steps ≡ true
   pub few : length (those_below p.users (may_take_one p assigned steps)) < length steps
 

@@ -45,11 +45,10 @@ pub record IsCore (p : Problem) (assigned : List (Option ℕ)) (finished : List 
   pub needed : (k : ℕ) → is_one_of numbers k ≡ true →
       IsCompletable (problem_with p (without k numbers)) assigned finished
 
--- a policy whose only workflow is one of another policy with the rules of these numbers alone
-pub record IsWithRules (p : PolicyShape) (f : ℕ) (numbers : List ℕ) (left : PolicyShape) :
-    Type 0 where
+-- a policy whose only workflow is this one with the rules of these numbers alone
+pub record IsWithRules (p : Problem) (numbers : List ℕ) (left : PolicyShape) : Type 0 where
   pub alone : length left.flows ≡ 1
-  pub problem : problem_of left 0 ≡ problem_with (problem_of p f) numbers
+  pub problem : problem_of left 0 ≡ problem_with p numbers
 
 -- each number is one of others
 abbrev pub AreSomeOf : List ℕ → List ℕ → Type 0

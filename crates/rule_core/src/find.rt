@@ -1,14 +1,14 @@
 //! The search for steps that want different users, of whom there are too few.
 ghost use Rattle.std.specs.Prelude.{◌≡◌, ℕ, ◌<◌, ◌≤◌, true, length, IfOk, IfSome};
 ghost use Rattle.wf_names.specs.declared.limits.TheConstants.{STEP_LIMIT};
-ghost use Rattle.policy_book.specs.Policies.{problem_of};
+ghost use Rattle.policy_book.specs.Course.{problem_in};
 ghost use Rattle.policy_book.specs.Twins.{is_one_of};
 ghost use Rattle.rule_core.specs.Crowds.{IsCrowd};
 
 use crate::crowd::{StepList, are_parted, is_crowd};
-use policy_book::{Assign, Policy};
+use policy_book::{Assign, Course, Policy};
 use std::alloc::{AllocError, Global};
-use wf_names::{FlowId, StepId, UserId, UserSet};
+use wf_names::{StepId, UserId, UserSet};
 
 // Of each step the steps that are parted from it, as bits, and who has or may get it.
 #[derive(Drop)]
@@ -20,20 +20,18 @@ struct Table {
 /// Steps that are a crowd, where some are found.
 pub(crate) fn find_crowd(
     alloc: Global,
-    p: &Policy,
-    f: FlowId,
+    course: &Course,
     a: &Assign,
 ) -> Result<Option<StepList>, AllocError>
-    requires flow { f < length p.now.flows }
-    ensures { IfOk result (λ found. IfSome found (IsCrowd (problem_of p.now f) a.now)) }
+    ensures { IfOk result (λ found. IfSome found (IsCrowd (problem_in course.now) a.now)) }
 {
-    let table = table_of(alloc, p, f, a)?;
-    let count = step_count(p, f);
+    let table = table_of(alloc, course, a)?;
+    let count = step_count(course);
     let scarce = scarce_steps(&table, count);
     'sets: for bits in 1..1u32 << count {
         if bits & scarce == bits && is_crowded(&table, count, bits) {
             let steps = steps_in(alloc, count, bits)?;
-            if is_crowd(p, f, a, &steps) {
+            if is_crowd(course, a, &steps) {
                 return Ok(Some(steps));
             }
         }
@@ -41,46 +39,39 @@ pub(crate) fn find_crowd(
     Ok(None)
 }
 
-fn step_count(p: &Policy, f: FlowId) -> u8
-    requires { f < length p.now.flows }
-    ensures count { result ≡ (problem_of p.now f).steps }
+fn step_count(course: &Course) -> u8
+    ensures count { result ≡ (problem_in course.now).steps }
     ensures few { result ≤ STEP_LIMIT }
 {
-    p.flow(f).steps().len() as u8
+    course.flow().steps().len() as u8
 }
 
-fn table_of(alloc: Global, p: &Policy, f: FlowId, a: &Assign) -> Result<Table, AllocError>
-    requires { f < length p.now.flows }
-{
+fn table_of(alloc: Global, course: &Course, a: &Assign) -> Result<Table, AllocError> {
     let mut table = Table {
         parted: Vec::new(alloc),
         takers: Vec::new(alloc),
     };
-    'steps: for s in 0..step_count(p, f) {
-        table.parted.push(parted_from(p, f, StepId(s)))?;
-        table.takers.push(takers_of(p, f, a, StepId(s)))?;
+    'steps: for s in 0..step_count(course) {
+        table.parted.push(parted_from(course, StepId(s)))?;
+        table.takers.push(takers_of(course, a, StepId(s)))?;
     }
     Ok(table)
 }
 
-fn parted_from(p: &Policy, f: FlowId, s: StepId) -> u32
-    requires { f < length p.now.flows }
-{
+fn parted_from(course: &Course, s: StepId) -> u32 {
     let mut bits = 0u32;
-    'steps: for t in 0..step_count(p, f) {
-        if are_parted(p, f, s, StepId(t)) {
+    'steps: for t in 0..step_count(course) {
+        if are_parted(course, s, StepId(t)) {
             bits |= 1 << t;
         }
     }
     bits
 }
 
-fn takers_of(p: &Policy, f: FlowId, a: &Assign, s: StepId) -> UserSet
-    requires { f < length p.now.flows }
-{
+fn takers_of(course: &Course, a: &Assign, s: StepId) -> UserSet {
     match a.at(s) {
-        Some(u) => just(p, u),
-        None => p.authorised_users(f, s),
+        Some(u) => just(course.policy, u),
+        None => course.authorised_users(s),
     }
 }
 

@@ -8,8 +8,10 @@ mod find;
 pub mod laws;
 mod leaves;
 mod numbers;
+mod progress;
 mod search;
 
-pub use crowd::{StepList, are_parted};
+pub use crowd::{StepList, are_parted, is_strict};
 pub use fewer::{RuleList, with_rules};
-pub use search::{Why, why_of};
+pub use progress::Progress;
+pub use search::{Why, why_at_start, why_of};

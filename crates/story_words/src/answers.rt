@@ -3,10 +3,10 @@
 use crate::about::asker;
 use crate::denials::push_denial;
 use crate::names::{push_number, push_others, push_step, push_users, shown_of};
-use crate::past::{push_grantee, recent};
+use crate::past::push_grantee;
 use crate::refused::{Telling, push_refused};
+use crate::told::Told;
 use constraint_forms::Plan;
-use grant_table::Cases;
 use plain_words::{push_gap, say};
 use policy_book::Policy;
 use std::alloc::{AllocError, Global};
@@ -14,41 +14,28 @@ use wf_names::{CaseId, Phase, StepId, USER_LIMIT, UserSet};
 use wf_talk::{Ask, Bad, Denial, Entry, Reply, WorkItem};
 
 /// Adds what was answered, in one line without its full stop; a tree only where one line is enough
-/// for it. The policy and the cases are those after the entry, which is the last of the entries.
-pub fn push_answer(
-    alloc: Global,
-    out: &mut String,
-    p: &Policy,
-    cases: &Cases,
-    entries: &[Entry],
-    entry: &Entry,
-) -> Result<(), AllocError> {
-    push_reply(alloc, out, p, cases, recent(entries), entry)?;
-    push_refused(alloc, out, p, cases, entry, Telling::InLine)
+/// for it.
+pub fn push_answer(alloc: Global, out: &mut String, told: &Told<'_>) -> Result<(), AllocError> {
+    push_reply(alloc, out, &told.recent())?;
+    push_refused(alloc, out, told, Telling::InLine)
 }
 
 /// The same without a tree, which `push_reasons` tells.
-pub fn push_reply(
-    alloc: Global,
-    out: &mut String,
-    p: &Policy,
-    cases: &Cases,
-    entries: &[Entry],
-    entry: &Entry,
-) -> Result<(), AllocError> {
-    match &entry.reply {
+pub fn push_reply(alloc: Global, out: &mut String, told: &Told<'_>) -> Result<(), AllocError> {
+    let (p, ask) = (told.policy, &told.entry.ask);
+    match &told.entry.reply {
         Reply::Granted(plan) => push_planned(alloc, out, "granted", p, plan),
         Reply::Finished { done: true } => out.push_str("finished, and with it the case"),
         Reply::Finished { done: false } => out.push_str("finished"),
         Reply::Returned => out.push_str("given back"),
-        Reply::Released => push_released(out, entries, &entry.ask),
+        Reply::Released => push_released(out, told.entries, ask),
         Reply::Opened { case, plan } => push_opened(alloc, out, p, *case, plan),
         Reply::Withdrawn => out.push_str("the case is ended"),
         Reply::Edited { number } => write!(out, "accepted, edit {number}"),
         Reply::Shown(face) => out.push_str(phase_words(face.phase)),
-        Reply::Work(items) => push_work(alloc, out, p, asker(&entry.ask), items.as_slice()),
+        Reply::Work(items) => push_work(alloc, out, p, asker(ask), items.as_slice()),
         Reply::WhatIf(stranded) => push_stranded(alloc, out, stranded.as_slice()),
-        Reply::Denied(denial) => push_denied(alloc, out, p, cases, entries, &entry.ask, denial),
+        Reply::Denied(denial) => push_denied(alloc, out, told, denial),
         Reply::Again { rounds, at } => push_again(out, *rounds, *at),
         Reply::NoMemory => out.push_str("there was no memory; nothing changed"),
         Reply::Bad(bad) => push_bad(out, *bad),
@@ -74,14 +61,11 @@ fn push_opened(
 fn push_denied(
     alloc: Global,
     out: &mut String,
-    p: &Policy,
-    cases: &Cases,
-    entries: &[Entry],
-    ask: &Ask,
+    told: &Told<'_>,
     denial: &Denial,
 ) -> Result<(), AllocError> {
     out.push_str("denied: ")?;
-    push_denial(alloc, out, p, cases, entries, ask, denial)
+    push_denial(alloc, out, told, denial)
 }
 
 // Adds these words, and who is in a plan.

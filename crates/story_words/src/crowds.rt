@@ -4,10 +4,10 @@ use crate::held::Held;
 use crate::names::{push_rules, push_users};
 use constraint_forms::Rule;
 use plain_words::{say, steps_text};
-use policy_book::Policy;
-use rule_core::RuleList;
+use policy_book::Course;
+use rule_core::{RuleList, is_strict};
 use std::alloc::{AllocError, Global};
-use wf_names::{RelId, StepId, USER_LIMIT, UserId, UserSet};
+use wf_names::{StepId, USER_LIMIT, UserSet};
 
 /// Adds that some steps want more different users than have or may get them, and by which rules.
 pub(crate) fn push_crowd(
@@ -16,7 +16,7 @@ pub(crate) fn push_crowd(
     held: &Held<'_>,
     steps: &[StepId],
 ) -> Result<(), AllocError> {
-    let all = steps_text(alloc, held.policy, held.flow, steps)?;
+    let all = steps_text(alloc, &held.course, steps)?;
     if steps.len() == 1 {
         return say(
             out,
@@ -36,7 +36,7 @@ fn push_short_of(
 ) -> Result<(), AllocError> {
     let (users, is_given) = takers(held, steps);
     push_wanted(out, names, steps.len(), users.count(), is_given)?;
-    push_users(alloc, out, held.policy, &users, "and")?;
+    push_users(alloc, out, held.course.policy, &users, "and")?;
     push_parting(alloc, out, held, steps)
 }
 
@@ -85,7 +85,7 @@ fn takers(held: &Held<'_>, steps: &[StepId]) -> (UserSet, bool) {
                 users.insert(u);
                 is_given = true;
             }
-            _ => users.join(&held.policy.authorised_users(held.flow, *s)),
+            _ => users.join(&held.course.authorised_users(*s)),
         }
     }
     (users, is_given)
@@ -95,8 +95,8 @@ fn takers(held: &Held<'_>, steps: &[StepId]) -> (UserSet, bool) {
 fn parting(alloc: Global, held: &Held<'_>, steps: &[StepId]) -> Result<RuleList, AllocError> {
     let mut numbers = RuleList::new(alloc);
     let mut k = 0u8;
-    for rule in held.rules().as_slice() {
-        if parts(held.policy, rule, steps) {
+    for rule in held.course.rules().as_slice() {
+        if parts(&held.course, rule, steps) {
             numbers.push(k)?;
         }
         k = k.saturating_add(1);
@@ -105,7 +105,7 @@ fn parting(alloc: Global, held: &Held<'_>, steps: &[StepId]) -> Result<RuleList,
 }
 
 // Whether a rule wants different users for two of the steps.
-fn parts(p: &Policy, rule: &Rule, steps: &[StepId]) -> bool {
+fn parts(course: &Course, rule: &Rule, steps: &[StepId]) -> bool {
     let (rho, step) = match *rule {
         Rule::Pair { rho, second, .. } => (rho, second),
         Rule::AllOf { rho, step, .. } | Rule::AllTo { rho, step, .. } => (rho, step),
@@ -118,15 +118,5 @@ fn parts(p: &Policy, rule: &Rule, steps: &[StepId]) -> bool {
             has_step = has_step || *s == step;
         }
     }
-    named > 1 && has_step && is_strict(p, rho)
-}
-
-// Whether nobody has a relation to themselves.
-fn is_strict(p: &Policy, rho: RelId) -> bool {
-    for u in 0..p.roster().users().len() {
-        if p.relations().holds(rho, UserId(u), UserId(u)) {
-            return false;
-        }
-    }
-    true
+    named > 1 && has_step && is_strict(course, rho)
 }

@@ -7,40 +7,39 @@ use crate::names::{
     push_large, push_number, push_roles, push_step, push_steps, push_user, push_users,
 };
 use crate::past::{Deed, push_which};
+use crate::told::Told;
 use grant_table::Cases;
-use plain_words::{name_of, relation_name, say, text_of};
+use plain_words::{flow_name, name_of, relation_name, say, text_of};
 use policy_book::Policy;
 use std::alloc::{AllocError, Global};
 use wf_names::{
     CASE_LIMIT, CaseId, FlowId, Name, OPEN_CASE_LIMIT, PAIR_LIMIT, RelId, RoleId, StepId,
     StepState, USER_LIMIT, UserId,
 };
-use wf_talk::{Ask, Denial, Entry, Missing, Request};
+use wf_talk::{Ask, Denial, Missing, Request};
 
-/// Adds why what was asked was denied, by the policy and the cases as they stand, which it has not
-/// changed. Trees are left out.
+/// Adds why what was asked was denied; it has changed neither the policy nor the cases. Trees are
+/// left out.
 pub(crate) fn push_denial(
     alloc: Global,
     out: &mut String,
-    p: &Policy,
-    cases: &Cases,
-    entries: &[Entry],
-    ask: &Ask,
+    told: &Told<'_>,
     denial: &Denial,
 ) -> Result<(), AllocError> {
+    let (p, cases, ask) = (told.policy, told.cases, &told.entry.ask);
     match denial {
         Denial::NoFlow => say(out, &["there is no workflow \"", asker(ask), "\""]),
         Denial::Retired => say(out, &["no case of ", asker(ask), " is opened any more"]),
         Denial::Full => push_full(alloc, out, cases, ask),
         Denial::Unsatisfiable { flow, .. } => push_planless(out, p, *flow),
         Denial::NoCase => push_case_words(alloc, out, "there is no case ", case_of(ask), ""),
-        Denial::Closed => push_closed(alloc, out, cases, entries, ask),
-        Denial::NoStep => push_no_step(out, p, cases, ask),
+        Denial::Closed => push_closed(alloc, out, told),
+        Denial::NoStep => push_no_step(out, told),
         Denial::NoUser => say(out, &["the policy has no user \"", asker(ask), "\""]),
-        Denial::Taken(user) => push_taken(alloc, out, p, cases, entries, ask, *user),
+        Denial::Taken(user) => push_taken(alloc, out, told, *user),
         Denial::Order { flow, step } => push_before(out, p, *flow, *step),
-        Denial::Role(roles) => push_role(alloc, out, p, cases, ask, roles.as_slice()),
-        Denial::Rule(k) => push_rule(alloc, out, p, cases, ask, *k),
+        Denial::Role(roles) => push_role(alloc, out, told, roles.as_slice()),
+        Denial::Rule(k) => push_rule(alloc, out, told, *k),
         Denial::Stranded { .. } => out.push_str("after it, nobody could finish the case lawfully"),
         Denial::NotHeld(state) => push_not_held(out, p, *state),
         _ => push_edit_denial(alloc, out, p, ask, denial),
@@ -59,15 +58,8 @@ fn push_before(out: &mut String, p: &Policy, f: FlowId, s: StepId) -> Result<(),
 }
 
 // Adds which rule would be broken, and by whom.
-fn push_rule(
-    alloc: Global,
-    out: &mut String,
-    p: &Policy,
-    cases: &Cases,
-    ask: &Ask,
-    k: u8,
-) -> Result<(), AllocError> {
-    match held_with(p, cases, ask) {
+fn push_rule(alloc: Global, out: &mut String, told: &Told<'_>, k: u8) -> Result<(), AllocError> {
+    match held_with(told) {
         Some(held) => push_broken(alloc, out, &held, k, " would be broken", true),
         None => out.push_str("a rule would be broken"),
     }
@@ -163,38 +155,32 @@ fn push_limit(alloc: Global, out: &mut String, limit: u64, what: &str) -> Result
 }
 
 // Adds how the case has ended, and by which entry.
-fn push_closed(
-    alloc: Global,
-    out: &mut String,
-    cases: &Cases,
-    entries: &[Entry],
-    ask: &Ask,
-) -> Result<(), AllocError> {
-    let Some(c) = case_of(ask) else {
+fn push_closed(alloc: Global, out: &mut String, told: &Told<'_>) -> Result<(), AllocError> {
+    let Some(c) = case_of(&told.entry.ask) else {
         return out.push_str("the case is not open");
     };
-    let tail = match cases.case(c) {
+    let tail = match told.cases.case(c) {
         Some(case) if case.phase().is_done() => " is done",
         Some(case) if !case.phase().is_live() => " was withdrawn",
         _ => " is not open",
     };
     push_case_words(alloc, out, "case ", Some(c), tail)?;
-    push_which(alloc, out, entries, c, Deed::End)
+    push_which(alloc, out, told.entries, c, Deed::End)
 }
 
 // Adds which steps there are.
-fn push_no_step(out: &mut String, p: &Policy, cases: &Cases, ask: &Ask) -> Result<(), AllocError> {
-    let Some((case, step)) = step_asked(ask) else {
+fn push_no_step(out: &mut String, told: &Told<'_>) -> Result<(), AllocError> {
+    let Some((case, step)) = step_asked(&told.entry.ask) else {
         return out.push_str("there is no such step");
     };
-    match held_in(p, cases, case) {
+    match held_in(told.policy, told.cases, case) {
         Some(held) => push_own_steps(out, &held, step.as_str()),
         None => say(out, &["there is no step \"", step.as_str(), "\""]),
     }
 }
 
 fn push_own_steps(out: &mut String, held: &Held<'_>, step: &str) -> Result<(), AllocError> {
-    let flow = name_of(held.policy.flows(), held.flow.0 as u16);
+    let flow = flow_name(&held.course);
     let tail = "\"; its steps are ";
     say(out, &[text_of(&flow), " has no step \"", step, tail])?;
     push_steps(out, held.steps())
@@ -204,27 +190,24 @@ fn push_own_steps(out: &mut String, held: &Held<'_>, step: &str) -> Result<(), A
 fn push_taken(
     alloc: Global,
     out: &mut String,
-    p: &Policy,
-    cases: &Cases,
-    entries: &[Entry],
-    ask: &Ask,
+    told: &Told<'_>,
     user: UserId,
 ) -> Result<(), AllocError> {
-    push_user(out, p, user)?;
-    let is_finished = has_finished(p, cases, ask);
-    match step_asked(ask) {
+    push_user(out, told.policy, user)?;
+    let is_finished = has_finished(told);
+    match step_asked(&told.entry.ask) {
         Some((case, step)) if is_finished => {
             out.push_str(" has finished it")?;
-            push_which(alloc, out, entries, case, Deed::Finish(step.as_str()))
+            push_which(alloc, out, told.entries, case, Deed::Finish(step.as_str()))
         }
         _ => out.push_str(" holds it already"),
     }
 }
 
 // Whether the step that is asked about is finished.
-fn has_finished(p: &Policy, cases: &Cases, ask: &Ask) -> bool {
-    match held_asked(p, cases, ask) {
-        Some(held) => step_in(&held, ask).is_some_and(|step| held.done.has(step)),
+fn has_finished(told: &Told<'_>) -> bool {
+    match held_asked(told) {
+        Some(held) => step_in(&held, &told.entry.ask).is_some_and(|step| held.done.has(step)),
         None => false,
     }
 }
@@ -233,9 +216,7 @@ fn has_finished(p: &Policy, cases: &Cases, ask: &Ask) -> bool {
 fn push_role(
     alloc: Global,
     out: &mut String,
-    p: &Policy,
-    cases: &Cases,
-    ask: &Ask,
+    told: &Told<'_>,
     roles: &[RoleId],
 ) -> Result<(), AllocError> {
     let (front, verb) = match roles.len() {
@@ -243,27 +224,22 @@ fn push_role(
         1 => ("the role ", " is ("),
         _ => ("the roles ", " are ("),
     };
-    say(out, &[asker(ask), " is not allowed to do it; ", front])?;
+    let asker = asker(&told.entry.ask);
+    say(out, &[asker, " is not allowed to do it; ", front])?;
     if roles.is_empty() {
         return Ok(());
     }
-    push_roles(out, p, roles)?;
+    push_roles(out, told.policy, roles)?;
     out.push_str(verb)?;
-    push_takers(alloc, out, p, cases, ask)
+    push_takers(alloc, out, told)
 }
 
 // Adds who may do the step that is asked for, and ends the bracket.
-fn push_takers(
-    alloc: Global,
-    out: &mut String,
-    p: &Policy,
-    cases: &Cases,
-    ask: &Ask,
-) -> Result<(), AllocError> {
-    if let Some(held) = held_asked(p, cases, ask) {
-        if let Some(step) = step_in(&held, ask) {
-            let users = held.policy.authorised_users(held.flow, step);
-            push_users(alloc, out, p, &users, "and")?;
+fn push_takers(alloc: Global, out: &mut String, told: &Told<'_>) -> Result<(), AllocError> {
+    if let Some(held) = held_asked(told) {
+        if let Some(step) = step_in(&held, &told.entry.ask) {
+            let users = held.course.authorised_users(step);
+            push_users(alloc, out, told.policy, &users, "and")?;
         }
     }
     out.push_str(")")

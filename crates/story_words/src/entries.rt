@@ -4,42 +4,25 @@ use crate::answers::{push_answer, push_reply};
 use crate::asks::push_ask;
 use crate::names::{NAMED, push_number};
 use crate::refused::push_reasons;
-use grant_table::Cases;
-use policy_book::Policy;
+use crate::told::Told;
 use std::alloc::{AllocError, Global};
 use wf_talk::{Entry, Reply};
 
-/// Adds what was asked and answered, in one line without its end. The policy and the cases are
-/// those after the entry, which is the last of the entries.
-pub fn push_line(
-    alloc: Global,
-    out: &mut String,
-    p: &Policy,
-    cases: &Cases,
-    entries: &[Entry],
-    entry: &Entry,
-) -> Result<(), AllocError> {
-    push_ask(alloc, out, &entry.ask)?;
+/// Adds what was asked and answered, in one line without its end.
+pub fn push_line(alloc: Global, out: &mut String, told: &Told<'_>) -> Result<(), AllocError> {
+    push_ask(alloc, out, &told.entry.ask)?;
     out.push_str(": ")?;
-    push_answer(alloc, out, p, cases, entries, entry)
+    push_answer(alloc, out, told)
 }
 
-/// Adds which edits were accepted before an entry, what was answered, and why. The policy and the
-/// cases are those after the entry, which is the last of the entries.
-pub fn push_entry(
-    alloc: Global,
-    out: &mut String,
-    p: &Policy,
-    cases: &Cases,
-    entries: &[Entry],
-    entry: &Entry,
-) -> Result<(), AllocError> {
-    push_edits(alloc, out, entries, entry.at)?;
+/// Adds which edits were accepted before an entry, what was answered, and why.
+pub fn push_entry(alloc: Global, out: &mut String, told: &Told<'_>) -> Result<(), AllocError> {
+    push_edits(alloc, out, told.entries, told.entry.at)?;
     out.push_str("Answer: ")?;
-    push_reply(alloc, out, p, cases, entries, entry)?;
+    push_reply(alloc, out, told)?;
     out.push_str(".\n")?;
-    push_reasons(alloc, out, p, cases, entry)?;
-    match entry.reply {
+    push_reasons(alloc, out, told)?;
+    match told.entry.reply {
         Reply::Denied(_) | Reply::Bad(_) => out.push_str("Nothing was changed by it.\n"),
         _ => Ok(()),
     }

@@ -7,7 +7,9 @@ ghost use Rattle.user_relations.specs.Relations.{is_related};
 use crate::held::Held;
 use crate::names::push_users;
 use constraint_forms::{Assign, Rule, StepSet, falsified};
-use plain_words::{group_text, name_of, push_gap, relation_name, rule_text, say, text_of};
+use plain_words::{
+    group_text, name_of, push_gap, relation_name, rule_text, say, step_name, text_of,
+};
 use policy_book::Policy;
 use std::alloc::{AllocError, Global};
 use wf_names::{Name, RelId, STEP_LIMIT, StepId, USER_LIMIT, UserId, UserSet};
@@ -33,7 +35,7 @@ pub(crate) fn push_broken(
     in_words: bool,
 ) -> Result<(), AllocError> {
     write!(out, "rule {k}")?;
-    match held.rules().as_slice().get(k as usize) {
+    match held.course.rules().as_slice().get(k as usize) {
         Some(rule) => push_verb(alloc, out, held, rule, verb, in_words),
         None => out.push_str(verb),
     }
@@ -47,7 +49,7 @@ fn push_verb(
     verb: &str,
     in_words: bool,
 ) -> Result<(), AllocError> {
-    let is_broken = falsified(rule, held.policy, &held.users);
+    let is_broken = falsified(rule, held.course.policy, &held.users);
     if in_words || !is_broken {
         push_words(alloc, out, held, rule)?;
     }
@@ -65,7 +67,7 @@ fn push_words(
     held: &Held<'_>,
     rule: &Rule,
 ) -> Result<(), AllocError> {
-    let words = rule_text(alloc, held.policy, held.flow, rule)?;
+    let words = rule_text(alloc, &held.course, rule)?;
     say(out, &[" (", words.as_str(), ")"])
 }
 
@@ -115,13 +117,13 @@ fn push_unrelated(
     let (Some(u), Some(v)) = (held.users.at(first), held.users.at(second)) else {
         return Ok(());
     };
-    let (users, steps) = (held.policy.roster().users(), held.steps());
+    let users = held.course.policy.roster().users();
     let (u, v) = (name_of(users, u.0), name_of(users, v.0));
-    let x = name_of(steps, first.0 as u16);
-    let y = name_of(steps, second.0 as u16);
+    let x = step_name(&held.course, first);
+    let y = step_name(&held.course, second);
     push_pair(
         out,
-        held.policy,
+        held.course.policy,
         rho,
         text_of(&u),
         text_of(&x),
@@ -185,7 +187,7 @@ fn listed_in(p: &Policy, rho: RelId) -> Option<(bool, Name)> {
 
 // Adds the first member of a group whose user is not related to that of the step.
 fn push_one(out: &mut String, held: &Held<'_>, wish: &Wish) -> Result<(), AllocError> {
-    match first_unrelated(held.policy, &held.users, wish) {
+    match first_unrelated(held.course.policy, &held.users, wish) {
         Some(x) if wish.back => push_unrelated(out, held, wish.rho, wish.step, x),
         Some(x) => push_unrelated(out, held, wish.rho, x, wish.step),
         None => Ok(()),
@@ -231,8 +233,8 @@ fn push_none(
     if wish.group.count() < 2 {
         return push_one(out, held, wish);
     }
-    let doer = name_of(held.policy.roster().users(), w.0);
-    match listed_in(held.policy, wish.rho) {
+    let doer = name_of(held.course.policy.roster().users(), w.0);
+    match listed_in(held.course.policy, wish.rho) {
         Some((lacks, name)) => push_lone(alloc, out, held, wish, lacks, name.as_str()),
         None if wish.rho == RelId::SAME => { push_neither(alloc, out, held, wish, text_of(&doer)) }
         None => push_all(alloc, out, held, wish, text_of(&doer)),
@@ -247,8 +249,8 @@ fn push_neither(
     wish: &Wish,
     doer: &str,
 ) -> Result<(), AllocError> {
-    let step = name_of(held.steps(), wish.step.0 as u16);
-    let others = group_text(alloc, held.policy, held.flow, &wish.group, "nor")?;
+    let step = step_name(&held.course, wish.step);
+    let others = group_text(alloc, &held.course, &wish.group, "nor")?;
     let (step, others) = (text_of(&step), others.as_str());
     say(out, &[doer, " does ", step, ", and neither ", others])
 }
@@ -262,7 +264,7 @@ fn push_all(
     doer: &str,
 ) -> Result<(), AllocError> {
     let all = joined(&wish.group, wish.step);
-    let all = group_text(alloc, held.policy, held.flow, &all, "and")?;
+    let all = group_text(alloc, &held.course, &all, "and")?;
     say(out, &[doer, " would do ", all.as_str()])
 }
 
@@ -349,8 +351,8 @@ fn push_doers(
 }
 
 fn push_doer(out: &mut String, held: &Held<'_>, u: UserId, s: StepId) -> Result<(), AllocError> {
-    let user = name_of(held.policy.roster().users(), u.0);
-    let step = name_of(held.steps(), s.0 as u16);
+    let user = name_of(held.course.policy.roster().users(), u.0);
+    let step = step_name(&held.course, s);
     say(out, &[text_of(&user), " (", text_of(&step), ")"])
 }
 
@@ -377,9 +379,9 @@ fn push_many(
     group: &StepSet,
 ) -> Result<(), AllocError> {
     let (steps, users) = given_of(held, group);
-    let steps = group_text(alloc, held.policy, held.flow, &steps, "and")?;
+    let steps = group_text(alloc, &held.course, &steps, "and")?;
     say(out, &[steps.as_str(), " would be done by "])?;
-    push_users(alloc, out, held.policy, &users, "and")
+    push_users(alloc, out, held.course.policy, &users, "and")
 }
 
 // Adds that too few users are left for the steps of a group.
@@ -392,7 +394,7 @@ fn push_few(
     let (steps, users) = given_of(held, group);
     let open = group.count().saturating_sub(steps.count());
     let left = users.count().saturating_add(open as u32);
-    let all = group_text(alloc, held.policy, held.flow, group, "and")?;
+    let all = group_text(alloc, &held.course, group, "and")?;
     let people = if left == 1 {
         "person is"
     } else {

@@ -1,13 +1,15 @@
 //! Who would have which steps of a case.
-ghost use Rattle.std.specs.Prelude.{◌≡◌, ℕ, ◌<◌, Some, true, length, IsTrue};
+ghost use Rattle.std.specs.Prelude.{◌≡◌, ℕ, ◌<◌, Some, true, length, is_some, IsTrue};
 ghost use Rattle.constraint_forms.specs.Assign.{is_member, user_at};
-ghost use Rattle.policy_book.specs.Plans.{AreAssigned, IsWithin};
-ghost use Rattle.policy_book.specs.Policies.{problem_of};
+ghost use Rattle.policy_book.specs.Course.{problem_in};
+ghost use Rattle.policy_book.specs.Plans.{IsWithin};
+ghost use Rattle.rule_core.specs.Finished.{HaveUsers};
 
 use crate::about::step_asked;
+use crate::told::Told;
 use constraint_forms::{Assign, StepSet};
 use grant_table::Cases;
-use policy_book::{Policy, Rules};
+use policy_book::{Course, Policy};
 use wf_names::{CaseId, FlowId, Name, NameTable, STEP_LIMIT, StepId, UserId};
 use wf_talk::{Ask, Request};
 
@@ -15,22 +17,15 @@ use wf_talk::{Ask, Request};
 /// are finished.
 #[derive(Clone, Copy)]
 pub(crate) struct Held<'p> {
-    pub policy: &'p Policy,
-    pub flow: FlowId,
+    pub course: Course<'p>,
     pub users: Assign,
     pub done: StepSet,
-    ghost known: { flow < length policy.now.flows },
 }
 
 impl<'p> Held<'p> {
     /// The names of the workflow's steps.
     pub(crate) fn steps(&self) -> &'p NameTable {
-        self.policy.flow(self.flow).steps()
-    }
-
-    /// The workflow's rules.
-    pub(crate) fn rules(&self) -> &'p Rules {
-        self.policy.rules(self.flow)
+        self.course.flow().steps()
     }
 }
 
@@ -58,17 +53,19 @@ pub(crate) fn held_as<'p>(
         return None;
     }
     Some(Held {
-        policy,
-        flow,
+        course: Course {
+            policy,
+            number: flow,
+        },
         users,
         done,
     })
 }
 
 /// Who has the steps of the case whose step is asked about.
-pub(crate) fn held_asked<'p>(p: &'p Policy, cases: &Cases, ask: &Ask) -> Option<Held<'p>> {
-    let (case, _) = step_asked(ask)?;
-    held_in(p, cases, case)
+pub(crate) fn held_asked<'p>(told: &Told<'p>) -> Option<Held<'p>> {
+    let (case, _) = step_asked(&told.entry.ask)?;
+    held_in(told.policy, told.cases, case)
 }
 
 /// The step that is asked about, if the workflow has one of that name.
@@ -81,9 +78,9 @@ pub(crate) fn step_in(held: &Held<'_>, ask: &Ask) -> Option<StepId> {
 }
 
 /// Who has the steps of a case, and with them what is claimed, as if who claims it had it.
-pub(crate) fn held_with<'p>(p: &'p Policy, cases: &Cases, ask: &Ask) -> Option<Held<'p>> {
-    match held_asked(p, cases, ask) {
-        Some(held) => held_claimed(&held, ask),
+pub(crate) fn held_with<'p>(told: &Told<'p>) -> Option<Held<'p>> {
+    match held_asked(told) {
+        Some(held) => held_claimed(&held, &told.entry.ask),
         None => None,
     }
 }
@@ -93,7 +90,7 @@ fn held_claimed<'p>(held: &Held<'p>, ask: &Ask) -> Option<Held<'p>> {
         return None;
     };
     let step = step_in(held, ask)?;
-    let user = held.policy.roster().users().find(user)?;
+    let user = held.course.policy.roster().users().find(user)?;
     Some(given(held, step, UserId(user)))
 }
 
@@ -104,8 +101,10 @@ pub(crate) fn given<'p>(held: &Held<'p>, s: StepId, u: UserId) -> Held<'p> {
         users = users.with(s, u);
     }
     Held {
-        policy: held.policy,
-        flow: held.flow,
+        course: Course {
+            policy: held.course.policy,
+            number: held.course.number,
+        },
         users,
         done: held.done,
     }
@@ -113,38 +112,37 @@ pub(crate) fn given<'p>(held: &Held<'p>, s: StepId, u: UserId) -> Held<'p> {
 
 /// Whether steps of the workflow alone are given, to users of the policy, and each finished one is.
 pub(crate) fn fits(held: &Held<'_>) -> bool
-    ensures within { result ≡ true
-        → IsWithin (problem_of held.now.policy.now held.now.flow) held.now.users }
-    ensures given { result ≡ true → AreAssigned held.now.done held.now.users }
+    ensures within { result ≡ true → IsWithin (problem_in held.now.course) held.now.users }
+    ensures given { result ≡ true → HaveUsers held.now.done held.now.users }
 {
-    is_within(held.policy, held.flow, &held.users) && are_given(&held.done, &held.users)
+    is_within(&held.course, &held.users) && are_given(&held.done, &held.users)
 }
 
-fn is_within(p: &Policy, f: FlowId, a: &Assign) -> bool
-    requires { f < length p.now.flows }
-    ensures { result ≡ true → IsWithin (problem_of p.now f) a.now }
+fn is_within(course: &Course, a: &Assign) -> bool
+    ensures { result ≡ true → IsWithin (problem_in course.now) a.now }
 {
     'steps: for s in 0..STEP_LIMIT {
-        if !is_known(p, f, StepId(s as u8), a.at(StepId(s as u8))) {
+        if !is_known(course, StepId(s as u8), a.at(StepId(s as u8))) {
             return false;
         }
     }
     true
 }
 
-fn is_known(p: &Policy, f: FlowId, s: StepId, user: Option<UserId>) -> bool
-    requires { f < length p.now.flows }
+fn is_known(course: &Course, s: StepId, user: Option<UserId>) -> bool
     ensures { result ≡ true → (u : ℕ) → user ≡ Some u
-        → (s < (problem_of p.now f).steps) × (u < (problem_of p.now f).users) }
+        → (s < (problem_in course.now).steps) × (u < (problem_in course.now).users) }
 {
     match user {
-        Some(u) => (s.0 as u16) < p.flow(f).steps().len() && u.0 < p.roster().users().len(),
+        Some(u) => {
+            (s.0 as u16) < course.flow().steps().len() && u.0 < course.policy.roster().users().len()
+        }
         None => true,
     }
 }
 
 fn are_given(done: &StepSet, a: &Assign) -> bool
-    ensures { result ≡ true → AreAssigned done.now a.now }
+    ensures { result ≡ true → HaveUsers done.now a.now }
 {
     let limit = done.limit();
     'steps: for s in 0..limit {
@@ -157,7 +155,7 @@ fn are_given(done: &StepSet, a: &Assign) -> bool
 
 fn is_given(done: &StepSet, a: &Assign, s: StepId) -> bool
     ensures { result ≡ true → IsTrue (is_member done.now s)
-        → (u : ℕ) × (user_at a.now s ≡ Some u) }
+        → IsTrue (is_some (user_at a.now s)) }
 {
     match a.at(s) {
         Some(_) => true,

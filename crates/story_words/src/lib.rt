@@ -15,6 +15,7 @@ mod names;
 mod past;
 mod refused;
 mod tables;
+mod told;
 mod trees;
 mod why;
 
@@ -24,3 +25,4 @@ pub use asks::push_ask;
 pub use entries::{push_entry, push_line};
 pub use refused::push_reasons;
 pub use tables::push_case;
+pub use told::Told;

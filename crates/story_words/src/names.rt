@@ -1,9 +1,8 @@
 //! Names and numbers, and lists of them, added to a text.
-ghost use Rattle.std.specs.Prelude.{◌<◌, length};
 
 use crate::held::is_flow;
 use plain_words::{push_gap, say};
-use policy_book::Policy;
+use policy_book::{Course, Policy};
 use std::alloc::{AllocError, Global};
 use wf_names::{FlowId, NameTable, RoleId, StepId, UserId, UserSet};
 use wf_talk::RoleList;
@@ -104,17 +103,10 @@ pub(crate) fn push_others(
 }
 
 /// The roles that a step is permitted to.
-pub(crate) fn roles_of(
-    alloc: Global,
-    p: &Policy,
-    f: FlowId,
-    s: StepId,
-) -> Result<RoleList, AllocError>
-    requires { f < length p.now.flows }
-{
+pub(crate) fn roles_of(alloc: Global, course: &Course, s: StepId) -> Result<RoleList, AllocError> {
     let mut roles = RoleList::new(alloc);
-    for r in 0..p.roster().roles().len().min(256) {
-        if p.flow(f).permits(RoleId(r as u8), s) {
+    for r in 0..course.policy.roster().roles().len().min(256) {
+        if course.flow().permits(RoleId(r as u8), s) {
             roles.push(RoleId(r as u8))?;
         }
     }

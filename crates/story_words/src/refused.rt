@@ -1,15 +1,16 @@
 //! Why nobody could finish a case after what was denied.
 
 use crate::held::{Held, held_as, held_in, held_with};
+use crate::told::Told;
 use crate::trees::push_short;
 use crate::why::push_why;
 use admin_edits::{EditFault, apply};
 use constraint_forms::{Assign, StepSet};
-use grant_table::Cases;
 use policy_book::Policy;
 use refutation_tree::Tree;
 use std::alloc::{AllocError, Global};
-use wf_talk::{Ask, Denial, Entry, Reply, Request};
+use wf_names::CaseId;
+use wf_talk::{Ask, Denial, Reply, Request};
 
 /// How much is told of a tree.
 #[derive(Clone, Copy)]
@@ -21,40 +22,32 @@ pub(crate) enum Telling {
 }
 
 /// Adds lines that tell why nobody could finish a case after what was denied, if that is why it
-/// was. The policy and the cases are those after the entry.
-pub fn push_reasons(
-    alloc: Global,
-    out: &mut String,
-    p: &Policy,
-    cases: &Cases,
-    entry: &Entry,
-) -> Result<(), AllocError> {
-    push_refused(alloc, out, p, cases, entry, Telling::InLines)
+/// was.
+pub fn push_reasons(alloc: Global, out: &mut String, told: &Told<'_>) -> Result<(), AllocError> {
+    push_refused(alloc, out, told, Telling::InLines)
 }
 
 /// Adds why nobody could finish a case after what was denied, as much of it as is to be told.
 pub(crate) fn push_refused(
     alloc: Global,
     out: &mut String,
-    p: &Policy,
-    cases: &Cases,
-    entry: &Entry,
+    told: &Told<'_>,
     telling: Telling,
 ) -> Result<(), AllocError> {
-    match &entry.reply {
+    match &told.entry.reply {
         Reply::Denied(Denial::Unsatisfiable { flow, tree }) => {
-            match held_as(p, *flow, Assign::empty(), StepSet::empty()) {
+            match held_as(told.policy, *flow, Assign::empty(), StepSet::empty()) {
                 Some(held) => push_told(alloc, out, &held, tree.get(), telling),
                 None => Ok(()),
             }
         }
-        Reply::Denied(Denial::Stranded { tree, .. }) => {
-            match held_with(p, cases, &entry.ask) {
-                Some(held) => push_told(alloc, out, &held, tree.get(), telling),
-                None => Ok(()),
-            }
+        Reply::Denied(Denial::Stranded { tree, .. }) => match held_with(told) {
+            Some(held) => push_told(alloc, out, &held, tree.get(), telling),
+            None => Ok(()),
+        },
+        Reply::Denied(Denial::Strands { case, tree, .. }) => {
+            push_strands(alloc, out, told, *case, tree.get(), telling)
         }
-        Reply::Denied(Denial::Strands { .. }) => push_strands(alloc, out, p, cases, entry, telling),
         _ => Ok(()),
     }
 }
@@ -63,31 +56,16 @@ pub(crate) fn push_refused(
 fn push_strands(
     alloc: Global,
     out: &mut String,
-    p: &Policy,
-    cases: &Cases,
-    entry: &Entry,
+    told: &Told<'_>,
+    case: CaseId,
+    tree: &Tree,
     telling: Telling,
 ) -> Result<(), AllocError> {
-    match edited(p, &entry.ask)? {
-        Some(after) => push_after(alloc, out, &after, cases, entry, telling),
-        None => Ok(()),
-    }
-}
-
-// The same, by the policy that the edit would have made.
-fn push_after(
-    alloc: Global,
-    out: &mut String,
-    after: &Policy,
-    cases: &Cases,
-    entry: &Entry,
-    telling: Telling,
-) -> Result<(), AllocError> {
-    let Reply::Denied(Denial::Strands { case, tree, .. }) = &entry.reply else {
+    let Some(after) = edited(told.policy, &told.entry.ask)? else {
         return Ok(());
     };
-    match held_in(after, cases, *case) {
-        Some(held) => push_told(alloc, out, &held, tree.get(), telling),
+    match held_in(&after, told.cases, case) {
+        Some(held) => push_told(alloc, out, &held, tree, telling),
         None => Ok(()),
     }
 }

@@ -1,30 +1,47 @@
 //! Where a case stands, as a table.
-ghost use Rattle.std.specs.Prelude.{◌<◌, length};
 
 use crate::held::is_flow;
 use crate::names::{push_roles, push_users, roles_of};
 use crate::past::{Deed, push_which};
 use case_record::Case;
-use plain_words::{name_of, say, text_of};
-use policy_book::Policy;
+use plain_words::{name_of, say, step_name, text_of};
+use policy_book::{Course, Policy};
 use std::alloc::{AllocError, Global};
-use wf_names::{CaseId, FlowId, NameTable, StepId, StepState, UserId};
+use wf_names::{CaseId, NameTable, StepId, StepState, UserId};
 use wf_talk::Entry;
 
+// A case with its number and its workflow, and the entries up to where it stands so.
+#[derive(Clone, Copy)]
+struct Table<'a> {
+    course: Course<'a>,
+    case: &'a Case,
+    number: CaseId,
+    entries: &'a [Entry],
+}
+
 /// Adds a line for each step of a case: its number, its name, and where it stands or who may do it.
-pub fn push_case(
+pub fn push_case<'a>(
     alloc: Global,
     out: &mut String,
-    p: &Policy,
-    case: &Case,
+    p: &'a Policy,
+    case: &'a Case,
     number: CaseId,
-    entries: &[Entry],
+    entries: &'a [Entry],
 ) -> Result<(), AllocError> {
     if !is_flow(p, case.flow()) {
         return Ok(());
     }
+    let table = Table {
+        course: Course {
+            policy: p,
+            number: case.flow(),
+        },
+        case,
+        number,
+        entries,
+    };
     for s in 0..case.steps() {
-        push_step_line(alloc, out, p, case, number, entries, StepId(s))?;
+        push_step_line(alloc, out, &table, StepId(s))?;
     }
     Ok(())
 }
@@ -32,18 +49,13 @@ pub fn push_case(
 fn push_step_line(
     alloc: Global,
     out: &mut String,
-    p: &Policy,
-    case: &Case,
-    number: CaseId,
-    entries: &[Entry],
+    table: &Table<'_>,
     s: StepId,
-) -> Result<(), AllocError>
-    requires { case.now.flow < length p.now.flows }
-{
-    let steps = p.flow(case.flow()).steps();
-    let name = name_of(steps, s.0 as u16);
-    push_front(out, case.steps(), s, text_of(&name), widest(steps))?;
-    push_state(alloc, out, p, case, number, entries, s)?;
+) -> Result<(), AllocError> {
+    let width = widest(table.course.flow().steps());
+    let name = step_name(&table.course, s);
+    push_front(out, table.case.steps(), s, text_of(&name), width)?;
+    push_state(alloc, out, table, s, text_of(&name))?;
     out.push_str("\n")
 }
 
@@ -59,29 +71,24 @@ fn push_front(
     write!(out, "{blanks}{} {name:width$}  ", s.0)
 }
 
-// Adds where a step stands.
+// Adds where a step of this name stands.
 fn push_state(
     alloc: Global,
     out: &mut String,
-    p: &Policy,
-    case: &Case,
-    number: CaseId,
-    entries: &[Entry],
+    table: &Table<'_>,
     s: StepId,
-) -> Result<(), AllocError>
-    requires { case.now.flow < length p.now.flows }
-{
-    let name = name_of(p.flow(case.flow()).steps(), s.0 as u16);
-    let name = text_of(&name);
-    match case.state(s) {
-        StepState::Free => push_free(alloc, out, p, case.flow(), s),
+    name: &str,
+) -> Result<(), AllocError> {
+    let p = table.course.policy;
+    match table.case.state(s) {
+        StepState::Free => push_free(alloc, out, &table.course, s),
         StepState::Held(user) => {
             push_by(out, "held by ", p, user)?;
-            push_which(alloc, out, entries, number, Deed::Grant(name))
+            push_which(alloc, out, table.entries, table.number, Deed::Grant(name))
         }
         StepState::Finished(user) => {
             push_by(out, "finished by ", p, user)?;
-            push_which(alloc, out, entries, number, Deed::Finish(name))
+            push_which(alloc, out, table.entries, table.number, Deed::Finish(name))
         }
     }
 }
@@ -104,22 +111,19 @@ fn widest(names: &NameTable) -> usize {
 fn push_free(
     alloc: Global,
     out: &mut String,
-    p: &Policy,
-    f: FlowId,
+    course: &Course,
     s: StepId,
-) -> Result<(), AllocError>
-    requires { f < length p.now.flows }
-{
-    let roles = roles_of(alloc, p, f, s)?;
+) -> Result<(), AllocError> {
+    let roles = roles_of(alloc, course, s)?;
     if roles.as_slice().is_empty() {
         return out.push_str("free, permitted to no role");
     }
     out.push_str("free, permitted to ")?;
-    push_roles(out, p, roles.as_slice())?;
+    push_roles(out, course.policy, roles.as_slice())?;
     out.push_str(": ")?;
-    let users = p.authorised_users(f, s);
+    let users = course.authorised_users(s);
     if users.count() == 0 {
         return out.push_str("nobody");
     }
-    push_users(alloc, out, p, &users, "and")
+    push_users(alloc, out, course.policy, &users, "and")
 }

@@ -2,7 +2,7 @@
 
 use crate::facts::push_broken;
 use crate::held::{Held, given};
-use crate::names::{push_step, push_user, push_users};
+use crate::names::{push_name, push_user, push_users};
 use plain_words::say;
 use policy_book::Policy;
 use refutation_tree::{Branch, Kid, Tree};
@@ -79,13 +79,13 @@ fn push_branch(
         Kid::Tree(Tree::Rule(_)) => Ok(()),
         Kid::Tree(tree) => {
             say(out, &[indent, "- If "])?;
-            push_user(out, held.policy, branch.user)?;
+            push_user(out, held.course.policy, branch.user)?;
             out.push_str(" does it, ")?;
             let next = given(held, s, branch.user);
             let deeper = format!(in alloc; "{indent}  ")?;
             push_node(alloc, out, deeper.as_str(), &next, tree)
         }
-        Kid::Twin(twin) => push_twin(out, indent, held.policy, branch.user, *twin),
+        Kid::Twin(twin) => push_twin(out, indent, held.course.policy, branch.user, *twin),
     }
 }
 
@@ -135,7 +135,7 @@ fn push_leaf(
     users: &UserSet,
 ) -> Result<(), AllocError> {
     out.push_str("If ")?;
-    push_users(alloc, out, held.policy, users, "or")?;
+    push_users(alloc, out, held.course.policy, users, "or")?;
     out.push_str(" does it, ")?;
     match users.next(0) {
         Some(u) => {
@@ -170,23 +170,23 @@ fn push_choice(
     s: StepId,
     branches: &[Branch],
 ) -> Result<(), AllocError> {
-    push_step(out, held.policy, held.flow, s)?;
+    push_name(out, held.steps(), s.0 as u16)?;
     out.push_str(" can be done by ")?;
     let users = users_of(branches, None);
     if users.count() == 0 {
         return out.push_str("nobody");
     }
-    push_users(alloc, out, held.policy, &users, "and")?;
+    push_users(alloc, out, held.course.policy, &users, "and")?;
     out.push_str(" alone")
 }
 
 /// Adds that who has a step may no longer do it.
 pub(crate) fn push_holder(out: &mut String, held: &Held<'_>, s: StepId) -> Result<(), AllocError> {
     if let Some(u) = held.users.at(s) {
-        push_user(out, held.policy, u)?;
+        push_user(out, held.course.policy, u)?;
     }
     out.push_str(" holds ")?;
-    push_step(out, held.policy, held.flow, s)?;
+    push_name(out, held.steps(), s.0 as u16)?;
     out.push_str(" and is no longer allowed to do it")
 }
 

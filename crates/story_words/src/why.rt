@@ -4,10 +4,9 @@ use crate::crowds::push_crowd;
 use crate::held::{Held, fits};
 use crate::names::push_rules;
 use crate::trees::{push_holder, push_tree};
-use constraint_forms::Rule;
-use plain_words::rule_text;
+use plain_words::push_rule_lines;
 use refutation_tree::Tree;
-use rule_core::{Why, why_of};
+use rule_core::{Progress, Why, why_of};
 use std::alloc::{AllocError, Global};
 use wf_names::{STEP_LIMIT, StepId};
 
@@ -25,7 +24,12 @@ pub(crate) fn push_why(
     if !fits(held) {
         return push_small(alloc, out, held, tree);
     }
-    match why_of(alloc, held.policy, held.flow, &held.users, &held.done)? {
+    let case = Progress {
+        course: &held.course,
+        users: &held.users,
+        done: &held.done,
+    };
+    match why_of(alloc, &case)? {
         Why::Crowd(steps) => push_crowd(alloc, out, held, steps.as_slice()),
         Why::Clash(rules) => push_clash(alloc, out, held, tree, rules.as_slice()),
         Why::Plan(_) => push_small(alloc, out, held, tree),
@@ -57,7 +61,7 @@ fn push_clash(
         return push_blameless(out, held);
     }
     if tree.nodes() > MOST_NODES {
-        push_rule_lines(alloc, out, held, rules)?;
+        push_rule_lines(alloc, out, &held.course, rules)?;
     } else {
         push_tree(alloc, out, "  ", held, tree)?;
     }
@@ -69,39 +73,13 @@ fn push_clash(
     })
 }
 
-// Adds a line for each of the rules.
-fn push_rule_lines(
-    alloc: Global,
-    out: &mut String,
-    held: &Held<'_>,
-    rules: &[u8],
-) -> Result<(), AllocError> {
-    for k in rules {
-        if let Some(rule) = held.rules().as_slice().get(*k as usize) {
-            push_rule_line(alloc, out, held, rule, *k)?;
-        }
-    }
-    Ok(())
-}
-
-fn push_rule_line(
-    alloc: Global,
-    out: &mut String,
-    held: &Held<'_>,
-    rule: &Rule,
-    k: u8,
-) -> Result<(), AllocError> {
-    let words = rule_text(alloc, held.policy, held.flow, rule)?;
-    write!(out, "  rule {k}: {words}\n")
-}
-
 // Adds that no rule is to blame, and who has lost a step.
 fn push_blameless(out: &mut String, held: &Held<'_>) -> Result<(), AllocError> {
     out.push_str("  No rule is to blame: ")?;
     for s in 0..STEP_LIMIT {
         let step = StepId(s as u8);
         if let (false, Some(u)) = (held.done.has(step), held.users.at(step)) {
-            if !held.policy.authorised_users(held.flow, step).has(u) {
+            if !held.course.authorised_users(step).has(u) {
                 push_holder(out, held, step)?;
                 return out.push_str(".\n");
             }

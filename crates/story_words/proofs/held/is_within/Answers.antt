@@ -1,7 +1,7 @@
 use Rattle.std.proofs.Common.{◌≡◌, ap, ◌<◌, ℕ, zero, suc, List, [], ◌∷◌, length, Option, Some, is_some, arith}
 use Rattle.std.proofs.lemmas.Bool.{false≢true}
 use Rattle.constraint_forms.specs.Assign.{user_at}
-use Rattle.policy_book.specs.Policies.{problem_of}
+use Rattle.policy_book.specs.Course.{problem_in}
 use Rattle.story_words.proofs.held.is_within.Goals as goal
 
 assigned_within : (a : List (Option ℕ)) (s u : ℕ) → user_at a s ≡ Some u → s < length a
@@ -16,5 +16,5 @@ returns c told = record { steps = λ s u is. (known s u is).0; users = λ s u is
     below s u is =
         omega (arith, assigned_within c.args.a.now s u is, c.steps.invariant.1 (omega (arith, c.steps-test.false)), c.steps-test.false)
 
-    known : (s u : ℕ) → user_at c.args.a.now s ≡ Some u → (s < (problem_of c.args.p.now c.args.f).steps) × (u < (problem_of c.args.p.now c.args.f).users)
+    known : (s u : ℕ) → user_at c.args.a.now s ≡ Some u → (s < (problem_in c.args.course.now).steps) × (u < (problem_in c.args.course.now).users)
     known s u is = c.steps.invariant.0 s (below s u is) u is
