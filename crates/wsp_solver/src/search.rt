@@ -145,25 +145,10 @@ fn decided(
     let mut finder = Finder::new(alloc, course.policy, course.number, branches)?;
     let mut crew = Crew::new(alloc, course)?;
     finder.make_room(alloc)?;
-    search_and_trim(&task, a, &mut crew, &mut finder)
-}
-
-// A plan or a lean tree, where no leaf refutes.
-fn search_and_trim(
-    task: &Task,
-    a: &Assign,
-    crew: &mut Crew,
-    finder: &mut Finder,
-) -> Result<Searched, AllocError>
-    requires fits { FitsTask task.now a.now crew.old }
-    requires quiet { NoLeafRefutes (asked task.now) a.now task.now.done.now }
-    ensures { IfOk result
-        (HasDecided (asked task.now) a.now task.now.done.now task.now.bounded) }
-{
-    match search(task, a, crew, finder)? {
+    match search(&task, a, &mut crew, &mut finder)? {
         Searched::Plan(plan) => Ok(Searched::Plan(plan)),
         Searched::Refuted(found) => {
-            let lean = trim_tree(task, a, crew, finder, &found.tree)?;
+            let lean = trim_tree(&task, a, &crew, &mut finder, &found.tree)?;
             Ok(Searched::Refuted(lean))
         }
         Searched::Stopped => Ok(Searched::Stopped),

@@ -13,6 +13,7 @@ steps-preserved c =
     let pushed = c.in_ok-push.ensures.pushed ∙ ap (λ v. c.steps.chosen ++ v ∷ []) c.last_seen.ensures in
     let longer = ap length pushed ∙ one_longer c.steps.chosen (f c.steps.s) in
     record {
-      so_far = next_mapped f c.steps.chosen c.push.new.self c.steps.s c.step_count-steps.result (omega (arith, c.steps-test.true)) pushed ∙ c.steps.invariant.so_far;
+      so_far = next_mapped f c.steps.chosen c.push.new.self c.steps.s c.step_count-steps.result (omega (arith, c.steps-test.true)) pushed ∙
+          c.steps.invariant.so_far;
       count = omega (arith, count, longer);
     }
