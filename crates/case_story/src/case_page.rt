@@ -12,12 +12,12 @@ use case_record::Case;
 use constraint_forms::Plan;
 use grant_table::Cases;
 use plain_words::flow_text;
-use policy_book::Policy;
+use policy_book::{Course, Policy};
 use std::alloc::{AllocError, Global};
 use std::marker::Model;
-use story_words::{push_answer, push_ask, push_reasons, push_reply, subject};
+use story_words::{Told, push_answer, push_ask, push_reasons, push_reply, subject};
 use wf_names::CaseId;
-use wf_talk::{Ask, Denial, Entry, Reply, Request};
+use wf_talk::{Ask, Denial, Reply, Request};
 
 /// The page of a case so far. Contracts see the number of the case.
 ///
@@ -50,43 +50,34 @@ impl Page {
         }
     }
 
-    /// Takes an entry, with the policy and the cases behind it, and all entries up to it. One that
-    /// is about another case costs no more than a look.
-    pub fn take(
-        &mut self,
-        alloc: Global,
-        p: &Policy,
-        cases: &Cases,
-        entries: &[Entry],
-        entry: &Entry,
-    ) -> Result<(), AllocError>
+    /// Takes an entry. One that is about another case costs no more than a look.
+    pub fn take(&mut self, alloc: Global, told: &Told<'_>) -> Result<(), AllocError>
         ensures { self.new ≡ self.old }
     {
-        if subject(&entry.ask, &entry.reply) == Some(self.case) {
-            return put_row(alloc, &mut self.rows, p, cases, entries, entry);
+        let reply = &told.entry.reply;
+        if subject(&told.entry.ask, reply) == Some(self.case) {
+            return put_row(alloc, &mut self.rows, told);
         }
-        if !matches!(entry.reply, Reply::Edited { .. }) {
+        if !matches!(reply, Reply::Edited { .. }) {
             return Ok(());
         }
-        match cases.case(self.case) {
+        match told.cases.case(self.case) {
             None => {
                 self.edits = self.edits.saturating_add(1);
                 Ok(())
             }
-            Some(case) if case.phase().is_live() => {
-                put_row(alloc, &mut self.rows, p, cases, entries, entry)
-            }
+            Some(case) if case.phase().is_live() => { put_row(alloc, &mut self.rows, told) }
             Some(_) => Ok(()),
         }
     }
 
     /// The whole page, with the policy and the cases behind the last entry, and what an audit says
     /// of them; none where there is no such case.
-    pub fn finish(
+    pub fn finish<'a>(
         &self,
         alloc: Global,
-        p: &Policy,
-        cases: &Cases,
+        p: &'a Policy,
+        cases: &'a Cases,
         verdict: &str,
     ) -> Result<Option<String>, AllocError>
         ensures { IfOk result (λ page. is_some page ≡ has_page p.now cases.now self.now) }
@@ -97,7 +88,13 @@ impl Page {
         if p.flows().len() <= case.flow().0 as u16 {
             return Ok(None);
         }
-        let shown = Shown { policy: p, case };
+        let shown = Shown {
+            course: Course {
+                policy: p,
+                number: case.flow(),
+            },
+            case,
+        };
         let mut out = Html::new(alloc);
         self.put_front(alloc, &mut out, p, case, verdict)?;
         put_steps_of(alloc, &mut out, &shown, cases.plan(self.case))?;
@@ -170,14 +167,8 @@ fn put_steps_of(
 }
 
 // Adds the row of an entry.
-fn put_row(
-    alloc: Global,
-    rows: &mut Html,
-    p: &Policy,
-    cases: &Cases,
-    entries: &[Entry],
-    entry: &Entry,
-) -> Result<(), AllocError> {
+fn put_row(alloc: Global, rows: &mut Html, told: &Told<'_>) -> Result<(), AllocError> {
+    let entry = told.entry;
     let mut ask = String::new(alloc);
     push_ask(alloc, &mut ask, &entry.ask)?;
     rows.put(&[
@@ -191,10 +182,10 @@ fn put_row(
         Part::Mark("</td><td>"),
     ])?;
     if has_tree(&entry.reply) {
-        put_tree(alloc, rows, p, cases, entries, entry)?;
+        put_tree(alloc, rows, told)?;
     } else {
         let mut answer = String::new(alloc);
-        push_answer(alloc, &mut answer, p, cases, entries, entry)?;
+        push_answer(alloc, &mut answer, told)?;
         rows.put(&[Part::Value(answer.as_str())])?;
     }
     rows.put(&[Part::Mark("</td></tr>\n")])
@@ -227,17 +218,10 @@ fn has_tree(reply: &Reply) -> bool {
 }
 
 // Adds an answer, and why nobody could finish the case.
-fn put_tree(
-    alloc: Global,
-    rows: &mut Html,
-    p: &Policy,
-    cases: &Cases,
-    entries: &[Entry],
-    entry: &Entry,
-) -> Result<(), AllocError> {
+fn put_tree(alloc: Global, rows: &mut Html, told: &Told<'_>) -> Result<(), AllocError> {
     let (mut answer, mut why) = (String::new(alloc), String::new(alloc));
-    push_reply(alloc, &mut answer, p, cases, entries, entry)?;
-    push_reasons(alloc, &mut why, p, cases, entry)?;
+    push_reply(alloc, &mut answer, told)?;
+    push_reasons(alloc, &mut why, told)?;
     rows.put(&[
         Part::Value(answer.as_str()),
         Part::Mark("<details open><summary>why</summary><pre>"),

@@ -5,7 +5,7 @@ ghost use Rattle.case_story.specs.Sessions.{IsBefore, IsServed};
 ghost use Rattle.case_story.specs.Printed.{Finds, TellsEntry};
 
 use crate::answer::{push_wrong, tell_by};
-use crate::follow::{Quiet, follow_rest, follow_to};
+use crate::follow::{Quiet, follow_rest, follow_to, last_told};
 use crate::place::Place;
 use crate::session::Session;
 use crate::verdict::Verdict;
@@ -87,13 +87,11 @@ fn push_told(
 ) -> Result<(), AllocError>
     requires served { IsServed s.now }
 {
-    let entries = auditor.entries();
-    match entries.last() {
-        Some(entry) if entry.at == at => {
-            push_title(alloc, out, entry)?;
-            push_before(alloc, out, s, entry)?;
-            let board = auditor.board();
-            push_entry(alloc, out, board.policy(), board.cases(), entries, entry)
+    match last_told(auditor) {
+        Some(told) if told.entry.at == at => {
+            push_title(alloc, out, told.entry)?;
+            push_before(alloc, out, s, told.entry)?;
+            push_entry(alloc, out, &told)
         }
         _ => Ok(()),
     }

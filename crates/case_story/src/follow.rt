@@ -9,6 +9,7 @@ use crate::place::Place;
 use crate::verdict::Verdict;
 use case_views::PlainDecider;
 use std::alloc::{AllocError, Global};
+use story_words::Told;
 use transcript_audit::{AuditFault, Auditor};
 use transcript_commands::{first_len, is_long};
 
@@ -25,6 +26,21 @@ pub(crate) struct Quiet;
 impl Watches for Quiet {
     fn see(&mut self, _alloc: Global, _auditor: &Auditor) -> Result<(), AllocError> {
         Ok(())
+    }
+}
+
+/// The last entry that an audit has taken, if there is one.
+pub(crate) fn last_told(auditor: &Auditor) -> Option<Told<'_>> {
+    let board = auditor.board();
+    let entries = auditor.entries();
+    match entries.last() {
+        Some(entry) => Some(Told {
+            policy: board.policy(),
+            cases: board.cases(),
+            entries,
+            entry,
+        }),
+        None => None,
     }
 }
 

@@ -5,7 +5,7 @@ ghost use Rattle.case_story.specs.Sessions.{IsServed};
 ghost use Rattle.case_story.specs.Printed.{TellsBy, TellsLog};
 
 use crate::answer::{push_wrong, tell_by};
-use crate::follow::Watches;
+use crate::follow::{Watches, last_told};
 use crate::session::Session;
 use crate::whole::{Audited, audit_whole};
 use plain_words::say;
@@ -26,19 +26,10 @@ struct Log {
 
 impl Watches for Log {
     fn see(&mut self, alloc: Global, auditor: &Auditor) -> Result<(), AllocError> {
-        let entries = auditor.entries();
-        let board = auditor.board();
-        match entries.last() {
-            Some(entry) => {
-                push_number(alloc, &mut self.text, entry.at)?;
-                push_line(
-                    alloc,
-                    &mut self.text,
-                    board.policy(),
-                    board.cases(),
-                    entries,
-                    entry,
-                )?;
+        match last_told(auditor) {
+            Some(told) => {
+                push_number(alloc, &mut self.text, told.entry.at)?;
+                push_line(alloc, &mut self.text, &told)?;
                 self.text.push_str("\n")
             }
             None => Ok(()),

@@ -7,7 +7,7 @@ ghost use Rattle.case_story.specs.Printed.{TellsBy, TellsPage};
 
 use crate::answer::tell_by;
 use crate::case_page::Page;
-use crate::follow::Watches;
+use crate::follow::{Watches, last_told};
 use crate::session::Session;
 use crate::whole::{Audited, audit_whole};
 use run_record::RunFault;
@@ -25,13 +25,8 @@ struct Rows {
 
 impl Watches for Rows {
     fn see(&mut self, alloc: Global, auditor: &Auditor) -> Result<(), AllocError> {
-        let entries = auditor.entries();
-        let board = auditor.board();
-        match entries.last() {
-            Some(entry) => {
-                self.page
-                    .take(alloc, board.policy(), board.cases(), entries, entry)
-            }
+        match last_told(auditor) {
+            Some(told) => self.page.take(alloc, &told),
             None => Ok(()),
         }
     }

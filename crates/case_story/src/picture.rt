@@ -77,7 +77,7 @@ pub(crate) fn put_picture(
 
 // The layout, with boxes as wide as the longest text of a step or its state.
 fn canvas_of(alloc: Global, shown: &Shown<'_>) -> Result<Canvas, AllocError> {
-    let layout = Layout::of(shown.flow());
+    let layout = Layout::of(shown.course.flow());
     let mut letters = 16;
     for s in 0..shown.case.steps() {
         let step = shown.step(alloc, StepId(s))?;
@@ -106,7 +106,7 @@ fn put_frame(
         .x(last)
         .saturating_add(canvas.wide)
         .saturating_add(EDGE);
-    let flow = flow_text(alloc, shown.policy, shown.case.flow())?;
+    let flow = flow_text(alloc, shown.course.policy, shown.course.number)?;
     out.put(&[
         Part::Mark("<div class=\"wide\"><svg viewBox=\"0 0 "),
         Part::Number(wide),
@@ -134,7 +134,7 @@ fn put_arrows(
     canvas: &mut Canvas,
     s: StepId,
 ) -> Result<(), AllocError> {
-    let from = led_from(shown.flow(), s);
+    let from = led_from(shown.course.flow(), s);
     let to = canvas.layout.spot(s);
     for t in 0..from.limit() {
         if from.has(StepId(t as u8)) {

@@ -64,7 +64,11 @@ pub(crate) fn put_plan(
     let mut place = 0u32;
     for s in 0..plan.len() {
         if !shown.case.state(StepId(s)).is_finished() {
-            let user = name_text(alloc, shown.policy.roster().users(), plan.at(StepId(s)).0)?;
+            let user = name_text(
+                alloc,
+                shown.course.policy.roster().users(),
+                plan.at(StepId(s)).0,
+            )?;
             let step = shown.step(alloc, StepId(s))?;
             push_gap(&mut text, place, left, "and")?;
             say(&mut text, &[user.as_str(), " does ", step.as_str()])?;
@@ -85,8 +89,8 @@ pub(crate) fn put_rules(
     shown: &Shown<'_>,
 ) -> Result<(), AllocError> {
     out.put(&[Part::Mark("<h2>Rules</h2>\n<ol start=\"0\">\n")])?;
-    for rule in shown.rules().as_slice() {
-        let words = rule_text(alloc, shown.policy, shown.case.flow(), rule)?;
+    for rule in shown.course.rules().as_slice() {
+        let words = rule_text(alloc, &shown.course, rule)?;
         out.put(&[
             Part::Mark("<li>"),
             Part::Value(words.as_str()),

@@ -15,8 +15,8 @@ pub(crate) fn state_text(
     s: StepId,
 ) -> Result<String, AllocError> {
     match shown.case.state(s) {
-        StepState::Held(u) => user_text(alloc, shown.policy, "held by ", u),
-        StepState::Finished(u) => user_text(alloc, shown.policy, "finished by ", u),
+        StepState::Held(u) => user_text(alloc, shown.course.policy, "held by ", u),
+        StepState::Finished(u) => user_text(alloc, shown.course.policy, "finished by ", u),
         StepState::Free => free_text(alloc, shown, s),
     }
 }
@@ -45,7 +45,7 @@ fn free_text(alloc: Global, shown: &Shown<'_>, s: StepId) -> Result<String, Allo
 
 // The least step that comes before a step and is not finished.
 fn awaited(shown: &Shown<'_>, s: StepId) -> Option<StepId> {
-    let flow = shown.flow();
+    let flow = shown.course.flow();
     for t in 0..shown.case.steps() {
         if flow.before(StepId(t), s) && !shown.case.state(StepId(t)).is_finished() {
             return Some(StepId(t));
@@ -73,10 +73,10 @@ pub(crate) fn roles_text(
     let mut text = String::new(alloc);
     let count = count_roles(shown, s);
     let mut place = 0u32;
-    let flow = shown.flow();
-    for r in 0..shown.policy.roster().roles().len().min(256) {
+    let flow = shown.course.flow();
+    for r in 0..shown.course.policy.roster().roles().len().min(256) {
         if flow.permits(RoleId(r as u8), s) {
-            let role = name_text(alloc, shown.policy.roster().roles(), r)?;
+            let role = name_text(alloc, shown.course.policy.roster().roles(), r)?;
             push_gap(&mut text, place, count, "and")?;
             text.push_str(role.as_str())?;
             place = place.saturating_add(1);
@@ -90,8 +90,8 @@ pub(crate) fn roles_text(
 
 fn count_roles(shown: &Shown<'_>, s: StepId) -> u32 {
     let mut count = 0u32;
-    let flow = shown.flow();
-    for r in 0..shown.policy.roster().roles().len().min(256) {
+    let flow = shown.course.flow();
+    for r in 0..shown.course.policy.roster().roles().len().min(256) {
         if flow.permits(RoleId(r as u8), s) {
             count = count.saturating_add(1);
         }
@@ -101,11 +101,11 @@ fn count_roles(shown: &Shown<'_>, s: StepId) -> u32 {
 
 // The names of the steps from which an arrow leads to a step.
 fn before_text(alloc: Global, shown: &Shown<'_>, s: StepId) -> Result<String, AllocError> {
-    let steps = led_from(shown.flow(), s);
+    let steps = led_from(shown.course.flow(), s);
     if steps.count() == 0 {
         return String::from_str(alloc, "none");
     }
-    group_text(alloc, shown.policy, shown.case.flow(), &steps, "and")
+    group_text(alloc, &shown.course, &steps, "and")
 }
 
 /// Adds the table of the steps.

@@ -2,7 +2,7 @@
 
 use constraint_forms::Rules;
 use plain_words::rule_text;
-use policy_book::Policy;
+use policy_book::{Course, Policy};
 use policy_reader::read;
 use std::alloc::{AllocError, Global};
 use wf_names::FlowId;
@@ -60,9 +60,13 @@ fn count_right(alloc: Global, p: &Policy) -> Result<u32, AllocError> {
         return Ok(0);
     }
     let mut count = 0u32;
-    let rules: &Rules = p.rules(FlowId(0));
+    let course = Course {
+        policy: p,
+        number: FlowId(0),
+    };
+    let rules: &Rules = course.rules();
     for k in 0..rules.len().min(13) {
-        let text = rule_text(alloc, p, FlowId(0), rules.get(k))?;
+        let text = rule_text(alloc, &course, rules.get(k))?;
         if text.as_str() == SENTENCES[k] {
             count = count.saturating_add(1);
         }

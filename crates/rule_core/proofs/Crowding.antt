@@ -230,14 +230,16 @@ one_at (v ∷ vs) u (suc i) below is = or_right (v == u) (is_one_of vs u) (one_a
 pub none_more : (n : ℕ) (test : ℕ → Bool) → any_below n test ≡ false → test n ≡ false → any_below (n + 1) test ≡ false
 none_more n test none fails = let more : n + 1 ≡ suc n = omega arith in ap (λ m. any_below m test) more ∙ ap (λ b. b || test n) none ∙ fails
 
-pub parted_at : (p : Problem) (ss : List ℕ) (i s : ℕ) → i < length ss → s ≡ get_or ss i s →
-    all_parted p (drop i ss) ≡ (is_parted_from p s (drop (i + 1) ss) && all_parted p (drop (i + 1) ss))
-parted_at p ss i s below is =
-    let rest = drop (i + 1) ss in
-    ap (all_parted p) (drop_more ss i s below) ∙ ap (λ x. is_parted_from p x rest && all_parted p rest) (sym is)
-
-pub whole_rest : (xs : List ℕ) (n : ℕ) → take (length xs - n) (drop n xs) ≡ drop n xs
+whole_rest : (xs : List ℕ) (n : ℕ) → take (length xs - n) (drop n xs) ≡ drop n xs
 whole_rest xs n = ap (λ m. take m (drop n xs)) (sym (length-drop n xs)) ∙ take_all (length (drop n xs)) (drop n xs) (omega arith)
+
+-- each two of the steps from a place on are parted: the one there from those behind it, and each two of these
+pub parted_at : (p : Problem) (ss : List ℕ) (i s : ℕ) (parts : Bool) → i < length ss → s ≡ get_or ss i s →
+    parts ≡ is_parted_from p s (take (length ss - (i + 1)) (drop (i + 1) ss)) → (parts && all_parted p (drop (i + 1) ss)) ≡ all_parted p (drop i ss)
+parted_at p ss i s parts below is parted =
+    let rest = drop (i + 1) ss in
+    ap (λ b. b && all_parted p rest) (parted ∙ ap (is_parted_from p s) (whole_rest ss (i + 1)))
+    ∙ sym (ap (all_parted p) (drop_more ss i s below) ∙ ap (λ x. is_parted_from p x rest && all_parted p rest) (sym is))
 
 -- a number that is put behind others
 pub one_pushed : (xs : List ℕ) (x u : ℕ) → is_one_of (xs ++ x ∷ []) u ≡ true → (is_one_of xs u ≡ true) ⊎ (x ≡ u)

@@ -1,10 +1,11 @@
 //! The workflows of a policy that cannot be done.
-ghost use Rattle.std.specs.Prelude.{◌≡◌, ◌<◌, ◌||◌, length, true, false, IfOk};
+ghost use Rattle.std.specs.Prelude.{◌≡◌, ◌||◌, length, true, false, IfOk};
 ghost use Rattle.tell_run.specs.Policy.{CanAllBeDone};
 ghost use Rattle.tell_run.specs.Why.{CanBeDone};
 
-use policy_book::{Assign, Policy, StepSet};
-use rule_core::{Why, why_of};
+use plain_words::{flow_name, text_of};
+use policy_book::{Course, Policy};
+use rule_core::{Why, why_at_start};
 use std::alloc::{AllocError, Global};
 use wf_names::FlowId;
 
@@ -19,7 +20,11 @@ pub(crate) fn push_planless(
 {
     let mut some = false;
     'flows: for f in 0..p.flows().len() {
-        let lacks = push_lacking(alloc, out, front, p, FlowId(f as u8))?;
+        let course = Course {
+            policy: p,
+            number: FlowId(f as u8),
+        };
+        let lacks = push_lacking(alloc, out, front, &course)?;
         some = either(some, lacks);
     }
     Ok(some)
@@ -37,25 +42,24 @@ fn push_lacking(
     alloc: Global,
     out: &mut String,
     front: &str,
-    p: &Policy,
-    f: FlowId,
+    course: &Course,
 ) -> Result<bool, AllocError>
-    requires { f < length p.now.flows }
-    ensures { IfOk result (λ lacks. lacks ≡ false → CanBeDone p.now f) }
+    ensures { IfOk result (λ lacks. lacks ≡ false
+        → CanBeDone course.now.policy.now course.now.number) }
 {
-    if can_be_done(alloc, p, f)? {
+    if can_be_done(alloc, course)? {
         return Ok(false);
     }
-    push_line(alloc, out, front, p, f.0 as u16)?;
+    push_line(alloc, out, front, course)?;
     Ok(true)
 }
 
 // Whether a workflow has a valid plan.
-fn can_be_done(alloc: Global, p: &Policy, f: FlowId) -> Result<bool, AllocError>
-    requires { f < length p.now.flows }
-    ensures { IfOk result (λ can. can ≡ true → CanBeDone p.now f) }
+fn can_be_done(alloc: Global, course: &Course) -> Result<bool, AllocError>
+    ensures { IfOk result (λ can. can ≡ true
+        → CanBeDone course.now.policy.now course.now.number) }
 {
-    match why_of(alloc, p, f, &Assign::empty(), &StepSet::empty())? {
+    match why_at_start(alloc, course)? {
         Why::Plan(_) => Ok(true),
         _ => Ok(false),
     }
@@ -65,13 +69,10 @@ fn push_line(
     alloc: Global,
     out: &mut String,
     front: &str,
-    p: &Policy,
-    f: u16,
-) -> Result<(), AllocError>
-    requires { f < length p.now.flows }
-{
-    let name = p.flows().name(f);
-    let flow = name.as_str();
+    course: &Course,
+) -> Result<(), AllocError> {
+    let name = flow_name(course);
+    let flow = text_of(&name);
     let line = format!(in alloc;
         "{front}workflow {flow}: it has no plan; wftell why tells more\n"
     )?;

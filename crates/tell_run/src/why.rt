@@ -1,15 +1,14 @@
 //! The command `why`: a plan of a workflow, or why there is none.
-ghost use Rattle.std.specs.Prelude.{◌<◌, length, None, IfOk};
+ghost use Rattle.std.specs.Prelude.{None, IfOk};
 ghost use Rattle.wf_commands.specs.Answer.{ending_with};
 ghost use Rattle.tell_run.specs.Why.{AnswersWhy, TellsWhy};
 
 use plain_words::{clash_text, crowd_text, plan_text};
-use policy_book::{Assign, Policy, StepSet};
-use rule_core::{Why, why_of};
+use policy_book::{Course, Policy};
+use rule_core::{Why, why_at_start};
 use run_record::RunFault;
 use std::alloc::{AllocError, Global};
 use wf_commands::{Answer, Answers, find_flow};
-use wf_names::FlowId;
 use wf_outside::Source;
 
 /// `why`: can this workflow be done, and why?
@@ -30,27 +29,31 @@ impl Answers for WhyCommand<'_> {
         _source: &mut S,
     ) -> Result<Answer, RunFault> {
         let f = find_flow(p, self.flow)?;
-        Ok(tell_why(alloc, p, f)?)
+        let course = Course {
+            policy: p,
+            number: f,
+        };
+        Ok(tell_why(alloc, &course)?)
     }
 }
 
 // Whether a workflow can be done, and why, in words.
-fn tell_why(alloc: Global, p: &Policy, f: FlowId) -> Result<Answer, AllocError>
-    requires { f < length p.now.flows }
-    ensures { IfOk result (λ answer. AnswersWhy p.now f (ending_with answer.found)) }
+fn tell_why(alloc: Global, course: &Course) -> Result<Answer, AllocError>
+    ensures { IfOk result (λ answer. AnswersWhy course.now.policy.now course.now.number
+        (ending_with answer.found)) }
 {
-    match why_of(alloc, p, f, &Assign::empty(), &StepSet::empty())? {
+    match why_at_start(alloc, course)? {
         Why::Plan(plan) => Ok(Answer {
             found: false,
-            text: plan_text(alloc, p, f, &plan)?.into_bytes(),
+            text: plan_text(alloc, course, &plan)?.into_bytes(),
         }),
         Why::Crowd(steps) => Ok(Answer {
             found: true,
-            text: crowd_text(alloc, p, f, steps.as_slice())?.into_bytes(),
+            text: crowd_text(alloc, course, steps.as_slice())?.into_bytes(),
         }),
         Why::Clash(rules) => Ok(Answer {
             found: true,
-            text: clash_text(alloc, p, f, rules.as_slice())?.into_bytes(),
+            text: clash_text(alloc, course, rules.as_slice())?.into_bytes(),
         }),
     }
 }
