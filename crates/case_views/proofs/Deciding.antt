@@ -8,7 +8,7 @@ use Rattle.constraint_forms.specs.Assign.{no_steps, no_users, user_at}
 use Rattle.policy_book.specs.Shapes.{PolicyShape}
 use Rattle.policy_book.specs.Policies.{problem_of}
 use Rattle.policy_book.specs.Plans.{AreAssigned, IsValidPlan, IsWithin, Problem}
-use Rattle.certificate_check.proofs.Assigned.{either, given, given_other, given_same}
+use Rattle.certificate_check.proofs.Assigned.{either, given, given_other, given_same, still_assigned}
 use Rattle.case_record.specs.Cases.{CaseShape, assigned_of, finished_of}
 use Rattle.wf_talk.specs.declared.reply.Denial.{Denial}
 use Rattle.wf_talk.specs.declared.reply.WorkItem.{WorkItem}
@@ -39,12 +39,6 @@ use Rattle.admin_edits.specs.Edits.{amended}
 use Rattle.wsp_solver.specs.declared.search.Unsolved.{Unsolved}
 use Rattle.wsp_solver.specs.declared.search.Unsolved.TheVariants as unsolved
 use Rattle.case_views.specs.Deciding.{DecidesChange, DecidesFor, DecidesWhatIf, DecidesWork, IsVerdictOf, verdict_without}
-
--- finished steps stay assigned where one more step is given
-pub still_assigned : (done : List Bool) (a : List (Option ℕ)) (t u : ℕ) → t < length a → AreAssigned done a → AreAssigned done (slice_set a t (Some u))
-still_assigned done a t u below are s is = either (eqb_tells s t)
-    (λ same. (u, subst (λ k. user_at (slice_set a t (Some u)) k ≡ Some u) (sym same.1) (given_same a t u below)))
-    (λ apart. (let w = are s is in (w.0, given_other a t u s apart.1 ∙ w.1)))
 
 -- a kept plan is as long as its case
 pub kept_length : (p : PolicyShape) (c : CaseShape) (plan : List ℕ) → IsOfPolicy p c →

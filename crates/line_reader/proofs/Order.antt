@@ -298,7 +298,7 @@ jobs_are_in_order lanes some bytes ended = in_order_from lanes (start lanes) byt
 -- ---- behind a text
 
 -- where ends lead to a total, the last of them is the total
-lead_last : (before : ℕ) (ends : List ℕ) (total : ℕ) → LeadTo before ends total → last_or before ends ≡ total
+pub lead_last : (before : ℕ) (ends : List ℕ) (total : ℕ) → LeadTo before ends total → last_or before ends ≡ total
 lead_last before [] total lead = lead
 lead_last before (e ∷ es) total lead = lead_last e es total lead.2
 

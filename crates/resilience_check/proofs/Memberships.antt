@@ -9,6 +9,7 @@ use Rattle.std.specs.declared.cmp.Ordering.{Ordering}
 use Rattle.std.specs.declared.cmp.Ordering.TheVariants.{Less, Equal, Greater}
 use Rattle.basics.specs.Pairs.{Pairs, pair_cmp, AllPairs}
 use Rattle.basics.specs.PairLaws.{pair_cmp_total, pair_cmp-IsAntisymmetric}
+use Rattle.basics.specs.Tables.{pairs_tied}
 use Rattle.basics.proofs.Booleans.{and_same, lt_yes, or-false}
 use Rattle.rbac_state.specs.Rosters.{RosterShape, IsSoundRoster}
 use Rattle.policy_book.specs.Twins.{is_one_of}
@@ -16,14 +17,6 @@ use Rattle.resilience_check.specs.Left.{members_without}
 use Rattle.resilience_check.specs.Searches.{members_below}
 use Rattle.resilience_check.proofs.Ones.{one_append}
 use Rattle.resilience_check.proofs.Authority.{contains_kept}
-
-then_tied : (r o : Ordering) → is_eq (ordering_then r o) ≡ (is_eq r && is_eq o)
-then_tied Less o = refl
-then_tied Equal o = refl
-then_tied Greater o = refl
-
-pairs_tied : (x y a b : ℕ) → eq_by_cmp pair_cmp (x, y) (a, b) ≡ (x == a && y == b)
-pairs_tied x y a b = then_tied (nat_cmp x a) (nat_cmp y b) ∙ (λ i. unsigned_tied x a i && unsigned_tied y b i)
 
 eq_swap : (x u : ℕ) → (x == u) ≡ (u == x)
 eq_swap x u = grind (arith, nat_tests)

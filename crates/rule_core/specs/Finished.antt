@@ -1,4 +1,4 @@
--- The finished steps of a case.
+-- Inside: the finished steps of a case have users.
 use Rattle.std.specs.Prelude.{ℕ, Bool, List, Option, IsTrue, is_some}
 use Rattle.constraint_forms.specs.Assign.{is_member, user_at}
 

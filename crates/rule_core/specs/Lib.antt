@@ -3,5 +3,5 @@ pub mod Leaves
 pub mod Trials
 pub mod Crowds
 pub mod Whys
-pub mod Cases
+pub mod Progress
 pub mod Finished

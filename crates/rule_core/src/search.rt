@@ -3,7 +3,7 @@ ghost use Rattle.std.specs.Prelude.{◌≤◌, length, IfOk};
 ghost use Rattle.wf_names.specs.declared.limits.TheConstants.{RULE_LIMIT};
 ghost use Rattle.constraint_forms.specs.Assign.{no_steps, no_users};
 ghost use Rattle.policy_book.specs.Course.{problem_in};
-ghost use Rattle.rule_core.specs.Cases.{in_case};
+ghost use Rattle.rule_core.specs.Progress.{in_case};
 ghost use Rattle.rule_core.specs.Search.{IsCore, IsBlocked, problem_with};
 ghost use Rattle.rule_core.specs.Trials.{HasTried, HasStarted};
 ghost use Rattle.rule_core.specs.Whys.{IsWhy};

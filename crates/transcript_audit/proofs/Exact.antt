@@ -119,10 +119,6 @@ part_at zero (suc e) (x ∷ xs) y ys begun short =
     (rest.0, ap (λ zs. x ∷ zs) rest.1)
 part_at (suc s) (suc e) (x ∷ xs) y ys begun short = part_at s e xs y ys (omega (arith, begun)) (omega (arith, short))
 
-get_behind : {A : Type 0} (xs ys : List A) (y : A) → slice_get (xs ++ y ∷ ys) (length xs) ≡ Some y
-get_behind [] ys y = refl
-get_behind (x ∷ xs) ys y = get_behind xs ys y
-
 -- what is known where an entry stands in a history that answers a part of the jobs
 record IsAmong (a : AuditShape) (e : Entry) (post : List Entry) : Type 0 where
   pub order : AreInOrder LANE_LIMIT a.jobs a.batch_ends

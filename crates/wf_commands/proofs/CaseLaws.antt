@@ -7,15 +7,9 @@ use Rattle.wf_names.specs.declared.states.StepState.{StepState}
 use Rattle.wf_names.specs.declared.states.StepState.TheVariants.{Free, Held, Finished}
 use Rattle.constraint_forms.specs.Assign.{is_member, user_at}
 use Rattle.policy_book.specs.Plans.{AreAssigned}
-use Rattle.certificate_check.proofs.Assigned.{either, given, given_other, given_same}
+use Rattle.certificate_check.proofs.Assigned.{either, given, given_other, given_same, still_assigned}
 use Rattle.wf_commands.specs.declared.case.Case.{Case}
 use Rattle.wf_commands.specs.Cases.{with_said, IsCaseSoFar, IsOfUsers}
-
--- finished steps stay assigned where one more step is given to a user
-still_assigned : (done : List Bool) (a : List (Option ℕ)) (t u : ℕ) → t < length a → AreAssigned done a → AreAssigned done (slice_set a t (Some u))
-still_assigned done a t u below are s is = either (eqb_tells s t)
-    (λ same. (u, subst (λ k. user_at (slice_set a t (Some u)) k ≡ Some u) (sym same.1) (given_same a t u below)))
-    (λ apart. (let w = are s is in (w.0, given_other a t u s apart.1 ∙ w.1)))
 
 -- and so do they where that step is finished
 also_finished : (done : List Bool) (a : List (Option ℕ)) (t u : ℕ) → t < length a → AreAssigned done a

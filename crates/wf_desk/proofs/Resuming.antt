@@ -64,7 +64,7 @@ get_of_first [] (suc n) k y is = is
 get_of_first (x ∷ xs) (suc n) zero y is = is
 get_of_first (x ∷ xs) (suc n) (suc k) y is = get_of_first xs n k y is
 
-get_behind : {A : Type 0} (xs ys : List A) (y : A) → slice_get (xs ++ y ∷ ys) (length xs) ≡ Some y
+pub get_behind : {A : Type 0} (xs ys : List A) (y : A) → slice_get (xs ++ y ∷ ys) (length xs) ≡ Some y
 get_behind [] ys y = refl
 get_behind (x ∷ xs) ys y = get_behind xs ys y
 

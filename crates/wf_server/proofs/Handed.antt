@@ -33,10 +33,6 @@ record IsUpTo (first : Cut) (jobs : List Job) (batch_ends : List ℕ) : Type 0 w
   pub ended : Bool
   pub up : UpToAnEnd jobs batch_ends (jobs_from first bytes ended)
 
-lead_last : (before : ℕ) (ends : List ℕ) (total : ℕ) → LeadTo before ends total → last_or before ends ≡ total
-lead_last before [] total lead = lead
-lead_last before (x ∷ xs) total lead = lead_last x xs total lead.2
-
 -- all of it
 whole_up : (lanes : ℕ) (first : Cut) (jobs : List Job) (batch_ends bytes : List ℕ) (ended : Bool) → AreInOrderFrom lanes first →
     jobs ≡ (jobs_from first bytes ended).jobs →
