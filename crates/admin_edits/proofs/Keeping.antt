@@ -6,16 +6,16 @@ use Rattle.std.proofs.Math.ListN.{length-set}
 use Rattle.std.proofs.lemmas.List.Quantifiers.{position-Some}
 use Rattle.std.specs.Cmp.Lexicographic.{pointwise}
 use Rattle.std.specs.Prelude.{nat_eq}
-use Rattle.basics.specs.Pairs.{AllPairs, Pairs}
-use Rattle.basics.specs.Reading.{◌>>=◌, check, or_fault}
+use Rattle.basics.specs.Laws.Pairs.{AllPairs, Pairs}
+use Rattle.basics.specs.Laws.Reading.{◌>>=◌, check, or_fault}
 use Rattle.basics.proofs.Booleans.{lt_back}
 use Rattle.wf_names.specs.Table.{place_of}
 use Rattle.wf_names.specs.declared.limits.TheConstants.{FLOW_LIMIT, USER_LIMIT}
-use Rattle.user_relations.specs.Relations.{known_names, pairs_of}
-use Rattle.policy_book.specs.Shapes.{PolicyShape, WorkflowShape}
-use Rattle.policy_book.specs.Facts.{IsSoundPolicy, IsSoundWorkflow}
+use Rattle.user_relations.specs.Laws.Relations.{known_names, pairs_of}
+use Rattle.policy_book.specs.Laws.Shapes.{PolicyShape, WorkflowShape}
+use Rattle.policy_book.specs.Laws.Facts.{IsSoundPolicy, IsSoundWorkflow}
 use Rattle.policy_book.specs.Policies.{flow_at, problem_of, with_flow, with_pairs, with_roster}
-use Rattle.policy_book.specs.Plans.{IsWithin}
+use Rattle.policy_book.specs.Laws.Plans.{IsWithin}
 use Rattle.policy_book.specs.Stored.{IsStoredPolicy}
 use Rattle.policy_book.proofs.Keeping.{all_inserted, all_removed, pairs_of_users, sound_forbidden, sound_permitted, stored_with_flow, stored_with_pairs}
 use Rattle.policy_book.proofs.Keeping.{stored_with_members, stored_with_user}
@@ -26,9 +26,9 @@ use Rattle.admin_edits.specs.declared.amendment.Amendment.{Amendment}
 use Rattle.admin_edits.specs.declared.amendment.Amendment.TheVariants as amend
 use Rattle.admin_edits.specs.declared.fault.EditCause.{EditCause}
 use Rattle.admin_edits.specs.declared.fault.EditCause.TheVariants.{Unknown}
-use Rattle.admin_edits.specs.Edits.{allowed, amended, amendment_of, found, is_admin}
-use Rattle.admin_edits.specs.Found.{AreMember, ArePair, ArePermit, IsKnownChange}
-use Rattle.admin_edits.specs.Keeping.{ChangesKeepNames, ChangesKeepPoliciesSound, KeepsNames}
+use Rattle.admin_edits.specs.Laws.Edits.{allowed, amended, amendment_of, found, is_admin}
+use Rattle.admin_edits.specs.Amendment.{AreMember, ArePair, ArePermit, IsKnownChange}
+use Rattle.admin_edits.specs.Laws.Keeping.{ChangesKeepNames, ChangesKeepPoliciesSound, KeepsNames}
 use Rattle.admin_edits.proofs.Unhurt.{flow_there}
 
 -- ---- names

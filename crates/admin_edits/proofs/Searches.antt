@@ -4,7 +4,7 @@ use Rattle.std.proofs.Common.{subst, ◌∙◌, arith}
 use Rattle.std.proofs.lemmas.List.{append_assoc}
 use Rattle.constraint_forms.specs.declared.rule.Rule.{Rule}
 use Rattle.constraint_forms.specs.Rules.{Relating, is_falsified}
-use Rattle.policy_book.specs.Refuting.{passing}
+use Rattle.policy_book.specs.Laws.Refuting.{passing}
 use Rattle.policy_book.proofs.Passing.{passing_at}
 use Rattle.admin_edits.specs.ClaimCauses.{first_falsified}
 

@@ -10,22 +10,23 @@ use Rattle.std.proofs.lemmas.List.{get_or-set_same, get_or-set_other}
 use Rattle.std.specs.Ordering.{eq_by_cmp}
 use Rattle.std.proofs.lemmas.Map.Views.{tells_apart}
 use Rattle.basics.proofs.Booleans.{and_both, and_from, differ, eq_is, eq_same, or_cases, or_false, or_left, or_right}
-use Rattle.basics.specs.Pairs.{Pairs, pair_cmp}
+use Rattle.basics.specs.Laws.Pairs.{Pairs, pair_cmp}
 use Rattle.basics.specs.PairLaws.{pair_cmp_total, pair_cmp-IsAntisymmetric}
-use Rattle.rbac_state.specs.Rosters.{has_role}
-use Rattle.user_relations.specs.Relations.{RelationKind, RelationShape, change_kind, complement, complement_of, complemented, is_related, kind_holds, kind_of}
-use Rattle.user_relations.specs.Relations.{listed, listed_pairs, pairs_of, with_kind}
+use Rattle.rbac_state.specs.Laws.Rosters.{has_role}
+use Rattle.user_relations.specs.Laws.Relations.{RelationKind, RelationShape, change_kind, complement, complement_of, complemented, is_related, kind_holds}
+use Rattle.user_relations.specs.Laws.Relations.{kind_of}
+use Rattle.user_relations.specs.Laws.Relations.{listed, listed_pairs, pairs_of, with_kind}
 use Rattle.constraint_forms.specs.declared.rule.Rule.{Rule}
 use Rattle.constraint_forms.specs.declared.rule.Rule.TheVariants.{Pair, SomeOf, AllOf, SomeTo, AllTo, AtMost, AtLeast}
 use Rattle.constraint_forms.specs.Assign.{is_member, planned}
 use Rattle.constraint_forms.specs.Rules.{Relating, all_from, any_from, is_satisfied, reads}
 use Rattle.constraint_forms.proofs.Reading.{none_read}
-use Rattle.policy_book.specs.Shapes.{PolicyShape, WorkflowShape}
+use Rattle.policy_book.specs.Laws.Shapes.{PolicyShape, WorkflowShape}
 use Rattle.policy_book.specs.Policies.{any_below, flow_at, no_workflow, problem_of, with_flow, with_roster}
-use Rattle.policy_book.specs.Plans.{IsValidPlan, Problem}
+use Rattle.policy_book.specs.Laws.Plans.{IsValidPlan, Problem}
 use Rattle.policy_book.proofs.Counting.{any_below-at}
 use Rattle.admin_edits.specs.declared.amendment.Amendment.TheVariants as amend
-use Rattle.admin_edits.specs.Edits.{amended, without_roles}
+use Rattle.admin_edits.specs.Laws.Edits.{amended, without_roles}
 use Rattle.admin_edits.specs.Hurting.{UnhurtPlansStayValid, gives_open, is_number, is_over}
 
 -- what a plan has to keep under another policy, so that it stays valid

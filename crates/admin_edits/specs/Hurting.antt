@@ -2,18 +2,18 @@
 use Rattle.std.specs.Prelude.{◌≡◌, ◌==◌, ◌&&◌, ◌||◌, not, ℕ, Bool, false, List, length, Option}
 use Rattle.std.specs.Prelude.{None, Some}
 use Rattle.std.specs.List.{list_any}
-use Rattle.rbac_state.specs.Rosters.{has_role}
-use Rattle.user_relations.specs.Relations.{RelationShape, complement_of}
+use Rattle.rbac_state.specs.Laws.Rosters.{has_role}
+use Rattle.user_relations.specs.Laws.Relations.{RelationShape, complement_of}
 use Rattle.constraint_forms.specs.declared.rule.Rule.{Rule}
 use Rattle.constraint_forms.specs.Assign.{is_member, planned}
 use Rattle.constraint_forms.specs.Rules.{any_read}
-use Rattle.policy_book.specs.Shapes.{PolicyShape}
+use Rattle.policy_book.specs.Laws.Shapes.{PolicyShape}
 use Rattle.policy_book.specs.Policies.{any_below, flow_at, problem_of}
-use Rattle.policy_book.specs.Plans.{IsValidPlan}
+use Rattle.policy_book.specs.Laws.Plans.{IsValidPlan}
 use Rattle.admin_edits.specs.declared.amendment.Amendment.{Amendment}
 use Rattle.admin_edits.specs.declared.amendment.Amendment.TheVariants as amend
-use Rattle.admin_edits.specs.Edits.{amended}
-use Rattle.admin_edits.specs.Found.{IsKnownChange}
+use Rattle.admin_edits.specs.Laws.Edits.{amended}
+use Rattle.admin_edits.specs.Amendment.{IsKnownChange}
 
 -- a plan gives a step that is not finished to a user
 abbrev pub gives_open : List Bool → List ℕ → ℕ → Bool

@@ -1,5 +1,4 @@
 pub mod ClaimCauses
-pub mod Edits
-pub mod Found
 pub mod Hurting
-pub mod Keeping
+pub mod Amendment
+pub mod Laws

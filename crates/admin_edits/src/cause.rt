@@ -1,11 +1,12 @@
 //! Why an edit is refused.
 ghost use Rattle.std.specs.Prelude.{◌≡◌, ◌≢◌, ◌==◌, ◌&&◌, not, IfOk, Ok, Some};
-ghost use Rattle.basics.specs.Reading.{check};
+ghost use Rattle.basics.specs.Laws.Reading.{check};
 ghost use Rattle.admin_edits.specs.declared.amendment.Amendment.TheVariants as amend;
-ghost use Rattle.admin_edits.specs.Edits.{allowed, amendment_of, edit_cause, has_other};
-ghost use Rattle.admin_edits.specs.Edits.{has_some_role, is_last_admin, pair_fault, unless_fault};
-ghost use Rattle.admin_edits.specs.Found.{IsKnownChange};
-ghost use Rattle.rbac_state.specs.Rosters.{has_role};
+ghost use Rattle.admin_edits.specs.Laws.Edits.{allowed, amendment_of, edit_cause, has_other};
+ghost use Rattle.admin_edits.specs.Laws.Edits.{has_some_role, is_last_admin, pair_fault};
+ghost use Rattle.admin_edits.specs.Laws.Edits.{unless_fault};
+ghost use Rattle.admin_edits.specs.Amendment.{IsKnownChange};
+ghost use Rattle.rbac_state.specs.Laws.Rosters.{has_role};
 
 use crate::find::{check_admin, find};
 use crate::{Amendment, EditCause, EditFault};

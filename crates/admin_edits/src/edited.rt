@@ -2,8 +2,8 @@
 ghost use Rattle.std.specs.Prelude.{◌≡◌, ◌<◌, length, None, OnErr, OnOk, IfOk, Err, Ok, Some};
 ghost use Rattle.admin_edits.specs.declared.amendment.Amendment.TheVariants as amend;
 ghost use Rattle.admin_edits.specs.declared.fault.EditFault.{EditFault};
-ghost use Rattle.admin_edits.specs.Edits.{allowed, amended, edit_cause, edited_policy};
-ghost use Rattle.admin_edits.specs.Found.{AreMember, ArePair, IsKnownChange};
+ghost use Rattle.admin_edits.specs.Laws.Edits.{allowed, amended, edit_cause, edited_policy};
+ghost use Rattle.admin_edits.specs.Amendment.{AreMember, ArePair, IsKnownChange};
 
 use crate::cause::amendment_of;
 use crate::{Amendment, EditFault};

@@ -1,6 +1,6 @@
 //! Why an edit is refused.
 ghost use Rattle.std.specs.Prelude.{◌≡◌};
-ghost use Rattle.admin_edits.specs.Edits.{fault_as};
+ghost use Rattle.admin_edits.specs.Laws.Edits.{fault_as};
 
 use std::alloc::AllocError;
 use wf_talk::Missing;

@@ -1,13 +1,13 @@
 //! The numbers for the names of an edit.
 ghost use Rattle.std.specs.Prelude.{◌≡◌, ◌<◌, length, Err, IfOk, MatchResult, Ok, true, false};
-ghost use Rattle.basics.specs.Reading.{check, or_fault};
+ghost use Rattle.basics.specs.Laws.Reading.{check, or_fault};
 ghost use Rattle.policy_book.specs.Policies.{flow_at};
-ghost use Rattle.user_relations.specs.Relations.{known_names};
+ghost use Rattle.user_relations.specs.Laws.Relations.{known_names};
 ghost use Rattle.wf_names.specs.Table.{place_of};
 ghost use Rattle.wf_talk.specs.declared.edit.Edit.TheVariants as edit;
 ghost use Rattle.admin_edits.specs.declared.amendment.Amendment.TheVariants as amend;
-ghost use Rattle.admin_edits.specs.Edits.{found, is_admin};
-ghost use Rattle.admin_edits.specs.Found.{AreMember, ArePermit, IsKnownChange};
+ghost use Rattle.admin_edits.specs.Laws.Edits.{found, is_admin};
+ghost use Rattle.admin_edits.specs.Amendment.{AreMember, ArePermit, IsKnownChange};
 
 use crate::{Amendment, EditCause};
 use policy_book::Policy;

@@ -1,6 +1,6 @@
 //! Which rules a change of a relation's pairs may concern.
 ghost use Rattle.std.specs.Prelude.{◌≡◌, ◌==◌, ◌||◌};
-ghost use Rattle.user_relations.specs.Relations.{complement_of};
+ghost use Rattle.user_relations.specs.Laws.Relations.{complement_of};
 ghost use Rattle.admin_edits.specs.Hurting.{is_number, is_over};
 
 use constraint_forms::Rule;

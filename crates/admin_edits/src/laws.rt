@@ -1,6 +1,6 @@
 //! Laws of edits. Each function changes nothing; its contract is the law.
 ghost use Rattle.admin_edits.specs.Hurting.{UnhurtPlansStayValid};
-ghost use Rattle.admin_edits.specs.Keeping.{ChangesKeepNames, ChangesKeepPoliciesSound};
+ghost use Rattle.admin_edits.specs.Laws.Keeping.{ChangesKeepNames, ChangesKeepPoliciesSound};
 
 /// A valid plan that a change cannot hurt stays valid.
 pub fn unhurt_plans_stay_valid()

@@ -9,7 +9,7 @@ use Rattle.std.specs.declared.cmp.Ordering.{Ordering}
 use Rattle.std.specs.declared.cmp.Ordering.TheVariants.{Less, Equal, Greater}
 use Rattle.std.specs.FinSet as set
 use Rattle.std.specs.FinSet.{IsAntisymmetric, nat_cmp-IsAntisymmetric}
-use Rattle.basics.specs.Pairs.{pair_cmp, Pairs, IsAscending, AllPairs}
+use Rattle.basics.specs.Laws.Pairs.{pair_cmp, Pairs, IsAscending, AllPairs}
 use Rattle.std.specs.List.Sorted.{IsStrictlySortedBy}
 
 pub pair_cmp_total : IsTotalOrder pair_cmp

@@ -10,7 +10,7 @@ use Rattle.std.specs.Ordering.{nat_cmp, eq_by_cmp, is_eq, ordering_then}
 use Rattle.std.specs.declared.cmp.Ordering.{Ordering}
 use Rattle.std.specs.declared.cmp.Ordering.TheVariants.{Less, Equal, Greater}
 use Rattle.std.specs.FinSet as set
-use Rattle.basics.specs.Pairs.{Pairs, pair_cmp}
+use Rattle.basics.specs.Laws.Pairs.{Pairs, pair_cmp}
 use Rattle.basics.specs.PairLaws.{pair_cmp_total, pair_cmp-IsAntisymmetric}
 
 -- s, and the pairs of a with each number below n that passes

@@ -1,7 +1,7 @@
 -- Which steps of a case may be claimed now.
 use Rattle.std.specs.Prelude.{◌≡◌, ℕ, ◌+◌, ◌<◌, Bool, true, false, not, ◌&&◌, nat_lt, IsTrue, List}
 use Rattle.std.specs.Prelude.{[], ◌∷◌, length, Option, None, Some, is_none, if◌then◌else◌}
-use Rattle.basics.specs.Pairs.{Pairs}
+use Rattle.basics.specs.Laws.Pairs.{Pairs}
 use Rattle.workflow_schema.specs.Flows.{Precedes, is_before}
 use Rattle.wf_names.specs.States.{is_finished}
 use Rattle.wf_names.specs.declared.states.StepState.{StepState}

@@ -2,7 +2,7 @@
 use Rattle.std.proofs.Common.{◌≡◌, ℕ, Bool, true, false, List, [], Option, Result, Ok, Err, sym}
 use Rattle.std.proofs.Common.{subst, inl, inr}
 use Rattle.std.specs.Prelude.{IsErrAnd}
-use Rattle.wf_outside.specs.Outside.{Filed, HasPart, with_bytes}
+use Rattle.wf_outside.specs.Laws.Outside.{Filed, HasPart, with_bytes}
 use Rattle.run_record.specs.declared.fault.RunFault.{RunFault}
 use Rattle.run_record.specs.declared.fault.RunFault.TheVariants.{Nothing, Found, Write}
 use Rattle.run_record.specs.Fault as ending
@@ -14,7 +14,7 @@ use Rattle.wf_commands.specs.Once.{Ends}
 use Rattle.wf_commands.proofs.Runs.{ends_refused}
 use Rattle.case_story.specs.declared.session.Session.{Session}
 use Rattle.case_story.specs.Sessions.{GivesSession, Names}
-use Rattle.case_story.specs.Run.{FindsRun, GivesServed, TellsRun}
+use Rattle.case_story.specs.Transcript.{FindsRun, GivesServed, TellsRun}
 
 refuses_wider : (A B : RunFault → List ℕ → Type 0) (how : How) (fault : RunFault) → ((f : RunFault) (text : List ℕ) → A f text → B f text) →
     RefusesSo how A fault → RefusesSo how B fault

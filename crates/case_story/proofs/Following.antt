@@ -9,7 +9,7 @@ use Rattle.line_reader.specs.Reader.{AreShort, behind_line, first_line, line_len
 use Rattle.line_reader.proofs.FirstLines.{line_alone, lines_first}
 use Rattle.transcript_audit.specs.declared.fault.AuditKind.{AuditKind}
 use Rattle.transcript_audit.specs.Auditor.{AuditShape, HasFault, IsNextLine, with_entry}
-use Rattle.transcript_audit.specs.Outcomes.{HasTakenLine, IsFirstFault}
+use Rattle.transcript_audit.specs.Laws.Outcomes.{HasTakenLine, IsFirstFault}
 use Rattle.transcript_audit.specs.declared.fault.AuditFault.TheVariants.{At}
 use Rattle.transcript_audit.proofs.Exact.{next_pushed}
 use Rattle.transcript_commands.proofs.LinesTaken.{left_at}

@@ -2,8 +2,8 @@
 use Rattle.std.proofs.Common.{◌≡◌, ℕ, suc, ◌<◌, false, List, [], ◌∷◌, ◌++◌, length, drop, refl, ap, sym, subst, ◌∙◌, arith}
 use Rattle.std.proofs.lemmas.List.{append-nil, append_assoc}
 use Rattle.wf_talk.specs.declared.entry.Entry.{Entry}
-use Rattle.wf_board.specs.Histories.{state_after}
-use Rattle.wf_board.specs.States.{opening_state}
+use Rattle.wf_board.specs.Laws.Histories.{state_after}
+use Rattle.wf_board.specs.Laws.States.{opening_state}
 use Rattle.line_reader.specs.Reader.{AreShort, lines_of}
 use Rattle.wf_names.specs.declared.limits.TheConstants.{TRANSCRIPT_LINE_LIMIT}
 use Rattle.line_reader.specs.Reader.{line_length}

@@ -1,6 +1,6 @@
 -- The line of a workflow that is retired.
 use Rattle.std.proofs.Common.{◌≡◌, ℕ, zero, suc, true, Some, slice_get, List, [], ◌∷◌, ◌++◌, if◌then◌else◌, append_assoc, ap, sym, subst, ◌∙◌, codes}
-use Rattle.policy_book.specs.Shapes.{PolicyShape}
+use Rattle.policy_book.specs.Laws.Shapes.{PolicyShape}
 use Rattle.policy_book.specs.Policies.{flow_at}
 use Rattle.policy_reader.specs.Documents.{name_at}
 use Rattle.case_story.specs.Printed.{retired_line}

@@ -3,7 +3,7 @@ use Rattle.std.proofs.Common.{◌≡◌, ℕ, ◌<◌, ◌≤◌, nat_lt, min, B
 use Rattle.std.proofs.Common.{ap, subst, ◌∙◌, codes, inl, inr, arith}
 use Rattle.std.proofs.lemmas.Grind.{common_steps}
 use Rattle.basics.proofs.Booleans.{bool_cases}
-use Rattle.policy_book.specs.Shapes.{PolicyShape}
+use Rattle.policy_book.specs.Laws.Shapes.{PolicyShape}
 use Rattle.transcript_audit.specs.Auditor.{AuditShape, state_now}
 use Rattle.transcript_audit.specs.Laws.{AreOfSession, PartIsExact}
 use Rattle.case_story.specs.declared.place.Place.{Place}

@@ -3,9 +3,9 @@ pub mod Sessions
 pub mod Followed
 pub mod Printed
 pub mod Writing
-pub mod Run
 pub mod Session
 pub mod Follow
 pub mod Escape
 pub mod Html
 pub mod Pages
+pub mod Transcript

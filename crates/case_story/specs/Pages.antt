@@ -1,6 +1,6 @@
 -- Which cases have a page.
 use Rattle.std.specs.Prelude.{ℕ, Bool, false, nat_lt, length, Option, None, Some}
-use Rattle.policy_book.specs.Shapes.{PolicyShape}
+use Rattle.policy_book.specs.Laws.Shapes.{PolicyShape}
 use Rattle.case_record.specs.Cases.{CaseShape}
 use Rattle.grant_table.specs.Cases.{CasesShape, case_at}
 

@@ -1,10 +1,10 @@
 -- What every command tells of a transcript.
 use Rattle.std.specs.Prelude.{◌≡◌, ℕ, zero, suc, ◌+◌, Bool, true, false, ◌||◌, nat_lt, List, []}
 use Rattle.std.specs.Prelude.{◌++◌, length, Option, None, Some, Ok, MatchBool, if◌then◌else◌, codes}
-use Rattle.policy_book.specs.Shapes.{PolicyShape}
+use Rattle.policy_book.specs.Laws.Shapes.{PolicyShape}
 use Rattle.policy_book.specs.Policies.{any_below, flow_at}
 use Rattle.policy_reader.specs.Files.{document_in, policy_of_file}
-use Rattle.policy_reader.specs.Printable.{IsPrintable}
+use Rattle.policy_reader.specs.Laws.Printable.{IsPrintable}
 use Rattle.policy_reader.specs.Documents.{document_of, name_at}
 use Rattle.wf_talk.specs.declared.entry.Entry.{Entry}
 use Rattle.line_reader.specs.Reader.{lines_of}

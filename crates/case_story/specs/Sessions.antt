@@ -2,12 +2,12 @@
 use Rattle.std.specs.Prelude.{◌≡◌, ℕ, ◌<◌, ◌≤◌, ◌++◌, true, List, length, Result, Ok, Err}
 use Rattle.std.proofs.Common.{◌⊎◌}
 use Rattle.wf_names.specs.declared.limits.TheConstants.{LANE_LIMIT, REQUESTS_FILE_LIMIT}
-use Rattle.wf_outside.specs.Outside.{Filed}
-use Rattle.policy_book.specs.Shapes.{PolicyShape}
+use Rattle.wf_outside.specs.Laws.Outside.{Filed}
+use Rattle.policy_book.specs.Laws.Shapes.{PolicyShape}
 use Rattle.wf_talk.specs.declared.entry.Entry.{Entry}
-use Rattle.wf_board.specs.States.{State, opening_state}
-use Rattle.wf_board.specs.Histories.{state_after}
-use Rattle.line_reader.specs.Jobs.{Cut, jobs_of_input}
+use Rattle.wf_board.specs.Laws.States.{State, opening_state}
+use Rattle.wf_board.specs.Laws.Histories.{state_after}
+use Rattle.line_reader.specs.Laws.Jobs.{Cut, jobs_of_input}
 use Rattle.line_reader.specs.Reader.{lines_of}
 use Rattle.transcript_audit.specs.Auditor.{AuditShape, IsTranscriptPart, audit_of}
 use Rattle.transcript_audit.specs.Laws.{AreOfSession}

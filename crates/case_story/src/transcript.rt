@@ -5,7 +5,7 @@ ghost use Rattle.run_record.specs.Fault.{fault_in, CountsLoads, CountsWrites};
 ghost use Rattle.wf_commands.specs.Answer.{AnswersAs, IsAnswerEnding, IsCommandEnding};
 ghost use Rattle.case_story.specs.Session.{named_by};
 ghost use Rattle.case_story.specs.Sessions.{IsServed};
-ghost use Rattle.case_story.specs.Run.{FindsRun, Tells, TellsRun};
+ghost use Rattle.case_story.specs.Transcript.{FindsRun, Tells, TellsRun};
 
 use crate::entry::tell_entry;
 use crate::log::tell_log;

@@ -1,14 +1,13 @@
 -- What the decider finds on a deed.
-use Rattle.std.proofs.Common.{◌≡◌, ℕ, ◌<◌, Bool, true, false, List, length, Option, Some, Result, Ok, Err, IfOk, MatchResult, slice_set, refl, sym, ap}
+use Rattle.std.proofs.Common.{◌≡◌, ℕ, ◌<◌, Bool, true, false, List, length, Option, Result, Ok, Err, IfOk, MatchResult, refl, sym, ap}
 use Rattle.std.proofs.Common.{subst, ◌∙◌, inl, inr}
 use Rattle.refutation_tree.specs.declared.tree.Tree.{Tree}
-use Rattle.std.proofs.lemmas.Bool.Decides.{eqb_tells}
-use Rattle.basics.specs.Reading.{Gives}
-use Rattle.constraint_forms.specs.Assign.{no_steps, no_users, user_at}
-use Rattle.policy_book.specs.Shapes.{PolicyShape}
+use Rattle.basics.specs.Laws.Reading.{Gives}
+use Rattle.constraint_forms.specs.Assign.{no_steps, no_users}
+use Rattle.policy_book.specs.Laws.Shapes.{PolicyShape}
 use Rattle.policy_book.specs.Policies.{problem_of}
-use Rattle.policy_book.specs.Plans.{AreAssigned, IsValidPlan, IsWithin, Problem}
-use Rattle.certificate_check.proofs.Assigned.{either, given, given_other, given_same, still_assigned}
+use Rattle.policy_book.specs.Laws.Plans.{AreAssigned, IsValidPlan, IsWithin, Problem}
+use Rattle.certificate_check.proofs.Assigned.{given, still_assigned}
 use Rattle.case_record.specs.Cases.{CaseShape, assigned_of, finished_of}
 use Rattle.wf_talk.specs.declared.reply.Denial.{Denial}
 use Rattle.wf_talk.specs.declared.reply.WorkItem.{WorkItem}
@@ -23,19 +22,19 @@ use Rattle.wf_board.specs.declared.decision.Refused.TheVariants as refused
 use Rattle.wf_board.specs.declared.verdict.Verdict.{Verdict}
 use Rattle.wf_board.specs.declared.verdict.Verdict.TheVariants as verdict
 use Rattle.wf_board.specs.declared.verdict.View.TheVariants as view
-use Rattle.wf_board.specs.States.{Book, open_cases}
+use Rattle.wf_board.specs.Laws.States.{Book, open_cases}
 use Rattle.wf_board.specs.Views.{AreStranded, IsWorkOf}
 use Rattle.wf_board.specs.Decisions.{decision_aside, needs_verdict, takes_memory}
-use Rattle.wf_board.specs.Refusals.{denial_in}
+use Rattle.wf_board.specs.Decisions.{denial_in}
 use Rattle.wf_board.specs.Verdicts.{Decides}
 use Rattle.wf_talk.specs.declared.request.Ask.{Ask}
 use Rattle.std.proofs.lemmas.Bool.{false≢true}
-use Rattle.wf_board.specs.Kept.{IsOfPolicy}
+use Rattle.wf_board.specs.Laws.Kept.{IsOfPolicy}
 use Rattle.wf_board.proofs.Within.{claimed_within, planned_within}
 use Rattle.wf_board.proofs.Exact.{finished_assigned}
 use Rattle.admin_edits.specs.declared.amendment.Amendment.{Amendment}
 use Rattle.wf_board.specs.Deeds.{DecidesDeed}
-use Rattle.admin_edits.specs.Edits.{amended}
+use Rattle.admin_edits.specs.Laws.Edits.{amended}
 use Rattle.wsp_solver.specs.declared.search.Unsolved.{Unsolved}
 use Rattle.wsp_solver.specs.declared.search.Unsolved.TheVariants as unsolved
 use Rattle.case_views.specs.Deciding.{DecidesChange, DecidesFor, DecidesWhatIf, DecidesWork, IsVerdictOf, verdict_without}

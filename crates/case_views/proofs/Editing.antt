@@ -5,15 +5,15 @@ use Rattle.std.proofs.lemmas.List.{append_assoc, append-nil, take-append-drop}
 use Rattle.basics.proofs.Booleans.{bool_cases}
 use Rattle.basics.proofs.Lists.{take_next}
 use Rattle.refutation_tree.specs.declared.tree.Tree.{Tree}
-use Rattle.policy_book.specs.Shapes.{PolicyShape}
+use Rattle.policy_book.specs.Laws.Shapes.{PolicyShape}
 use Rattle.policy_book.specs.Policies.{problem_of}
-use Rattle.policy_book.specs.Plans.{Problem}
+use Rattle.policy_book.specs.Laws.Plans.{Problem}
 use Rattle.case_record.specs.Cases.{is_open}
 use Rattle.grant_table.specs.declared.rows.Row.{Row}
 use Rattle.grant_table.proofs.Places.{taken_off}
 use Rattle.wf_board.specs.Boards.{numbered}
 use Rattle.wf_board.specs.Edition.{ArePlansOf, IsFirstStranded, IsPlanOf, IsTreeOf}
-use Rattle.wf_board.specs.States.{Numbered}
+use Rattle.wf_board.specs.Laws.States.{Numbered}
 use Rattle.wsp_solver.specs.declared.search.Outcome.{Outcome}
 use Rattle.wsp_solver.specs.declared.search.Outcome.TheVariants as outcome
 use Rattle.case_views.specs.Deciding.{AddsPlanOfRow, IsPartAdded}

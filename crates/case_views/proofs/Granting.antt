@@ -4,7 +4,7 @@ use Rattle.std.specs.Prelude.{MatchBool}
 use Rattle.std.proofs.lemmas.Bool.{cases_eq}
 use Rattle.basics.proofs.Booleans.{and-false, eq_above, eq_below, eq_same, or-false}
 use Rattle.constraint_forms.specs.Assign.{is_member}
-use Rattle.policy_book.specs.Shapes.{PolicyShape}
+use Rattle.policy_book.specs.Laws.Shapes.{PolicyShape}
 use Rattle.case_record.specs.Cases.{CaseShape}
 use Rattle.wf_board.specs.Views.{IsGrantable}
 

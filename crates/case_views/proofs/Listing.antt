@@ -7,10 +7,10 @@ use Rattle.basics.proofs.Lists.{take_next}
 use Rattle.wf_names.specs.States.{user_of}
 use Rattle.wf_names.specs.declared.states.StepState.{StepState}
 use Rattle.wf_names.specs.declared.states.StepState.TheVariants.{Free, Held, Finished}
-use Rattle.refutation_tree.specs.Views.{shape_of}
-use Rattle.policy_book.specs.Shapes.{PolicyShape}
+use Rattle.refutation_tree.specs.Laws.Views.{shape_of}
+use Rattle.policy_book.specs.Laws.Shapes.{PolicyShape}
 use Rattle.policy_book.specs.Policies.{problem_of}
-use Rattle.policy_book.specs.Plans.{IsWellFormed}
+use Rattle.policy_book.specs.Laws.Plans.{IsWellFormed}
 use Rattle.certificate_check.proofs.Refuted.{refutes_soundly}
 use Rattle.case_record.specs.Cases.{CaseShape, finished_of, state_at}
 use Rattle.grant_table.specs.declared.rows.Row.{Row}
@@ -22,8 +22,8 @@ use Rattle.wsp_solver.specs.Searches.{HasSolved}
 use Rattle.wsp_solver.specs.declared.search.Outcome.{Outcome}
 use Rattle.wsp_solver.specs.declared.search.Outcome.TheVariants as outcome
 use Rattle.wf_board.specs.Edition.{CanBeCompleted}
-use Rattle.wf_board.specs.Kept.{ArePlanned, EachRow, IsOfPolicy, IsPlanned}
-use Rattle.wf_board.specs.States.{Numbered}
+use Rattle.wf_board.specs.Laws.Kept.{ArePlanned, EachRow, IsOfPolicy, IsPlanned}
+use Rattle.wf_board.specs.Laws.States.{Numbered}
 use Rattle.wf_board.specs.Views.{AreThose, IsGrantable, Place, item_of, steps_from, steps_of}
 use Rattle.wf_board.proofs.Exact.{claimed_assigned}
 use Rattle.case_views.specs.Listing.{AreGrantable, AreStrandedIn, HasListed, IsKeptRow, IsWorkIn, is_plan, open_in}

@@ -1,7 +1,7 @@
 -- Lists of those of some values that have a property, part by part.
 use Rattle.std.proofs.Common.{◌≡◌, ℕ, zero, suc, ◌+◌, inl, inr, List, [], ◌∷◌, ◌++◌, length, refl, sym, ap, subst, ◌∙◌, arith}
 use Rattle.std.proofs.lemmas.List.{append_assoc}
-use Rattle.wf_board.specs.States.{Numbered}
+use Rattle.wf_board.specs.Laws.States.{Numbered}
 use Rattle.wf_board.specs.Views.{AreThose, Place, steps_from, steps_of}
 
 -- the list of two parts is made of theirs

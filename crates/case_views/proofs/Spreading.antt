@@ -5,7 +5,7 @@ use Rattle.std.specs.Borrow.{Bor}
 use Rattle.std.specs.List.{AllZip, Contains, flat_map}
 use Rattle.rayon.proofs.ToStd.{slice-AllZip}
 use Rattle.refutation_tree.specs.declared.tree.Tree.{Tree}
-use Rattle.policy_book.specs.Shapes.{PolicyShape}
+use Rattle.policy_book.specs.Laws.Shapes.{PolicyShape}
 use Rattle.grant_table.specs.declared.rows.Row.{Row}
 use Rattle.wf_talk.specs.declared.reply.WorkItem.{WorkItem}
 use Rattle.wsp_solver.specs.declared.search.Outcome.{Outcome}

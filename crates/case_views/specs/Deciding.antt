@@ -2,10 +2,10 @@
 use Rattle.std.specs.Prelude.{◌≡◌, ℕ, Bool, true, List, [], ◌∷◌, ◌++◌, Option, None, Some, Ok}
 use Rattle.std.specs.Prelude.{IsTrue, ◌⊎◌}
 use Rattle.refutation_tree.specs.declared.tree.Tree.{Tree}
-use Rattle.refutation_tree.specs.Views.{shape_of}
-use Rattle.policy_book.specs.Shapes.{PolicyShape}
-use Rattle.policy_book.specs.Plans.{Problem, IsValidPlan}
-use Rattle.policy_book.specs.Refuting.{refutes}
+use Rattle.refutation_tree.specs.Laws.Views.{shape_of}
+use Rattle.policy_book.specs.Laws.Shapes.{PolicyShape}
+use Rattle.policy_book.specs.Laws.Plans.{Problem, IsValidPlan}
+use Rattle.policy_book.specs.Laws.Refuting.{refutes}
 use Rattle.case_record.specs.Cases.{is_open}
 use Rattle.grant_table.specs.declared.rows.Row.{Row}
 use Rattle.admin_edits.specs.declared.amendment.Amendment.{Amendment}
@@ -14,7 +14,7 @@ use Rattle.wsp_solver.specs.declared.search.Outcome.TheVariants as outcome
 use Rattle.wf_board.specs.declared.deed.Deed.TheVariants as deed
 use Rattle.wf_board.specs.declared.verdict.Verdict.{Verdict}
 use Rattle.wf_board.specs.declared.verdict.Verdict.TheVariants as verdict
-use Rattle.wf_board.specs.States.{Book, Numbered, open_cases}
+use Rattle.wf_board.specs.Laws.States.{Book, Numbered, open_cases}
 use Rattle.wf_board.specs.Boards.{numbered}
 use Rattle.wf_board.specs.Edition.{ArePlansOf, IsFirstStranded, IsTreeOf}
 use Rattle.wf_board.specs.Verdicts.{IsEditionFor, IsStrandingFor, IsViewFor}

@@ -2,7 +2,7 @@
 use Rattle.std.specs.Prelude.{ℕ, ◌<◌, Bool, List, length, MatchBool}
 use Rattle.std.specs.List.{All}
 use Rattle.constraint_forms.specs.Assign.{is_member}
-use Rattle.policy_book.specs.Shapes.{PolicyShape}
+use Rattle.policy_book.specs.Laws.Shapes.{PolicyShape}
 use Rattle.case_record.specs.Cases.{CaseShape}
 use Rattle.wf_board.specs.Views.{IsGrantable}
 use Rattle.case_views.specs.declared.granted.Work.{Work}

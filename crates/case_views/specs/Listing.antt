@@ -1,7 +1,7 @@
 -- Inside: what views list of a part of the rows of a table of cases.
 use Rattle.std.specs.Prelude.{◌≡◌, ℕ, Bool, true, false, List, [], ◌∷◌, ◌++◌, Option, None, Some}
 use Rattle.std.specs.Prelude.{map}
-use Rattle.policy_book.specs.Shapes.{PolicyShape}
+use Rattle.policy_book.specs.Laws.Shapes.{PolicyShape}
 use Rattle.policy_book.specs.Policies.{problem_of}
 use Rattle.case_record.specs.Cases.{assigned_of, finished_of, is_open}
 use Rattle.grant_table.specs.declared.rows.Row.{Row}
@@ -10,8 +10,8 @@ use Rattle.wsp_solver.specs.Searches.{HasSolved}
 use Rattle.wsp_solver.specs.declared.search.Outcome.{Outcome}
 use Rattle.wsp_solver.specs.declared.search.Outcome.TheVariants as outcome
 use Rattle.wf_board.specs.Boards.{numbered}
-use Rattle.wf_board.specs.Kept.{IsOfPolicy, IsPlanned}
-use Rattle.wf_board.specs.States.{Numbered, open_cases}
+use Rattle.wf_board.specs.Laws.Kept.{IsOfPolicy, IsPlanned}
+use Rattle.wf_board.specs.Laws.States.{Numbered, open_cases}
 use Rattle.wf_board.specs.Views.{AreStranded, AreThose, IsGrantable, Place, item_of, steps_of}
 
 -- the open cases of rows

@@ -1,7 +1,7 @@
 -- Inside: what was found of cases that came before.
 use Rattle.std.specs.Prelude.{Bool, MatchBool}
 use Rattle.std.specs.List.{All}
-use Rattle.policy_book.specs.Shapes.{PolicyShape}
+use Rattle.policy_book.specs.Laws.Shapes.{PolicyShape}
 use Rattle.case_record.specs.Cases.{CaseShape}
 use Rattle.wf_board.specs.Edition.{CanBeCompleted}
 use Rattle.case_views.specs.declared.seen.Seen.{Seen}

@@ -1,15 +1,15 @@
 //! The decider on one thread.
 ghost use Rattle.std.specs.Prelude.{◌≡◌, ◌<◌, length, IfSome, MatchResult, Ok};
 ghost use Rattle.constraint_forms.specs.Assign.{no_steps, no_users};
-ghost use Rattle.policy_book.specs.Plans.{IsValidPlan};
+ghost use Rattle.policy_book.specs.Laws.Plans.{IsValidPlan};
 ghost use Rattle.policy_book.specs.Course.{problem_in};
 ghost use Rattle.policy_book.specs.Policies.{problem_of};
 ghost use Rattle.case_record.specs.Cases.{finished_of};
 ghost use Rattle.admin_edits.specs.ClaimCauses.{assigned_with};
 ghost use Rattle.wf_board.specs.Boards.{book_of};
 ghost use Rattle.wf_board.specs.Deeds.{DecidesDeed};
-ghost use Rattle.wf_board.specs.Found.{AreFound, IsAllowed, IsFound};
-ghost use Rattle.wf_board.specs.Kept.{ArePlanned};
+ghost use Rattle.wf_board.specs.Laws.Found.{AreFound, IsAllowed, IsFound};
+ghost use Rattle.wf_board.specs.Laws.Kept.{ArePlanned};
 ghost use Rattle.wf_board.specs.Verdicts.{IsPlanFor};
 ghost use Rattle.case_views.specs.Deciding.{verdict_without, DecidesFor, DecidesWhatIf};
 ghost use Rattle.case_views.specs.Deciding.{DecidesWork, IsVerdictOf};

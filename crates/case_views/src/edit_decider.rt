@@ -2,14 +2,14 @@
 ghost use Rattle.std.specs.Prelude.{◌≡◌, ◌<◌, IfOk, IfSome, length};
 ghost use Rattle.policy_book.specs.Course.{problem_in};
 ghost use Rattle.policy_book.specs.Policies.{problem_of};
-ghost use Rattle.policy_book.specs.Plans.{AreAssigned, IsValidPlan, IsWithin};
+ghost use Rattle.policy_book.specs.Laws.Plans.{AreAssigned, IsValidPlan, IsWithin};
 ghost use Rattle.case_record.specs.Cases.{assigned_of, finished_of};
-ghost use Rattle.admin_edits.specs.Edits.{amended};
+ghost use Rattle.admin_edits.specs.Laws.Edits.{amended};
 ghost use Rattle.wsp_solver.specs.Searches.{HasSolved};
 ghost use Rattle.wf_board.specs.Boards.{book_of};
 ghost use Rattle.wf_board.specs.Edition.{IsPlanOf};
-ghost use Rattle.wf_board.specs.Found.{IsAllowed};
-ghost use Rattle.wf_board.specs.Kept.{ArePlanned, IsOfPolicy, IsPlanned};
+ghost use Rattle.wf_board.specs.Laws.Found.{IsAllowed};
+ghost use Rattle.wf_board.specs.Laws.Kept.{ArePlanned, IsOfPolicy, IsPlanned};
 ghost use Rattle.case_views.specs.Deciding.{DecidesChange, AddsPlanOfRow, AddsPlan, IsLeft};
 ghost use Rattle.case_views.specs.Deciding.{IsPartAdded};
 ghost use Rattle.case_views.specs.Deciding.{IsVerdictOn};

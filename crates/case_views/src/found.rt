@@ -3,13 +3,13 @@ ghost use Rattle.std.specs.Prelude.{◌≡◌, ◌<◌, length, IfOk, IfSome};
 ghost use Rattle.constraint_forms.specs.Assign.{no_steps, no_users};
 ghost use Rattle.policy_book.specs.Course.{problem_in};
 ghost use Rattle.policy_book.specs.Policies.{problem_of};
-ghost use Rattle.policy_book.specs.Plans.{AreAssigned, IsValidPlan, IsWithin};
+ghost use Rattle.policy_book.specs.Laws.Plans.{AreAssigned, IsValidPlan, IsWithin};
 ghost use Rattle.wf_names.specs.declared.limits.TheConstants.{STEP_LIMIT};
 ghost use Rattle.case_record.specs.Cases.{assigned_of, finished_of};
 ghost use Rattle.admin_edits.specs.ClaimCauses.{assigned_with};
 ghost use Rattle.wsp_solver.specs.Searches.{HasSolved};
 ghost use Rattle.wf_board.specs.Edition.{IsPlanOf};
-ghost use Rattle.wf_board.specs.Kept.{IsOfPolicy};
+ghost use Rattle.wf_board.specs.Laws.Kept.{IsOfPolicy};
 
 use case_record::Case;
 use certificate_check::moved_plan;

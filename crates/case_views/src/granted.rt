@@ -1,6 +1,6 @@
 //! Which steps of cases a user would be granted, for cases that come later and stand alike.
 ghost use Rattle.std.specs.Prelude.{ℕ, IfSome};
-ghost use Rattle.policy_book.specs.Shapes.{PolicyShape};
+ghost use Rattle.policy_book.specs.Laws.Shapes.{PolicyShape};
 ghost use Rattle.case_views.specs.Granting.{TellsSteps, TellsWork};
 
 use crate::seen::{REMEMBERED, mark_of, stands_alike};

@@ -1,7 +1,7 @@
 //! What was found of cases, for those that come later and stand alike.
 ghost use Rattle.std.specs.Prelude.{◌≡◌, true, IfSome};
 ghost use Rattle.wf_names.specs.declared.states.StepState.TheVariants.{Finished, Held};
-ghost use Rattle.policy_book.specs.Shapes.{PolicyShape};
+ghost use Rattle.policy_book.specs.Laws.Shapes.{PolicyShape};
 ghost use Rattle.case_views.specs.Seeing.{IsTold, TellsRight};
 
 use case_record::Case;

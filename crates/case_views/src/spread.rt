@@ -1,13 +1,13 @@
 //! The decider that spreads the open cases over threads.
 ghost use Rattle.std.specs.Prelude.{◌≡◌, ◌<◌, length, IfOk};
 ghost use Rattle.std.specs.List.{AllZip, flat_map};
-ghost use Rattle.admin_edits.specs.Edits.{amended};
-ghost use Rattle.policy_book.specs.Shapes.{PolicyShape};
+ghost use Rattle.admin_edits.specs.Laws.Edits.{amended};
+ghost use Rattle.policy_book.specs.Laws.Shapes.{PolicyShape};
 ghost use Rattle.wf_board.specs.Boards.{book_of};
 ghost use Rattle.wf_board.specs.Deeds.{DecidesDeed};
-ghost use Rattle.wf_board.specs.Found.{IsAllowed, IsFound};
-ghost use Rattle.wf_board.specs.Kept.{ArePlanned};
-ghost use Rattle.wf_board.specs.States.{open_cases};
+ghost use Rattle.wf_board.specs.Laws.Found.{IsAllowed, IsFound};
+ghost use Rattle.wf_board.specs.Laws.Kept.{ArePlanned};
+ghost use Rattle.wf_board.specs.Laws.States.{open_cases};
 ghost use Rattle.wf_board.specs.Views.{AreStranded, IsWorkOf};
 ghost use Rattle.case_views.specs.Deciding.{DecidesChange, DecidesWhatIf, DecidesWork, IsLeft};
 ghost use Rattle.case_views.specs.Listing.{IsLeftAt, list_of, open_in};

@@ -1,9 +1,9 @@
 //! What each open case gives to an edit or a view, found in as many threads as are worth it.
 ghost use Rattle.std.specs.Prelude.{◌≡◌, ◌<◌, ◌∷◌, [], length, IfOk};
 ghost use Rattle.std.specs.List.{AllZip};
-ghost use Rattle.admin_edits.specs.Edits.{amended};
-ghost use Rattle.wf_board.specs.Found.{IsAllowed};
-ghost use Rattle.wf_board.specs.Kept.{ArePlanned};
+ghost use Rattle.admin_edits.specs.Laws.Edits.{amended};
+ghost use Rattle.wf_board.specs.Laws.Found.{IsAllowed};
+ghost use Rattle.wf_board.specs.Laws.Kept.{ArePlanned};
 ghost use Rattle.case_views.specs.Listing.{AreStrandedIn, IsKeptRow, IsLeftAt, IsWorkIn, list_of};
 
 use crate::edit_decider::left_at;

@@ -1,15 +1,15 @@
 //! Which open cases a change of the policy would strand.
 ghost use Rattle.std.specs.Prelude.{◌≡◌, ◌<◌, ◌∷◌, ◌++◌, [], None, true, length, IfOk, OnOk};
-ghost use Rattle.policy_book.specs.Shapes.{PolicyShape};
+ghost use Rattle.policy_book.specs.Laws.Shapes.{PolicyShape};
 ghost use Rattle.policy_book.specs.Policies.{problem_of};
-ghost use Rattle.policy_book.specs.Plans.{IsWithin};
+ghost use Rattle.policy_book.specs.Laws.Plans.{IsWithin};
 ghost use Rattle.case_record.specs.Cases.{assigned_of, is_open};
-ghost use Rattle.admin_edits.specs.Edits.{amended, edit_cause, edited_policy};
+ghost use Rattle.admin_edits.specs.Laws.Edits.{amended, edit_cause, edited_policy};
 ghost use Rattle.wf_board.specs.Boards.{book_of, book_on};
 ghost use Rattle.wf_board.specs.Edition.{IsPlanOf};
-ghost use Rattle.wf_board.specs.Found.{IsAllowed};
-ghost use Rattle.wf_board.specs.Kept.{ArePlanned, IsOfPolicy, IsPlanned};
-ghost use Rattle.wf_board.specs.States.{open_cases};
+ghost use Rattle.wf_board.specs.Laws.Found.{IsAllowed};
+ghost use Rattle.wf_board.specs.Laws.Kept.{ArePlanned, IsOfPolicy, IsPlanned};
+ghost use Rattle.wf_board.specs.Laws.States.{open_cases};
 ghost use Rattle.wf_board.specs.Views.{AreStranded};
 ghost use Rattle.case_views.specs.Listing.{AreStrandedIn, IsKeptRow, list_of};
 ghost use Rattle.case_views.specs.Seeing.{IsTold, TellsRight};

@@ -3,10 +3,10 @@ ghost use Rattle.std.specs.Prelude.{◌≡◌, ℕ, ◌<◌, ◌∷◌, ◌&&◌
 ghost use Rattle.std.specs.Prelude.{MatchBool, OnOk};
 ghost use Rattle.wf_names.specs.declared.limits.TheConstants.{STEP_LIMIT};
 ghost use Rattle.constraint_forms.specs.Assign.{is_member};
-ghost use Rattle.policy_book.specs.Shapes.{PolicyShape};
+ghost use Rattle.policy_book.specs.Laws.Shapes.{PolicyShape};
 ghost use Rattle.wf_board.specs.Boards.{book_of, book_on, numbered};
 ghost use Rattle.wf_board.specs.Edition.{IsPlanOf};
-ghost use Rattle.wf_board.specs.Kept.{ArePlanned, IsOfPolicy, IsPlanned};
+ghost use Rattle.wf_board.specs.Laws.Kept.{ArePlanned, IsOfPolicy, IsPlanned};
 ghost use Rattle.wf_board.specs.Views.{IsGrantable, IsWorkOf, item_of, steps_from};
 ghost use Rattle.case_views.specs.Listing.{AreGrantable, HasListed, IsKeptRow, IsWorkIn};
 ghost use Rattle.case_views.specs.Listing.{is_plan};

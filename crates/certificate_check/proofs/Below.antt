@@ -2,7 +2,7 @@
 use Rattle.std.proofs.Common.{◌≡◌, ◌≢◌, refl, sym, ap, ◌∙◌, ℕ, zero, suc, ◌+◌, ◌<◌, Bool, true, false, not, ◌⊎◌, inl, inr, eqb, arith}
 use Rattle.std.proofs.lemmas.Bool.Decides.{eqb_tells}
 use Rattle.basics.proofs.Booleans.{and_both, and_from, differ, not_true, not_yes}
-use Rattle.policy_book.specs.Twins.{agree, all_below}
+use Rattle.policy_book.specs.Laws.Twins.{agree, all_below}
 
 pub each_passes : (n : ℕ) (test : ℕ → Bool) → all_below n test ≡ true → (k : ℕ) → k < n → test k ≡ true
 each_passes zero test all k below = absurd (omega (arith, below))

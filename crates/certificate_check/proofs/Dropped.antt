@@ -9,10 +9,10 @@ use Rattle.constraint_forms.specs.Assign.{user_at}
 use Rattle.constraint_forms.specs.Rules.{names}
 use Rattle.constraint_forms.proofs.RuleLaws.{falsified_by_named}
 use Rattle.refutation_tree.specs.Tree.{Shape, Kids, holder, rule, node, no_kids, tree_kid, twin_kid}
-use Rattle.policy_book.specs.Plans.{Problem}
-use Rattle.policy_book.specs.Twins.{are_twins, is_one_of}
-use Rattle.policy_book.specs.Refuting.{refutes, all_refute, have_users, authorised_users, is_misheld, is_broken, is_unassigned, is_rule_naming, mentions}
-use Rattle.policy_book.specs.Refuting.{any_mentions}
+use Rattle.policy_book.specs.Laws.Plans.{Problem}
+use Rattle.policy_book.specs.Laws.Twins.{are_twins, is_one_of}
+use Rattle.policy_book.specs.Laws.Refuting.{refutes, all_refute, have_users, authorised_users, is_misheld, is_broken, is_unassigned, is_rule_naming, mentions}
+use Rattle.policy_book.specs.Laws.Refuting.{any_mentions}
 use Rattle.certificate_check.specs.Laws.{UnmentionedStepDrops}
 use Rattle.basics.proofs.Booleans.{and_both, or_false}
 use Rattle.certificate_check.proofs.TwinLaws.{mean_twins, twins_mean}

@@ -9,7 +9,7 @@ use Rattle.constraint_forms.specs.declared.rule.Rule.{Rule}
 use Rattle.constraint_forms.specs.Assign.{planned, user_at}
 use Rattle.constraint_forms.specs.Rules.{is_satisfied, names}
 use Rattle.constraint_forms.proofs.RuleLaws.{satisfied_by_named}
-use Rattle.policy_book.specs.Plans.{IsValidPlan, Problem}
+use Rattle.policy_book.specs.Laws.Plans.{IsValidPlan, Problem}
 use Rattle.certificate_check.specs.Plan.{keeps_rule}
 use Rattle.certificate_check.proofs.Assigned.{given, given_same, none_not_some, same_some}
 

@@ -9,9 +9,9 @@ use Rattle.constraint_forms.specs.Assign.{user_at, planned, is_member}
 use Rattle.constraint_forms.specs.Laws.{exchanged}
 use Rattle.constraint_forms.proofs.RuleLaws.{totals_decide, stays_falsified}
 use Rattle.refutation_tree.specs.Tree.{Shape, Kids, holder, rule, node, no_kids, tree_kid, twin_kid}
-use Rattle.policy_book.specs.Plans.{Problem, IsValidPlan, IsWellFormed, AreAssigned}
-use Rattle.policy_book.specs.Twins.{are_twins, is_one_of}
-use Rattle.policy_book.specs.Refuting.{refutes, all_refute, have_users, authorised_users, passing, is_misheld, is_broken, is_unassigned}
+use Rattle.policy_book.specs.Laws.Plans.{Problem, IsValidPlan, IsWellFormed, AreAssigned}
+use Rattle.policy_book.specs.Laws.Twins.{are_twins, is_one_of}
+use Rattle.policy_book.specs.Laws.Refuting.{refutes, all_refute, have_users, authorised_users, passing, is_misheld, is_broken, is_unassigned}
 use Rattle.certificate_check.specs.Laws.{RefutesSoundly}
 use Rattle.certificate_check.specs.Walks.{AreUsersBelow}
 use Rattle.basics.proofs.Booleans.{and_both, not_yes}

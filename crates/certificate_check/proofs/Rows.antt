@@ -6,8 +6,8 @@ use Rattle.wf_names.specs.UserSets.{has_user}
 use Rattle.constraint_forms.specs.declared.rule.Rule.{Rule}
 use Rattle.constraint_forms.specs.Rules.{reads}
 use Rattle.constraint_forms.proofs.Reading.{all_as_each, each_read}
-use Rattle.policy_book.specs.Plans.{Problem}
-use Rattle.policy_book.specs.Twins.{agree, all_below, is_alike_to, is_rule_alike, treats_alike}
+use Rattle.policy_book.specs.Laws.Plans.{Problem}
+use Rattle.policy_book.specs.Laws.Twins.{agree, all_below, is_alike_to, is_rule_alike, treats_alike}
 use Rattle.certificate_check.specs.Alike.{AreSameBut, reads_as}
 use Rattle.certificate_check.proofs.Below.{agree_same, all_pass, each_passes, same_agree}
 

@@ -7,14 +7,14 @@ use Rattle.std.proofs.lemmas.List.{drop-drop, length-drop, take_more}
 use Rattle.constraint_forms.specs.declared.rule.Rule.{Rule}
 use Rattle.constraint_forms.specs.Assign.{user_at}
 use Rattle.refutation_tree.specs.Tree.{Kids, no_kids, tree_kid, twin_kid, kids_from, kid_count, nodes_of_kids}
-use Rattle.refutation_tree.specs.Views.{kid_onto, branch_onto, kids_of_items, shape_of}
+use Rattle.refutation_tree.specs.Laws.Views.{kid_onto, branch_onto, kids_of_items, shape_of}
 use Rattle.refutation_tree.specs.declared.tree.Branch.{Branch}
 use Rattle.refutation_tree.specs.declared.tree.Kid.{Kid}
 use Rattle.refutation_tree.specs.declared.tree.Kid.TheVariants.{Tree as Tree_kid, Twin}
 use Rattle.refutation_tree.proofs.ShapeLaws.{kids_of_items-drop, kids_from-items, kid_count-items, nodes-drop}
-use Rattle.policy_book.specs.Plans.{Problem, IsWithin}
-use Rattle.policy_book.specs.Twins.{are_twins, is_one_of}
-use Rattle.policy_book.specs.Refuting.{refutes, all_refute, have_users, authorised_users, passing, mentions, any_mentions, is_unassigned}
+use Rattle.policy_book.specs.Laws.Plans.{Problem, IsWithin}
+use Rattle.policy_book.specs.Laws.Twins.{are_twins, is_one_of}
+use Rattle.policy_book.specs.Laws.Refuting.{refutes, all_refute, have_users, authorised_users, passing, mentions, any_mentions, is_unassigned}
 use Rattle.certificate_check.specs.Walks.{AreUsersBelow, begins_with, tree_users, kid_user_onto}
 use Rattle.basics.proofs.Booleans.{and_both, or-false, or_cases, or_right}
 use Rattle.certificate_check.proofs.Assigned.{given, either}

@@ -12,9 +12,9 @@ use Rattle.constraint_forms.specs.Laws.{AreInterchangeable, AreTwinsFor, exchang
 use Rattle.constraint_forms.proofs.Reading.{all_as_each, each_read}
 use Rattle.constraint_forms.proofs.RuleLaws.{satisfied_by_named}
 use Rattle.constraint_forms.proofs.Exchanges.{exchange_does_not_matter}
-use Rattle.policy_book.specs.Plans.{Problem, IsValidPlan, IsWellFormed}
-use Rattle.policy_book.specs.Twins.{agree, all_below, are_related_alike, are_twins, has_no_step, is_alike_to, is_given_to, is_rule_alike, may_do_the_same}
-use Rattle.policy_book.specs.Twins.{treats_alike}
+use Rattle.policy_book.specs.Laws.Plans.{Problem, IsValidPlan, IsWellFormed}
+use Rattle.policy_book.specs.Laws.Twins.{agree, all_below, are_related_alike, are_twins, has_no_step, is_alike_to, is_given_to, is_rule_alike, may_do_the_same}
+use Rattle.policy_book.specs.Laws.Twins.{treats_alike}
 use Rattle.certificate_check.specs.Laws.{TwinsChain, TwinsExchange}
 use Rattle.certificate_check.proofs.Assigned.{given_other, given_same, none_not_some, same_some}
 use Rattle.certificate_check.proofs.Below.{agree_same, all_pass, each_passes, same_agree}

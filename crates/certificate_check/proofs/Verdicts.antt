@@ -8,7 +8,7 @@ use Rattle.std.proofs.lemmas.Option.{slice_get_within}
 use Rattle.constraint_forms.specs.declared.rule.Rule.{Rule}
 use Rattle.constraint_forms.specs.Assign.{user_at, planned, is_member}
 use Rattle.constraint_forms.specs.Rules.{is_satisfied}
-use Rattle.policy_book.specs.Plans.{Problem, IsValidPlan, IsWithin}
+use Rattle.policy_book.specs.Laws.Plans.{Problem, IsValidPlan, IsWithin}
 use Rattle.certificate_check.specs.Plan.{first_failing, is_kept, may_perform, is_obeyed, fault_else, plan_verdict}
 use Rattle.certificate_check.specs.declared.plan.PlanFault.TheVariants.{Moved, Role, Rule as Rule_fault}
 use Rattle.certificate_check.proofs.Assigned.{same_some, none_not_some}

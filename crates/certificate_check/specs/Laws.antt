@@ -3,9 +3,9 @@ use Rattle.std.specs.Prelude.{◌≡◌, ◌<◌, ◌↔◌, Bool, false, List, 
 use Rattle.std.specs.Prelude.{IsTrue, slice_set}
 use Rattle.constraint_forms.specs.Assign.{user_at}
 use Rattle.refutation_tree.specs.Tree.{Shape}
-use Rattle.policy_book.specs.Plans.{Problem, AreAssigned, IsCompletable, IsWellFormed}
-use Rattle.policy_book.specs.Refuting.{refutes, mentions}
-use Rattle.policy_book.specs.Twins.{are_twins}
+use Rattle.policy_book.specs.Laws.Plans.{Problem, AreAssigned, IsCompletable, IsWellFormed}
+use Rattle.policy_book.specs.Laws.Refuting.{refutes, mentions}
+use Rattle.policy_book.specs.Laws.Twins.{are_twins}
 
 -- what a tree refutes cannot be completed, where the rules name steps of the workflow and each
 -- finished step is assigned

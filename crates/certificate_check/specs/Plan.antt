@@ -4,7 +4,7 @@ use Rattle.std.specs.Prelude.{None, Some, Result, Ok, Err, if◌then◌else◌, 
 use Rattle.constraint_forms.specs.declared.rule.Rule.{Rule}
 use Rattle.constraint_forms.specs.Assign.{user_at, planned, is_member}
 use Rattle.constraint_forms.specs.Rules.{is_satisfied, names}
-use Rattle.policy_book.specs.Plans.{Problem}
+use Rattle.policy_book.specs.Laws.Plans.{Problem}
 use Rattle.certificate_check.specs.declared.plan.PlanFault.TheVariants.{Moved, Role}
 use Rattle.certificate_check.specs.declared.plan.PlanFault.TheVariants.{Rule as Rule_fault}
 use Rattle.certificate_check.specs.declared.plan.PlanFault.{PlanFault}

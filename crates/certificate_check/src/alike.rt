@@ -7,9 +7,10 @@ ghost use Rattle.constraint_forms.specs.Assign.{user_at};
 ghost use Rattle.constraint_forms.specs.Rules.{all_read, reads};
 ghost use Rattle.policy_book.specs.Course.{problem_in};
 ghost use Rattle.policy_book.specs.Policies.{problem_of};
-ghost use Rattle.policy_book.specs.Twins.{agree, all_below, are_related_alike, are_twins};
-ghost use Rattle.policy_book.specs.Twins.{has_no_step, is_alike_to, is_given_to, is_rule_alike};
-ghost use Rattle.policy_book.specs.Twins.{may_do_the_same, treats_alike};
+ghost use Rattle.policy_book.specs.Laws.Twins.{agree, all_below, are_related_alike, are_twins};
+ghost use Rattle.policy_book.specs.Laws.Twins.{has_no_step, is_alike_to, is_given_to};
+ghost use Rattle.policy_book.specs.Laws.Twins.{is_rule_alike};
+ghost use Rattle.policy_book.specs.Laws.Twins.{may_do_the_same, treats_alike};
 ghost use Rattle.certificate_check.specs.Alike.{AreSameBut, HasNoMoreThan, reads_as};
 
 use constraint_forms::{Holds, RelatedRows, Rule};

@@ -3,7 +3,7 @@ ghost use Rattle.std.specs.Prelude.{◌≡◌, ◌<◌, ℕ, Bool, List, Option,
 ghost use Rattle.std.specs.Prelude.{slice_set, true, IfSome};
 ghost use Rattle.policy_book.specs.Course.{problem_in};
 ghost use Rattle.policy_book.specs.Policies.{problem_of};
-ghost use Rattle.policy_book.specs.Plans.{IsValidPlan};
+ghost use Rattle.policy_book.specs.Laws.Plans.{IsValidPlan};
 ghost use Rattle.certificate_check.specs.Plan.{keeps_rule};
 
 use constraint_forms::satisfied;

@@ -1,7 +1,7 @@
 //! Whether a plan is valid, and what is the first thing wrong with it.
 ghost use Rattle.std.specs.Prelude.{◌≡◌, ◌<◌, ◌==◌, ◌↔◌, ℕ, length, slice_get, true, IsOk};
 ghost use Rattle.constraint_forms.specs.Assign.{planned, user_at};
-ghost use Rattle.policy_book.specs.Plans.{IsValidPlan, IsWithin};
+ghost use Rattle.policy_book.specs.Laws.Plans.{IsValidPlan, IsWithin};
 ghost use Rattle.policy_book.specs.Course.{problem_in};
 ghost use Rattle.policy_book.specs.Policies.{problem_of};
 ghost use Rattle.certificate_check.specs.Plan.{first_failing, is_kept, is_obeyed, may_perform};

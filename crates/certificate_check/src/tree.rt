@@ -3,16 +3,16 @@ ghost use Rattle.std.specs.Prelude.{◌≡◌, ◌<◌, ◌&&◌, nat_lt, ℕ, l
 ghost use Rattle.wf_names.specs.declared.limits.TheConstants.{STEP_LIMIT};
 ghost use Rattle.constraint_forms.specs.Assign.{user_at};
 ghost use Rattle.refutation_tree.specs.Tree.{no_kids, Kids};
-ghost use Rattle.refutation_tree.specs.Views.{branch_onto, kids_of_items, shape_of};
-ghost use Rattle.policy_book.specs.Plans.{IsWithin};
+ghost use Rattle.refutation_tree.specs.Laws.Views.{branch_onto, kids_of_items, shape_of};
+ghost use Rattle.policy_book.specs.Laws.Plans.{IsWithin};
 ghost use Rattle.policy_book.specs.Course.{problem_in};
 ghost use Rattle.policy_book.specs.Policies.{problem_of};
 ghost use Rattle.certificate_check.specs.Walks.{AreUsersBelow, begins_with, tree_users};
 ghost use Rattle.certificate_check.specs.Walks.{kid_user_onto};
-ghost use Rattle.policy_book.specs.Twins.{are_twins, is_one_of};
-ghost use Rattle.policy_book.specs.Refuting.{all_refute, any_mentions, authorised_users};
-ghost use Rattle.policy_book.specs.Refuting.{have_users, is_broken, is_unassigned, is_misheld};
-ghost use Rattle.policy_book.specs.Refuting.{is_rule_naming, mentions, refutes};
+ghost use Rattle.policy_book.specs.Laws.Twins.{are_twins, is_one_of};
+ghost use Rattle.policy_book.specs.Laws.Refuting.{all_refute, any_mentions, authorised_users};
+ghost use Rattle.policy_book.specs.Laws.Refuting.{have_users, is_broken, is_unassigned, is_misheld};
+ghost use Rattle.policy_book.specs.Laws.Refuting.{is_rule_naming, mentions, refutes};
 
 use crate::alike::twins;
 use constraint_forms::falsified;

@@ -6,8 +6,9 @@ use Rattle.std.specs.List.{AllByRecursion as Every}
 use Rattle.std.proofs.lemmas.Bool.{false≢true}
 use Rattle.basics.proofs.Booleans.{eq_above}
 use Rattle.constraint_forms.specs.Assign.{is_member}
-use Rattle.cnf_export.specs.Clauses.{no_to, satisfies, yes_to}
-use Rattle.cnf_export.specs.Encodings.{Encoding, clause, count_rows, counting_clause, counts, has, height, members, numbers, part_items, takes, taking_clause}
+use Rattle.cnf_export.specs.Laws.Clauses.{no_to, satisfies, yes_to}
+use Rattle.cnf_export.specs.Laws.Encodings.{Encoding, clause, count_rows, counting_clause, counts, has, height, members, numbers, part_items, takes}
+use Rattle.cnf_export.specs.Laws.Encodings.{taking_clause}
 use Rattle.cnf_export.specs.declared.group.Group.TheVariants.{Taking, Counting, Ending}
 use Rattle.cnf_export.proofs.Counters.{IsCounter}
 use Rattle.cnf_export.proofs.Every.{every_flat, every_left, every_map, every_number, every_passing, every_right}

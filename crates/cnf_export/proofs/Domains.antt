@@ -5,10 +5,10 @@ use Rattle.std.proofs.lemmas.Bool.{cases_lt}
 use Rattle.basics.proofs.Booleans.{lt_no, lt_yes}
 use Rattle.std.specs.Prelude.{slice_index_or}
 use Rattle.wf_names.specs.UserSets.{has_user}
-use Rattle.user_relations.specs.Relations.{is_related}
+use Rattle.user_relations.specs.Laws.Relations.{is_related}
 use Rattle.constraint_forms.specs.Assign.{user_at}
-use Rattle.policy_book.specs.Plans.{Problem}
-use Rattle.cnf_export.specs.Encodings.{encoding_of, may_be}
+use Rattle.policy_book.specs.Laws.Plans.{Problem}
+use Rattle.cnf_export.specs.Laws.Encodings.{encoding_of, may_be}
 use Rattle.cnf_export.specs.Terms.{AreDomains, TermsShape, encoding_in}
 
 past : (xs : List (List ℕ)) (s : ℕ) → length xs ≤ s → slice_index_or xs s [] ≡ []

@@ -4,9 +4,10 @@ use Rattle.std.specs.Prelude.{ℤ}
 use Rattle.std.specs.List.{flat_map}
 use Rattle.constraint_forms.specs.declared.rule.Rule.{Rule}
 use Rattle.constraint_forms.specs.declared.rule.Rule.TheVariants as rule
-use Rattle.cnf_export.specs.Encodings.{Encoding, blocks, clause, count_groups, counting_clause, ending_clause, group_clauses, groups, height, literals}
-use Rattle.cnf_export.specs.Encodings.{part_items}
-use Rattle.cnf_export.specs.Encodings.{members, numbers, once_clause, part_clauses, parts, rule_groups, rules_groups, step_blocks, step_groups, taking_clause}
+use Rattle.cnf_export.specs.Laws.Encodings.{Encoding, blocks, clause, count_groups, counting_clause, ending_clause, group_clauses, groups, height, literals}
+use Rattle.cnf_export.specs.Laws.Encodings.{part_items}
+use Rattle.cnf_export.specs.Laws.Encodings.{members, numbers, once_clause, part_clauses, parts, rule_groups, rules_groups, step_blocks, step_groups}
+use Rattle.cnf_export.specs.Laws.Encodings.{taking_clause}
 use Rattle.cnf_export.specs.Sizes.{empties, empty_one}
 use Rattle.cnf_export.specs.declared.group.Group.{Group}
 use Rattle.cnf_export.specs.declared.group.Group.TheVariants.{Outside, Someone, Once, Pair, SomeOf, Taking, Counting, Ending}

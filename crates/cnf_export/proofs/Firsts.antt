@@ -4,7 +4,7 @@ use Rattle.std.specs.Prelude.{ℤ}
 use Rattle.std.specs.List.{AllByRecursion as Every}
 use Rattle.std.proofs.lemmas.Bool.{false≢true}
 use Rattle.std.proofs.lemmas.List.Elements.{All-from_recursion}
-use Rattle.cnf_export.specs.Clauses.{IsModelOf, satisfies}
+use Rattle.cnf_export.specs.Laws.Clauses.{IsModelOf, satisfies}
 use Rattle.cnf_export.specs.Readings.{first_false}
 
 every_true : (k : ℕ) (m : ℕ → Bool) (cs : List (List ℤ)) → first_false k m cs ≡ None → Every (λ c. satisfies m c ≡ true) cs

@@ -7,8 +7,8 @@ use Rattle.wf_names.specs.UserSets.{count_below}
 use Rattle.constraint_forms.specs.declared.rule.Rule.{Rule}
 use Rattle.constraint_forms.specs.declared.rule.Rule.TheVariants as rule
 use Rattle.constraint_forms.specs.Assign.{planned}
-use Rattle.policy_book.specs.Plans.{Problem}
-use Rattle.cnf_export.specs.Encodings.{Encoding, blocks, counts, encoding_of, has, has_by, height, numbers, step_blocks, takes}
+use Rattle.policy_book.specs.Laws.Plans.{Problem}
+use Rattle.cnf_export.specs.Laws.Encodings.{Encoding, blocks, counts, encoding_of, has, has_by, height, numbers, step_blocks, takes}
 use Rattle.cnf_export.proofs.Listing.{numbers_at}
 use Rattle.cnf_export.specs.Models.{SaysCount, SaysPlan, SaysRule, SaysRules, has_some, last_below, plan_said}
 use Rattle.cnf_export.specs.Saying.{count_flags, grid, has_variable, plan_flags, rule_flags, rules_flags}

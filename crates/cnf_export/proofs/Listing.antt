@@ -5,11 +5,11 @@ use Rattle.std.specs.Prelude.{ℤ}
 use Rattle.std.specs.List.{flat_map}
 use Rattle.std.proofs.lemmas.List.{append-nil}
 use Rattle.std.proofs.lemmas.Bool.{false≢true}
-use Rattle.cnf_export.specs.Encodings.{Encoding, clause, group_clauses, numbers, part_clauses, part_items}
+use Rattle.cnf_export.specs.Laws.Encodings.{Encoding, clause, group_clauses, numbers, part_clauses, part_items}
 use Rattle.cnf_export.specs.Positions.{left_from}
 use Rattle.cnf_export.specs.declared.group.Group.{Group}
 use Rattle.cnf_export.specs.declared.position.Position.{Position}
-use Rattle.policy_book.specs.Refuting.{passing}
+use Rattle.policy_book.specs.Laws.Refuting.{passing}
 use Rattle.policy_book.proofs.Passing.{passing_at}
 
 pub some_same : {X : Type 0} (x y : X) → Some x ≡ Some y → x ≡ y

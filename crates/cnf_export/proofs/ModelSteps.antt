@@ -1,6 +1,6 @@
 -- Readings of items, one after the other.
 use Rattle.std.proofs.Common.{◌≡◌, ◌∙◌, ap, List, ◌∷◌, Result, Ok, Err}
-use Rattle.basics.specs.Reading.{◌>>=◌, each}
+use Rattle.basics.specs.Laws.Reading.{◌>>=◌, each}
 
 pub reads_on : {S D F : Type 0} (read : S → D → Result S F) (s t : S) (items : List D) (d : D) (ds : List D) → items ≡ d ∷ ds → read s d ≡ Ok t →
     each read s items ≡ each read t ds

@@ -12,11 +12,11 @@ use Rattle.constraint_forms.specs.declared.rule.Rule.TheVariants as rule
 use Rattle.constraint_forms.specs.Assign.{is_member, planned, user_at}
 use Rattle.constraint_forms.specs.Rules.{all_from, any_from, different, is_satisfied, names, turned, users_from}
 use Rattle.constraint_forms.proofs.RuleLaws.{first-named, second-named, step-named, member-named}
-use Rattle.policy_book.specs.Facts.{HasMembers, IsWithinGroup}
-use Rattle.policy_book.specs.Plans.{Problem}
-use Rattle.cnf_export.specs.Clauses.{no_to, satisfies, yes_to}
-use Rattle.cnf_export.specs.Encodings.{Encoding, blocks, clause, clauses_of, count_groups, counts, encoding_of, group_clauses, groups, has, height, may_be}
-use Rattle.cnf_export.specs.Encodings.{members, numbers, rule_groups, rules_groups, step_blocks, step_groups, takes, users_who}
+use Rattle.policy_book.specs.Laws.Facts.{HasMembers, IsWithinGroup}
+use Rattle.policy_book.specs.Laws.Plans.{Problem}
+use Rattle.cnf_export.specs.Laws.Clauses.{no_to, satisfies, yes_to}
+use Rattle.cnf_export.specs.Laws.Encodings.{Encoding, blocks, clause, clauses_of, count_groups, counts, encoding_of, group_clauses, groups, has, height, may_be}
+use Rattle.cnf_export.specs.Laws.Encodings.{members, numbers, rule_groups, rules_groups, step_blocks, step_groups, takes, users_who}
 use Rattle.cnf_export.specs.Models.{ModelsArePlans, has_some, last_below, plan_said}
 use Rattle.cnf_export.specs.declared.group.Group.{Group}
 use Rattle.cnf_export.specs.declared.group.Group.TheVariants.{Outside, Someone, Once, Pair, SomeOf, Taking}

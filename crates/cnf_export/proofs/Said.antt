@@ -13,15 +13,15 @@ use Rattle.constraint_forms.specs.declared.rule.Rule.TheVariants as rule
 use Rattle.constraint_forms.specs.Assign.{is_member, planned, user_at}
 use Rattle.constraint_forms.specs.Rules.{all_from, any_from, different, is_satisfied, names, turned, users_from}
 use Rattle.constraint_forms.proofs.RuleLaws.{first-named, second-named, step-named, member-named}
-use Rattle.policy_book.specs.Facts.{HasMembers, IsWithinGroup}
-use Rattle.policy_book.specs.Plans.{AreAssigned, IsValidPlan, Problem}
-use Rattle.policy_book.specs.Refuting.{passing}
-use Rattle.cnf_export.specs.Clauses.{is_true, no_to, satisfies, yes_to}
-use Rattle.cnf_export.specs.Encodings.{Encoding, blocks, clause, clauses_of, counts, encoding_of, group_clauses, groups, has, has_by, height, may_be}
-use Rattle.cnf_export.specs.Encodings.{part_items}
-use Rattle.cnf_export.specs.Encodings.{count_rows, members, numbers, once_clause, once_items, part_clauses, parts, rule_groups, rules_groups, step_blocks}
-use Rattle.cnf_export.specs.Encodings.{step_groups, takes}
-use Rattle.cnf_export.specs.Encodings.{taking_clause, users_who}
+use Rattle.policy_book.specs.Laws.Facts.{HasMembers, IsWithinGroup}
+use Rattle.policy_book.specs.Laws.Plans.{AreAssigned, IsValidPlan, Problem}
+use Rattle.policy_book.specs.Laws.Refuting.{passing}
+use Rattle.cnf_export.specs.Laws.Clauses.{is_true, no_to, satisfies, yes_to}
+use Rattle.cnf_export.specs.Laws.Encodings.{Encoding, blocks, clause, clauses_of, counts, encoding_of, group_clauses, groups, has, has_by, height, may_be}
+use Rattle.cnf_export.specs.Laws.Encodings.{part_items}
+use Rattle.cnf_export.specs.Laws.Encodings.{count_rows, members, numbers, once_clause, once_items, part_clauses, parts, rule_groups, rules_groups, step_blocks}
+use Rattle.cnf_export.specs.Laws.Encodings.{step_groups, takes}
+use Rattle.cnf_export.specs.Laws.Encodings.{taking_clause, users_who}
 use Rattle.cnf_export.specs.Models.{PlansAreModels, SaysCount, SaysPlan, SaysRule, SaysRules, has_some}
 use Rattle.cnf_export.specs.declared.group.Group.{Group}
 use Rattle.cnf_export.specs.declared.group.Group.TheVariants.{Outside, Someone, Once, Pair, SomeOf, Taking, Counting, Ending}

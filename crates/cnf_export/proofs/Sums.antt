@@ -4,7 +4,7 @@ use Rattle.std.specs.Prelude.{ℤ, Result, Ok, Err, IsErrOf}
 use Rattle.std.specs.Result.{IsErrAnd}
 use Rattle.cnf_export.specs.declared.fault.CnfFault.{CnfFault}
 use Rattle.std.proofs.lemmas.Bool.{false≢true}
-use Rattle.cnf_export.specs.Encodings.{literals}
+use Rattle.cnf_export.specs.Laws.Encodings.{literals}
 use Rattle.cnf_export.specs.Positions.{HasGiven}
 use Rattle.cnf_export.specs.Sizes.{IsCounted, empties}
 use Rattle.cnf_export.specs.declared.tally.TheConstants.{LITERAL_LIMIT}

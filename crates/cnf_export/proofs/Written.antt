@@ -3,7 +3,7 @@ use Rattle.std.proofs.Common.{◌≡◌, ◌∙◌, ℕ, Bool, true, false, List
 use Rattle.std.specs.Prelude.{ℤ}
 use Rattle.std.specs.List.{flat_map}
 use Rattle.std.proofs.lemmas.List.{append-nil}
-use Rattle.wf_outside.specs.Outside.{HasPart, with_bytes}
+use Rattle.wf_outside.specs.Laws.Outside.{HasPart, with_bytes}
 use Rattle.wf_outside.proofs.OutsideLaws.{more_put, nothing_put, part_all, part_first, part_second}
 use Rattle.cnf_export.specs.Positions.{HasGiven}
 use Rattle.cnf_export.specs.Text.{clause_line}

@@ -1,7 +1,7 @@
 -- An encoder, as contracts see it.
 use Rattle.std.specs.Prelude.{ℕ, ℤ, List}
 use Rattle.std.specs.List.{flat_map}
-use Rattle.cnf_export.specs.Encodings.{group_clauses}
+use Rattle.cnf_export.specs.Laws.Encodings.{group_clauses}
 use Rattle.cnf_export.specs.Positions.{left_from}
 use Rattle.cnf_export.specs.Terms.{TermsShape, encoding_in}
 use Rattle.cnf_export.specs.declared.group.Group.{Group}

@@ -1,5 +1,3 @@
-pub mod Clauses
-pub mod Encodings
 pub mod Models
 pub mod Terms
 pub mod Positions
@@ -11,3 +9,4 @@ pub mod Saying
 pub mod Readings
 pub mod ModelLaws
 pub mod ModelText
+pub mod Laws

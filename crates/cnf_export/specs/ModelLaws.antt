@@ -1,8 +1,8 @@
 -- What clauses are good for.
 use Rattle.std.specs.Prelude.{◌↔◌, ℕ, ℤ, Bool, List, Option}
-use Rattle.policy_book.specs.Plans.{Problem, AreAssigned, IsCompletable, IsWithin}
-use Rattle.cnf_export.specs.Clauses.{IsModelOf}
-use Rattle.cnf_export.specs.Encodings.{clauses_of}
+use Rattle.policy_book.specs.Laws.Plans.{Problem, AreAssigned, IsCompletable, IsWithin}
+use Rattle.cnf_export.specs.Laws.Clauses.{IsModelOf}
+use Rattle.cnf_export.specs.Laws.Encodings.{clauses_of}
 use Rattle.cnf_export.specs.Models.{AreSound}
 
 -- clauses have a model

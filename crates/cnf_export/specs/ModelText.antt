@@ -4,7 +4,7 @@ use Rattle.std.specs.Prelude.{nat_lt, List, [], ◌∷◌, length, drop, replica
 use Rattle.std.specs.Prelude.{slice_index_or, slice_set, Option, None, Some, option_and_then}
 use Rattle.std.specs.Prelude.{Result, Ok, Err, if◌then◌else◌}
 use Rattle.std.specs.List.{slice_split}
-use Rattle.basics.specs.Reading.{◌>>=◌, each}
+use Rattle.basics.specs.Laws.Reading.{◌>>=◌, each}
 use Rattle.cnf_export.specs.declared.model_text.ModelFault.{ModelFault}
 use Rattle.cnf_export.specs.declared.model_text.ModelFault.TheVariants.{NoMemory, Word}
 

@@ -6,11 +6,11 @@ use Rattle.constraint_forms.specs.declared.rule.Rule.{Rule}
 use Rattle.constraint_forms.specs.declared.rule.Rule.TheVariants as rule
 use Rattle.constraint_forms.specs.Assign.{planned}
 use Rattle.constraint_forms.specs.Rules.{is_among, users_from}
-use Rattle.policy_book.specs.Facts.{HasMembers}
-use Rattle.policy_book.specs.Plans.{Problem, AreAssigned, IsValidPlan, IsWellFormed, IsWithin}
-use Rattle.cnf_export.specs.Clauses.{IsModelOf}
-use Rattle.cnf_export.specs.Encodings.{Encoding, blocks, clauses_of, counts, encoding_of, has}
-use Rattle.cnf_export.specs.Encodings.{has_by, height, numbers, step_blocks, takes}
+use Rattle.policy_book.specs.Laws.Facts.{HasMembers}
+use Rattle.policy_book.specs.Laws.Plans.{Problem, AreAssigned, IsValidPlan, IsWellFormed, IsWithin}
+use Rattle.cnf_export.specs.Laws.Clauses.{IsModelOf}
+use Rattle.cnf_export.specs.Laws.Encodings.{Encoding, blocks, clauses_of, counts, encoding_of, has}
+use Rattle.cnf_export.specs.Laws.Encodings.{has_by, height, numbers, step_blocks, takes}
 
 -- the last number below n that passes, or 0
 abbrev pub last_below : ℕ → (ℕ → Bool) → ℕ

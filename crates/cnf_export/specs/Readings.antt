@@ -1,9 +1,9 @@
 -- What a model says of a case.
 use Rattle.std.specs.Prelude.{◌≡◌, ℕ, ◌+◌, ℤ, Bool, List, [], ◌∷◌, Option, None, Some}
 use Rattle.std.specs.Prelude.{if◌then◌else◌}
-use Rattle.policy_book.specs.Plans.{Problem, AreAssigned, IsValidPlan}
-use Rattle.cnf_export.specs.Clauses.{IsModelOf, satisfies}
-use Rattle.cnf_export.specs.Encodings.{clauses_of, encoding_of}
+use Rattle.policy_book.specs.Laws.Plans.{Problem, AreAssigned, IsValidPlan}
+use Rattle.cnf_export.specs.Laws.Clauses.{IsModelOf, satisfies}
+use Rattle.cnf_export.specs.Laws.Encodings.{clauses_of, encoding_of}
 use Rattle.cnf_export.specs.Models.{plan_said}
 use Rattle.cnf_export.specs.declared.reading.Reading.{Reading as AnyReading}
 use Rattle.cnf_export.specs.declared.reading.Reading.TheVariants.{Plan, Clause}

@@ -6,8 +6,8 @@ use Rattle.wf_names.specs.UserSets.{count_below}
 use Rattle.constraint_forms.specs.declared.rule.Rule.{Rule}
 use Rattle.constraint_forms.specs.declared.rule.Rule.TheVariants as rule
 use Rattle.constraint_forms.specs.Assign.{planned}
-use Rattle.policy_book.specs.Plans.{Problem}
-use Rattle.cnf_export.specs.Encodings.{height, numbers}
+use Rattle.policy_book.specs.Laws.Plans.{Problem}
+use Rattle.cnf_export.specs.Laws.Encodings.{height, numbers}
 use Rattle.cnf_export.specs.Models.{has_some}
 
 -- whether a variable is in a model; one that has no flag is not

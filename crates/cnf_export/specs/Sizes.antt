@@ -1,6 +1,6 @@
 -- Inside: how many clauses have no literal, and how far a count has come.
 use Rattle.std.specs.Prelude.{◌≡◌, ℕ, ◌+◌, ◌≤◌, ℤ, List, [], ◌∷◌, ◌++◌, length}
-use Rattle.cnf_export.specs.Encodings.{literals}
+use Rattle.cnf_export.specs.Laws.Encodings.{literals}
 use Rattle.cnf_export.specs.declared.tally.TheConstants.{LITERAL_LIMIT}
 
 abbrev pub empty_one : List ℤ → ℕ

@@ -4,10 +4,10 @@ use Rattle.std.specs.Prelude.{slice_index_or, refl}
 use Rattle.std.specs.Coded.{Coded, code_by, coded×, coded_list, coded_ℕ}
 use Rattle.wf_names.specs.declared.limits.TheConstants.{USER_LIMIT, STEP_LIMIT}
 use Rattle.wf_names.specs.UserSets.{has_user}
-use Rattle.user_relations.specs.Relations.{RelationShape, is_related, relations_code}
+use Rattle.user_relations.specs.Laws.Relations.{RelationShape, is_related, relations_code}
 use Rattle.constraint_forms.specs.Assign.{user_at}
-use Rattle.policy_book.specs.Plans.{Problem}
-use Rattle.cnf_export.specs.Encodings.{Encoding, may_be}
+use Rattle.policy_book.specs.Laws.Plans.{Problem}
+use Rattle.cnf_export.specs.Laws.Encodings.{Encoding, may_be}
 use Rattle.cnf_export.specs.declared.group.Group.{Group}
 use Rattle.cnf_export.specs.declared.group.Group.TheVariants.{Pair}
 

@@ -1,6 +1,6 @@
 -- How far a text is written, and what became of a count of faults.
 use Rattle.std.specs.Prelude.{◌≡◌, ℕ, List, ◌++◌, Option, Result, Ok, Err}
-use Rattle.wf_outside.specs.Outside.{with_bytes}
+use Rattle.wf_outside.specs.Laws.Outside.{with_bytes}
 use Rattle.cnf_export.specs.declared.writing.WriteFault.{WriteFault}
 use Rattle.cnf_export.specs.declared.writing.WriteFault.TheVariants.{Failed, NoMemory}
 

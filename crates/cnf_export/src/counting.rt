@@ -2,9 +2,11 @@
 ghost use Rattle.std.specs.Prelude.{◌≡◌, ◌≤◌, ◌<◌, ◌+◌, ◌*◌, ◌^◌, ◌-◌, ◌==◌, ℕ, suc, [], ◌∷◌, ◌++◌};
 ghost use Rattle.std.specs.Prelude.{map, cond, List, OnOk};
 ghost use Rattle.std.specs.List.{flat_map};
-ghost use Rattle.cnf_export.specs.Clauses.{yes_to, no_to};
-ghost use Rattle.cnf_export.specs.Encodings.{counting_clause, counts, ending_clause, has, height};
-ghost use Rattle.cnf_export.specs.Encodings.{count_rows, members, numbers, takes, taking_clause};
+ghost use Rattle.cnf_export.specs.Laws.Clauses.{yes_to, no_to};
+ghost use Rattle.cnf_export.specs.Laws.Encodings.{counting_clause, counts, ending_clause, has};
+ghost use Rattle.cnf_export.specs.Laws.Encodings.{height};
+ghost use Rattle.cnf_export.specs.Laws.Encodings.{count_rows, members, numbers, takes};
+ghost use Rattle.cnf_export.specs.Laws.Encodings.{taking_clause};
 ghost use Rattle.cnf_export.specs.Terms.{encoding_in};
 
 use crate::Literals;

@@ -2,8 +2,8 @@
 ghost use Rattle.std.specs.Prelude.{◌≡◌, ◌≤◌, ◌<◌, ℕ, List, length, false, true, Bool, OnOk, OnErr};
 ghost use Rattle.std.specs.Prelude.{IfOk, IsErrOf};
 ghost use Rattle.policy_book.specs.Policies.{problem_of};
-ghost use Rattle.policy_book.specs.Plans.{IsWithin};
-ghost use Rattle.cnf_export.specs.Encodings.{clauses_of, literals, variables_of};
+ghost use Rattle.policy_book.specs.Laws.Plans.{IsWithin};
+ghost use Rattle.cnf_export.specs.Laws.Encodings.{clauses_of, literals, variables_of};
 ghost use Rattle.cnf_export.specs.Positions.{HasGiven};
 ghost use Rattle.cnf_export.specs.declared.fault.CnfFault.TheVariants.{TooLarge};
 ghost use Rattle.cnf_export.specs.declared.tally.TheConstants.{LITERAL_LIMIT};

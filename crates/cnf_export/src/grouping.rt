@@ -3,8 +3,9 @@ ghost use Rattle.std.specs.Prelude.{◌≡◌, ◌≤◌, ◌<◌, ◌+◌, ◌*
 ghost use Rattle.std.specs.Prelude.{OnOk, IfOk};
 ghost use Rattle.std.specs.List.{flat_map};
 ghost use Rattle.wf_names.specs.declared.limits.TheConstants.{RULE_LIMIT, STEP_LIMIT};
-ghost use Rattle.cnf_export.specs.Encodings.{blocks, count_groups, groups, members, numbers};
-ghost use Rattle.cnf_export.specs.Encodings.{rule_groups, rules_blocks, step_blocks, step_groups};
+ghost use Rattle.cnf_export.specs.Laws.Encodings.{blocks, count_groups, groups, members, numbers};
+ghost use Rattle.cnf_export.specs.Laws.Encodings.{rule_groups, rules_blocks, step_blocks};
+ghost use Rattle.cnf_export.specs.Laws.Encodings.{step_groups};
 ghost use Rattle.cnf_export.specs.Terms.{pair_group_at};
 
 use crate::counting::height;

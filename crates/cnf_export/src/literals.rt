@@ -1,6 +1,6 @@
 //! Literals: a variable, or that it is not there.
 ghost use Rattle.std.specs.Prelude.{◌≡◌, ◌<◌, ◌^◌, ◌+◌, ◌++◌, ◌∷◌, [], cond, OnOk, OnErr};
-ghost use Rattle.cnf_export.specs.Clauses.{yes_to, no_to};
+ghost use Rattle.cnf_export.specs.Laws.Clauses.{yes_to, no_to};
 
 use basics::List;
 use std::alloc::AllocError;

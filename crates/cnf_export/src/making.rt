@@ -3,9 +3,9 @@ ghost use Rattle.std.specs.Prelude.{◌≡◌, ◌≤◌, ◌<◌, ℕ, length, 
 ghost use Rattle.wf_names.specs.UserSets.{has_user};
 ghost use Rattle.wf_names.specs.declared.limits.TheConstants.{USER_LIMIT};
 ghost use Rattle.policy_book.specs.Course.{problem_in};
-ghost use Rattle.policy_book.specs.Plans.{IsWithin};
+ghost use Rattle.policy_book.specs.Laws.Plans.{IsWithin};
 ghost use Rattle.constraint_forms.specs.Assign.{user_at};
-ghost use Rattle.cnf_export.specs.Encodings.{encoding_of, may_be};
+ghost use Rattle.cnf_export.specs.Laws.Encodings.{encoding_of, may_be};
 ghost use Rattle.cnf_export.specs.Terms.{AreDomains, encoding_in};
 
 use crate::sizes::{step_count, user_count};

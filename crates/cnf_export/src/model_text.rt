@@ -4,7 +4,7 @@ ghost use Rattle.std.specs.Prelude.{IfErr, IfOk, IfSome};
 ghost use Rattle.std.specs.Option.{option_map_or};
 ghost use Rattle.std.specs.List.{slice_split};
 ghost use Rattle.memchr.specs.Find.{IsFirstByte};
-ghost use Rattle.basics.specs.Reading.{each, Gives};
+ghost use Rattle.basics.specs.Laws.Reading.{each, Gives};
 ghost use Rattle.cnf_export.specs.declared.model_text.ModelFault.TheVariants.{NoMemory};
 ghost use Rattle.cnf_export.specs.ModelText.{is_blank, is_lf, is_passed_over, model_of_text};
 ghost use Rattle.cnf_export.specs.ModelText.{words_read};

@@ -4,7 +4,7 @@ ghost use Rattle.std.specs.Prelude.{OnErr, IfOk};
 ghost use Rattle.cnf_export.specs.Positions.{clause_at, left_from, StandsReady, HasGiven};
 ghost use Rattle.cnf_export.specs.Terms.{encoding_in};
 ghost use Rattle.std.specs.List.{flat_map};
-ghost use Rattle.cnf_export.specs.Encodings.{Encoding, group_clauses};
+ghost use Rattle.cnf_export.specs.Laws.Encodings.{Encoding, group_clauses};
 ghost use Rattle.cnf_export.specs.declared.group.Group.{Group as AnyGroup};
 
 use crate::Literals;

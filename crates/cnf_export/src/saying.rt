@@ -3,7 +3,7 @@ ghost use Rattle.std.specs.Prelude.{◌≡◌, ◌≤◌, ◌<◌, ◌==◌, ◌
 ghost use Rattle.std.specs.Prelude.{map, Bool, OnOk, IfOk};
 ghost use Rattle.wf_names.specs.UserSets.{count_below};
 ghost use Rattle.constraint_forms.specs.Assign.{planned};
-ghost use Rattle.cnf_export.specs.Encodings.{height, numbers};
+ghost use Rattle.cnf_export.specs.Laws.Encodings.{height, numbers};
 ghost use Rattle.cnf_export.specs.Models.{has_some};
 ghost use Rattle.cnf_export.specs.Saying.{Says, count_flags, grid, rule_flags, rules_flags};
 

@@ -1,6 +1,6 @@
 //! What is true in a model.
 ghost use Rattle.std.specs.Prelude.{◌≡◌, ◌≤◌, ◌<◌, ◌+◌, ◌^◌, ℕ};
-ghost use Rattle.cnf_export.specs.Clauses.{is_true, satisfies};
+ghost use Rattle.cnf_export.specs.Laws.Clauses.{is_true, satisfies};
 ghost use Rattle.cnf_export.specs.Models.{last_below};
 ghost use Rattle.cnf_export.specs.Saying.{has_variable};
 

@@ -1,7 +1,7 @@
 //! How many clauses and literals there are.
 ghost use Rattle.std.specs.Prelude.{◌≡◌, ◌≤◌, ◌<◌, length, IfOk, IsErrOf, OnOk};
 ghost use Rattle.wf_names.specs.declared.limits.TheConstants.{STEP_LIMIT};
-ghost use Rattle.cnf_export.specs.Encodings.{literals};
+ghost use Rattle.cnf_export.specs.Laws.Encodings.{literals};
 ghost use Rattle.cnf_export.specs.Positions.{left_from};
 ghost use Rattle.cnf_export.specs.Sizes.{empties};
 ghost use Rattle.cnf_export.specs.Terms.{encoding_in};

@@ -2,15 +2,16 @@
 ghost use Rattle.std.specs.Prelude.{◌≡◌, ◌≤◌, ◌<◌, ◌+◌, ◌*◌, ◌^◌, ◌&&◌, not, ℕ, true, length, OnOk};
 ghost use Rattle.std.specs.Prelude.{slice_index_or, nat_lt, [], ◌∷◌, ◌++◌, map};
 ghost use Rattle.std.specs.List.{flat_map};
-ghost use Rattle.cnf_export.specs.Clauses.{yes_to, no_to};
+ghost use Rattle.cnf_export.specs.Laws.Clauses.{yes_to, no_to};
 ghost use Rattle.wf_names.specs.declared.limits.TheConstants.{STEP_LIMIT, USER_LIMIT};
 ghost use Rattle.wf_names.specs.UserSets.{has_user};
-ghost use Rattle.policy_book.specs.Refuting.{passing};
+ghost use Rattle.policy_book.specs.Laws.Refuting.{passing};
 ghost use Rattle.constraint_forms.specs.Rules.{turned};
-ghost use Rattle.cnf_export.specs.Encodings.{clause, counts, has, has_by, height, members};
-ghost use Rattle.cnf_export.specs.Encodings.{part_items};
-ghost use Rattle.cnf_export.specs.Encodings.{once_clause, once_items, parts, some_clause, takes};
-ghost use Rattle.cnf_export.specs.Encodings.{users_who};
+ghost use Rattle.cnf_export.specs.Laws.Encodings.{clause, counts, has, has_by, height, members};
+ghost use Rattle.cnf_export.specs.Laws.Encodings.{part_items};
+ghost use Rattle.cnf_export.specs.Laws.Encodings.{once_clause, once_items, parts, some_clause};
+ghost use Rattle.cnf_export.specs.Laws.Encodings.{takes};
+ghost use Rattle.cnf_export.specs.Laws.Encodings.{users_who};
 ghost use Rattle.cnf_export.specs.Terms.{TermsShape, AreTerms, encoding_in};
 ghost use Rattle.cnf_export.specs.declared.group.Group.TheVariants as groups;
 

@@ -1,6 +1,6 @@
 //! The words of a model's text.
 ghost use Rattle.std.specs.Prelude.{◌≡◌, ◌≤◌, ◌<◌, ◌+◌, ◌^◌, length, Some, IfErr, IfOk, IfSome};
-ghost use Rattle.basics.specs.Reading.{Gives};
+ghost use Rattle.basics.specs.Laws.Reading.{Gives};
 ghost use Rattle.cnf_export.specs.ModelText.{is_digit, next_part, number_said, take_no, words_read};
 ghost use Rattle.cnf_export.specs.ModelText.{take_yes, with_digit};
 

@@ -1,7 +1,7 @@
 //! Writing the clauses of a case, in pieces.
 ghost use Rattle.std.specs.Prelude.{◌≡◌, ◌++◌, [], IsErrOf, OnErr, OnOk};
 ghost use Rattle.std.specs.List.{flat_map};
-ghost use Rattle.wf_outside.specs.Outside.{HasPart, Rose, with_bytes};
+ghost use Rattle.wf_outside.specs.Laws.Outside.{HasPart, Rose, with_bytes};
 ghost use Rattle.cnf_export.specs.Text.{clause_line, dimacs_text};
 ghost use Rattle.cnf_export.specs.Writing.{StaysUnlessUnwritten};
 ghost use Rattle.cnf_export.specs.declared.writing.WriteFault.TheVariants.{NoMemory};

@@ -13,7 +13,7 @@ use Rattle.clap.specs.ValueTests.{accepts}
 use Rattle.clap.specs.Values.{IsSignedIn}
 use Rattle.clap.specs.Words.{Text}
 use Rattle.clap.specs.declared.builder.value_parser.ValueParser.TheVariants.{Signed, Unsigned}
-use Rattle.command_words.specs.Usage.{IsPlain}
+use Rattle.command_words.specs.Laws.Usage.{IsPlain}
 use Rattle.command_words.proofs.Numbers.{no_plus}
 use Rattle.command_words.proofs.Plain.{no_hyphen}
 

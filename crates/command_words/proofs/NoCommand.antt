@@ -3,7 +3,7 @@ use Rattle.std.proofs.Common.{◌≡◌, ◌≢◌, Bool, true, false, refl, Lis
 use Rattle.std.specs.Bool.{Decides}
 use Rattle.std.specs.Cmp.Lexicographic.{bytes_decides}
 use Rattle.clap.specs.Words.{Text}
-use Rattle.command_words.specs.Words.{command_at, is_word}
+use Rattle.command_words.specs.Laws.Words.{command_at, is_word}
 
 not_word : (word other : Text) → word ≢ other → is_word word other ≡ false
 not_word word other apart = go (is_word word other) (bytes_decides word other)

@@ -24,7 +24,7 @@ use Rattle.clap.specs.declared.parser.matches.Found.{Found as Entries}
 use Rattle.clap.proofs.WalkLemmas.{both}
 use Rattle.command_words.specs.declared.arguments.Word.{Word}
 use Rattle.command_words.specs.Forms.{rule_for}
-use Rattle.command_words.specs.Words.{Command as Asked, command_by, found}
+use Rattle.command_words.specs.Laws.Words.{Command as Asked, command_by, found}
 use Rattle.command_words.specs.Finding.{IsBuiltOf, KeepsRule, PassesIn, RowPasses, TakesValue, rows_in}
 
 not_empty : {X : Type 0} (x : X) (xs : List X) → is_empty (x ∷ xs) ≡ false

@@ -4,7 +4,7 @@ use Rattle.std.specs.Prelude.{if◌then◌else◌}
 use Rattle.std.proofs.lemmas.Bool.{ne_eqb}
 use Rattle.clap.specs.Lexer.{strip_byte}
 use Rattle.clap.specs.Words.{Text}
-use Rattle.command_words.specs.Usage.{IsPlain}
+use Rattle.command_words.specs.Laws.Usage.{IsPlain}
 
 pub no_hyphen : (word : Text) → IsPlain word → strip_byte 45 word ≡ None
 no_hyphen [] plain = refl

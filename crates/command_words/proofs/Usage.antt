@@ -17,11 +17,11 @@ use Rattle.clap.specs.declared.parser.matches.ValueSource.TheVariants.{CommandLi
 use Rattle.clap.proofs.OnLiterals.{clap_on_literals}
 use Rattle.command_words.specs.declared.command.TheConstants.{ABSENCE_LIMIT}
 use Rattle.wf_names.specs.declared.limits.TheConstants.{DEFAULT_LANES, DEFAULT_ROUNDS, LANE_LIMIT, ROUND_LIMIT}
-use Rattle.command_words.specs.Words.{AreOptions, Options, command_of, found}
-use Rattle.command_words.specs.Words.{audit, cnf, plan, resilience, resume, serve, show, solve, trial}
-use Rattle.command_words.specs.Words.{audit_form, cnf_form, plan_form, resilience_form, resume_form, serve_form, show_form, solve_form, trial_form}
-use Rattle.command_words.specs.Words.{audit_asked, cnf_in, plan_asked, resilience_in, resume_in, serve_in, show_in, solve_in, trial_in}
-use Rattle.command_words.specs.Usage.{IsPlain, option_words, options_with}
+use Rattle.command_words.specs.Laws.Words.{AreOptions, Options, command_of, found}
+use Rattle.command_words.specs.Laws.Words.{audit, cnf, plan, resilience, resume, serve, show, solve, trial}
+use Rattle.command_words.specs.Laws.Words.{audit_form, cnf_form, plan_form, resilience_form, resume_form, serve_form, show_form, solve_form, trial_form}
+use Rattle.command_words.specs.Laws.Words.{audit_asked, cnf_in, plan_asked, resilience_in, resume_in, serve_in, show_in, solve_in, trial_in}
+use Rattle.command_words.specs.Laws.Usage.{IsPlain, option_words, options_with}
 use Rattle.command_words.proofs.Decimals.{decimal_plain, signed_taken, unsigned_taken, value_of, value_without_minus}
 use Rattle.command_words.proofs.Walking.{as_option, as_value, at, end_fault, found_by, none_at_end}
 

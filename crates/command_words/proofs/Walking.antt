@@ -12,8 +12,8 @@ use Rattle.clap.specs.Kinds.{or_else}
 use Rattle.clap.specs.Simple.{Shape, argument_words, entered, names_of}
 use Rattle.clap.specs.Walk.{Held, Names, Step, Waiting, trailing, Walk, after_step, finished, idle, is_empty, long_or_other, nothing_held, option}
 use Rattle.clap.specs.Walk.{plain_word, positional, settled, short_or_plain, subcommand_met, subcommand_or_other, walk, walk_from, walked, word_met}
-use Rattle.command_words.specs.Words.{found}
-use Rattle.command_words.specs.Usage.{IsPlain}
+use Rattle.command_words.specs.Laws.Words.{found}
+use Rattle.command_words.specs.Laws.Usage.{IsPlain}
 use Rattle.command_words.proofs.Plain.{no_hyphen}
 
 -- ---- a word that begins with no hyphen

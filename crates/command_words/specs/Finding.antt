@@ -12,8 +12,8 @@ use Rattle.clap.specs.declared.parser.matches.ArgMatches.{ArgMatches}
 use Rattle.command_words.specs.declared.command.TheConstants.{ABSENCE_LIMIT}
 use Rattle.command_words.specs.declared.finding.Found.{Found}
 use Rattle.wf_names.specs.declared.limits.TheConstants.{LANE_LIMIT, ROUND_LIMIT}
-use Rattle.command_words.specs.Words.{AreOptions, number_in, options_of, policy_in}
-use Rattle.command_words.specs.Asked.{options_in}
+use Rattle.command_words.specs.Laws.Words.{AreOptions, number_in, options_of, policy_in}
+use Rattle.command_words.specs.Command.{options_in}
 
 -- what was found
 abbrev pub rows_in : ArgMatches → List Row

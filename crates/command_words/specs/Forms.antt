@@ -9,12 +9,15 @@ use Rattle.command_words.specs.declared.forms.Form.{Form}
 use Rattle.command_words.specs.declared.forms.Form.TheVariants.{Plan, Show, Solve, Resilience}
 use Rattle.command_words.specs.declared.forms.Form.TheVariants.{Cnf, Trial, Session}
 use Rattle.command_words.specs.declared.forms.SessionForm.TheVariants.{Serve, Audit, Resume}
-use Rattle.command_words.specs.Words.{Command, absences_word, lanes_option, model_word, policy_word}
-use Rattle.command_words.specs.Words.{rounds_option, wanted, wanted_number}
-use Rattle.command_words.specs.Words.{audit_form, cnf_form, plan_form, resilience_form, resume_form}
-use Rattle.command_words.specs.Words.{serve_form, show_form, solve_form, trial_form}
-use Rattle.command_words.specs.Words.{audit_asked, cnf_in, plan_asked, resilience_in, resume_in}
-use Rattle.command_words.specs.Words.{serve_in, show_in, solve_in, trial_in}
+use Rattle.command_words.specs.Laws.Words.{Command, absences_word, lanes_option, model_word}
+use Rattle.command_words.specs.Laws.Words.{policy_word}
+use Rattle.command_words.specs.Laws.Words.{rounds_option, wanted, wanted_number}
+use Rattle.command_words.specs.Laws.Words.{audit_form, cnf_form, plan_form, resilience_form}
+use Rattle.command_words.specs.Laws.Words.{resume_form}
+use Rattle.command_words.specs.Laws.Words.{serve_form, show_form, solve_form, trial_form}
+use Rattle.command_words.specs.Laws.Words.{audit_asked, cnf_in, plan_asked, resilience_in}
+use Rattle.command_words.specs.Laws.Words.{resume_in}
+use Rattle.command_words.specs.Laws.Words.{serve_in, show_in, solve_in, trial_in}
 
 -- the argument for a word or an option
 abbrev pub rule_for : Word → Rule

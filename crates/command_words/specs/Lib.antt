@@ -1,5 +1,4 @@
-pub mod Words
-pub mod Asked
 pub mod Forms
 pub mod Finding
-pub mod Usage
+pub mod Command
+pub mod Laws

@@ -2,7 +2,7 @@
 ghost use Rattle.std.specs.Prelude.{◌≡◌, false, pos};
 ghost use Rattle.clap.specs.Words.{rule_of};
 ghost use Rattle.clap.specs.declared.builder.value_parser.ValueParser.TheVariants.{Signed};
-ghost use Rattle.command_words.specs.Words.{ranged, wanted};
+ghost use Rattle.command_words.specs.Laws.Words.{ranged, wanted};
 ghost use Rattle.command_words.specs.Forms.{rule_for};
 
 use crate::ABSENCE_LIMIT;

@@ -1,8 +1,8 @@
 //! The values that `clap` finds at the words.
 ghost use Rattle.std.specs.Prelude.{◌≡◌, ◌<◌, ◌≤◌, ◌-◌, ◌^◌, IfSome, option_map, codes};
 ghost use Rattle.clap.specs.Words.{first_of};
-ghost use Rattle.command_words.specs.Words.{AreOptions, number_in, options_of};
-ghost use Rattle.command_words.specs.Asked.{options_in};
+ghost use Rattle.command_words.specs.Laws.Words.{AreOptions, number_in, options_of};
+ghost use Rattle.command_words.specs.Command.{options_in};
 ghost use Rattle.command_words.specs.Finding.{AreIn, HasNumbers, WritesWithin, rows_in};
 
 use crate::{ABSENCE_LIMIT, Options};

@@ -1,7 +1,7 @@
 //! The forms of the commands: the words of each.
 ghost use Rattle.std.specs.Prelude.{◌≡◌, IfOk, map, option_and_then};
 ghost use Rattle.clap.specs.Words.{app_of};
-ghost use Rattle.command_words.specs.Words.{command_at, command_by, form};
+ghost use Rattle.command_words.specs.Laws.Words.{command_at, command_by, form};
 ghost use Rattle.command_words.specs.Forms.{command_in, form_for, rule_for};
 
 use self::SessionForm::{Audit, Resume, Serve};

@@ -5,9 +5,10 @@ ghost use Rattle.std.specs.Prelude.{◌≡◌, ◌<◌, ◌≤◌, ◌^◌, ℕ,
 ghost use Rattle.std.specs.Fmt.{decimal};
 ghost use Rattle.clap.specs.Words.{Text};
 ghost use Rattle.command_words.specs.declared.command.TheConstants.{ABSENCE_LIMIT};
-ghost use Rattle.command_words.specs.Words.{AreOptions, audit, cnf, command_of, plan, resilience};
-ghost use Rattle.command_words.specs.Words.{resume, serve, show, solve, trial};
-ghost use Rattle.command_words.specs.Usage.{IsPlain, option_words, options_with};
+ghost use Rattle.command_words.specs.Laws.Words.{AreOptions, audit, cnf, command_of, plan};
+ghost use Rattle.command_words.specs.Laws.Words.{resilience};
+ghost use Rattle.command_words.specs.Laws.Words.{resume, serve, show, solve, trial};
+ghost use Rattle.command_words.specs.Laws.Usage.{IsPlain, option_words, options_with};
 
 /// The words of each command without options, in the form that a usage text shows, are read as that
 /// command.

@@ -1,8 +1,8 @@
 //! Reading the words of the command line.
 ghost use Rattle.std.specs.Prelude.{◌≡◌, IfOk, IfSome, List, map, option_map, string_bytes};
 ghost use Rattle.clap.specs.Words.{Row};
-ghost use Rattle.command_words.specs.Words.{command_by, command_of};
-ghost use Rattle.command_words.specs.Asked.{CanServe, asked};
+ghost use Rattle.command_words.specs.Laws.Words.{command_by, command_of};
+ghost use Rattle.command_words.specs.Command.{CanServe, asked};
 ghost use Rattle.command_words.specs.Forms.{command_in, form_for};
 ghost use Rattle.command_words.specs.Finding.{AreIn};
 ghost use Rattle.command_words.specs.declared.forms.Form.TheVariants.{Session};

@@ -1,5 +1,5 @@
 -- The steps of a set one after the other, and those of two sets.
-use Rattle.std.proofs.Common.{◌≡◌, ℕ, max, ◌+◌, ◌-◌, ◌/◌, ◌%◌, ◌^◌, ◌<◌, ◌≤◌, false, ◌||◌, nat_eq, slice_index_or, sym, ap, ◌∙◌, inl, inr}
+use Rattle.std.proofs.Common.{◌≡◌, ℕ, ◌+◌, ◌-◌, ◌/◌, ◌^◌, ◌<◌, ◌≤◌, false, ◌||◌, nat_eq, slice_index_or, sym, ap, ◌∙◌, inl, inr}
 use Rattle.std.proofs.Common.{arith, bit_or}
 use Rattle.std.specs.Int.{bit_at, w32, trailing_zeros}
 use Rattle.std.proofs.lemmas.Nat.{shr_le}

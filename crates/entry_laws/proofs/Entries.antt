@@ -2,8 +2,8 @@
 use Rattle.std.proofs.Common.{◌≡◌, ℕ, ◌+◌, ◌<◌, ◌≤◌, ◌^◌, ◌⊎◌, inl, inr, false, List, [], ◌∷◌, ◌++◌, length, Option, Result, Ok, Err, refl, sym, ap, subst, ◌∙◌}
 use Rattle.std.proofs.Common.{arith, append_assoc, append-nil}
 use Rattle.serde_json.specs.Data.{depth}
-use Rattle.policy_book.specs.Shapes.{PolicyShape}
-use Rattle.policy_book.specs.Facts.{IsSoundPolicy}
+use Rattle.policy_book.specs.Laws.Shapes.{PolicyShape}
+use Rattle.policy_book.specs.Laws.Facts.{IsSoundPolicy}
 use Rattle.wf_names.specs.declared.limits.TheConstants.{STEP_LIMIT}
 use Rattle.wf_talk.specs.declared.entry.Entry.{Entry}
 use Rattle.wf_talk.specs.declared.request.Ask.{Ask}
@@ -13,18 +13,18 @@ use Rattle.wf_talk.specs.declared.reply.Denial.{Denial}
 use Rattle.admin_edits.proofs.Keeping.{changes_keep_names}
 use Rattle.wf_board.specs.declared.deed.Deed.{Deed}
 use Rattle.wf_board.specs.declared.deed.Deed.TheVariants as deed
-use Rattle.wf_board.specs.States.{State, opening_state}
+use Rattle.wf_board.specs.Laws.States.{State, opening_state}
 use Rattle.wf_board.specs.Counting.{counts_for, is_edited}
 use Rattle.wf_board.specs.Decisions.{decision_of}
-use Rattle.wf_board.specs.Steps.{IsStep, state_after_decision, state_after_deed, state_after_step}
-use Rattle.wf_board.specs.Histories.{EachAfter, IsRetry, IsRightAfter, state_after}
+use Rattle.wf_board.specs.Laws.Steps.{IsStep, state_after_decision, state_after_deed, state_after_step}
+use Rattle.wf_board.specs.Laws.Histories.{EachAfter, IsRetry, IsRightAfter, state_after}
 use Rattle.wf_board.proofs.HistoryLaws.{after_more, again_stays, edits_within, policy_stays}
 use Rattle.wf_board.proofs.Counted.{end_within}
 use Rattle.wf_board.proofs.Keeping.{step_keeps}
 use Rattle.wf_board.proofs.Told.{HoldsOf, IsTold, told}
 use Rattle.wire_json.specs.Replies.{entry_text, reply_data}
 use Rattle.wire_json.proofs.Lines.{text_same}
-use Rattle.entry_reader.specs.Lines.{IsEntry, concerned}
+use Rattle.entry_reader.specs.Laws.Lines.{IsEntry, concerned}
 use Rattle.entry_laws.specs.Laws.{EntriesAreLines, HasFewSteps, IsLastOf, flows_of}
 use Rattle.entry_laws.proofs.Numbers.{step_serial}
 use Rattle.entry_laws.proofs.Replies.{FitsReply, IsReached, step_fits}

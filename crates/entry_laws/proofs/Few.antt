@@ -16,13 +16,13 @@ use Rattle.wf_talk.specs.declared.reply.Reply.TheVariants as reply
 use Rattle.wf_talk.specs.declared.reply.WorkItem.{WorkItem}
 use Rattle.wf_talk.specs.declared.reply.Denial.{Denial}
 use Rattle.wf_talk.specs.declared.reply.Denial.TheVariants as denial
-use Rattle.policy_book.specs.Shapes.{PolicyShape}
-use Rattle.admin_edits.specs.Edits.{amended}
+use Rattle.policy_book.specs.Laws.Shapes.{PolicyShape}
+use Rattle.admin_edits.specs.Laws.Edits.{amended}
 use Rattle.wf_board.specs.declared.deed.Deed.{Deed}
 use Rattle.wf_board.specs.declared.deed.Deed.TheVariants as deed
-use Rattle.wf_board.specs.States.{Numbered, State, open_cases, with_case_changed}
+use Rattle.wf_board.specs.Laws.States.{Numbered, State, open_cases, with_case_changed}
 use Rattle.wf_board.specs.Decisions.{decision_of}
-use Rattle.wf_board.specs.Steps.{Answers, IsReplyTo, IsStep, state_after_decision, state_after_deed, state_after_step}
+use Rattle.wf_board.specs.Laws.Steps.{Answers, IsReplyTo, IsStep, state_after_decision, state_after_deed, state_after_step}
 use Rattle.wf_board.specs.Views.{AreStranded, AreThose, IsWorkOf, item_of, steps_from, steps_of}
 use Rattle.wf_board.proofs.Faring.{Fares}
 use Rattle.wf_board.proofs.Told.{HoldsOf}

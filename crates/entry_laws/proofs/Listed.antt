@@ -5,14 +5,14 @@ use Rattle.std.specs.List.{All}
 use Rattle.std.proofs.lemmas.List.Elements.{All-cons, All-nil}
 use Rattle.serde_json.specs.Data.{items_depth, number, unsigned}
 use Rattle.serde_json.specs.View.{items_of}
-use Rattle.policy_book.specs.Shapes.{PolicyShape}
+use Rattle.policy_book.specs.Laws.Shapes.{PolicyShape}
 use Rattle.case_record.specs.Cases.{CaseShape}
 use Rattle.wf_talk.specs.declared.reply.WorkItem.{WorkItem}
-use Rattle.wf_board.specs.States.{Numbered, State, open_cases}
-use Rattle.wf_board.specs.Kept.{IsSoundState}
+use Rattle.wf_board.specs.Laws.States.{Numbered, State, open_cases}
+use Rattle.wf_board.specs.Laws.Kept.{IsSoundState}
 use Rattle.wf_board.specs.Views.{AreStranded, AreThose, IsWorkOf, Place, item_of, steps_from, steps_of}
 use Rattle.wire_json.specs.Replies.{work_data}
-use Rattle.entry_reader.specs.Within.{IsCase, IsWorkItem}
+use Rattle.entry_reader.specs.Laws.Within.{IsCase, IsWorkItem}
 use Rattle.entry_laws.specs.Laws.{flows_of}
 use Rattle.entry_laws.proofs.Numbers.{AreSerial, EachOf, IsOpenIn, open_found}
 

@@ -10,21 +10,21 @@ use Rattle.serde_json.specs.Written.{compact_text}
 use Rattle.wf_names.specs.declared.limits.TheConstants.{CASE_NUMBER_LIMIT, TRANSCRIPT_LINE_LIMIT}
 use Rattle.refutation_tree.specs.declared.tree.Tree.{Tree}
 use Rattle.refutation_tree.specs.Tree.{Shape, Kids, holder, rule, node, no_kids, tree_kid, twin_kid, nodes_of}
-use Rattle.refutation_tree.specs.Views.{shape_of}
-use Rattle.policy_book.specs.Shapes.{PolicyShape}
+use Rattle.refutation_tree.specs.Laws.Views.{shape_of}
+use Rattle.policy_book.specs.Laws.Shapes.{PolicyShape}
 use Rattle.wf_talk.specs.declared.entry.Entry.{Entry}
 use Rattle.wf_talk.specs.declared.reply.Reply.{Reply}
 use Rattle.wf_talk.specs.declared.reply.Reply.TheVariants as reply
 use Rattle.wf_talk.specs.declared.reply.Denial.TheVariants as denial
 use Rattle.wf_board.specs.declared.limits.TheConstants.{TREE_LIMIT}
-use Rattle.wf_board.specs.Trees.{is_large, shows_large}
+use Rattle.wf_board.specs.Limits.{is_large, shows_large}
 use Rattle.wire_json.specs.Entries.{single}
-use Rattle.wire_json.specs.Lengths.{HasSmallRules, HaveSmallRules}
+use Rattle.wire_json.specs.Laws.Lengths.{HasSmallRules, HaveSmallRules}
 use Rattle.wire_json.specs.Replies.{entry_text, reply_data, strands_data}
 use Rattle.wire_json.specs.Trees.{tree_data}
 use Rattle.wire_json.proofs.Lengths.{around, framed, framed_two, tree_texts_are_short}
-use Rattle.entry_reader.specs.Lines.{IsEntry}
-use Rattle.entry_reader.specs.Within.{AreKids, IsReply, IsTree}
+use Rattle.entry_reader.specs.Laws.Lines.{IsEntry}
+use Rattle.entry_reader.specs.Laws.Within.{AreKids, IsReply, IsTree}
 use Rattle.entry_laws.specs.Laws.{HasNameForms, TreesFitLines, is_by_tree}
 
 -- ---- a tree

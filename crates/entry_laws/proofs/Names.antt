@@ -7,12 +7,12 @@ use Rattle.std.proofs.lemmas.Grind.{common_steps}
 use Rattle.std.proofs.lemmas.List.{length-append}
 use Rattle.std.proofs.lemmas.List.Folds.{position_or_len_push}
 use Rattle.std.proofs.lemmas.List.Sums.{prefix_len-le-length}
-use Rattle.basics.specs.Reading.{◌>>=◌, check, or_fault}
+use Rattle.basics.specs.Laws.Reading.{◌>>=◌, check, or_fault}
 use Rattle.wf_names.specs.Names.{is_name}
 use Rattle.wf_names.specs.Table.{place_of, AreNames}
-use Rattle.policy_book.specs.Shapes.{PolicyShape}
+use Rattle.policy_book.specs.Laws.Shapes.{PolicyShape}
 use Rattle.policy_book.specs.Policies.{flow_at}
-use Rattle.policy_book.specs.Facts.{IsSoundPolicy}
+use Rattle.policy_book.specs.Laws.Facts.{IsSoundPolicy}
 use Rattle.wf_talk.specs.declared.edit.Edit.{Edit}
 use Rattle.wf_talk.specs.declared.edit.Edit.TheVariants as edit
 use Rattle.wf_talk.specs.declared.request.Request.TheVariants as request
@@ -24,21 +24,21 @@ use Rattle.wf_talk.specs.declared.reply.Denial.{Denial}
 use Rattle.wf_talk.specs.declared.reply.Denial.TheVariants as denial
 use Rattle.wf_talk.specs.declared.edit.Missing.{Missing}
 use Rattle.wf_talk.specs.declared.edit.Missing.TheVariants as missing
-use Rattle.user_relations.specs.Relations.{known_names}
+use Rattle.user_relations.specs.Laws.Relations.{known_names}
 use Rattle.case_record.specs.Cases.{CaseShape}
 use Rattle.admin_edits.specs.declared.amendment.Amendment.{Amendment}
 use Rattle.admin_edits.specs.declared.amendment.Amendment.TheVariants as amend
 use Rattle.admin_edits.specs.declared.fault.EditCause.{EditCause}
 use Rattle.admin_edits.specs.declared.fault.EditCause.TheVariants as fault
-use Rattle.admin_edits.specs.Edits.{allowed, amended, amendment_of, found, is_admin}
-use Rattle.admin_edits.specs.Keeping.{KeepsNames}
+use Rattle.admin_edits.specs.Laws.Edits.{allowed, amended, amendment_of, found, is_admin}
+use Rattle.admin_edits.specs.Laws.Keeping.{KeepsNames}
 use Rattle.admin_edits.proofs.Keeping.{changes_keep_names}
 use Rattle.wf_board.specs.declared.deed.Deed.{Deed}
 use Rattle.wf_board.specs.declared.deed.Deed.TheVariants as deed
-use Rattle.wf_board.specs.States.{Book, State, flow_named, numbered_case, step_named, user_named}
+use Rattle.wf_board.specs.Laws.States.{Book, State, flow_named, numbered_case, step_named, user_named}
 use Rattle.wf_board.specs.Resolve.{on_edit, on_step, open_case_at, resolve}
 use Rattle.wf_board.specs.Decisions.{cause_aside, cause_full, decision_aside, decision_of, unless_denied}
-use Rattle.wf_board.specs.Steps.{state_after_decision, state_after_deed, state_after_step}
+use Rattle.wf_board.specs.Laws.Steps.{state_after_decision, state_after_deed, state_after_step}
 use Rattle.wf_board.proofs.Told.{HoldsOf, IsTold, then_holds, told}
 use Rattle.entry_reader.specs.Named.{HasNames}
 use Rattle.line_reader.specs.Laws.{AddsNamed, IsNamedEdit}

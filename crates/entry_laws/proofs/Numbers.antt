@@ -6,7 +6,7 @@ use Rattle.std.proofs.lemmas.List.Sums.{length-filter}
 use Rattle.basics.proofs.Booleans.{eq_other, or_false, not_yes}
 use Rattle.wf_names.specs.declared.limits.TheConstants.{CASE_LIMIT, OPEN_CASE_LIMIT}
 use Rattle.case_record.specs.Cases.{is_open}
-use Rattle.grant_table.specs.Lookup.{look_up}
+use Rattle.grant_table.specs.Cases.{look_up}
 use Rattle.wf_talk.specs.declared.request.Ask.{Ask}
 use Rattle.wf_talk.specs.declared.reply.Reply.{Reply}
 use Rattle.wf_talk.specs.declared.reply.Reply.TheVariants as reply
@@ -14,10 +14,10 @@ use Rattle.wf_talk.specs.declared.reply.Denial.{Denial}
 use Rattle.wf_talk.specs.declared.reply.Denial.TheVariants as denial
 use Rattle.wf_board.specs.declared.deed.Deed.{Deed}
 use Rattle.wf_board.specs.declared.deed.Deed.TheVariants as deed
-use Rattle.wf_board.specs.States.{Book, Numbered, State, numbered_case, is_full, open_cases, count_open}
+use Rattle.wf_board.specs.Laws.States.{Book, Numbered, State, numbered_case, is_full, open_cases, count_open}
 use Rattle.wf_board.specs.Decisions.{cause_full, decision_aside, decision_of}
-use Rattle.wf_board.specs.Steps.{state_after_decision, state_after_deed, state_after_step}
-use Rattle.wf_board.specs.Kept.{AreNumberedFrom}
+use Rattle.wf_board.specs.Laws.Steps.{state_after_decision, state_after_deed, state_after_step}
+use Rattle.wf_board.specs.Laws.Kept.{AreNumberedFrom}
 use Rattle.admin_edits.proofs.Keeping.{always}
 use Rattle.wf_board.proofs.Numbers.{step_numbered}
 use Rattle.wf_board.proofs.Told.{HoldsOf, then_holds, unless_holds, unless_tells}

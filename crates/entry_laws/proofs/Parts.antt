@@ -16,11 +16,11 @@ use Rattle.wf_names.specs.declared.states.Phase.TheVariants.{Live, Done, Withdra
 use Rattle.constraint_forms.specs.declared.rule.Rule.{Rule}
 use Rattle.constraint_forms.specs.Assign.{no_users, planned}
 use Rattle.constraint_forms.specs.Rules.{Relating, is_falsified}
-use Rattle.basics.specs.Pairs.{Pairs}
-use Rattle.policy_book.specs.Shapes.{PolicyShape}
-use Rattle.policy_book.specs.Facts.{IsSoundPolicy}
+use Rattle.basics.specs.Laws.Pairs.{Pairs}
+use Rattle.policy_book.specs.Laws.Shapes.{PolicyShape}
+use Rattle.policy_book.specs.Laws.Facts.{IsSoundPolicy}
 use Rattle.policy_book.specs.Policies.{flow_at, problem_of}
-use Rattle.policy_book.specs.Plans.{IsValidPlan, Problem}
+use Rattle.policy_book.specs.Laws.Plans.{IsValidPlan, Problem}
 use Rattle.certificate_check.proofs.Assigned.{none_not_some, same_some}
 use Rattle.case_record.specs.Cases.{CaseShape, assigned_of, state_at}
 use Rattle.case_record.specs.Steps.{all_steps}
@@ -28,11 +28,11 @@ use Rattle.case_record.specs.Order.{first_missing_from}
 use Rattle.admin_edits.specs.ClaimCauses.{assigned_with, first_falsified, permitted_roles}
 use Rattle.wf_talk.specs.declared.request.Bad.{Bad}
 use Rattle.wf_talk.specs.declared.request.Bad.TheVariants as bad
-use Rattle.wf_board.specs.Kept.{IsOfPolicy}
+use Rattle.wf_board.specs.Laws.Kept.{IsOfPolicy}
 use Rattle.wf_board.proofs.Below.{AllBelow, passing_all, planned_below}
 use Rattle.wf_board.proofs.Within.{user_known}
 use Rattle.wire_json.specs.Entries.{bad_data, phase_data, seen_data, state_data}
-use Rattle.entry_reader.specs.Within.{IsPlan, IsRole, IsState}
+use Rattle.entry_reader.specs.Laws.Within.{IsPlan, IsRole, IsState}
 use Rattle.entry_laws.specs.Laws.{HasFewSteps}
 use Rattle.entry_laws.proofs.Trees.{IsProblemOf}
 

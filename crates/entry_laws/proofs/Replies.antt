@@ -3,11 +3,11 @@ use Rattle.std.proofs.Common.{◌≡◌, ℕ, ◌+◌, ◌<◌, ◌≤◌, ◌^�
 use Rattle.serde_json.specs.Data.{depth}
 use Rattle.constraint_forms.specs.Assign.{no_steps, no_users}
 use Rattle.refutation_tree.specs.declared.tree.Tree.{Tree}
-use Rattle.refutation_tree.specs.Views.{shape_of}
-use Rattle.policy_book.specs.Shapes.{PolicyShape}
+use Rattle.refutation_tree.specs.Laws.Views.{shape_of}
+use Rattle.policy_book.specs.Laws.Shapes.{PolicyShape}
 use Rattle.policy_book.specs.Policies.{problem_of}
-use Rattle.policy_book.specs.Plans.{IsValidPlan}
-use Rattle.policy_book.specs.Refuting.{refutes}
+use Rattle.policy_book.specs.Laws.Plans.{IsValidPlan}
+use Rattle.policy_book.specs.Laws.Refuting.{refutes}
 use Rattle.case_record.specs.Cases.{CaseShape, finished_of}
 use Rattle.wf_talk.specs.declared.request.Ask.{Ask}
 use Rattle.wf_talk.specs.declared.request.Bad.{Bad}
@@ -20,21 +20,21 @@ use Rattle.wf_talk.specs.declared.reply.Denial.TheVariants as denial
 use Rattle.wf_talk.specs.Jobs.{IsNamedAsk}
 use Rattle.admin_edits.specs.ClaimCauses.{assigned_with}
 use Rattle.admin_edits.specs.declared.amendment.Amendment.{Amendment}
-use Rattle.admin_edits.specs.Edits.{amended}
+use Rattle.admin_edits.specs.Laws.Edits.{amended}
 use Rattle.wf_board.specs.declared.deed.Deed.{Deed}
 use Rattle.wf_board.specs.declared.deed.Deed.TheVariants as deed
-use Rattle.wf_board.specs.States.{State, open_cases}
+use Rattle.wf_board.specs.Laws.States.{State, open_cases}
 use Rattle.wf_board.specs.Edition.{IsFirstStranded}
-use Rattle.wf_board.specs.Found.{IsAllowed}
+use Rattle.wf_board.specs.Laws.Found.{IsAllowed}
 use Rattle.wf_board.specs.Decisions.{decision_of}
-use Rattle.wf_board.specs.Steps.{Answers, IsReplyTo, IsStep, face_of}
+use Rattle.wf_board.specs.Laws.Steps.{Answers, IsReplyTo, IsStep, face_of}
 use Rattle.wf_board.specs.Views.{AreStranded, IsWorkOf}
-use Rattle.wf_board.specs.Kept.{IsOfPolicy, IsSoundState, KeepsCompletable}
+use Rattle.wf_board.specs.Laws.Kept.{IsOfPolicy, IsSoundState, KeepsCompletable}
 use Rattle.wf_board.proofs.Told.{HoldsOf, IsTold, told}
 use Rattle.wf_board.proofs.Faring.{Fares}
 use Rattle.wire_json.specs.Replies.{reply_data}
-use Rattle.entry_reader.specs.Within.{IsBad, IsReply}
-use Rattle.entry_reader.specs.Lines.{concerned}
+use Rattle.entry_reader.specs.Laws.Within.{IsBad, IsReply}
+use Rattle.entry_reader.specs.Laws.Lines.{concerned}
 use Rattle.entry_reader.proofs.PlainLines.{names_flat}
 use Rattle.entry_laws.specs.Laws.{HasFewSteps, flows_of}
 use Rattle.entry_laws.proofs.Trees.{tree_fits}

@@ -1,14 +1,14 @@
 -- A denial lists no more roles than there can be.
 use Rattle.std.proofs.Common.{ℕ, zero, suc, ◌+◌, ◌≤◌, Bool, true, false, List, ◌∷◌, length, Option, None, Some, Result, Ok, Err, if◌then◌else◌, arith}
 use Rattle.std.specs.FinSet as set
-use Rattle.basics.specs.Reading.{◌>>=◌, check, or_fault}
+use Rattle.basics.specs.Laws.Reading.{◌>>=◌, check, or_fault}
 use Rattle.wf_names.specs.States.{user_of}
 use Rattle.wf_names.specs.declared.limits.TheConstants.{ROLE_LIMIT}
 use Rattle.constraint_forms.specs.Assign.{user_at}
-use Rattle.policy_book.specs.Facts.{IsSoundPolicy}
+use Rattle.policy_book.specs.Laws.Facts.{IsSoundPolicy}
 use Rattle.policy_book.specs.Policies.{flow_at, is_authorised, problem_of}
-use Rattle.policy_book.specs.Refuting.{passing}
-use Rattle.policy_book.specs.Shapes.{PolicyShape}
+use Rattle.policy_book.specs.Laws.Refuting.{passing}
+use Rattle.policy_book.specs.Laws.Shapes.{PolicyShape}
 use Rattle.case_record.specs.Cases.{CaseShape, is_open, state_at}
 use Rattle.case_record.specs.Order.{first_missing}
 use Rattle.wf_talk.specs.declared.request.Request.TheVariants as request
@@ -20,10 +20,10 @@ use Rattle.admin_edits.specs.ClaimCauses.{assigned_with, first_cause, first_fals
 use Rattle.admin_edits.specs.declared.amendment.Amendment.{Amendment}
 use Rattle.admin_edits.specs.declared.fault.EditCause.{EditCause}
 use Rattle.admin_edits.specs.declared.fault.EditCause.TheVariants as fault
-use Rattle.admin_edits.specs.Edits.{amendment_of, is_admin}
+use Rattle.admin_edits.specs.Laws.Edits.{amendment_of, is_admin}
 use Rattle.wf_board.specs.declared.deed.Deed.{Deed}
 use Rattle.wf_board.specs.declared.deed.Deed.TheVariants as deed
-use Rattle.wf_board.specs.States.{Book, flow_named, numbered_case, step_named, user_named}
+use Rattle.wf_board.specs.Laws.States.{Book, flow_named, numbered_case, step_named, user_named}
 use Rattle.wf_board.specs.Resolve.{edit_denial, on_edit, on_step, open_case_at, resolve}
 use Rattle.wf_board.specs.Decisions.{cause_aside, cause_full, decision_aside, decision_of, unless_denied}
 use Rattle.wf_board.proofs.Faring.{Fares, IsCauseSo, four_so, map_so, unless_fares, unless_so}

@@ -15,7 +15,7 @@ use Rattle.wf_names.specs.declared.states.StepState.{StepState}
 use Rattle.wf_names.specs.declared.states.StepState.TheVariants.{Free, Held, Finished}
 use Rattle.wf_names.specs.declared.states.Phase.{Phase}
 use Rattle.wf_names.specs.declared.states.Phase.TheVariants.{Live, Done, Withdrawn}
-use Rattle.policy_book.specs.Shapes.{PolicyShape}
+use Rattle.policy_book.specs.Laws.Shapes.{PolicyShape}
 use Rattle.policy_book.specs.Policies.{flow_at}
 use Rattle.wf_talk.specs.declared.edit.Missing.{Missing}
 use Rattle.wf_talk.specs.declared.edit.Missing.TheVariants as missing
@@ -31,7 +31,7 @@ use Rattle.wire_json.specs.Entries.{bad_data, named, names_data, phase_data, see
 use Rattle.wire_json.specs.Replies.{again_data, cases_data, denial_data, face_data, missing_data, opened_data, reply_data, work_data}
 use Rattle.wire_json.proofs.Lengths.{named_short, quoted_short}
 use Rattle.entry_reader.specs.Named.{HasNames}
-use Rattle.entry_reader.specs.Within.{IsBad, IsCase, IsDenial, IsFace, IsReply, IsWorkItem}
+use Rattle.entry_reader.specs.Laws.Within.{IsBad, IsCase, IsDenial, IsFace, IsReply, IsWorkItem}
 
 -- ---- what a reply lists
 

@@ -3,22 +3,22 @@ use Rattle.std.proofs.Common.{◌≡◌, ℕ, ◌<◌, ◌≤◌, inl, inr, true
 use Rattle.std.specs.Option.{option_map}
 use Rattle.wf_names.specs.declared.limits.TheConstants.{CASE_NUMBER_LIMIT, STEP_LIMIT}
 use Rattle.refutation_tree.specs.declared.tree.Tree.{Tree}
-use Rattle.refutation_tree.specs.Views.{shape_of}
-use Rattle.policy_book.specs.Shapes.{PolicyShape}
-use Rattle.policy_book.specs.Facts.{IsSoundPolicy}
+use Rattle.refutation_tree.specs.Laws.Views.{shape_of}
+use Rattle.policy_book.specs.Laws.Shapes.{PolicyShape}
+use Rattle.policy_book.specs.Laws.Facts.{IsSoundPolicy}
 use Rattle.policy_book.specs.Policies.{problem_of}
-use Rattle.policy_book.specs.Refuting.{refutes}
+use Rattle.policy_book.specs.Laws.Refuting.{refutes}
 use Rattle.case_record.specs.Cases.{CaseShape, assigned_of, finished_of}
 use Rattle.admin_edits.specs.declared.amendment.Amendment.{Amendment}
 use Rattle.admin_edits.specs.declared.amendment.Amendment.TheVariants as amend
-use Rattle.admin_edits.specs.Edits.{amended}
-use Rattle.admin_edits.specs.Found as edits
+use Rattle.admin_edits.specs.Laws.Edits.{amended}
+use Rattle.admin_edits.specs.Amendment as edits
 use Rattle.admin_edits.proofs.Keeping.{changes_keep_names, changes_keep_policies_sound}
 use Rattle.admin_edits.proofs.Unhurt.{unhurt_plans_stay_valid}
-use Rattle.wf_board.specs.States.{Numbered, State, numbered_case, open_cases}
+use Rattle.wf_board.specs.Laws.States.{Numbered, State, numbered_case, open_cases}
 use Rattle.wf_board.specs.Edition.{CanAllBeCompleted, IsFirstStranded}
-use Rattle.wf_board.specs.Found.{IsAllowed}
-use Rattle.wf_board.specs.Kept.{IsSoundState, KeepsCompletable}
+use Rattle.wf_board.specs.Laws.Found.{IsAllowed}
+use Rattle.wf_board.specs.Laws.Kept.{IsSoundState, KeepsCompletable}
 use Rattle.wf_board.proofs.Exact.{stranded_not}
 use Rattle.entry_laws.specs.Laws.{HasFewSteps, flows_of}
 use Rattle.entry_laws.proofs.Trees.{FitsTree, IsProblemOf, tree_fits}

@@ -2,10 +2,10 @@
 use Rattle.std.proofs.Common.{◌≡◌, ℕ, ◌<◌, ◌≤◌, List, length, Option, None, Some, Result, Ok, Err, sym, ap, subst, arith}
 use Rattle.std.specs.Option.{option_map}
 use Rattle.serde_json.specs.Data.{depth}
-use Rattle.basics.specs.Reading.{check, or_fault}
+use Rattle.basics.specs.Laws.Reading.{check, or_fault}
 use Rattle.wf_names.specs.States.{user_of}
 use Rattle.constraint_forms.specs.Assign.{user_at}
-use Rattle.policy_book.specs.Shapes.{PolicyShape}
+use Rattle.policy_book.specs.Laws.Shapes.{PolicyShape}
 use Rattle.policy_book.specs.Policies.{flow_at, problem_of}
 use Rattle.case_record.specs.Cases.{CaseShape, is_open, state_at}
 use Rattle.case_record.specs.Order.{first_missing}
@@ -23,19 +23,19 @@ use Rattle.admin_edits.specs.ClaimCauses.{assigned_with, first_cause, first_fals
 use Rattle.admin_edits.specs.declared.amendment.Amendment.{Amendment}
 use Rattle.admin_edits.specs.declared.fault.EditCause.{EditCause}
 use Rattle.admin_edits.specs.declared.fault.EditCause.TheVariants as fault
-use Rattle.admin_edits.specs.Edits.{amendment_of, is_admin}
+use Rattle.admin_edits.specs.Laws.Edits.{amendment_of, is_admin}
 use Rattle.wf_board.specs.declared.deed.Deed.{Deed}
 use Rattle.wf_board.specs.declared.deed.Deed.TheVariants as deed
-use Rattle.wf_board.specs.States.{State, numbered_case, flow_named, step_named, user_named}
+use Rattle.wf_board.specs.Laws.States.{State, numbered_case, flow_named, step_named, user_named}
 use Rattle.wf_board.specs.Resolve.{edit_denial, on_edit, on_step, open_case_at, resolve}
 use Rattle.wf_board.specs.Decisions.{cause_aside, cause_full, decision_aside, decision_of}
-use Rattle.wf_board.specs.Kept.{IsOfPolicy, IsSoundState}
+use Rattle.wf_board.specs.Laws.Kept.{IsOfPolicy, IsSoundState}
 use Rattle.wf_board.proofs.Told.{place_within}
 use Rattle.wf_board.proofs.Faring.{Fares, IsCauseSo, check_fares, four_so, map_so, or_fares, then_fares, unless_fares, unless_so}
 use Rattle.wf_board.proofs.Within.{user_known}
 use Rattle.wire_json.specs.Replies.{denial_data}
-use Rattle.entry_reader.specs.Within.{IsBad, IsDenial}
-use Rattle.entry_reader.specs.Lines.{concerned}
+use Rattle.entry_reader.specs.Laws.Within.{IsBad, IsDenial}
+use Rattle.entry_reader.specs.Laws.Lines.{concerned}
 use Rattle.entry_reader.proofs.PlainLines.{names_flat}
 use Rattle.entry_laws.specs.Laws.{flows_of}
 use Rattle.entry_laws.proofs.Parts.{falsified_there, missing_there, roles_stand, state_nests, step_stands}

@@ -10,15 +10,15 @@ use Rattle.wf_names.specs.declared.limits.TheConstants.{STEP_LIMIT}
 use Rattle.constraint_forms.specs.declared.rule.Rule.{Rule}
 use Rattle.constraint_forms.specs.Assign.{user_at}
 use Rattle.refutation_tree.specs.Tree.{Shape, Kids, holder, rule, node, no_kids, tree_kid, twin_kid}
-use Rattle.policy_book.specs.Shapes.{PolicyShape}
+use Rattle.policy_book.specs.Laws.Shapes.{PolicyShape}
 use Rattle.policy_book.specs.Policies.{flow_at}
-use Rattle.policy_book.specs.Plans.{Problem}
-use Rattle.policy_book.specs.Twins.{are_twins, is_one_of}
-use Rattle.policy_book.specs.Refuting.{all_refute, authorised_users, have_users, is_broken, is_unassigned, refutes}
+use Rattle.policy_book.specs.Laws.Plans.{Problem}
+use Rattle.policy_book.specs.Laws.Twins.{are_twins, is_one_of}
+use Rattle.policy_book.specs.Laws.Refuting.{all_refute, authorised_users, have_users, is_broken, is_unassigned, refutes}
 use Rattle.certificate_check.proofs.Assigned.{not_some}
 use Rattle.wf_board.proofs.Below.{AllBelow, one_below, passing_all}
 use Rattle.wire_json.specs.Trees.{branches_data, tree_data}
-use Rattle.entry_reader.specs.Within.{AreKids, IsStepOf, IsTree}
+use Rattle.entry_reader.specs.Laws.Within.{AreKids, IsStepOf, IsTree}
 
 -- ---- steps that nobody has
 

@@ -1,22 +1,24 @@
 -- Every entry of a legal history is a line that the reader of transcripts accepts.
+pub mod Fits
+pub mod Transcripts
 use Rattle.std.specs.Prelude.{◌≡◌, ◌≢◌, ℕ, ◌+◌, ◌<◌, ◌≤◌, ◌^◌, Bool, false, true, List, [], ◌∷◌}
 use Rattle.std.specs.Prelude.{◌++◌, length, Option, option_map}
 use Rattle.std.specs.List.{All}
 use Rattle.wf_names.specs.Table.{AreNames}
 use Rattle.wf_names.specs.declared.limits.TheConstants.{STEP_LIMIT, TRANSCRIPT_LINE_LIMIT}
-use Rattle.policy_book.specs.Shapes.{PolicyShape}
+use Rattle.policy_book.specs.Laws.Shapes.{PolicyShape}
 use Rattle.policy_book.specs.Policies.{flow_at}
-use Rattle.policy_book.specs.Facts.{IsSoundPolicy}
+use Rattle.policy_book.specs.Laws.Facts.{IsSoundPolicy}
 use Rattle.wf_talk.specs.declared.entry.Entry.{Entry}
 use Rattle.wf_talk.specs.declared.reply.Reply.{Reply}
 use Rattle.wf_talk.specs.declared.reply.Reply.TheVariants as reply
 use Rattle.wf_talk.specs.declared.reply.Denial.TheVariants as denial
 use Rattle.wf_talk.specs.Jobs.{IsNamedAsk}
-use Rattle.wf_board.specs.States.{State, numbered_case, opening_state}
-use Rattle.wf_board.specs.Histories.{IsLegal, state_after}
-use Rattle.wf_board.specs.Trees.{shows_large}
+use Rattle.wf_board.specs.Laws.States.{State, numbered_case, opening_state}
+use Rattle.wf_board.specs.Laws.Histories.{IsLegal, state_after}
+use Rattle.wf_board.specs.Limits.{shows_large}
 use Rattle.wire_json.specs.Replies.{entry_text}
-use Rattle.entry_reader.specs.Lines.{IsEntry, IsLineOf}
+use Rattle.entry_reader.specs.Laws.Lines.{IsEntry, IsLineOf}
 
 -- which workflow each case of a state is of
 abbrev pub flows_of : State → ℕ → Option ℕ

@@ -2,7 +2,7 @@
 //! is the law.
 #![tactic(auto)]
 
-ghost use Rattle.entry_laws.specs.Fits.{LinesFit};
+ghost use Rattle.entry_laws.specs.Laws.Fits.{LinesFit};
 ghost use Rattle.entry_laws.specs.Laws.{EntriesAreLines, TextsAreLines, TreesFitLines};
 
 /// The text of each entry of a legal history is a line that the reader of transcripts accepts.

@@ -6,7 +6,7 @@ use Rattle.serde_json.specs.Find.{get}
 use Rattle.wf_talk.specs.declared.entry.Entry.{Entry}
 use Rattle.wf_talk.specs.declared.request.Ask.{Ask}
 use Rattle.wf_talk.specs.declared.reply.Reply.{Reply}
-use Rattle.policy_book.specs.Shapes.{PolicyShape}
+use Rattle.policy_book.specs.Laws.Shapes.{PolicyShape}
 use Rattle.wire_json.specs.Replies.{entry_data, entry_text}
 use Rattle.wire_json.specs.Values.{value_of}
 use Rattle.entry_reader.specs.declared.place.Place.{Place}
@@ -15,8 +15,8 @@ use Rattle.entry_reader.specs.Places.{number_below, place_read, place_of_line}
 use Rattle.refutation_tree.specs.Tree.{Shape}
 use Rattle.wire_json.specs.Trees.{tree_data}
 use Rattle.entry_reader.proofs.TreesBack.{tree_is, tree_back}
-use Rattle.entry_reader.specs.Within.{IsTree}
-use Rattle.entry_reader.specs.Lines.{concerned, IsEntry, IsLineOf, entry_at, HasReply, HasNoReply}
+use Rattle.entry_reader.specs.Laws.Within.{IsTree}
+use Rattle.entry_reader.specs.Laws.Lines.{concerned, IsEntry, IsLineOf, entry_at, HasReply, HasNoReply}
 use Rattle.entry_reader.specs.Values.{at_key, tree_in}
 use Rattle.entry_reader.specs.Told.{reply_read, entry_read, entry_of_line}
 use Rattle.entry_reader.proofs.Readings.{and_then_some, map_some, none_some, some_same}

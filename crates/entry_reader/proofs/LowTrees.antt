@@ -1,11 +1,11 @@
 -- How deep the texts of trees nest.
 use Rattle.std.proofs.Common.{ℕ, ◌-◌, ◌<◌, arith}
 use Rattle.refutation_tree.specs.Tree.{Kids, node, no_kids, tree_kid, twin_kid, joined}
-use Rattle.refutation_tree.specs.Views.{shape_of}
+use Rattle.refutation_tree.specs.Laws.Views.{shape_of}
 use Rattle.refutation_tree.specs.declared.tree.Tree.{Tree}
 use Rattle.refutation_tree.specs.declared.tree.Kid.TheVariants as kid
-use Rattle.policy_book.specs.Shapes.{PolicyShape}
-use Rattle.entry_reader.specs.Within.{IsUser, IsStepOf}
+use Rattle.policy_book.specs.Laws.Shapes.{PolicyShape}
+use Rattle.entry_reader.specs.Laws.Within.{IsUser, IsStepOf}
 use Rattle.entry_reader.specs.Plain.{IsLow, AreLow, IsLowKid}
 
 pub low_node : (p : PolicyShape) (f height s : ℕ) (kids : Kids) → 0 < height → IsStepOf p f s → AreLow p f (height - 1) kids → IsLow p f height (node s kids)

@@ -1,7 +1,7 @@
 -- Denials whose numbers stand for something nest less deep than an entry may.
 use Rattle.std.proofs.Common.{◌≡◌, ℕ, ◌≤◌, List, arith}
 use Rattle.std.specs.Prelude.{Option, Some}
-use Rattle.refutation_tree.specs.Views.{shape_of}
+use Rattle.refutation_tree.specs.Laws.Views.{shape_of}
 use Rattle.refutation_tree.specs.declared.tree.Tree.{Tree}
 use Rattle.wf_names.specs.declared.limits.TheConstants.{STEP_LIMIT}
 use Rattle.wf_names.specs.declared.states.StepState.{StepState}
@@ -10,8 +10,8 @@ use Rattle.wf_talk.specs.declared.edit.Missing.{Missing}
 use Rattle.wf_talk.specs.declared.edit.Missing.TheVariants as missing
 use Rattle.wf_talk.specs.declared.reply.Denial.{Denial}
 use Rattle.wf_talk.specs.declared.reply.Denial.TheVariants as denial
-use Rattle.policy_book.specs.Shapes.{PolicyShape}
-use Rattle.entry_reader.specs.Within.{IsUser, IsStepOf, IsRule, IsCase, IsConcerned, IsState}
+use Rattle.policy_book.specs.Laws.Shapes.{PolicyShape}
+use Rattle.entry_reader.specs.Laws.Within.{IsUser, IsStepOf, IsRule, IsCase, IsConcerned, IsState}
 use Rattle.entry_reader.specs.Values.{row_read}
 use Rattle.entry_reader.specs.Told.{denial_words}
 use Rattle.entry_reader.specs.Plain.{IsLow, IsPlainDenial}

@@ -9,15 +9,15 @@ use Rattle.basics.proofs.Booleans.{and_both}
 use Rattle.wf_talk.specs.declared.request.Ask.{Ask}
 use Rattle.wf_talk.specs.declared.reply.Reply.{Reply}
 use Rattle.wf_talk.specs.declared.reply.Reply.TheVariants as reply
-use Rattle.policy_book.specs.Shapes.{PolicyShape}
+use Rattle.policy_book.specs.Laws.Shapes.{PolicyShape}
 use Rattle.wire_json.specs.Entries.{named}
 use Rattle.wire_json.specs.Replies.{entry_data, entry_text}
 use Rattle.entry_reader.specs.declared.place.Place.{Place}
 use Rattle.entry_reader.specs.Named.{HasNames}
 use Rattle.entry_reader.specs.Places.{place_of_line}
-use Rattle.entry_reader.specs.Lines.{HasReply, IsLineOf, concerned, entry_at}
+use Rattle.entry_reader.specs.Laws.Lines.{HasReply, IsLineOf, concerned, entry_at}
 use Rattle.entry_reader.specs.Plain.{IsPlainReply, IsGuessed}
-use Rattle.entry_reader.specs.Within.{IsReply}
+use Rattle.entry_reader.specs.Laws.Within.{IsReply}
 use Rattle.entry_reader.proofs.LinesBack.{line_reply, line_place}
 
 -- where a test passes for each item, it holds of each place

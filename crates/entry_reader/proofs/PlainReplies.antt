@@ -11,7 +11,7 @@ use Rattle.wf_names.specs.declared.states.StepState.TheVariants.{Free, Held, Fin
 use Rattle.wf_names.specs.declared.states.Phase.{Phase}
 use Rattle.wf_names.specs.declared.states.Phase.TheVariants.{Live, Done, Withdrawn}
 use Rattle.refutation_tree.specs.Tree.{Shape, Kids, holder, rule, node, no_kids, tree_kid, twin_kid}
-use Rattle.refutation_tree.specs.Views.{shape_of}
+use Rattle.refutation_tree.specs.Laws.Views.{shape_of}
 use Rattle.wf_talk.specs.declared.edit.Missing.{Missing}
 use Rattle.wf_talk.specs.declared.edit.Missing.TheVariants as missing
 use Rattle.wf_talk.specs.declared.entry.Entry.{Entry}
@@ -23,15 +23,15 @@ use Rattle.wf_talk.specs.declared.reply.Reply.{Reply}
 use Rattle.wf_talk.specs.declared.reply.Reply.TheVariants as reply
 use Rattle.wf_talk.specs.declared.reply.Denial.{Denial}
 use Rattle.wf_talk.specs.declared.reply.Denial.TheVariants as denial
-use Rattle.policy_book.specs.Shapes.{PolicyShape}
+use Rattle.policy_book.specs.Laws.Shapes.{PolicyShape}
 use Rattle.policy_book.specs.Policies.{flow_at}
 use Rattle.wire_json.specs.Entries.{single, named, names_data, user_data, step_data, plan_data, state_data, seen_data, phase_data, bad_data}
 use Rattle.wire_json.specs.Trees.{tree_data, branches_data}
 use Rattle.wire_json.specs.Replies.{missing_data, strands_data, denial_data, opened_data, face_data, again_data, work_data, cases_data, reply_data, entry_data}
 use Rattle.wf_names.specs.Table.{AreNames}
 use Rattle.entry_reader.specs.Named.{HasNames}
-use Rattle.entry_reader.specs.Within.{IsPlan, IsTree, AreKids, IsState, IsFace, IsBad, IsCase, IsDenial, IsWorkItem, IsReply}
-use Rattle.entry_reader.specs.Lines.{concerned}
+use Rattle.entry_reader.specs.Laws.Within.{IsPlan, IsTree, AreKids, IsState, IsFace, IsBad, IsCase, IsDenial, IsWorkItem, IsReply}
+use Rattle.entry_reader.specs.Laws.Lines.{concerned}
 use Rattle.entry_reader.proofs.NamesBack.{named_utf8}
 use Rattle.entry_reader.proofs.ReadBack.{IsPlain, ArePlain}
 

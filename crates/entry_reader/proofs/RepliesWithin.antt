@@ -10,7 +10,7 @@ use Rattle.wf_names.specs.declared.limits.TheConstants.{STEP_LIMIT, CASE_NUMBER_
 use Rattle.wf_names.specs.declared.states.StepState.{StepState}
 use Rattle.wf_names.specs.declared.states.StepState.TheVariants.{Free, Held, Finished}
 use Rattle.refutation_tree.specs.Tree.{Shape, holder, rule, node}
-use Rattle.refutation_tree.specs.Views.{shape_of}
+use Rattle.refutation_tree.specs.Laws.Views.{shape_of}
 use Rattle.refutation_tree.specs.declared.tree.Tree.{Tree}
 use Rattle.wf_talk.specs.declared.request.Bad.{Bad}
 use Rattle.wf_talk.specs.declared.request.Bad.TheVariants as bad
@@ -20,14 +20,14 @@ use Rattle.wf_talk.specs.declared.reply.Reply.{Reply}
 use Rattle.wf_talk.specs.declared.reply.Reply.TheVariants as reply
 use Rattle.wf_talk.specs.declared.reply.Denial.{Denial}
 use Rattle.wf_talk.specs.declared.reply.Denial.TheVariants as denial
-use Rattle.policy_book.specs.Shapes.{PolicyShape}
+use Rattle.policy_book.specs.Laws.Shapes.{PolicyShape}
 use Rattle.policy_book.specs.Policies.{flow_at}
 use Rattle.entry_reader.specs.declared.kind.ReplyKind.{ReplyKind}
 use Rattle.entry_reader.specs.declared.kind.ReplyKind.TheVariants as told
 use Rattle.entry_reader.specs.declared.kind.DenialKind.{DenialKind}
 use Rattle.entry_reader.specs.declared.kind.DenialKind.TheVariants as why
 use Rattle.entry_reader.specs.Places.{number_below}
-use Rattle.entry_reader.specs.Within.{IsUser, IsRole, IsPlan, IsTree, IsState, IsFace, IsBad, IsCase, IsConcerned, IsDenial, IsWorkItem, IsReply}
+use Rattle.entry_reader.specs.Laws.Within.{IsUser, IsRole, IsPlan, IsTree, IsState, IsFace, IsBad, IsCase, IsConcerned, IsDenial, IsWorkItem, IsReply}
 use Rattle.entry_reader.specs.Values.{row_read, or_next, only_member, below, name_read, number_read, each_read, few, few_read, pair_parts, user_read, step_read}
 use Rattle.entry_reader.specs.Values.{free_state}
 use Rattle.entry_reader.specs.Values.{user_state, state_read, seen_at, seen_read, tree_in}

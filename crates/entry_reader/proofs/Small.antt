@@ -7,7 +7,7 @@ use Rattle.serde_json.specs.declared.value.Value.{Value}
 use Rattle.serde_json.specs.Data.{no_items, item, depth, items_depth}
 use Rattle.serde_json.specs.Find.{as_str}
 use Rattle.serde_json.specs.View.{view, items_view, members_view}
-use Rattle.policy_book.specs.Shapes.{PolicyShape}
+use Rattle.policy_book.specs.Laws.Shapes.{PolicyShape}
 use Rattle.entry_reader.specs.Values.{are_node_keys, lone, node_at, pair_at, free_state, user_state, user_read, seen_at}
 use Rattle.entry_reader.proofs.Readings.{some_same, none_some}
 

@@ -3,10 +3,10 @@ use Rattle.std.proofs.Common.{◌≡◌, ℕ, List, Bool, true, false, refl, sym
 use Rattle.std.specs.Prelude.{Option, Some, None, option_map, option_and_then}
 use Rattle.serde_json.specs.Data.{Data, null, boolean, number, string, array, object, Items, no_items, item, no_members, member}
 use Rattle.refutation_tree.specs.Tree.{Shape, Kids, no_kids, tree_kid, twin_kid, joined}
-use Rattle.refutation_tree.specs.Views.{branch_onto}
+use Rattle.refutation_tree.specs.Laws.Views.{branch_onto}
 use Rattle.refutation_tree.specs.declared.tree.Branch.{Branch}
 use Rattle.refutation_tree.proofs.ShapeLaws.{kid_onto-joined, joined-assoc, joined-none}
-use Rattle.policy_book.specs.Shapes.{PolicyShape}
+use Rattle.policy_book.specs.Laws.Shapes.{PolicyShape}
 use Rattle.entry_reader.specs.Values.{are_node_keys, tree_in, kids_in, kid_in, with_kid, node_parts, node_read, lone_leaf, pair_parts, user_read, twin_read}
 
 -- a tree of a node's parts, or a leaf

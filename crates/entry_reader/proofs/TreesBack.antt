@@ -7,12 +7,12 @@ use Rattle.serde_json.specs.Data.{Data, unsigned, negative, float, null, boolean
 use Rattle.serde_json.specs.Data.{member}
 use Rattle.serde_json.specs.View.{items_of}
 use Rattle.refutation_tree.specs.Tree.{Shape, Kids, holder, rule, node, no_kids, tree_kid, twin_kid}
-use Rattle.policy_book.specs.Shapes.{PolicyShape}
+use Rattle.policy_book.specs.Laws.Shapes.{PolicyShape}
 use Rattle.policy_book.specs.Policies.{flow_at}
 use Rattle.wire_json.specs.Entries.{single, user_data, step_data}
 use Rattle.wire_json.specs.Trees.{tree_data, branches_data}
 use Rattle.entry_reader.specs.Named.{HasNames}
-use Rattle.entry_reader.specs.Within.{IsUser, IsStepOf, IsTree, AreKids}
+use Rattle.entry_reader.specs.Laws.Within.{IsUser, IsStepOf, IsTree, AreKids}
 use Rattle.entry_reader.specs.Values.{below, user_read, step_read, twin_read, with_kid, are_node_keys, tree_in, tree_at, kids_of, kids_in, kid_in, kid_at}
 use Rattle.entry_reader.proofs.Readings.{and_then_some, map_some, none_some, some_same}
 use Rattle.entry_reader.proofs.NamesBack.{numbered_named, IsNumbered, numbered_is}

@@ -1,7 +1,7 @@
 -- Inside: what is known of the names of a policy.
 use Rattle.std.specs.Prelude.{ℕ}
 use Rattle.wf_names.specs.Table.{AreNames}
-use Rattle.policy_book.specs.Shapes.{PolicyShape}
+use Rattle.policy_book.specs.Laws.Shapes.{PolicyShape}
 use Rattle.policy_book.specs.Policies.{flow_at}
 
 -- each table of names has distinct names, each of a name's form

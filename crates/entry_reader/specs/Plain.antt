@@ -4,15 +4,15 @@ use Rattle.std.specs.Prelude.{ℕ, ◌+◌, ◌*◌, ◌≤◌, Option}
 use Rattle.serde_json.specs.Data.{depth, items_depth}
 use Rattle.serde_json.specs.View.{items_of}
 use Rattle.refutation_tree.specs.Tree.{Shape, Kids, no_kids}
-use Rattle.refutation_tree.specs.Views.{kid_onto}
+use Rattle.refutation_tree.specs.Laws.Views.{kid_onto}
 use Rattle.refutation_tree.specs.declared.tree.Kid.{Kid}
 use Rattle.wf_talk.specs.declared.reply.Reply.{Reply}
 use Rattle.wf_talk.specs.declared.reply.Reply.TheVariants as reply
 use Rattle.wf_talk.specs.declared.reply.Denial.{Denial}
-use Rattle.policy_book.specs.Shapes.{PolicyShape}
+use Rattle.policy_book.specs.Laws.Shapes.{PolicyShape}
 use Rattle.wire_json.specs.Trees.{tree_data, branches_data}
 use Rattle.wire_json.specs.Replies.{denial_data}
-use Rattle.entry_reader.specs.Within.{IsUser, IsCase, IsPlan, IsTree, AreKids, IsDenial}
+use Rattle.entry_reader.specs.Laws.Within.{IsUser, IsCase, IsPlan, IsTree, AreKids, IsDenial}
 
 -- a tree over a workflow with at most `height` nodes one below the other, by how deep its text
 -- nests

@@ -1,7 +1,7 @@
 -- Inside: code that reads a value.
 use Rattle.std.specs.Prelude.{◌≡◌, Option, None, Some, Result, Ok, Err, option_map}
 use Rattle.refutation_tree.specs.Tree.{Kids}
-use Rattle.refutation_tree.specs.Views.{branch_onto}
+use Rattle.refutation_tree.specs.Laws.Views.{branch_onto}
 use Rattle.refutation_tree.specs.declared.tree.Branch.{Branch}
 use Rattle.entry_reader.specs.declared.fault.TextFault.{TextFault}
 use Rattle.entry_reader.specs.declared.fault.TextFault.TheVariants.{NotText}

@@ -22,14 +22,14 @@ use Rattle.wf_talk.specs.declared.reply.Reply.{Reply}
 use Rattle.wf_talk.specs.declared.reply.Reply.TheVariants as reply
 use Rattle.wf_talk.specs.declared.reply.Denial.{Denial}
 use Rattle.wf_talk.specs.declared.reply.Denial.TheVariants as denial
-use Rattle.policy_book.specs.Shapes.{PolicyShape}
+use Rattle.policy_book.specs.Laws.Shapes.{PolicyShape}
 use Rattle.wire_json.specs.Values.{value_of}
 use Rattle.entry_reader.specs.declared.kind.ReplyKind.{ReplyKind}
 use Rattle.entry_reader.specs.declared.kind.ReplyKind.TheVariants as told
 use Rattle.entry_reader.specs.declared.kind.DenialKind.{DenialKind}
 use Rattle.entry_reader.specs.declared.kind.DenialKind.TheVariants as why
 use Rattle.entry_reader.specs.Places.{number_below, place_read}
-use Rattle.entry_reader.specs.Lines.{concerned, entry_at}
+use Rattle.entry_reader.specs.Laws.Lines.{concerned, entry_at}
 use Rattle.entry_reader.specs.Values.{row_read, or_next, only_member, at_key, below, name_read}
 use Rattle.entry_reader.specs.Values.{number_read, user_read, step_read, each_read, few_read}
 use Rattle.entry_reader.specs.Values.{pair_parts, tree_in}

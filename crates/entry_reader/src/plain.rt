@@ -3,9 +3,9 @@ ghost use Rattle.std.specs.Prelude.{◌≡◌, ◌≤◌, ◌<◌, nat_lt, lengt
 ghost use Rattle.std.specs.List.{All, list_all};
 ghost use Rattle.wf_names.specs.declared.limits.TheConstants.{STEP_LIMIT};
 ghost use Rattle.entry_reader.specs.Places.{place_of_line};
-ghost use Rattle.entry_reader.specs.Lines.{HasReply, concerned};
+ghost use Rattle.entry_reader.specs.Laws.Lines.{HasReply, concerned};
 ghost use Rattle.entry_reader.specs.Plain.{IsGuessed, IsPlainReply};
-ghost use Rattle.entry_reader.specs.Within.{IsPlan};
+ghost use Rattle.entry_reader.specs.Laws.Within.{IsPlan};
 
 use crate::names::know_names;
 use crate::plain_denial::guess_denial;

@@ -1,8 +1,8 @@
 //! Denials as they are written: each is guessed in one pass over its text.
 ghost use Rattle.std.specs.Prelude.{IfOk};
-ghost use Rattle.refutation_tree.specs.Views.{shape_of};
+ghost use Rattle.refutation_tree.specs.Laws.Views.{shape_of};
 ghost use Rattle.wf_names.specs.declared.limits.TheConstants.{STEP_LIMIT};
-ghost use Rattle.entry_reader.specs.Within.{IsCase, IsConcerned, IsState};
+ghost use Rattle.entry_reader.specs.Laws.Within.{IsCase, IsConcerned, IsState};
 ghost use Rattle.entry_reader.specs.Plain.{IsLow, IsPlainDenial};
 
 use crate::TextFault;

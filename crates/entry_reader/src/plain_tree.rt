@@ -1,8 +1,8 @@
 //! Trees as they are written: each is guessed in one pass over its text, without a value of it.
 ghost use Rattle.std.specs.Prelude.{◌<◌, IfOk};
 ghost use Rattle.refutation_tree.specs.Tree.{no_kids};
-ghost use Rattle.refutation_tree.specs.Views.{branch_onto, shape_of};
-ghost use Rattle.entry_reader.specs.Within.{IsUser, IsStepOf, IsRule};
+ghost use Rattle.refutation_tree.specs.Laws.Views.{branch_onto, shape_of};
+ghost use Rattle.entry_reader.specs.Laws.Within.{IsUser, IsStepOf, IsRule};
 ghost use Rattle.entry_reader.specs.Plain.{IsLow, AreLow, IsLowKid};
 
 use crate::TextFault;

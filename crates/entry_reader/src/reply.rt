@@ -4,7 +4,7 @@ ghost use Rattle.serde_json.specs.View.{view};
 ghost use Rattle.serde_json.specs.Find.{as_str};
 ghost use Rattle.wire_json.specs.Replies.{entry_text};
 ghost use Rattle.entry_reader.specs.declared.fault.TextFault.TheVariants.{NotText};
-ghost use Rattle.entry_reader.specs.Lines.{HasReply, HasNoReply, concerned};
+ghost use Rattle.entry_reader.specs.Laws.Lines.{HasReply, HasNoReply, concerned};
 ghost use Rattle.entry_reader.specs.Reads.{Reads};
 ghost use Rattle.entry_reader.specs.Values as read;
 ghost use Rattle.entry_reader.specs.Told as told;

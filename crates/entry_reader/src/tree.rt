@@ -2,10 +2,10 @@
 ghost use Rattle.std.specs.Prelude.{◌≡◌, ◌≢◌, IfOk, IsErrOf, Option, option_map};
 ghost use Rattle.serde_json.specs.View.{view, items_view};
 ghost use Rattle.refutation_tree.specs.Tree.{Shape, Kids};
-ghost use Rattle.refutation_tree.specs.Views.{shape_of, branch_onto};
+ghost use Rattle.refutation_tree.specs.Laws.Views.{shape_of, branch_onto};
 ghost use Rattle.wire_json.specs.Trees.{tree_data};
 ghost use Rattle.entry_reader.specs.declared.fault.TextFault.TheVariants.{NotText};
-ghost use Rattle.entry_reader.specs.Within.{IsTree};
+ghost use Rattle.entry_reader.specs.Laws.Within.{IsTree};
 ghost use Rattle.entry_reader.specs.Reads.{Reads, ReadsOnto};
 ghost use Rattle.entry_reader.specs.Values as read;
 

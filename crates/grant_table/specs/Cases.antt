@@ -10,7 +10,17 @@ use Rattle.wf_names.specs.declared.states.Phase.TheVariants.{Withdrawn}
 use Rattle.case_record.specs.Cases.{CaseShape, finished_case, fresh_case, is_open, state_at}
 use Rattle.case_record.specs.Cases.{with_phase, with_state}
 use Rattle.grant_table.specs.declared.rows.Row.{Row}
-use Rattle.grant_table.specs.Lookup.{look_up, change_at}
+
+-- the first element with a number
+abbrev pub look_up : {X : Type 0} → (X → ℕ) → ℕ → List X → Option X
+look_up number n [] = None
+look_up number n (x ∷ xs) = if nat_eq (number x) n then Some x else look_up number n xs
+
+-- the first element with a number changed, and every other element as it was
+abbrev pub change_at : {X : Type 0} → (X → ℕ) → ℕ → (X → X) → List X → List X
+change_at number n f [] = []
+change_at number n f (x ∷ xs) =
+    if nat_eq (number x) n then f x ∷ xs else x ∷ change_at number n f xs
 
 -- the cases with their numbers and kept plans, ascending by number; how many were ever opened;
 -- and how many more openings take no memory

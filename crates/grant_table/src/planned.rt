@@ -3,7 +3,7 @@ ghost use Rattle.std.specs.Prelude.{◌≡◌, ◌<◌, length, slice_set, Some,
 ghost use Rattle.wf_names.specs.declared.limits.TheConstants.{CASE_LIMIT, OPEN_CASE_LIMIT};
 ghost use Rattle.constraint_forms.specs.Assign.{no_steps, no_users};
 ghost use Rattle.policy_book.specs.Policies.{flow_at, problem_of};
-ghost use Rattle.policy_book.specs.Plans.{IsValidPlan};
+ghost use Rattle.policy_book.specs.Laws.Plans.{IsValidPlan};
 ghost use Rattle.case_record.specs.Cases.{assigned_of, finished_of};
 ghost use Rattle.grant_table.specs.Cases.{case_at, held_row, open_count, with_case, with_row};
 ghost use Rattle.grant_table.specs.Cases.{HasFreeStep};

@@ -2,7 +2,7 @@
 use Rattle.std.proofs.Common.{refl, ap, sym, subst, ◌∙◌, arith}
 use Rattle.std.specs.Prelude.{◌≡◌, ℕ, suc, ◌+◌, ◌-◌, ◌<◌, ◌≤◌, true, false, List, [], ◌++◌, length, take, drop, Option, None, Some}
 use Rattle.std.proofs.lemmas.List.{append-nil, append_assoc, length-append, length-drop}
-use Rattle.wf_outside.specs.Outside.{HasTaken, IsAtEnd}
+use Rattle.wf_outside.specs.Laws.Outside.{HasTaken, IsAtEnd}
 use Rattle.wf_outside.proofs.OutsideLaws.{nothing_taken, more_taken}
 use Rattle.line_reader.specs.declared.read.Read.{Read}
 use Rattle.line_reader.specs.declared.read.Read.TheVariants.{Line, End, Failed, TooLong, NoMemory}

@@ -4,11 +4,11 @@ use Rattle.std.proofs.Common.{sym, ◌∙◌, ap, subst, arith, append_assoc}
 use Rattle.std.specs.Prelude.{◌≢◌, is_some}
 use Rattle.std.proofs.lemmas.Grind.{common_steps}
 use Rattle.std.proofs.lemmas.List.{append-nil, length-append}
-use Rattle.wf_outside.specs.Outside.{HasTaken, IsAtEnd, bytes_before}
+use Rattle.wf_outside.specs.Laws.Outside.{HasTaken, IsAtEnd, bytes_before}
 use Rattle.wf_outside.proofs.OutsideLaws.{more_taken}
 use Rattle.wf_talk.specs.declared.job.Job.{Job}
 use Rattle.line_reader.specs.declared.stop.Stop.{Stop}
-use Rattle.line_reader.specs.Jobs.{Cut, cut_all, flush, end_batch, jobs_from, UpToAnEnd}
+use Rattle.line_reader.specs.Laws.Jobs.{Cut, cut_all, flush, end_batch, jobs_from, UpToAnEnd}
 use Rattle.line_reader.specs.Cutter.{Cuts, IsEnded, after_handing, ends_after, emptied}
 use Rattle.line_reader.proofs.CutLaws.{cut_all-append, handed_all, handed_finish, handed_over, closed_after, up_to_end, stopped, finished_stop}
 use Rattle.line_reader.specs.declared.batch_reader.Paused.{Paused}

@@ -2,7 +2,7 @@
 use Rattle.std.proofs.Common.{refl, subst}
 use Rattle.std.specs.Prelude.{◌≡◌, ℕ, Bool, true, false, List, Option, Some, None, option_map, option_and_then, Ok, if◌then◌else◌}
 use Rattle.std.specs.Option.{option_or}
-use Rattle.basics.specs.Reading.{or_fault}
+use Rattle.basics.specs.Laws.Reading.{or_fault}
 use Rattle.wf_talk.specs.declared.edit.Edit.{Edit}
 use Rattle.wf_talk.specs.declared.request.Request.{Request}
 use Rattle.wf_talk.specs.declared.request.Bad.TheVariants.{Do}

@@ -1,11 +1,9 @@
 pub mod Pieces
 pub mod Reader
 pub mod Steps
-pub mod Jobs
 pub mod Cutter
 pub mod Lines
 pub mod Laws
-pub mod Naming
 pub mod Whole
 pub mod BatchReader
 pub mod Pausing

@@ -1,7 +1,7 @@
 -- An input that is taken piece by piece: what was taken and is not passed, and how far a reader has
 -- to go.
 use Rattle.std.specs.Prelude.{◌≡◌, ℕ, ◌+◌, ◌-◌, ◌*◌, ◌≤◌, List, length, Result, Ok, Err}
-use Rattle.wf_outside.specs.Outside.{Rose}
+use Rattle.wf_outside.specs.Laws.Outside.{Rose}
 use Rattle.wf_outside.specs.declared.source.Failed.{Failed}
 
 -- the bytes that were taken and are not passed, and how many are taken at once at most

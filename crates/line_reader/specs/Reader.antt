@@ -3,7 +3,7 @@
 use Rattle.std.specs.Prelude.{◌≡◌, ℕ, suc, ◌+◌, ◌==◌, ◌<◌, ◌≤◌, Bool, true, false, List, [], ◌∷◌}
 use Rattle.std.specs.Prelude.{◌++◌, length, Option, if◌then◌else◌}
 use Rattle.wf_names.specs.declared.limits.TheConstants.{TRANSCRIPT_LINE_LIMIT}
-use Rattle.wf_outside.specs.Outside.{Rose, HasTaken, IsAtEnd}
+use Rattle.wf_outside.specs.Laws.Outside.{Rose, HasTaken, IsAtEnd}
 use Rattle.line_reader.specs.declared.read.Read.{Read}
 use Rattle.line_reader.specs.declared.read.Read.TheVariants.{Line, End, Failed, TooLong, NoMemory}
 

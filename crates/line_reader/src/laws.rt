@@ -1,7 +1,7 @@
 //! Laws of the jobs of an input.
 ghost use Rattle.std.specs.Prelude.{◌<◌};
 ghost use Rattle.line_reader.specs.Laws.{InputsGoOn, JobsAreInOrder, JobsAreNamed};
-ghost use Rattle.line_reader.specs.Naming.{JobsStayNamed};
+ghost use Rattle.line_reader.specs.Laws.Naming.{JobsStayNamed};
 
 /// The jobs of every input: at most as many as a session may have lines, of lines that ascend
 /// strictly, each of one of the lanes; the ends of their batches ascend by at most what a batch may

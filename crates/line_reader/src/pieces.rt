@@ -1,7 +1,7 @@
 //! An input that is taken piece by piece.
 ghost use Rattle.std.specs.Prelude.{◌≡◌, ◌≤◌, ◌<◌, [], length, drop, Ok, true, false};
 ghost use Rattle.std.specs.Prelude.{IfOk, OnErr};
-ghost use Rattle.wf_outside.specs.Outside.{HasTaken, IsAtEnd};
+ghost use Rattle.wf_outside.specs.Laws.Outside.{HasTaken, IsAtEnd};
 ghost use Rattle.line_reader.specs.Pieces.{CountsFill};
 
 use std::alloc::{AllocError, Global};

@@ -1,7 +1,7 @@
 //! A reader of lines.
 ghost use Rattle.std.specs.Prelude.{◌≡◌, ◌≤◌, ◌<◌, ◌+◌, ◌-◌, ◌++◌, ℕ, List, [], length, take, drop};
 ghost use Rattle.std.specs.Prelude.{Option, None, Some, true, false, IfOk, OnOk, OnErr};
-ghost use Rattle.wf_outside.specs.Outside.{HasTaken, IsAtEnd};
+ghost use Rattle.wf_outside.specs.Laws.Outside.{HasTaken, IsAtEnd};
 ghost use Rattle.line_reader.specs.Reader.{has_end, pending, ReadsTo, CountsAs};
 ghost use Rattle.line_reader.specs.Steps.{IsReadingLine, StepsTo, CountsStep, FindsEnd};
 

@@ -2,15 +2,15 @@
 use Rattle.std.proofs.Common.{◌≡◌, ℕ, ◌<◌, ◌++◌, List, length, take, slice_index_or, slice_set, refl, sym, ap, subst, ◌∙◌, arith}
 use Rattle.std.proofs.lemmas.List.{get_or_default}
 use Rattle.std.proofs.Math.Seq.{take-append_seam}
-use Rattle.basics.specs.Pairs.{AllPairs, Pairs}
+use Rattle.basics.specs.Laws.Pairs.{AllPairs, Pairs}
 use Rattle.wf_names.specs.Table.{Table}
-use Rattle.rbac_state.specs.Rosters.{RosterShape}
-use Rattle.user_relations.specs.Relations.{RelationShape, listed, with_kind}
+use Rattle.rbac_state.specs.Laws.Rosters.{RosterShape}
+use Rattle.user_relations.specs.Laws.Relations.{RelationShape, listed, with_kind}
 use Rattle.workflow_schema.specs.Flows.{FlowShape}
 use Rattle.wf_names.specs.UserSets.{has_user}
-use Rattle.policy_book.specs.Shapes.{PolicyShape, WorkflowShape}
+use Rattle.policy_book.specs.Laws.Shapes.{PolicyShape, WorkflowShape}
 use Rattle.policy_book.specs.Policies.{flow_at, no_workflow}
-use Rattle.policy_book.specs.Facts.{IsSoundWorkflow}
+use Rattle.policy_book.specs.Laws.Facts.{IsSoundWorkflow}
 use Rattle.policy_book.specs.Stored.{shape_of}
 use Rattle.policy_book.specs.Duties.{AreSettled, DutyShape, IsBook, may_do}
 use Rattle.policy_book.proofs.Keeping.{sound_at, stored_with_flow, stored_with_members, stored_with_pairs}

@@ -1,7 +1,7 @@
 -- Tests of the numbers below another one.
 use Rattle.std.proofs.Common.{◌≡◌, ℕ, ◌<◌, Bool, true, ◌&&◌, length, inl, inr, subst, arith}
 use Rattle.basics.proofs.Booleans.{and_both, or_cases}
-use Rattle.rbac_state.specs.Rosters.{RosterShape, IsSoundRoster, has_role}
+use Rattle.rbac_state.specs.Laws.Rosters.{RosterShape, IsSoundRoster, has_role}
 use Prim.Native.Nat.{zero, suc}
 use Rattle.std.proofs.Math.Bool.{or-true}
 use Rattle.policy_book.specs.Policies.{any_below}

@@ -4,18 +4,18 @@ use Rattle.std.proofs.Common.{◌∙◌, arith, length-append}
 use Prim.Native.Nat.{zero, suc}
 use Rattle.std.specs.Prelude.{slice_index_or, slice_set}
 use Rattle.std.specs.FinSet as set
-use Rattle.basics.specs.Pairs.{Pairs, AllPairs, pair_cmp}
+use Rattle.basics.specs.Laws.Pairs.{Pairs, AllPairs, pair_cmp}
 use Rattle.basics.specs.PairLaws.{pair_cmp_total, pair_cmp-IsAntisymmetric, either_inserted, was_there}
-use Rattle.user_relations.specs.Relations.{RelationShape, RelationKind, listed, complement, kind_of, with_kind, change_kind, pairs_of, listed_pairs}
+use Rattle.user_relations.specs.Laws.Relations.{RelationShape, RelationKind, listed, complement, kind_of, with_kind, change_kind, pairs_of, listed_pairs}
 use Rattle.std.proofs.lemmas.List.{get_or_default, get_or-set_same, get_or-set_other, get_or_append_left, get_or_push}
 use Rattle.std.proofs.Math.ListN.{length-set}
 use Rattle.std.proofs.lemmas.Bool.Decides.{eqb_tells}
 use Rattle.wf_names.specs.declared.limits.TheConstants.{FLOW_LIMIT, USER_LIMIT}
 use Rattle.wf_names.specs.Table.{Table}
-use Rattle.rbac_state.specs.Rosters.{RosterShape}
-use Rattle.policy_book.specs.Shapes.{WorkflowShape}
+use Rattle.rbac_state.specs.Laws.Rosters.{RosterShape}
+use Rattle.policy_book.specs.Laws.Shapes.{WorkflowShape}
 use Rattle.policy_book.specs.Policies.{no_workflow}
-use Rattle.policy_book.specs.Facts.{AreOfUsers, IsSoundWorkflow}
+use Rattle.policy_book.specs.Laws.Facts.{AreOfUsers, IsSoundWorkflow}
 use Rattle.policy_book.specs.Stored.{IsStoredPolicy}
 
 abbrev kind_at : List RelationShape → ℕ → Option RelationKind

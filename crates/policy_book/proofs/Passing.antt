@@ -1,6 +1,6 @@
 -- The numbers that pass a test.
 use Rattle.std.proofs.Common.{◌≡◌, ℕ, suc, ◌+◌, ◌-◌, ◌<◌, Bool, ◌∷◌, if◌then◌else◌, ap, arith}
-use Rattle.policy_book.specs.Refuting.{passing}
+use Rattle.policy_book.specs.Laws.Refuting.{passing}
 
 -- the first of them is the next, or not
 pub passing_at : (test : ℕ → Bool) (k n : ℕ) → k < n →

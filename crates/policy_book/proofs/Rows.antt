@@ -7,15 +7,15 @@ use Rattle.std.proofs.lemmas.Map.Views.{tells_apart}
 use Rattle.std.proofs.lemmas.Bool.{cases_eq}
 use Rattle.std.proofs.lemmas.List.{get_or-set_same, get_or-set_other, get_or_append_left, get_or_push, get_or_default, length-set, length-replicate}
 use Rattle.basics.proofs.Booleans.{and-false, and_both, bool_cases, differ, eq_back, eq_is, eq_other, not_true}
-use Rattle.basics.specs.Pairs.{Pairs, pair_cmp}
+use Rattle.basics.specs.Laws.Pairs.{Pairs, pair_cmp}
 use Rattle.basics.specs.PairLaws.{pair_cmp_total, pair_cmp-IsAntisymmetric}
 use Rattle.wf_names.specs.declared.limits.TheConstants.{STEP_LIMIT}
 use Rattle.wf_names.specs.UserSets.{has_user}
-use Rattle.rbac_state.specs.Rosters.{RosterShape}
+use Rattle.rbac_state.specs.Laws.Rosters.{RosterShape}
 use Rattle.workflow_schema.specs.Flows.{FlowShape, IsFlow}
 use Rattle.constraint_forms.specs.Assign.{is_member, no_steps}
 use Rattle.constraint_forms.proofs.Members.{none_member}
-use Rattle.policy_book.specs.Shapes.{WorkflowShape}
+use Rattle.policy_book.specs.Laws.Shapes.{WorkflowShape}
 use Rattle.policy_book.specs.Policies.{any_below, no_workflow}
 use Rattle.policy_book.specs.Duties.{steps_below, row_has, steps_in, set_at, AreGathered, may_do, DutyShape, AreDuties, no_duties, duties_at, AreKept}
 use Rattle.policy_book.specs.Duties.{IsSettled, AreSettled, AreGrown}

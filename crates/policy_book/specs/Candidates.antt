@@ -1,9 +1,9 @@
 -- Which users a step may be given to.
 use Rattle.std.specs.Prelude.{ℕ, Bool, not, ◌&&◌, nat_lt, List, length, Option, Some, slice_get}
 use Rattle.std.specs.Prelude.{slice_set}
-use Rattle.policy_book.specs.Plans.{Problem}
-use Rattle.policy_book.specs.Refuting.{is_broken}
-use Rattle.policy_book.specs.Twins.{all_below}
+use Rattle.policy_book.specs.Laws.Plans.{Problem}
+use Rattle.policy_book.specs.Laws.Refuting.{is_broken}
+use Rattle.policy_book.specs.Laws.Twins.{all_below}
 
 -- an assignment falsifies no rule
 abbrev pub breaks_none : Problem → List (Option ℕ) → Bool

@@ -1,5 +1,5 @@
 -- A workflow with its policy.
-use Rattle.policy_book.specs.Plans.{Problem}
+use Rattle.policy_book.specs.Laws.Plans.{Problem}
 use Rattle.policy_book.specs.Policies.{problem_of}
 use Rattle.policy_book.specs.declared.course.Course.{Course}
 

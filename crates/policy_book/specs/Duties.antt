@@ -5,13 +5,13 @@ use Rattle.std.specs.Coded.{Coded, code_by, coded×, coded_list, coded_ℕ}
 use Rattle.std.specs.FinSet as set
 use Rattle.wf_names.specs.Table.{Table}
 use Rattle.wf_names.specs.UserSets.{has_user}
-use Rattle.rbac_state.specs.Rosters.{RosterShape, has_role}
-use Rattle.user_relations.specs.Relations.{RelationShape}
+use Rattle.rbac_state.specs.Laws.Rosters.{RosterShape, has_role}
+use Rattle.user_relations.specs.Laws.Relations.{RelationShape}
 use Rattle.workflow_schema.specs.Flows.{FlowShape}
 use Rattle.constraint_forms.specs.Assign.{no_steps}
-use Rattle.policy_book.specs.Shapes.{WorkflowShape}
+use Rattle.policy_book.specs.Laws.Shapes.{WorkflowShape}
 use Rattle.policy_book.specs.Policies.{any_below, no_workflow}
-use Rattle.policy_book.specs.Plans.{Problem}
+use Rattle.policy_book.specs.Laws.Plans.{Problem}
 use Rattle.policy_book.specs.Stored.{IsStoredPolicy}
 
 -- the steps below n that pass a test

@@ -1,11 +1,6 @@
-pub mod Shapes
 pub mod Policies
-pub mod Plans
-pub mod Facts
-pub mod Twins
-pub mod Refuting
-pub mod Lean
 pub mod Stored
 pub mod Candidates
 pub mod Duties
 pub mod Course
+pub mod Laws

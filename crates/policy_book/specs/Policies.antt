@@ -3,11 +3,11 @@ use Rattle.std.specs.Prelude.{◌≡◌, ℕ, zero, suc, Bool, false, ◌&&◌, 
 use Rattle.std.specs.Prelude.{slice_index_or, slice_set}
 use Rattle.std.specs.FinSet as set
 use Rattle.wf_names.specs.Table.{place_of}
-use Rattle.rbac_state.specs.Rosters.{RosterShape, has_role}
-use Rattle.user_relations.specs.Relations.{is_related, with_kind, listed}
-use Rattle.basics.specs.Pairs.{Pairs}
-use Rattle.policy_book.specs.Shapes.{PolicyShape, WorkflowShape}
-use Rattle.policy_book.specs.Plans.{Problem}
+use Rattle.rbac_state.specs.Laws.Rosters.{RosterShape, has_role}
+use Rattle.user_relations.specs.Laws.Relations.{is_related, with_kind, listed}
+use Rattle.basics.specs.Laws.Pairs.{Pairs}
+use Rattle.policy_book.specs.Laws.Shapes.{PolicyShape, WorkflowShape}
+use Rattle.policy_book.specs.Laws.Plans.{Problem}
 
 -- a workflow without steps, which stands where there is none
 abbrev pub no_workflow : WorkflowShape

@@ -2,10 +2,10 @@
 use Rattle.std.specs.Prelude.{◌≡◌, ℕ, List}
 use Rattle.wf_names.specs.declared.limits.TheConstants.{FLOW_LIMIT}
 use Rattle.wf_names.specs.Table.{Table}
-use Rattle.rbac_state.specs.Rosters.{RosterShape}
-use Rattle.user_relations.specs.Relations.{RelationShape}
-use Rattle.policy_book.specs.Shapes.{PolicyShape, WorkflowShape}
-use Rattle.policy_book.specs.Facts.{IsSoundPolicy}
+use Rattle.rbac_state.specs.Laws.Rosters.{RosterShape}
+use Rattle.user_relations.specs.Laws.Relations.{RelationShape}
+use Rattle.policy_book.specs.Laws.Shapes.{PolicyShape, WorkflowShape}
+use Rattle.policy_book.specs.Laws.Facts.{IsSoundPolicy}
 
 -- the policy with these parts
 abbrev pub shape_of : RosterShape → List RelationShape → Table → List WorkflowShape → ℕ →

@@ -2,7 +2,7 @@
 ghost use Rattle.std.specs.Prelude.{◌≡◌, ℕ, ◌<◌, ◌&&◌, ◌||◌, true, length};
 ghost use Rattle.std.specs.FinSet as set;
 ghost use Rattle.wf_names.specs.UserSets.{has_user};
-ghost use Rattle.rbac_state.specs.Rosters.{has_role};
+ghost use Rattle.rbac_state.specs.Laws.Rosters.{has_role};
 ghost use Rattle.policy_book.specs.Policies.{any_below};
 
 use rbac_state::Roster;

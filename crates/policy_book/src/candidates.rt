@@ -4,7 +4,7 @@ ghost use Rattle.std.specs.Prelude.{slice_set};
 ghost use Rattle.wf_names.specs.declared.limits.TheConstants.{STEP_LIMIT};
 ghost use Rattle.wf_names.specs.UserSets.{has_user};
 ghost use Rattle.policy_book.specs.Policies.{problem_of};
-ghost use Rattle.policy_book.specs.Refuting.{is_broken};
+ghost use Rattle.policy_book.specs.Laws.Refuting.{is_broken};
 ghost use Rattle.policy_book.specs.Candidates.{breaks_none};
 
 use crate::Policy;

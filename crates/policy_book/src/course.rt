@@ -21,9 +21,9 @@ impl<'p> Course<'p> {
     ghost use Rattle.wf_names.specs.declared.limits.TheConstants.{RULE_LIMIT};
     ghost use Rattle.wf_names.specs.UserSets.{has_user};
     ghost use Rattle.policy_book.specs.Course.{problem_in};
-    ghost use Rattle.policy_book.specs.Plans.{IsWellFormed};
+    ghost use Rattle.policy_book.specs.Laws.Plans.{IsWellFormed};
     ghost use Rattle.policy_book.specs.Policies.{flow_at};
-    ghost use Rattle.policy_book.specs.Facts.{AreSoundRules, PermitsRolesBelow};
+    ghost use Rattle.policy_book.specs.Laws.Facts.{AreSoundRules, PermitsRolesBelow};
 
     /// The workflow's steps, their order and who may perform them.
     pub fn flow(&self) -> &'p Flow

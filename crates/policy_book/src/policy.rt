@@ -4,20 +4,20 @@ ghost use Rattle.std.specs.Prelude.{is_some, true, false, IfOk, IfSome, OnOk, On
 ghost use Rattle.std.specs.Prelude.{IsTrue, not};
 ghost use Rattle.std.specs.FinSet as set;
 ghost use Rattle.wf_names.specs.declared.limits.TheConstants.{FLOW_LIMIT, RULE_LIMIT, USER_LIMIT};
-ghost use Rattle.rbac_state.specs.Rosters.{has_role};
+ghost use Rattle.rbac_state.specs.Laws.Rosters.{has_role};
 ghost use Rattle.wf_names.specs.Table.{place_of};
 ghost use Rattle.wf_names.specs.UserSets.{has_user};
-ghost use Rattle.user_relations.specs.Relations.{pairs_of};
+ghost use Rattle.user_relations.specs.Laws.Relations.{pairs_of};
 ghost use Rattle.user_relations.specs.Kinds.{AnswersFault, relate_fault, unrelate_fault};
 ghost use Rattle.policy_book.specs.Policies.{flow_at, is_authorised, problem_of, with_roster};
 ghost use Rattle.policy_book.specs.Policies.{IsNextFlow, with_pairs, with_permits, with_flow};
-ghost use Rattle.policy_book.specs.Plans.{IsWellFormed};
-ghost use Rattle.policy_book.specs.Refuting.{is_unassigned};
+ghost use Rattle.policy_book.specs.Laws.Plans.{IsWellFormed};
+ghost use Rattle.policy_book.specs.Laws.Refuting.{is_unassigned};
 ghost use Rattle.policy_book.specs.Candidates.{is_candidate};
 ghost use Rattle.constraint_forms.specs.Assign.{is_member};
 ghost use Rattle.policy_book.specs.Duties.{AreDuties, authorised_steps};
-ghost use Rattle.policy_book.specs.Facts.{AreOfUsers, AreSoundRules, IsSoundPolicy};
-ghost use Rattle.policy_book.specs.Facts.{PermitsRolesBelow};
+ghost use Rattle.policy_book.specs.Laws.Facts.{AreOfUsers, AreSoundRules, IsSoundPolicy};
+ghost use Rattle.policy_book.specs.Laws.Facts.{PermitsRolesBelow};
 
 use crate::authority::holders_of_some;
 use crate::candidates::keep_unbroken;
@@ -49,7 +49,7 @@ pub struct Policy {
 }
 
 impl Model for Policy {
-    ghost use Rattle.policy_book.specs.Shapes.{PolicyShape, policy_code};
+    ghost use Rattle.policy_book.specs.Laws.Shapes.{PolicyShape, policy_code};
 
     ghost Value = { PolicyShape };
 

@@ -6,7 +6,7 @@ use constraint_forms::{Holds, RelatedRows};
 use wf_names::{RelId, UserId, UserSet};
 
 impl Holds for Policy {
-    ghost use Rattle.user_relations.specs.Relations.{is_related};
+    ghost use Rattle.user_relations.specs.Laws.Relations.{is_related};
 
     ghost related = { λ p. is_related p.relations };
 

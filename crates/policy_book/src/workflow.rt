@@ -16,7 +16,7 @@ pub(crate) struct Workflow {
 }
 
 impl Model for Workflow {
-    ghost use Rattle.policy_book.specs.Shapes.{WorkflowShape, workflow_code};
+    ghost use Rattle.policy_book.specs.Laws.Shapes.{WorkflowShape, workflow_code};
 
     ghost Value = { WorkflowShape };
 

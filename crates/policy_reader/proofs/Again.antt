@@ -5,7 +5,7 @@ use Rattle.policy_reader.proofs.Prints.{AllByRecursion, Members, get_member, Ord
 use Rattle.policy_reader.proofs.Prints.{written_format, needs_second, form_of, flow_at, file_keys, IsPrintable, name_at, names_array, users_data}
 use Rattle.policy_reader.proofs.Prints.{relations_data}
 use Rattle.policy_reader.proofs.Prints.{flows_data, IsNamedPolicy, Format, format_number, string, integer}
-use Rattle.policy_reader.specs.Grammars.{today}
+use Rattle.policy_reader.specs.Laws.Grammars.{today}
 use Rattle.policy_reader.specs.Parts.{value_at, text_in, name_in, text_name_in, no_others, known_key}
 use Rattle.policy_reader.specs.Files.{document_in, format_of, admin_of, start_over, related_over, staff_of, start_with, start_named, start_of, rest_of}
 use Rattle.policy_reader.specs.Files.{policy_by, policy_in, policy_of_file}

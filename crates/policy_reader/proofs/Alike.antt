@@ -4,8 +4,8 @@ use Rattle.std.specs.Prelude.{ℤ, pos, negsuc, None, codes}
 use Rattle.basics.proofs.Booleans.{bool_cases, le_back, le_yes}
 use Rattle.wf_names.specs.declared.limits.TheConstants.{FLOW_LIMIT}
 use Rattle.toml.specs.Data.{Members, as_integer}
-use Rattle.policy_book.specs.Shapes.{PolicyShape}
-use Rattle.basics.specs.Reading.{◌>>=◌, check, each, or_fault}
+use Rattle.policy_book.specs.Laws.Shapes.{PolicyShape}
+use Rattle.basics.specs.Laws.Reading.{◌>>=◌, check, each, or_fault}
 use Rattle.policy_reader.specs.declared.fault.PolicyFault.{PolicyFault}
 use Rattle.policy_reader.specs.declared.fault.PolicyPart.{PolicyPart}
 use Rattle.policy_reader.specs.declared.fault.PolicyPart.TheVariants.{File, Flows, Users}
@@ -13,7 +13,7 @@ use Rattle.policy_reader.specs.declared.fault.PolicyKind.TheVariants as kind
 use Rattle.policy_reader.specs.declared.format.Format.{Format}
 use Rattle.policy_reader.specs.Faults.{Reading, fault}
 use Rattle.policy_reader.specs.Formats.{format_with}
-use Rattle.policy_reader.specs.Grammars.{earlier, first_with, today}
+use Rattle.policy_reader.specs.Laws.Grammars.{earlier, first_with, today}
 use Rattle.policy_reader.specs.Parts.{at_least_one, at_most, array_at, count_in, entries, entries_at, items, items_at, name_in, no_others, number_in, table_at}
 use Rattle.policy_reader.specs.Parts.{table_in, value_at}
 use Rattle.policy_reader.specs.Rosters.{roles_of, roster_of}

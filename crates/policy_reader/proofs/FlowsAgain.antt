@@ -5,7 +5,7 @@ use Rattle.policy_reader.proofs.Prints.{length-map, each, take_all, not_true, an
 use Rattle.policy_reader.proofs.Prints.{AllPairs, RelationShape, known_names, is_before, OrderIsDecided, PolicyShape, WorkflowShape, IsSoundWorkflow, flow_at}
 use Rattle.policy_reader.proofs.Prints.{no_workflow, Flows, Ascend, names_array, pair_data, pairs_data, permits_data, rules_data, rows, flow_entry, flows_data}
 use Rattle.policy_reader.proofs.Prints.{IsNamedWorkflow, least_none, Format}
-use Rattle.policy_reader.specs.Grammars.{today}
+use Rattle.policy_reader.specs.Laws.Grammars.{today}
 use Rattle.policy_reader.specs.Parts.{value_at, array_in, table_in, table_at, count_in, entries_at, name_in, no_others, known_key}
 use Rattle.policy_reader.specs.Rules.{rules_of}
 use Rattle.policy_reader.specs.Flows.{order_in, order_pairs, cycle_at, no_cycle, ordered_in, flow_in, ruled_in, workflow_in, next_flow, flows_in}

@@ -8,10 +8,10 @@ use Rattle.std.proofs.lemmas.List.Quantifiers.{position-Some}
 use Rattle.basics.proofs.Booleans.{le_back}
 use Rattle.wf_names.specs.Names.{is_name}
 use Rattle.wf_names.specs.Table.{place_of}
-use Rattle.basics.specs.Pairs.{Pairs}
+use Rattle.basics.specs.Laws.Pairs.{Pairs}
 use Rattle.basics.specs.PairLaws.{all_insert}
 use Rattle.toml.specs.Data.{Data, Members}
-use Rattle.basics.specs.Reading.{◌>>=◌, check, each, or_fault}
+use Rattle.basics.specs.Laws.Reading.{◌>>=◌, check, each, or_fault}
 use Rattle.policy_reader.specs.declared.fault.PolicyFault.{PolicyFault}
 use Rattle.policy_reader.specs.declared.fault.PolicyPart.{PolicyPart}
 use Rattle.policy_reader.specs.declared.fault.PolicyKind.TheVariants as kind

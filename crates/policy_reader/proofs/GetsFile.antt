@@ -6,15 +6,15 @@ use Rattle.std.proofs.lemmas.List.Elements.{All-nil}
 use Rattle.wf_names.specs.declared.limits.TheConstants.{FLOW_LIMIT, ROLE_LIMIT, USER_LIMIT}
 use Rattle.wf_names.specs.Names.{is_name}
 use Rattle.toml.specs.Data.{Data, Members}
-use Rattle.rbac_state.specs.Rosters.{RosterShape}
-use Rattle.policy_book.specs.Shapes.{PolicyShape}
-use Rattle.basics.specs.Reading.{check}
+use Rattle.rbac_state.specs.Laws.Rosters.{RosterShape}
+use Rattle.policy_book.specs.Laws.Shapes.{PolicyShape}
+use Rattle.basics.specs.Laws.Reading.{check}
 use Rattle.policy_reader.specs.declared.fault.PolicyKind.TheVariants as kind
 use Rattle.policy_reader.specs.declared.fault.PolicyPart.TheVariants.{File, Roles, Users}
 use Rattle.policy_reader.specs.declared.format.Format.{Format}
 use Rattle.policy_reader.specs.Faults.{fault}
 use Rattle.policy_reader.specs.Formats.{file_keys}
-use Rattle.policy_reader.specs.Grammars.{today}
+use Rattle.policy_reader.specs.Laws.Grammars.{today}
 use Rattle.policy_reader.specs.Laws.{PolicyOfFileIsSound}
 use Rattle.policy_reader.specs.Parts.{array_in, entries, entries_at, items, items_at, name_in, named_in, no_others, number_in, once, said}
 use Rattle.policy_reader.specs.Relations.{relations_of}

@@ -10,18 +10,18 @@ use Rattle.wf_names.specs.declared.limits.TheConstants.{FLOW_LIMIT, PAIR_LIMIT, 
 use Rattle.wf_names.specs.Names.{is_name}
 use Rattle.basics.specs.PairLaws.{all_empty}
 use Rattle.toml.specs.Data.{Data, Members, get_member}
-use Rattle.user_relations.specs.Relations.{RelationShape, RelationKind, listed, complement, kind_of}
+use Rattle.user_relations.specs.Laws.Relations.{RelationShape, RelationKind, listed, complement, kind_of}
 use Rattle.workflow_schema.specs.Flows.{FlowShape}
-use Rattle.policy_book.specs.Shapes.{PolicyShape, WorkflowShape}
+use Rattle.policy_book.specs.Laws.Shapes.{PolicyShape, WorkflowShape}
 use Rattle.policy_book.specs.Policies.{flow_at, no_workflow}
-use Rattle.policy_book.specs.Facts.{AreOfUsers, AreSoundRules, IsSoundWorkflow, PermitsRolesBelow}
-use Rattle.basics.specs.Reading.{check, each, or_fault}
+use Rattle.policy_book.specs.Laws.Facts.{AreOfUsers, AreSoundRules, IsSoundWorkflow, PermitsRolesBelow}
+use Rattle.basics.specs.Laws.Reading.{check, each, or_fault}
 use Rattle.policy_reader.specs.declared.fault.PolicyKind.TheVariants as kind
 use Rattle.policy_reader.specs.declared.fault.PolicyPart.TheVariants.{Flows, Relations}
 use Rattle.policy_reader.specs.declared.format.Format.{Format}
 use Rattle.policy_reader.specs.Bounds.{AreBelow}
 use Rattle.policy_reader.specs.Faults.{Reading, fault, fault_about}
-use Rattle.policy_reader.specs.Grammars.{today}
+use Rattle.policy_reader.specs.Laws.Grammars.{today}
 use Rattle.policy_reader.specs.File.{AreOfForm}
 use Rattle.policy_reader.specs.Parts.{array_in, at_most, entries, entries_at, items, items_at, name_in, named_in, next_name, next_pair, no_others, number_in}
 use Rattle.policy_reader.specs.Parts.{once, said, table_at, table_in, text_in}

@@ -8,14 +8,14 @@ use Rattle.std.proofs.lemmas.Bool.Decides.{eqb_tells}
 use Rattle.basics.proofs.Booleans.{and_both, bool_cases, eq_back, le_back, or_cases}
 use Rattle.wf_names.specs.declared.limits.TheConstants.{RULE_LIMIT, STEP_LIMIT}
 use Rattle.toml.specs.Data.{Data, Members, as_integer, get_member}
-use Rattle.user_relations.specs.Relations.{RelationShape, known_names}
+use Rattle.user_relations.specs.Laws.Relations.{RelationShape, known_names}
 use Rattle.constraint_forms.specs.Assign.{is_member, no_steps}
 use Rattle.constraint_forms.specs.Rules.{any_from, count_members, names, reads}
 use Rattle.constraint_forms.specs.declared.rule.Rule.{Rule}
 use Rattle.constraint_forms.specs.declared.rule.Rule.TheVariants as rule
 use Rattle.constraint_forms.proofs.Members.{none_member}
-use Rattle.policy_book.specs.Facts.{AreSoundRules, HasMembers, IsSoundRule, IsWithinGroup}
-use Rattle.basics.specs.Reading.{◌>>=◌, check, or_fault}
+use Rattle.policy_book.specs.Laws.Facts.{AreSoundRules, HasMembers, IsSoundRule, IsWithinGroup}
+use Rattle.basics.specs.Laws.Reading.{◌>>=◌, check, or_fault}
 use Rattle.policy_reader.specs.declared.fault.PolicyKind.TheVariants as kind
 use Rattle.policy_reader.specs.declared.fault.PolicyPart.TheVariants.{Flows}
 use Rattle.policy_reader.specs.declared.format.Format.{Format}

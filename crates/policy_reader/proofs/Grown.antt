@@ -1,7 +1,7 @@
 -- Policies with more workflows.
 use Rattle.std.proofs.Common.{◌≡◌, ℕ, ◌<◌, false, List, [], ◌∷◌, ◌++◌, length, refl, sym, ◌∙◌, subst}
 use Rattle.policy_reader.proofs.Words.{AllByRecursion, IsGrown, names_of, some_user_has, Ascend, IsFreshPolicy, IsPrintable}
-use Rattle.policy_book.specs.Shapes.{PolicyShape, WorkflowShape}
+use Rattle.policy_book.specs.Laws.Shapes.{PolicyShape, WorkflowShape}
 
 pub push_all : {X : Type 0} (P : X → Type 0) (xs : List X) (y : X) → AllByRecursion P xs → P y → AllByRecursion P (xs ++ y ∷ [])
 push_all P [] y h here = (here, tt)

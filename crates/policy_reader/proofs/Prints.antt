@@ -17,10 +17,10 @@ pub use Rattle.basics.proofs.Booleans.{and_same, and_swap, and-false, or-false, 
 pub use Rattle.constraint_forms.specs.Assign.{is_member}
 pub use Rattle.constraint_forms.specs.declared.rule.Rule.{Rule}
 pub use Rattle.basics.specs.PairLaws.{ascending_none}
-pub use Rattle.basics.specs.Pairs.{IsAscending}
-pub use Rattle.policy_book.specs.Facts.{IsSoundWorkflow}
+pub use Rattle.basics.specs.Laws.Pairs.{IsAscending}
+pub use Rattle.policy_book.specs.Laws.Facts.{IsSoundWorkflow}
 pub use Rattle.policy_book.specs.Policies.{no_workflow, flow_at}
-pub use Rattle.policy_book.specs.Shapes.{PolicyShape, WorkflowShape}
+pub use Rattle.policy_book.specs.Laws.Shapes.{PolicyShape, WorkflowShape}
 pub use Rattle.policy_reader.specs.Documents.{name_at, names_array, users_data, relations_data, flows_data, chosen, with_member, table_below, row, rows}
 pub use Rattle.policy_reader.specs.Documents.{pair_data, pairs_data, relation_entry, user_entry, names_where, rule_data, flow_entry, permit_entry}
 pub use Rattle.policy_reader.specs.Documents.{permits_data, rules_data, document_of}
@@ -34,13 +34,13 @@ pub use Rattle.policy_reader.specs.declared.format.Format.{Format}
 pub use Rattle.policy_reader.specs.Relations.{is_built_in}
 pub use Rattle.policy_reader.specs.declared.fault.PolicyPart.{PolicyPart}
 pub use Rattle.policy_reader.specs.declared.fault.PolicyPart.TheVariants.{File, Relations, Users, Roles, Flows}
-pub use Rattle.rbac_state.specs.Rosters.{RosterShape, has_role, IsSoundRoster}
+pub use Rattle.rbac_state.specs.Laws.Rosters.{RosterShape, has_role, IsSoundRoster}
 pub use Rattle.toml.specs.Data.{get_member, member, no_members, string, table, integer, array, depth, items_depth, members_depth, has_valid_dates}
 pub use Rattle.toml.specs.Data.{members_have_valid_dates}
 pub use Rattle.toml.specs.View.{items_of}
-pub use Rattle.user_relations.specs.Relations.{RelationShape, RelationKind, listed, complement, kind_of, known_names, has_list, is_listed, complemented}
-pub use Rattle.user_relations.specs.Relations.{complement_of, listed_pairs, pairs_of}
-pub use Rattle.user_relations.specs.Soundness.{AreSoundRelations}
+pub use Rattle.user_relations.specs.Laws.Relations.{RelationShape, RelationKind, listed, complement, kind_of, known_names, has_list, is_listed, complemented}
+pub use Rattle.user_relations.specs.Laws.Relations.{complement_of, listed_pairs, pairs_of}
+pub use Rattle.user_relations.specs.Laws.Soundness.{AreSoundRelations}
 pub use Rattle.wf_names.specs.Names.{is_name}
 pub use Rattle.wf_names.specs.Table.{AreNames, place_of}
 pub use Rattle.wf_names.specs.declared.limits.TheConstants.{PAIR_LIMIT, RULE_LIMIT, FLOW_LIMIT, RELATION_LIMIT, USER_LIMIT, ROLE_LIMIT, STEP_LIMIT}

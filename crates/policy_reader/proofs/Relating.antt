@@ -7,8 +7,8 @@ use Rattle.policy_reader.proofs.Words.{Members, as_table, RELATION_LIMIT, USER_L
 use Rattle.policy_reader.proofs.Words.{entry_of, is_complement, is_complement_table, passes, names_of, Ascend, view, members_view, is_marked, IsTarget}
 use Rattle.policy_reader.proofs.Words.{IsReadKind, AreReadRelations}
 use Rattle.std.specs.List.{IsDistinct}
-use Rattle.user_relations.specs.Relations.{RelationShape, RelationKind, listed, complement, kind_of, has_list, known_names}
-use Rattle.user_relations.specs.Soundness.{AreSoundRelations}
+use Rattle.user_relations.specs.Laws.Relations.{RelationShape, RelationKind, listed, complement, kind_of, has_list, known_names}
+use Rattle.user_relations.specs.Laws.Soundness.{AreSoundRelations}
 use Rattle.policy_reader.specs.declared.fault.PolicyPart.{PolicyPart}
 use Rattle.policy_reader.specs.Parts.{table_in}
 use Rattle.std.specs.List.Sorted.{IsStrictlySortedBy}

@@ -5,7 +5,7 @@ use Rattle.std.specs.FinSet as set
 use Rattle.policy_reader.proofs.Prints.{length-map, length-take-le, take_all, lt_yes, lt_no, Members, get_member, string, AreNames, place_of, USER_LIMIT}
 use Rattle.policy_reader.proofs.Prints.{ROLE_LIMIT, STEP_LIMIT, Pairs, RosterShape, has_role, IsSoundRoster, each, Users, Roles, Flows, Ascend, chosen}
 use Rattle.policy_reader.proofs.Prints.{user_entry, users_data, names_array, pointwise, none_cons, PolicyPart}
-use Rattle.policy_reader.specs.Grammars.{today}
+use Rattle.policy_reader.specs.Laws.Grammars.{today}
 use Rattle.policy_reader.specs.Parts.{value_at, array_in, table_in, array_at, table_at, count_in, items_at, entries_at, text_in, name_in, text_name_in}
 use Rattle.policy_reader.specs.Parts.{named_in, once, next_name}
 use Rattle.policy_reader.specs.Rosters.{roster_of, next_user, next_held, roles_of, next_role}

@@ -8,10 +8,10 @@ pub use Rattle.std.specs.List.{AllByRecursion, list_any, All}
 pub use Rattle.std.specs.Ordering.{ordering_reverse, eq_by_cmp}
 pub use Rattle.basics.proofs.Booleans.{or_left, or_right, or_false, eq_same, eq_below, not_true}
 pub use Rattle.constraint_forms.specs.Rules.{any_from}
-pub use Rattle.basics.specs.Reading.{◌>>=◌, each, or_fault, Fails}
+pub use Rattle.basics.specs.Laws.Reading.{◌>>=◌, each, or_fault, Fails}
 pub use Rattle.basics.specs.PairLaws.{pair_cmp_total, pair_cmp-IsAntisymmetric, all_insert, all_empty}
-pub use Rattle.basics.specs.Pairs.{Pairs, AllPairs, pair_cmp}
-pub use Rattle.policy_book.specs.Facts.{IsSoundRule, AreOfUsers, PermitsRolesBelow, AreSoundRules}
+pub use Rattle.basics.specs.Laws.Pairs.{Pairs, AllPairs, pair_cmp}
+pub use Rattle.policy_book.specs.Laws.Facts.{IsSoundRule, AreOfUsers, PermitsRolesBelow, AreSoundRules}
 pub use Rattle.policy_book.specs.Policies.{any_below}
 pub use Rattle.policy_reader.specs.Bounds.{AreBelow}
 pub use Rattle.policy_reader.specs.Faults.{Reading, fault, fault_of, fault_about}
@@ -19,7 +19,7 @@ pub use Rattle.policy_reader.specs.Flows.{least_below, found_or, cycle_at, next_
 pub use Rattle.policy_reader.specs.Kept.{IsGrown, IsCycleOrMemory, HasStepsBelow}
 pub use Rattle.policy_reader.specs.Kinds.{is_marked, IsTarget, IsReadKind, AreReadRelations}
 pub use Rattle.policy_reader.specs.Parts.{entries, lists_text, items, both_texts, texts_in, next_pair, next_name, known_key}
-pub use Rattle.policy_reader.specs.Printable.{Ascend, IsFreshPolicy, IsPrintable}
+pub use Rattle.policy_reader.specs.Laws.Printable.{Ascend, IsFreshPolicy, IsPrintable}
 pub use Rattle.policy_reader.specs.Relations.{names_of, first_declared, entry_of, is_complement, is_complement_table, passes, next_relation}
 pub use Rattle.policy_reader.specs.Rosters.{some_user_has, next_held, next_role, next_user}
 pub use Rattle.policy_reader.specs.Rules.{next_member, next_rule}

@@ -1,6 +1,6 @@
 -- Inside: what is true of pairs of numbers as they are read.
 use Rattle.std.specs.Prelude.{ℕ, ◌<◌}
-use Rattle.basics.specs.Pairs.{Pairs, AllPairs}
+use Rattle.basics.specs.Laws.Pairs.{Pairs, AllPairs}
 
 -- the numbers of all pairs are below n
 abbrev pub AreBelow : ℕ → Pairs → Type 0

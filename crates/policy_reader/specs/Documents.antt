@@ -7,14 +7,14 @@ use Rattle.std.specs.Cmp.Lexicographic.{slice_cmp}
 use Rattle.std.specs.FinSet as set
 use Rattle.toml.specs.Data.{Data, string, integer, array, table, Members, no_members, member}
 use Rattle.toml.specs.View.{items_of}
-use Rattle.basics.specs.Pairs.{Pairs}
-use Rattle.rbac_state.specs.Rosters.{RosterShape, has_role}
-use Rattle.user_relations.specs.Relations.{RelationShape, complement_of, pairs_of, known_names}
+use Rattle.basics.specs.Laws.Pairs.{Pairs}
+use Rattle.rbac_state.specs.Laws.Rosters.{RosterShape, has_role}
+use Rattle.user_relations.specs.Laws.Relations.{RelationShape, complement_of, pairs_of, known_names}
 use Rattle.workflow_schema.specs.Flows.{FlowShape}
 use Rattle.constraint_forms.specs.Assign.{is_member}
 use Rattle.constraint_forms.specs.declared.rule.Rule.{Rule}
 use Rattle.constraint_forms.specs.declared.rule.Rule.TheVariants as rule
-use Rattle.policy_book.specs.Shapes.{PolicyShape, WorkflowShape}
+use Rattle.policy_book.specs.Laws.Shapes.{PolicyShape, WorkflowShape}
 use Rattle.policy_book.specs.Policies.{any_below, flow_at}
 use Rattle.policy_reader.specs.declared.form.Form.{Form}
 use Rattle.policy_reader.specs.declared.form.Form.TheVariants as form

@@ -3,9 +3,9 @@ use Rattle.std.specs.Prelude.{ℕ, ◌<◌, ◌≤◌, List, length, IsTrue}
 use Rattle.std.specs.List.{All}
 use Rattle.wf_names.specs.declared.limits.TheConstants.{STEP_LIMIT}
 use Rattle.wf_names.specs.Names.{is_name}
-use Rattle.policy_book.specs.Shapes.{PolicyShape}
+use Rattle.policy_book.specs.Laws.Shapes.{PolicyShape}
 use Rattle.policy_book.specs.Policies.{flow_at}
-use Rattle.policy_book.specs.Facts.{IsSoundPolicy}
+use Rattle.policy_book.specs.Laws.Facts.{IsSoundPolicy}
 use Rattle.policy_reader.specs.Relations.{names_of}
 
 -- all names of a list have a name's form

@@ -3,16 +3,16 @@ use Rattle.std.specs.Prelude.{codes, ℕ, ◌==◌, List, [], length, if◌then�
 use Rattle.std.specs.Str.Lossy.{utf8_valid_len}
 use Rattle.toml.specs.Data.{Members, as_integer}
 use Rattle.toml.specs.Parse.{parse_document}
-use Rattle.rbac_state.specs.Rosters.{RosterShape}
-use Rattle.user_relations.specs.Relations.{RelationShape}
-use Rattle.policy_book.specs.Shapes.{PolicyShape}
-use Rattle.basics.specs.Reading.{◌>>=◌, or_fault, check}
+use Rattle.rbac_state.specs.Laws.Rosters.{RosterShape}
+use Rattle.user_relations.specs.Laws.Relations.{RelationShape}
+use Rattle.policy_book.specs.Laws.Shapes.{PolicyShape}
+use Rattle.basics.specs.Laws.Reading.{◌>>=◌, or_fault, check}
 use Rattle.policy_reader.specs.declared.fault.PolicyPart.TheVariants.{File, Users}
 use Rattle.policy_reader.specs.declared.fault.PolicyKind.TheVariants as kind
 use Rattle.policy_reader.specs.Faults.{Reading, fault}
 use Rattle.policy_reader.specs.declared.format.Format.{Format}
 use Rattle.policy_reader.specs.Formats.{file_keys}
-use Rattle.policy_reader.specs.Grammars.{Grammar, today}
+use Rattle.policy_reader.specs.Laws.Grammars.{Grammar, today}
 use Rattle.policy_reader.specs.Parts.{value_at, text_name_in, number_in, no_others}
 use Rattle.policy_reader.specs.Rosters.{roles_of, roster_of, some_user_has}
 use Rattle.policy_reader.specs.Relations.{relations_of}

@@ -4,11 +4,11 @@ use Rattle.std.specs.Prelude.{Option, None, Some, Ok, Err, slice_index_or}
 use Rattle.std.specs.FinSet as set
 use Rattle.toml.specs.Data.{Data, Members, get_member}
 use Rattle.wf_names.specs.declared.limits.TheConstants.{FLOW_LIMIT}
-use Rattle.policy_reader.specs.Grammars.{Grammar}
-use Rattle.basics.specs.Pairs.{Pairs}
+use Rattle.policy_reader.specs.Laws.Grammars.{Grammar}
+use Rattle.basics.specs.Laws.Pairs.{Pairs}
 use Rattle.workflow_schema.specs.Flows.{FlowShape, is_before}
-use Rattle.policy_book.specs.Shapes.{PolicyShape, WorkflowShape}
-use Rattle.basics.specs.Reading.{◌>>=◌, each}
+use Rattle.policy_book.specs.Laws.Shapes.{PolicyShape, WorkflowShape}
+use Rattle.basics.specs.Laws.Reading.{◌>>=◌, each}
 use Rattle.policy_reader.specs.declared.fault.PolicyPart.TheVariants.{Flows}
 use Rattle.policy_reader.specs.declared.fault.PolicyKind.TheVariants as kind
 use Rattle.policy_reader.specs.declared.format.Format.{Format}

@@ -1,12 +1,12 @@
 -- Inside: what is true of the parts of a policy as they are read.
 use Rattle.std.specs.Prelude.{◌≡◌, ℕ, ◌<◌, Bool, true, false, List, []}
 use Rattle.std.specs.List.{AllByRecursion}
-use Rattle.policy_book.specs.Shapes.{PolicyShape}
+use Rattle.policy_book.specs.Laws.Shapes.{PolicyShape}
 use Rattle.workflow_schema.specs.declared.fault.FlowFault.{FlowFault}
 use Rattle.workflow_schema.specs.declared.fault.FlowFault.TheVariants.{TooMany, Twice, Cycle}
 use Rattle.workflow_schema.specs.declared.fault.FlowFault.TheVariants.{NoMemory}
 use Rattle.constraint_forms.specs.Assign.{is_member}
-use Rattle.policy_reader.specs.Printable.{IsFreshPolicy}
+use Rattle.policy_reader.specs.Laws.Printable.{IsFreshPolicy}
 
 -- a group has only steps below n
 abbrev pub HasStepsBelow : ℕ → List Bool → Type 0

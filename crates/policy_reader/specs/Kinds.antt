@@ -5,8 +5,9 @@ use Rattle.std.specs.List.{IsDistinct}
 use Rattle.std.specs.Cmp.Lexicographic.{pointwise}
 use Rattle.std.specs.FinSet as set
 use Rattle.toml.specs.Data.{Data}
-use Rattle.user_relations.specs.Relations.{RelationKind, listed, complement, RelationShape, kind_of}
-use Rattle.user_relations.specs.Relations.{known_names}
+use Rattle.user_relations.specs.Laws.Relations.{RelationKind, listed, complement, RelationShape}
+use Rattle.user_relations.specs.Laws.Relations.{kind_of}
+use Rattle.user_relations.specs.Laws.Relations.{known_names}
 use Rattle.wf_names.specs.declared.limits.TheConstants.{PAIR_LIMIT}
 use Rattle.policy_reader.specs.Bounds.{AreBelow}
 use Rattle.policy_reader.specs.Relations.{first_declared, is_complement, names_of}

@@ -1,8 +1,10 @@
 -- What is true of the readings of policy files.
+pub mod Grammars
+pub mod Printable
 use Rattle.std.specs.Prelude.{◌≡◌, ℕ, List, Ok}
-use Rattle.policy_book.specs.Shapes.{PolicyShape}
+use Rattle.policy_book.specs.Laws.Shapes.{PolicyShape}
 use Rattle.policy_reader.specs.File.{IsFilePolicy}
-use Rattle.policy_reader.specs.Grammars.{earlier, today}
+use Rattle.policy_reader.specs.Laws.Grammars.{earlier, today}
 use Rattle.policy_reader.specs.Files.{policy_by, policy_of_file}
 
 -- every file that was read as a policy before there was a second format is read as the same policy

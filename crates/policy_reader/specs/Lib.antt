@@ -8,9 +8,7 @@ pub mod Relations
 pub mod Kinds
 pub mod File
 pub mod Laws
-pub mod Printable
 pub mod Formats
-pub mod Grammars
 pub mod Forms
 pub mod Rules
 pub mod Flows

@@ -2,15 +2,15 @@
 use Rattle.std.specs.Prelude.{◌≡◌, ℕ, ◌<◌, List, length, Some, slice_get}
 use Rattle.wf_names.specs.Table.{AreNames}
 use Rattle.wf_names.specs.declared.limits.TheConstants.{STEP_LIMIT}
-use Rattle.rbac_state.specs.Rosters.{IsSoundRoster}
-use Rattle.user_relations.specs.Relations.{known_names}
-use Rattle.user_relations.specs.Soundness.{AreSoundRelations}
+use Rattle.rbac_state.specs.Laws.Rosters.{IsSoundRoster}
+use Rattle.user_relations.specs.Laws.Relations.{known_names}
+use Rattle.user_relations.specs.Laws.Soundness.{AreSoundRelations}
 use Rattle.workflow_schema.specs.Flows.{IsFlow}
 use Rattle.constraint_forms.specs.declared.rule.Rule.{Rule}
 use Rattle.constraint_forms.specs.declared.rule.Rule.TheVariants.{Pair, SomeOf, AllOf, SomeTo}
 use Rattle.constraint_forms.specs.declared.rule.Rule.TheVariants.{AllTo, AtMost, AtLeast}
-use Rattle.policy_book.specs.Shapes.{PolicyShape, WorkflowShape}
-use Rattle.policy_book.specs.Facts.{IsSoundPolicy}
+use Rattle.policy_book.specs.Laws.Shapes.{PolicyShape, WorkflowShape}
+use Rattle.policy_book.specs.Laws.Facts.{IsSoundPolicy}
 use Rattle.policy_book.specs.Policies.{flow_at}
 
 -- a group has a flag for each step that there may be

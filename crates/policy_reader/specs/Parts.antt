@@ -10,8 +10,8 @@ use Rattle.toml.specs.Data.{Data, string, Items, no_items, item, Members, no_mem
 use Rattle.toml.specs.Data.{get_member, as_str, as_array, as_table}
 use Rattle.wf_names.specs.Names.{is_name}
 use Rattle.wf_names.specs.Table.{place_of}
-use Rattle.basics.specs.Pairs.{Pairs}
-use Rattle.basics.specs.Reading.{◌>>=◌, or_fault, check, each}
+use Rattle.basics.specs.Laws.Pairs.{Pairs}
+use Rattle.basics.specs.Laws.Reading.{◌>>=◌, or_fault, check, each}
 use Rattle.policy_reader.specs.declared.fault.PolicyPart.{PolicyPart}
 use Rattle.policy_reader.specs.declared.fault.PolicyKind.TheVariants as kind
 use Rattle.policy_reader.specs.Faults.{Reading, fault, fault_about}

@@ -3,10 +3,10 @@ use Rattle.std.specs.Prelude.{codes, ℕ, List, [], ◌∷◌, ◌++◌, length,
 use Rattle.std.specs.FinSet as set
 use Rattle.toml.specs.Data.{Data, Members}
 use Rattle.wf_names.specs.declared.limits.TheConstants.{ROLE_LIMIT}
-use Rattle.policy_reader.specs.Grammars.{Grammar}
-use Rattle.rbac_state.specs.Rosters.{RosterShape}
+use Rattle.policy_reader.specs.Laws.Grammars.{Grammar}
+use Rattle.rbac_state.specs.Laws.Rosters.{RosterShape}
 use Rattle.policy_book.specs.Policies.{any_below}
-use Rattle.basics.specs.Reading.{◌>>=◌, each}
+use Rattle.basics.specs.Laws.Reading.{◌>>=◌, each}
 use Rattle.policy_reader.specs.declared.fault.PolicyPart.TheVariants.{Roles, Users}
 use Rattle.policy_reader.specs.Faults.{Reading}
 use Rattle.policy_reader.specs.Parts.{items, entries, array_in, items_at, entries_at, name_in}

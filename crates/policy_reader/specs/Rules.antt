@@ -4,12 +4,12 @@ use Rattle.std.specs.Prelude.{List, Option, [], ◌∷◌, ◌++◌, length, sli
 use Rattle.std.specs.Prelude.{option_and_then, Ok}
 use Rattle.toml.specs.Data.{Data, Members, as_integer, get_member, as_str}
 use Rattle.wf_names.specs.declared.limits.TheConstants.{RULE_LIMIT}
-use Rattle.user_relations.specs.Relations.{RelationShape, known_names}
+use Rattle.user_relations.specs.Laws.Relations.{RelationShape, known_names}
 use Rattle.constraint_forms.specs.Assign.{is_member, no_steps}
 use Rattle.constraint_forms.specs.Rules.{count_members}
 use Rattle.constraint_forms.specs.declared.rule.Rule.{Rule}
 use Rattle.constraint_forms.specs.declared.rule.Rule.TheVariants as rule
-use Rattle.basics.specs.Reading.{◌>>=◌, or_fault, each}
+use Rattle.basics.specs.Laws.Reading.{◌>>=◌, or_fault, each}
 use Rattle.policy_reader.specs.declared.fault.PolicyPart.TheVariants.{Flows}
 use Rattle.policy_reader.specs.declared.fault.PolicyKind.TheVariants as kind
 use Rattle.policy_reader.specs.declared.format.Format.{Format}

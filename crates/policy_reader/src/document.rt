@@ -2,15 +2,15 @@
 ghost use Rattle.std.specs.Prelude.{◌≡◌, ◌<◌, ◌≤◌, ◌+◌, List, ℕ, Ok, IfOk, OnOk, codes, length};
 ghost use Rattle.std.specs.Prelude.{string_bytes};
 ghost use Rattle.toml.specs.Data.{no_members, string};
-ghost use Rattle.user_relations.specs.Relations.{known_names};
-ghost use Rattle.user_relations.specs.Soundness.{AreSoundRelations};
-ghost use Rattle.policy_book.specs.Facts.{IsSoundPolicy};
+ghost use Rattle.user_relations.specs.Laws.Relations.{known_names};
+ghost use Rattle.user_relations.specs.Laws.Soundness.{AreSoundRelations};
+ghost use Rattle.policy_book.specs.Laws.Facts.{IsSoundPolicy};
 ghost use Rattle.policy_book.specs.Policies.{flow_at};
 ghost use Rattle.toml.specs.View.{table_view};
 ghost use Rattle.policy_reader.specs.Documents as spec;
 ghost use Rattle.policy_reader.specs.Files.{document_in, policy_of_file};
 ghost use Rattle.wf_names.specs.Table.{AreNames};
-ghost use Rattle.policy_reader.specs.Printable.{IsPrintable};
+ghost use Rattle.policy_reader.specs.Laws.Printable.{IsPrintable};
 ghost use Rattle.policy_reader.specs.Named.{IsNamedPolicy, IsNamedWorkflow};
 
 use crate::printed_flows::flows_value;

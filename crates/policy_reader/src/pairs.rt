@@ -9,7 +9,7 @@ ghost use Rattle.policy_reader.specs.Faults.{fault_of, fault_about};
 ghost use Rattle.policy_reader.specs.declared.fault.ReadFault.TheVariants.{Policy};
 ghost use Rattle.policy_reader.specs.declared.fault.PolicyKind.TheVariants as kind;
 ghost use Rattle.policy_reader.specs.Parts as parts;
-ghost use Rattle.basics.specs.Reading.{Gives, each};
+ghost use Rattle.basics.specs.Laws.Reading.{Gives, each};
 
 use crate::fault::{PolicyKind, PolicyPart, ReadFault, refuse, refuse_text};
 use crate::parts::number_of;

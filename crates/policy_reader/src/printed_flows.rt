@@ -2,7 +2,7 @@
 ghost use Rattle.std.specs.Prelude.{◌≡◌, ◌<◌, ◌≤◌, ◌+◌, ◌++◌, ◌∷◌, [], ℕ, length, map, true, IfOk};
 ghost use Rattle.std.specs.Prelude.{OnOk, codes};
 ghost use Rattle.std.specs.FinSet as set;
-ghost use Rattle.policy_book.specs.Facts.{AreSoundRules, IsSoundRule};
+ghost use Rattle.policy_book.specs.Laws.Facts.{AreSoundRules, IsSoundRule};
 ghost use Rattle.policy_book.specs.Policies.{flow_at};
 ghost use Rattle.wf_names.specs.declared.limits.TheConstants.{ROLE_LIMIT, STEP_LIMIT};
 ghost use Rattle.constraint_forms.specs.Assign.{is_member};

@@ -1,10 +1,10 @@
 //! Writes the users with their roles, and the relations between them.
 ghost use Rattle.std.specs.Prelude.{◌≡◌, ◌<◌, ◌+◌, ℕ, length, true, IfOk, OnOk, Some, None};
-ghost use Rattle.rbac_state.specs.Rosters.{has_role};
-ghost use Rattle.policy_book.specs.Facts.{AreOfUsers};
-ghost use Rattle.user_relations.specs.Relations.{complement_of, known_names, pairs_of};
+ghost use Rattle.rbac_state.specs.Laws.Rosters.{has_role};
+ghost use Rattle.policy_book.specs.Laws.Facts.{AreOfUsers};
+ghost use Rattle.user_relations.specs.Laws.Relations.{complement_of, known_names, pairs_of};
 ghost use Rattle.toml.specs.Data.{string};
-ghost use Rattle.user_relations.specs.Soundness.{AreSoundRelations};
+ghost use Rattle.user_relations.specs.Laws.Soundness.{AreSoundRelations};
 ghost use Rattle.toml.specs.View.{view, table_view};
 ghost use Rattle.wf_names.specs.Names.{is_name};
 ghost use Rattle.wf_names.specs.Table.{AreNames};

@@ -9,10 +9,10 @@ ghost use Rattle.policy_reader.specs.Faults.{fault_of};
 ghost use Rattle.policy_reader.specs.declared.fault.PolicyPart.TheVariants.{Users};
 ghost use Rattle.policy_reader.specs.Parts as parts;
 ghost use Rattle.policy_reader.specs.Parts.{items as part_items, entries};
-ghost use Rattle.policy_reader.specs.Printable.{Ascend};
+ghost use Rattle.policy_reader.specs.Laws.Printable.{Ascend};
 ghost use Rattle.policy_reader.specs.Rosters as rosters;
-ghost use Rattle.policy_reader.specs.Grammars.{today};
-ghost use Rattle.basics.specs.Reading.{Gives, each};
+ghost use Rattle.policy_reader.specs.Laws.Grammars.{today};
+ghost use Rattle.basics.specs.Laws.Reading.{Gives, each};
 
 use crate::fault::{PolicyPart, ReadFault};
 use crate::parts::{array_of, entries_at, items_at, name_of, named_of, next_name, twice};

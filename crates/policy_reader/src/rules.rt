@@ -5,13 +5,13 @@ ghost use Rattle.toml.specs.View.{view, items_view, table_view};
 ghost use Rattle.wf_names.specs.declared.limits.TheConstants.{STEP_LIMIT, RULE_LIMIT};
 ghost use Rattle.constraint_forms.specs.Rules.{any_from};
 ghost use Rattle.constraint_forms.specs.Assign.{no_steps};
-ghost use Rattle.policy_book.specs.Facts.{IsSoundRule, AreSoundRules, IsWithinGroup};
+ghost use Rattle.policy_book.specs.Laws.Facts.{IsSoundRule, AreSoundRules, IsWithinGroup};
 ghost use Rattle.policy_reader.specs.Faults.{fault_of};
 ghost use Rattle.policy_reader.specs.declared.fault.ReadFault.TheVariants.{NoMemory};
 ghost use Rattle.policy_reader.specs.Kept.{HasStepsBelow};
 ghost use Rattle.policy_reader.specs.Parts.{items as part_items};
 ghost use Rattle.policy_reader.specs.Rules as spec;
-ghost use Rattle.basics.specs.Reading.{Gives, each};
+ghost use Rattle.basics.specs.Laws.Reading.{Gives, each};
 
 use crate::fault::{PolicyKind, PolicyPart, ReadFault, refuse, refuse_text};
 use crate::form::Form;

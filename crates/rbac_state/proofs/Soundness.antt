@@ -2,11 +2,11 @@
 use Rattle.std.proofs.Common.{◌≡◌, ℕ, ◌<◌, ◌≤◌, List, [], length, arith}
 use Rattle.std.specs.Prelude.{Result, Ok, Err, OnOk, OnErr}
 use Rattle.std.specs.FinSet as set
-use Rattle.basics.specs.Pairs.{Pairs, AllPairs}
+use Rattle.basics.specs.Laws.Pairs.{Pairs, AllPairs}
 use Rattle.basics.specs.PairLaws.{all_empty}
 use Rattle.wf_names.specs.declared.limits.TheConstants.{ROLE_LIMIT}
 use Rattle.rbac_state.specs.declared.RosterFault.{RosterFault}
-use Rattle.rbac_state.specs.Rosters.{RosterShape, IsSoundRoster}
+use Rattle.rbac_state.specs.Laws.Rosters.{RosterShape, IsSoundRoster}
 
 pub sound_new : (roles : List (List ℕ)) → length roles ≤ ROLE_LIMIT → IsSoundRoster (record { users = []; roles = roles; members = set.empty })
 sound_new roles few = record { users = omega arith; roles = few; members = all_empty _ }

@@ -1,2 +1,2 @@
-pub mod Rosters
 pub mod Rows
+pub mod Laws

@@ -1,6 +1,6 @@
 -- Inside: how memberships are kept, as a row of users for each role.
 use Rattle.std.specs.Prelude.{◌≡◌, ℕ, ◌<◌, Bool, true, List, [], slice_index_or}
-use Rattle.basics.specs.Pairs.{Pairs}
+use Rattle.basics.specs.Laws.Pairs.{Pairs}
 use Rattle.basics.specs.Tables.{set_of}
 use Rattle.wf_names.specs.declared.limits.TheConstants.{USER_LIMIT, ROLE_LIMIT}
 use Rattle.wf_names.specs.UserSets.{has_user}

@@ -7,7 +7,7 @@ ghost use Rattle.std.specs.FinSet as set;
 ghost use Rattle.wf_names.specs.declared.limits.TheConstants.{ROLE_LIMIT, USER_LIMIT};
 ghost use Rattle.wf_names.specs.Table.{place_of};
 ghost use Rattle.wf_names.specs.UserSets.{has_user};
-ghost use Rattle.rbac_state.specs.Rosters.{RosterShape, has_role, IsSoundRoster};
+ghost use Rattle.rbac_state.specs.Laws.Rosters.{RosterShape, has_role, IsSoundRoster};
 
 mod members;
 
@@ -39,7 +39,7 @@ pub struct Roster {
 impl Model for Roster {
     ghost use Rattle.std.specs.Prelude.{◌≡◌};
     ghost use Rattle.wf_names.specs.declared.limits.TheConstants.{USER_LIMIT};
-    ghost use Rattle.rbac_state.specs.Rosters.{RosterShape, roster_code, IsSoundRoster};
+    ghost use Rattle.rbac_state.specs.Laws.Rosters.{RosterShape, roster_code, IsSoundRoster};
 
     ghost Value = { RosterShape };
 

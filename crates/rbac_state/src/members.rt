@@ -17,7 +17,7 @@ pub(crate) struct Members {
 }
 
 impl Model for Members {
-    ghost use Rattle.basics.specs.Pairs.{Pairs, pairs_code};
+    ghost use Rattle.basics.specs.Laws.Pairs.{Pairs, pairs_code};
     ghost use Rattle.rbac_state.specs.Rows.{AreWithinLimits, memberships_of};
 
     ghost Value = { Pairs };

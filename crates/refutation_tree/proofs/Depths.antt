@@ -2,7 +2,7 @@
 use denote.Param.Weighed.{most}
 use Rattle.std.proofs.Common.{◌≡◌, ℕ, ◌<◌, ◌≤◌, ◌+◌, ◌*◌, List, [], ◌∷◌, sym, subst, arith}
 use Rattle.refutation_tree.specs.Tree.{Kids, size_of_kids}
-use Rattle.refutation_tree.specs.Views.{kids_of_items}
+use Rattle.refutation_tree.specs.Laws.Views.{kids_of_items}
 use Rattle.refutation_tree.specs.Falls.{falls}
 use Rattle.refutation_tree.specs.declared.tree.Branch.{Branch}
 use Rattle.refutation_tree.specs.declared.tree.Tree.{Tree}

@@ -2,7 +2,7 @@
 use Rattle.std.proofs.Common.{◌≡◌, refl, sym, ap, ◌∙◌, ℕ, zero, suc, ◌+◌, ◌<◌, List, [], ◌∷◌, ◌++◌, length, drop, get_or, arith}
 use Rattle.std.proofs.lemmas.List.{drop_more}
 use Rattle.refutation_tree.specs.Tree.{Kids, no_kids, tree_kid, twin_kid, joined, kid_count, kids_from, nodes_of_kids}
-use Rattle.refutation_tree.specs.Views.{branch_onto, kid_onto, kids_of_items}
+use Rattle.refutation_tree.specs.Laws.Views.{branch_onto, kid_onto, kids_of_items}
 use Rattle.refutation_tree.specs.declared.tree.Branch.{Branch}
 use Rattle.refutation_tree.specs.declared.tree.Kid.{Kid}
 use Rattle.refutation_tree.specs.declared.tree.Kid.TheVariants.{Tree as Tree_kid, Twin}

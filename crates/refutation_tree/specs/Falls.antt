@@ -2,7 +2,7 @@
 use denote.Param.Weighed.{most}
 use Rattle.std.proofs.Common.{ℕ, ◌≤◌, max, List, [], ◌∷◌, arith}
 use Rattle.refutation_tree.specs.Tree.{Kids, size_of_kids}
-use Rattle.refutation_tree.specs.Views.{kid_onto, kids_of_items}
+use Rattle.refutation_tree.specs.Laws.Views.{kid_onto, kids_of_items}
 use Rattle.refutation_tree.specs.declared.tree.Tree.TheVariants.{Holder, Rule, Step}
 use Rattle.refutation_tree.specs.declared.tree.Branch.{Branch}
 use Rattle.refutation_tree.specs.declared.tree.Kid.{Kid}

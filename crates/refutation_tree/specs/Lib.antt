@@ -1,4 +1,4 @@
 pub mod Tree
-pub mod Views
 pub mod Codes
 pub mod Falls
+pub mod Laws

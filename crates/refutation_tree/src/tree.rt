@@ -2,7 +2,7 @@
 ghost use Rattle.std.specs.Prelude.{◌≡◌, ◌≤◌, ◌+◌, IfOk, OnOk, OnErr, MatchOption};
 ghost use Rattle.refutation_tree.specs.Tree.{no_kids, capped, joined, kid_count, kids_from};
 ghost use Rattle.refutation_tree.specs.Tree.{nodes_of, nodes_of_kids};
-ghost use Rattle.refutation_tree.specs.Views.{branch_onto, kids_of_items, shape_of};
+ghost use Rattle.refutation_tree.specs.Laws.Views.{branch_onto, kids_of_items, shape_of};
 
 use std::alloc::{AllocError, Global};
 use std::marker::Model;
@@ -53,7 +53,7 @@ impl Model for Branches {
 
     ghost coded = { kids_code };
 
-    ghost use Rattle.refutation_tree.specs.Views.{kids_of_items};
+    ghost use Rattle.refutation_tree.specs.Laws.Views.{kids_of_items};
 
     ghost view = { λ b. kids_of_items b.items.items };
 

@@ -4,14 +4,14 @@ use Rattle.std.proofs.Common.{inl, inr}
 use Rattle.std.proofs.lemmas.Bool.{false≢true}
 use Rattle.std.proofs.lemmas.List.Elements.{All-head, All-tail}
 use Rattle.std.specs.FinSet as set
-use Rattle.basics.specs.Pairs.{Pairs}
+use Rattle.basics.specs.Laws.Pairs.{Pairs}
 use Rattle.basics.specs.PairLaws.{pair_cmp-IsAntisymmetric}
 use Rattle.basics.proofs.Booleans.{differ, not_true, not_yes, or_cases}
 use Rattle.constraint_forms.specs.Assign.{is_member, planned, no_steps, no_users}
-use Rattle.policy_book.specs.Shapes.{PolicyShape}
+use Rattle.policy_book.specs.Laws.Shapes.{PolicyShape}
 use Rattle.policy_book.specs.Policies.{any_below, flow_at, is_authorised, problem_of}
-use Rattle.policy_book.specs.Plans.{IsValidPlan}
-use Rattle.policy_book.specs.Twins.{is_one_of}
+use Rattle.policy_book.specs.Laws.Plans.{IsValidPlan}
+use Rattle.policy_book.specs.Laws.Twins.{is_one_of}
 use Rattle.certificate_check.proofs.Below.{all_pass, each_passes}
 use Rattle.resilience_check.specs.Left.{CanDoWithout, policy_without, problem_without}
 use Rattle.resilience_check.specs.Covering.{AreValidPlans, is_whole, leaves_some}

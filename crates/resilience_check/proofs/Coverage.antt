@@ -6,9 +6,9 @@ use Rattle.std.proofs.lemmas.Bool.Decides.{eqb_tells}
 use Rattle.std.proofs.lemmas.List.Elements.{All-head, All-tail}
 use Rattle.basics.proofs.Booleans.{or_cases, or_left, or_right}
 use Rattle.constraint_forms.specs.Assign.{planned, no_steps, no_users}
-use Rattle.policy_book.specs.Plans.{IsValidPlan, Problem}
-use Rattle.policy_book.specs.Refuting.{passing}
-use Rattle.policy_book.specs.Twins.{is_one_of}
+use Rattle.policy_book.specs.Laws.Plans.{IsValidPlan, Problem}
+use Rattle.policy_book.specs.Laws.Refuting.{passing}
+use Rattle.policy_book.specs.Laws.Twins.{is_one_of}
 use Rattle.certificate_check.proofs.Refuted.{passing-has}
 use Rattle.resilience_check.specs.Left.{AreUsersInOrder, AreUsers}
 use Rattle.resilience_check.specs.Lists.{AreFrom}

@@ -8,10 +8,10 @@ use Rattle.basics.proofs.Booleans.{and_both, differ, eq_back, lt_back, or_cases,
 use Rattle.constraint_forms.specs.Assign.{is_member, no_steps, no_users}
 use Rattle.constraint_forms.proofs.Members.{none_member}
 use Rattle.refutation_tree.specs.declared.tree.Tree.{Tree}
-use Rattle.policy_book.specs.Shapes.{PolicyShape}
+use Rattle.policy_book.specs.Laws.Shapes.{PolicyShape}
 use Rattle.policy_book.specs.Policies.{problem_of}
-use Rattle.policy_book.specs.Plans.{IsValidPlan, IsWellFormed}
-use Rattle.refutation_tree.specs.Views.{shape_of}
+use Rattle.policy_book.specs.Laws.Plans.{IsValidPlan, IsWellFormed}
+use Rattle.refutation_tree.specs.Laws.Views.{shape_of}
 use Rattle.certificate_check.proofs.Refuted.{refutes_soundly}
 use Rattle.resilience_check.specs.Left.{AreUsersInOrder, IsLeastAbsence, comes_before, is_less, problem_without}
 use Rattle.resilience_check.specs.Covering.{AreValidPlans, is_whole, leaves_some}

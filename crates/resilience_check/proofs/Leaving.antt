@@ -5,7 +5,7 @@ use Rattle.std.proofs.Math.Bool.{or_assoc}
 use Rattle.std.proofs.lemmas.Bool.{false≢true, eqb-true}
 use Rattle.basics.proofs.Booleans.{or_cases, or_left, or_right, not_true, not_yes, not_false, differ, bool_cases, or-false}
 use Rattle.constraint_forms.specs.Assign.{planned}
-use Rattle.policy_book.specs.Twins.{all_below, is_one_of}
+use Rattle.policy_book.specs.Laws.Twins.{all_below, is_one_of}
 use Rattle.certificate_check.proofs.Below.{all_pass, each_passes}
 use Rattle.resilience_check.specs.Covering.{is_whole, leaves_some}
 use Rattle.resilience_check.specs.Lists.{CanBreak, IsWholeIn, Withstands}

@@ -3,16 +3,12 @@ use Rattle.std.proofs.Common.{◌≡◌, refl, sym, ap, ◌∙◌, ℕ, ◌+◌,
 use Rattle.std.proofs.Common.{◌∷◌, ◌++◌, length, arith}
 use Rattle.std.proofs.lemmas.Bool.Decides.{nat_tests}
 use Rattle.std.specs.FinSet as set
-use Rattle.std.specs.Cmp.{unsigned_tied}
-use Rattle.std.specs.Ordering.{nat_cmp, eq_by_cmp, is_eq, ordering_then}
-use Rattle.std.specs.declared.cmp.Ordering.{Ordering}
-use Rattle.std.specs.declared.cmp.Ordering.TheVariants.{Less, Equal, Greater}
-use Rattle.basics.specs.Pairs.{Pairs, pair_cmp, AllPairs}
+use Rattle.basics.specs.Laws.Pairs.{Pairs, AllPairs}
 use Rattle.basics.specs.PairLaws.{pair_cmp_total, pair_cmp-IsAntisymmetric}
 use Rattle.basics.specs.Tables.{pairs_tied}
 use Rattle.basics.proofs.Booleans.{and_same, lt_yes, or-false}
-use Rattle.rbac_state.specs.Rosters.{RosterShape, IsSoundRoster}
-use Rattle.policy_book.specs.Twins.{is_one_of}
+use Rattle.rbac_state.specs.Laws.Rosters.{RosterShape, IsSoundRoster}
+use Rattle.policy_book.specs.Laws.Twins.{is_one_of}
 use Rattle.resilience_check.specs.Left.{members_without}
 use Rattle.resilience_check.specs.Searches.{members_below}
 use Rattle.resilience_check.proofs.Ones.{one_append}

@@ -4,7 +4,7 @@ use Rattle.std.proofs.Common.{length, cond, get_or, ◌⊎◌, inl, inr, arith}
 use Rattle.std.proofs.Math.Bool.{or_assoc}
 use Rattle.std.proofs.lemmas.Bool.{false≢true, eqb-true}
 use Rattle.basics.proofs.Booleans.{or_cases, or_left, or_right, eq_is, eq_same}
-use Rattle.policy_book.specs.Twins.{is_one_of}
+use Rattle.policy_book.specs.Laws.Twins.{is_one_of}
 
 pub one_append : (xs ys : List ℕ) (u : ℕ) → is_one_of (xs ++ ys) u ≡ (is_one_of xs u || is_one_of ys u)
 one_append [] ys u = refl

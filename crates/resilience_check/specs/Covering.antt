@@ -3,12 +3,12 @@ use Rattle.std.specs.Prelude.{ℕ, ◌≤◌, Bool, true, false, not, ◌||◌, 
 use Rattle.std.specs.Prelude.{◌∷◌, length, IsTrue}
 use Rattle.std.specs.List.{All}
 use Rattle.constraint_forms.specs.Assign.{planned, no_users, no_steps}
-use Rattle.refutation_tree.specs.Views.{shape_of}
-use Rattle.policy_book.specs.Shapes.{PolicyShape}
+use Rattle.refutation_tree.specs.Laws.Views.{shape_of}
+use Rattle.policy_book.specs.Laws.Shapes.{PolicyShape}
 use Rattle.policy_book.specs.Policies.{problem_of}
-use Rattle.policy_book.specs.Plans.{IsValidPlan, Problem}
-use Rattle.policy_book.specs.Refuting.{refutes}
-use Rattle.policy_book.specs.Twins.{all_below, is_one_of}
+use Rattle.policy_book.specs.Laws.Plans.{IsValidPlan, Problem}
+use Rattle.policy_book.specs.Laws.Refuting.{refutes}
+use Rattle.policy_book.specs.Laws.Twins.{all_below, is_one_of}
 use Rattle.resilience_check.specs.Left.{IsLeastAbsence, problem_without}
 use Rattle.resilience_check.specs.declared.search.AbsenceAnswer.{AbsenceAnswer}
 use Rattle.resilience_check.specs.declared.search.AbsenceAnswer.TheVariants.{Holds, Breaks}

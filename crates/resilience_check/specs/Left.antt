@@ -2,12 +2,12 @@
 use Rattle.std.specs.Prelude.{◌≡◌, ℕ, ◌+◌, ◌<◌, ◌≤◌, Bool, true, false, not, ◌&&◌, ◌||◌, ◌==◌}
 use Rattle.std.specs.Prelude.{nat_lt, List, [], ◌∷◌, length}
 use Rattle.std.specs.FinSet as set
-use Rattle.basics.specs.Pairs.{Pairs}
+use Rattle.basics.specs.Laws.Pairs.{Pairs}
 use Rattle.constraint_forms.specs.Assign.{no_users, no_steps}
-use Rattle.policy_book.specs.Shapes.{PolicyShape}
+use Rattle.policy_book.specs.Laws.Shapes.{PolicyShape}
 use Rattle.policy_book.specs.Policies.{problem_of, with_roster}
-use Rattle.policy_book.specs.Plans.{Problem, IsCompletable}
-use Rattle.policy_book.specs.Twins.{is_one_of}
+use Rattle.policy_book.specs.Laws.Plans.{Problem, IsCompletable}
+use Rattle.policy_book.specs.Laws.Twins.{is_one_of}
 
 -- memberships without those of absent users
 abbrev pub members_without : List ℕ → Pairs → Pairs

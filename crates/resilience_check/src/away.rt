@@ -1,6 +1,6 @@
 //! Users who are away.
 ghost use Rattle.std.specs.Prelude.{◌≡◌};
-ghost use Rattle.policy_book.specs.Twins.{is_one_of};
+ghost use Rattle.policy_book.specs.Laws.Twins.{is_one_of};
 ghost use Rattle.resilience_check.specs.Lists.{users_away};
 
 use wf_names::UserId;

@@ -2,7 +2,7 @@
 use Rattle.std.proofs.Common.{◌≡◌, refl, ℕ, true, Option, None, Some, is_some}
 use Rattle.std.proofs.lemmas.Bool.{false≢true}
 use Rattle.constraint_forms.specs.Assign.{user_at}
-use Rattle.policy_book.specs.Plans.{AreAssigned}
+use Rattle.policy_book.specs.Laws.Plans.{AreAssigned}
 use Rattle.rule_core.specs.declared.progress.Progress.{Progress}
 
 given : (o : Option ℕ) → is_some o ≡ true → (u : ℕ) × (o ≡ Some u)

@@ -11,9 +11,9 @@ use Rattle.constraint_forms.specs.declared.rule.Rule.{Rule}
 use Rattle.constraint_forms.specs.declared.rule.Rule.TheVariants.{Pair, SomeOf, AllOf, SomeTo, AllTo, AtMost, AtLeast}
 use Rattle.constraint_forms.specs.Assign.{user_at, planned, is_member}
 use Rattle.constraint_forms.specs.Rules.{all_from, any_read, is_satisfied, relation_of, said_of}
-use Rattle.policy_book.specs.Plans.{AreAssigned, IsValidPlan, Problem}
+use Rattle.policy_book.specs.Laws.Plans.{AreAssigned, IsValidPlan, Problem}
 use Rattle.policy_book.specs.Policies.{any_below}
-use Rattle.policy_book.specs.Twins.{is_one_of}
+use Rattle.policy_book.specs.Laws.Twins.{is_one_of}
 use Rattle.rule_core.specs.Search.{without}
 use Rattle.rule_core.specs.Crowds.{CrowdsBlock, all_parted, are_parted, is_open_to, is_parted_from, is_parting, is_strict, may_take_one, relates, those_below}
 use Rattle.rule_core.proofs.Listing.{one_here, without_keeps}

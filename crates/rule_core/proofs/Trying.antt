@@ -5,9 +5,9 @@ use Rattle.std.proofs.lemmas.Bool.Decides.{eqb_tells}
 use Rattle.std.proofs.lemmas.Option.{slice_get_within}
 use Rattle.std.specs.Bool.{IsTrue}
 use Rattle.refutation_tree.specs.Tree.{Shape}
-use Rattle.policy_book.specs.Plans.{AreAssigned, IsCompletable, IsWellFormed, Problem}
-use Rattle.policy_book.specs.Refuting.{refutes}
-use Rattle.policy_book.specs.Twins.{is_one_of}
+use Rattle.policy_book.specs.Laws.Plans.{AreAssigned, IsCompletable, IsWellFormed, Problem}
+use Rattle.policy_book.specs.Laws.Refuting.{refutes}
+use Rattle.policy_book.specs.Laws.Twins.{is_one_of}
 use Rattle.certificate_check.proofs.Refuted.{refutes_soundly}
 use Rattle.rule_core.specs.Search.{AreAscending, FewerIsEasier, IsBlocked, IsCore, problem_with, rules_at, without}
 use Rattle.rule_core.specs.Leaves.{uses_rule}

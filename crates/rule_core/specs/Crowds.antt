@@ -6,9 +6,9 @@ use Rattle.constraint_forms.specs.declared.rule.Rule.TheVariants.{Pair, SomeOf, 
 use Rattle.constraint_forms.specs.declared.rule.Rule.TheVariants.{AllTo, AtMost, AtLeast}
 use Rattle.constraint_forms.specs.Assign.{user_at, is_member}
 use Rattle.constraint_forms.specs.Rules.{any_read}
-use Rattle.policy_book.specs.Plans.{Problem, AreAssigned, IsCompletable}
+use Rattle.policy_book.specs.Laws.Plans.{Problem, AreAssigned, IsCompletable}
 use Rattle.policy_book.specs.Policies.{any_below}
-use Rattle.policy_book.specs.Twins.{all_below, is_one_of}
+use Rattle.policy_book.specs.Laws.Twins.{all_below, is_one_of}
 
 -- nobody has a relation to themselves
 abbrev pub is_strict : Problem → ℕ → Bool

@@ -2,6 +2,6 @@ pub mod Search
 pub mod Leaves
 pub mod Trials
 pub mod Crowds
-pub mod Whys
 pub mod Progress
 pub mod Finished
+pub mod Laws

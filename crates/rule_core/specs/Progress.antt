@@ -1,7 +1,7 @@
 -- What is said of how far a case has come.
 use Rattle.std.specs.Prelude.{ℕ, Bool, List, Option}
 use Rattle.policy_book.specs.Course.{problem_in}
-use Rattle.policy_book.specs.Plans.{Problem}
+use Rattle.policy_book.specs.Laws.Plans.{Problem}
 use Rattle.rule_core.specs.declared.progress.Progress.{Progress}
 
 -- what is said of a workflow, an assignment and finished steps, of these of a case

@@ -2,10 +2,10 @@
 use Rattle.std.specs.Prelude.{◌≡◌, ℕ, ◌+◌, ◌<◌, ◌≤◌, Bool, true, ◌==◌, List, [], ◌∷◌, length}
 use Rattle.std.specs.Prelude.{Option, None, Some, if◌then◌else◌, slice_get}
 use Rattle.constraint_forms.specs.declared.rule.Rule.{Rule}
-use Rattle.policy_book.specs.Shapes.{PolicyShape}
+use Rattle.policy_book.specs.Laws.Shapes.{PolicyShape}
 use Rattle.policy_book.specs.Policies.{problem_of}
-use Rattle.policy_book.specs.Plans.{Problem, IsCompletable}
-use Rattle.policy_book.specs.Twins.{is_one_of}
+use Rattle.policy_book.specs.Laws.Plans.{Problem, IsCompletable}
+use Rattle.policy_book.specs.Laws.Twins.{is_one_of}
 
 -- a rule before others, where there is one
 abbrev pub rule_onto : Option Rule → List Rule → List Rule
@@ -45,7 +45,7 @@ pub record IsCore (p : Problem) (assigned : List (Option ℕ)) (finished : List 
   pub needed : (k : ℕ) → is_one_of numbers k ≡ true →
       IsCompletable (problem_with p (without k numbers)) assigned finished
 
--- a policy whose only workflow is this one with the rules of these numbers alone
+-- a policy whose only workflow has the rules of these numbers alone, and else is the problem's
 pub record IsWithRules (p : Problem) (numbers : List ℕ) (left : PolicyShape) : Type 0 where
   pub alone : length left.flows ≡ 1
   pub problem : problem_of left 0 ≡ problem_with p numbers

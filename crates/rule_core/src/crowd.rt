@@ -3,7 +3,8 @@ ghost use Rattle.std.specs.Prelude.{◌≡◌, ℕ, ◌<◌, ◌&&◌, ◌||◌,
 ghost use Rattle.constraint_forms.specs.Assign.{user_at};
 ghost use Rattle.constraint_forms.specs.Rules.{any_read};
 ghost use Rattle.policy_book.specs.Course.{problem_in};
-ghost use Rattle.rule_core.specs.Crowds.{AreSteps, all_parted, are_parted, is_open_to, is_parted_from};
+ghost use Rattle.rule_core.specs.Crowds.{AreSteps, all_parted, are_parted, is_open_to};
+ghost use Rattle.rule_core.specs.Crowds.{is_parted_from};
 ghost use Rattle.rule_core.specs.Crowds.{is_parting, is_strict, may_take_one, relates, those_below};
 
 use basics::List;

@@ -2,7 +2,7 @@
 ghost use Rattle.std.specs.Prelude.{◌≡◌, ℕ, ◌<◌, ◌≤◌, true, length, IfOk, IfSome};
 ghost use Rattle.wf_names.specs.declared.limits.TheConstants.{STEP_LIMIT};
 ghost use Rattle.policy_book.specs.Course.{problem_in};
-ghost use Rattle.policy_book.specs.Twins.{is_one_of};
+ghost use Rattle.policy_book.specs.Laws.Twins.{is_one_of};
 ghost use Rattle.rule_core.specs.Crowds.{IsCrowd};
 
 use crate::crowd::{StepList, are_parted, is_crowd};

@@ -1,7 +1,7 @@
 //! The rules at the leaves of a tree.
 ghost use Rattle.std.specs.Prelude.{◌≡◌, ◌==◌};
 ghost use Rattle.refutation_tree.specs.Tree.{no_kids};
-ghost use Rattle.refutation_tree.specs.Views.{branch_onto, kids_of_items, shape_of};
+ghost use Rattle.refutation_tree.specs.Laws.Views.{branch_onto, kids_of_items, shape_of};
 ghost use Rattle.rule_core.specs.Leaves.{any_uses, uses_rule};
 
 use refutation_tree::{Branch, Kid, Tree};

@@ -1,6 +1,6 @@
 //! How far a case has come.
 ghost use Rattle.policy_book.specs.Course.{problem_in};
-ghost use Rattle.policy_book.specs.Plans.{IsWithin};
+ghost use Rattle.policy_book.specs.Laws.Plans.{IsWithin};
 ghost use Rattle.rule_core.specs.Finished.{HaveUsers};
 
 use policy_book::{Assign, Course, StepSet};

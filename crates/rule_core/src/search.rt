@@ -6,7 +6,7 @@ ghost use Rattle.policy_book.specs.Course.{problem_in};
 ghost use Rattle.rule_core.specs.Progress.{in_case};
 ghost use Rattle.rule_core.specs.Search.{IsCore, IsBlocked, problem_with};
 ghost use Rattle.rule_core.specs.Trials.{HasTried, HasStarted};
-ghost use Rattle.rule_core.specs.Whys.{IsWhy};
+ghost use Rattle.rule_core.specs.Laws.Whys.{IsWhy};
 ghost use Rattle.wsp_solver.specs.Searches.{HasSolved};
 
 use crate::crowd::StepList;

@@ -1,7 +1,8 @@
 -- How a run ends: the status of each ending, how and when a run comes to it, and when counts of
 -- faults rise. What else is told of endings is told by `how_of` and `when_of` alone.
-use Rattle.std.specs.Prelude.{◌≡◌, ℕ, ◌≤◌, Bool, true, false, Result, Ok, Err}
-use Rattle.wf_outside.specs.Outside.{Rose}
+use Rattle.std.specs.Prelude.{◌≡◌, ℕ, ◌≤◌, Bool, true, false, Result, Ok, Err, List, ◌++◌, codes}
+use Rattle.std.specs.Prelude.{decimal}
+use Rattle.wf_outside.specs.Laws.Outside.{Rose}
 use Rattle.policy_reader.specs.declared.fault.ReadFault.{ReadFault}
 use Rattle.policy_reader.specs.declared.fault.ReadFault.TheVariants as reading
 use Rattle.run_record.specs.declared.fault.RunFault.{RunFault}
@@ -10,6 +11,23 @@ use Rattle.run_record.specs.declared.fault.RunFault.TheVariants.{Read, Write, Lo
 use Rattle.run_record.specs.declared.fault.RunFault.TheVariants.{FileTooLong, LineTooLong}
 use Rattle.run_record.specs.declared.fault.RunFault.TheVariants.{TooManyLines, BadInput, TooLarge}
 use Rattle.run_record.specs.declared.fault.InputFault.TheVariants.{NoFlow}
+use Rattle.policy_reader.specs.Fault.{fault_text}
+
+-- what is printed of each ending
+abbrev pub fault_said : RunFault → List ℕ
+fault_said Nothing = codes "wfserve: done"
+fault_said Found = codes "wfserve: found"
+fault_said Usage = codes "wfserve: usage"
+fault_said (Policy fault) = codes "wfserve: policy " ++ fault_text fault
+fault_said Read = codes "wfserve: read fault"
+fault_said Write = codes "wfserve: write fault"
+fault_said Load = codes "wfserve: load fault"
+fault_said NoMemory = codes "wfserve: no memory"
+fault_said FileTooLong = codes "wfserve: file too long"
+fault_said (LineTooLong line) = codes "wfserve: line " ++ decimal line ++ codes " too long"
+fault_said TooManyLines = codes "wfserve: too many lines"
+fault_said (BadInput fault) = codes "wfserve: bad input"
+fault_said TooLarge = codes "wfserve: too large"
 
 -- the status of each ending
 abbrev pub status_of : RunFault → ℕ

@@ -1,4 +1,3 @@
 pub mod Fault
-pub mod Texts
 pub mod Report
-pub mod Run
+pub mod Laws

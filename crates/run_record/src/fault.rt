@@ -1,7 +1,7 @@
 //! How a run ends, with its status and its text.
 ghost use Rattle.std.specs.Prelude.{◌≡◌, Some};
 ghost use Rattle.run_record.specs.Fault.{status_of, reading_ended};
-ghost use Rattle.run_record.specs.Texts.{fault_said};
+ghost use Rattle.run_record.specs.Fault.{fault_said};
 ghost use Rattle.run_record.specs.declared.fault.RunFault.TheVariants.{NoMemory};
 
 use policy_reader::{PolicyFault, ReadFault};

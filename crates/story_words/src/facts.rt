@@ -2,7 +2,7 @@
 ghost use Rattle.std.specs.Prelude.{◌≡◌, true, IfSome};
 ghost use Rattle.constraint_forms.specs.Assign.{user_at};
 ghost use Rattle.constraint_forms.specs.Rules.{are_unrelated, turned};
-ghost use Rattle.user_relations.specs.Relations.{is_related};
+ghost use Rattle.user_relations.specs.Laws.Relations.{is_related};
 
 use crate::held::Held;
 use crate::names::push_users;

@@ -2,7 +2,7 @@
 ghost use Rattle.std.specs.Prelude.{◌≡◌, ℕ, ◌<◌, Some, true, length, is_some, IsTrue};
 ghost use Rattle.constraint_forms.specs.Assign.{is_member, user_at};
 ghost use Rattle.policy_book.specs.Course.{problem_in};
-ghost use Rattle.policy_book.specs.Plans.{IsWithin};
+ghost use Rattle.policy_book.specs.Laws.Plans.{IsWithin};
 ghost use Rattle.rule_core.specs.Finished.{HaveUsers};
 
 use crate::about::step_asked;

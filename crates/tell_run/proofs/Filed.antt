@@ -1,11 +1,11 @@
 -- How a run over one policy file ends, and one that reports nothing.
 use Rattle.std.proofs.Common.{refl, subst, ℕ, List, Option, None, Ok, inr}
-use Rattle.wf_outside.specs.Outside.{Filed, HasPart}
-use Rattle.policy_book.specs.Shapes.{PolicyShape}
+use Rattle.wf_outside.specs.Laws.Outside.{Filed, HasPart}
+use Rattle.policy_book.specs.Laws.Shapes.{PolicyShape}
 use Rattle.run_record.specs.declared.fault.RunFault.{RunFault}
 use Rattle.run_record.specs.declared.fault.RunFault.TheVariants.{Write}
 use Rattle.run_record.specs.Report.{Told}
-use Rattle.run_record.specs.Run.{Streams}
+use Rattle.run_record.specs.Laws.Run.{Streams}
 use Rattle.wf_commands.specs.declared.answer.Answer.{Answer}
 use Rattle.wf_commands.specs.Once.{RunsOnce}
 use Rattle.case_story.proofs.Answering.{ends_part}

@@ -1,14 +1,14 @@
 -- What a run of the program comes to, by what it is asked to tell.
 use Rattle.std.specs.Prelude.{◌≡◌, ℕ, List, None}
 use Rattle.std.proofs.Common.{◌⊎◌}
-use Rattle.wf_outside.specs.Outside.{Filed}
+use Rattle.wf_outside.specs.Laws.Outside.{Filed}
 use Rattle.run_record.specs.declared.fault.RunFault.{RunFault}
 use Rattle.run_record.specs.declared.fault.RunFault.TheVariants.{Nothing, Usage, NoMemory}
 use Rattle.run_record.specs.Fault.{CountsLoads, CountsWrites}
 use Rattle.run_record.specs.Report.{nothing_told}
-use Rattle.run_record.specs.Run.{Run, Streams}
+use Rattle.run_record.specs.Laws.Run.{Run, Streams}
 use Rattle.wf_commands.specs.Once.{Ends, RunsOnce}
-use Rattle.case_story.specs.Run.{Tells, TellsRun}
+use Rattle.case_story.specs.Transcript.{Tells, TellsRun}
 use Rattle.tell_run.specs.declared.words.Asked.{Asked}
 use Rattle.tell_run.specs.declared.words.Asked.TheVariants as asked
 use Rattle.tell_run.specs.Words.{CanTell}

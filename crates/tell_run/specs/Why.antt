@@ -1,9 +1,9 @@
 -- The command `why`: whether a workflow has a valid plan.
 use Rattle.std.specs.Prelude.{◌≡◌, ◌↔◌, ℕ, List, MatchOption}
 use Rattle.constraint_forms.specs.Assign.{no_users, no_steps}
-use Rattle.policy_book.specs.Shapes.{PolicyShape}
+use Rattle.policy_book.specs.Laws.Shapes.{PolicyShape}
 use Rattle.policy_book.specs.Policies.{problem_of}
-use Rattle.policy_book.specs.Plans.{IsCompletable}
+use Rattle.policy_book.specs.Laws.Plans.{IsCompletable}
 use Rattle.run_record.specs.declared.fault.RunFault.{RunFault}
 use Rattle.run_record.specs.declared.fault.RunFault.TheVariants.{Nothing, Found, BadInput}
 use Rattle.run_record.specs.declared.fault.InputFault.TheVariants.{NoFlow}

@@ -1,6 +1,6 @@
 //! The top call: one run of the program over a source, a sink and a shelf.
 ghost use Rattle.std.specs.Prelude.{◌≡◌, None};
-ghost use Rattle.run_record.specs.Run.{run_of, streams_of};
+ghost use Rattle.run_record.specs.Laws.Run.{run_of, streams_of};
 ghost use Rattle.run_record.specs.Fault.{CountsLoads, CountsWrites};
 ghost use Rattle.wf_commands.specs.Once.{RunsOnce};
 ghost use Rattle.tell_run.specs.Words.{CanTell};

@@ -5,7 +5,7 @@ use Rattle.std.proofs.lemmas.Grind.{common_steps}
 use Rattle.std.proofs.lemmas.List.{drop-take, length-drop, length-take-le}
 use Rattle.basics.proofs.Booleans.{bool_cases}
 use Rattle.wf_talk.specs.declared.job.Job.{Job}
-use Rattle.wf_board.specs.Histories.{batch_start, lane_jobs}
+use Rattle.wf_board.specs.Laws.Histories.{batch_start, lane_jobs}
 use Rattle.wf_talk.specs.Jobs.{AreOfLanes}
 use Rattle.line_reader.specs.Laws.{LeadTo}
 use Rattle.wf_desk.specs.BatchLaws.{EndAt}

@@ -5,7 +5,7 @@ use Rattle.std.proofs.lemmas.Grind.{common_steps}
 use Rattle.std.specs.Option.{option_map}
 use Rattle.basics.proofs.Booleans.{and_both, and_from, eq_back, eq_is, same_by}
 use Rattle.wf_names.specs.declared.limits.TheConstants.{SESSION_LINE_LIMIT}
-use Rattle.policy_book.specs.Shapes.{PolicyShape}
+use Rattle.policy_book.specs.Laws.Shapes.{PolicyShape}
 use Rattle.case_record.specs.Cases.{CaseShape}
 use Rattle.grant_table.specs.Cases.{CasesShape}
 use Rattle.wf_talk.specs.declared.entry.Entry.{Entry}
@@ -20,14 +20,14 @@ use Rattle.wf_board.specs.Admit.{HasAdmittedStep}
 use Rattle.wf_board.specs.Boards.{BoardShape, numbered, state_on}
 use Rattle.wf_board.specs.Counting.{counted, counted_end, counts_for, lane_end}
 use Rattle.wf_board.specs.Decisions.{decision_of, is_view, needs_verdict}
-use Rattle.wf_board.specs.Histories.{IsRetry}
+use Rattle.wf_board.specs.Laws.Histories.{IsRetry}
 use Rattle.wf_board.proofs.HistoryLaws.{after_again, after_more, again_rests, edits_within, step_once}
-use Rattle.wf_board.specs.States.{State, numbered_case, opening_state}
-use Rattle.wf_board.specs.Steps.{IsStep, state_after_step}
+use Rattle.wf_board.specs.Laws.States.{State, numbered_case, opening_state}
+use Rattle.wf_board.specs.Laws.Steps.{IsStep, state_after_step}
 use Rattle.wf_board.proofs.Counted.{count_later}
 use Rattle.wf_desk.proofs.DocketLaws.{next_lane, rest_from}
 use Rattle.wire_json.specs.Replies.{entry_text}
-use Rattle.entry_reader.specs.Lines.{entry_at}
+use Rattle.entry_reader.specs.Laws.Lines.{entry_at}
 use Rattle.entry_laws.proofs.Entries.{text_stays}
 use Rattle.transcript_audit.specs.declared.fault.AuditKind.TheVariants as kinds
 use Rattle.transcript_audit.specs.declared.flaw.Flaw.{Flaw}

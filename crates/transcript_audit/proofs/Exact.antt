@@ -4,18 +4,19 @@ use Rattle.std.proofs.Common.{◌≡◌, ℕ, zero, suc, ◌<◌, ◌≤◌, Lis
 use Rattle.std.proofs.Common.{ap, subst, ◌∙◌, arith}
 use Rattle.std.proofs.lemmas.List.{length-append, length-map, map-append, take-append-drop, take-append-le, take_all}
 use Rattle.wf_names.specs.declared.limits.TheConstants.{LANE_LIMIT}
-use Rattle.policy_book.specs.Shapes.{PolicyShape}
+use Rattle.policy_book.specs.Laws.Shapes.{PolicyShape}
 use Rattle.wf_talk.specs.declared.entry.Entry.{Entry}
 use Rattle.wf_talk.specs.declared.job.Job.{Job}
-use Rattle.wf_board.specs.Histories.{EachAfter, FillsJobs, IsLegal, IsRightAfter, RestsFrom, batch_end, batch_jobs, batch_start, job_of_entry, lane_jobs}
-use Rattle.wf_board.specs.Histories.{state_after}
+use Rattle.wf_board.specs.Laws.Histories.{EachAfter, FillsJobs, IsLegal, IsRightAfter, RestsFrom, batch_end, batch_jobs, batch_start, job_of_entry, lane_jobs}
+use Rattle.wf_board.specs.Laws.Histories.{state_after}
 use Rattle.wf_board.proofs.HistoryLaws.{after_all, each_later}
-use Rattle.wf_board.specs.States.{State, opening_state}
+use Rattle.wf_board.specs.Laws.States.{State, opening_state}
 use Rattle.wire_json.specs.Replies.{entry_text}
 use Rattle.line_reader.specs.Laws.{AreInOrder}
+use Rattle.wf_desk.proofs.Resuming.{get_behind}
 use Rattle.wf_desk.proofs.DocketLaws.{lane_both, lane_own}
-use Rattle.wf_desk.specs.Parts.{FillsPart, lane_answered, lane_asked}
-use Rattle.entry_laws.specs.Transcripts.{texts_of}
+use Rattle.wf_desk.specs.Laws.Parts.{FillsPart, lane_answered, lane_asked}
+use Rattle.entry_laws.specs.Laws.Transcripts.{texts_of}
 use Rattle.transcript_audit.specs.Auditor.{AreNext, AuditShape, ComesNext, IsNextLine, IsTranscript, IsTranscriptPart, audit_of, end_at, next_job}
 use Rattle.transcript_audit.specs.Auditor.{present_start}
 use Rattle.transcript_audit.specs.Auditor.{state_now, with_entry}

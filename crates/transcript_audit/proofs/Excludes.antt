@@ -9,18 +9,18 @@ use Rattle.wf_names.specs.declared.limits.TheConstants.{LANE_LIMIT, SESSION_LINE
 use Rattle.wf_talk.specs.declared.entry.Entry.{Entry}
 use Rattle.wf_talk.specs.declared.job.Job.{Job}
 use Rattle.wf_talk.specs.Jobs.{IsNamedAsk}
-use Rattle.policy_book.specs.Shapes.{PolicyShape}
-use Rattle.policy_book.specs.Facts.{IsSoundPolicy}
+use Rattle.policy_book.specs.Laws.Shapes.{PolicyShape}
+use Rattle.policy_book.specs.Laws.Facts.{IsSoundPolicy}
 use Rattle.wf_board.proofs.Keeping.{histories_stay_sound}
-use Rattle.wf_board.specs.Histories.{IsRightAfter, job_of_entry, lane_jobs, state_after}
+use Rattle.wf_board.specs.Laws.Histories.{IsRightAfter, job_of_entry, lane_jobs, state_after}
 use Rattle.wf_board.proofs.HistoryLaws.{each_more}
-use Rattle.wf_board.specs.States.{State, opening_state}
+use Rattle.wf_board.specs.Laws.States.{State, opening_state}
 use Rattle.line_reader.specs.Laws.{AddsNamed, AreLinesBelow, AreNamedJobs}
 use Rattle.wf_desk.specs.Desks.{served_jobs}
 use Rattle.entry_reader.specs.declared.place.Place.{Place}
 use Rattle.entry_reader.specs.Named.{HasNames}
 use Rattle.entry_reader.specs.Places.{place_of_line}
-use Rattle.entry_reader.specs.Lines.{IsLineOf, entry_at}
+use Rattle.entry_reader.specs.Laws.Lines.{IsLineOf, entry_at}
 use Rattle.entry_reader.proofs.LinesBack.{line_placed, line_reply}
 use Rattle.entry_laws.specs.Laws.{EntriesAreLines, IsLastOf, IsOneLine, TextsAreLines}
 use Rattle.transcript_audit.specs.declared.fault.AuditKind.{AuditKind}

@@ -4,9 +4,9 @@ use Rattle.std.proofs.Common.{sym, ap, subst, ◌∙◌, arith}
 use Rattle.std.proofs.lemmas.Grind.{common_steps}
 use Rattle.std.proofs.lemmas.List.{length-map, length-take-le, take-take, take_all}
 use Rattle.basics.proofs.Booleans.{bool_cases, eq_back}
-use Rattle.wf_board.specs.Histories.{BatchRests, EachAfter, RestsFrom, batch_end, batch_jobs, batch_start, job_of_entry, lane_jobs}
+use Rattle.wf_board.specs.Laws.Histories.{BatchRests, EachAfter, RestsFrom, batch_end, batch_jobs, batch_start, job_of_entry, lane_jobs}
 use Rattle.wf_desk.specs.Desks.{served_jobs}
-use Rattle.wf_desk.specs.Parts.{FillsPart, lane_answered, lane_asked}
+use Rattle.wf_desk.specs.Laws.Parts.{FillsPart, lane_answered, lane_asked}
 use Rattle.transcript_audit.specs.Auditor.{AuditShape}
 use Rattle.transcript_audit.specs.Keeping.{IsSoundAudit, jobs_in}
 use Rattle.transcript_audit.proofs.Batches.{end_read, next_start, start_first, start_rises}

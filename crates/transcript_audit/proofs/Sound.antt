@@ -6,12 +6,12 @@ use Rattle.std.proofs.lemmas.List.{drop_all, length-append, length-take-le, take
 use Rattle.std.proofs.lemmas.Option.{slice_get_cases}
 use Rattle.basics.proofs.Booleans.{bool_cases, eq_back}
 use Rattle.wf_names.specs.declared.limits.TheConstants.{LANE_LIMIT, SESSION_LINE_LIMIT}
-use Rattle.policy_book.specs.Shapes.{PolicyShape}
+use Rattle.policy_book.specs.Laws.Shapes.{PolicyShape}
 use Rattle.wf_talk.specs.declared.entry.Entry.{Entry}
 use Rattle.wf_talk.specs.declared.job.Job.{Job}
-use Rattle.wf_board.specs.Histories.{EachAfter, FillsJobs, IsLegal, IsRightAfter, RestsFrom, batch_start, job_of_entry, lane_jobs}
+use Rattle.wf_board.specs.Laws.Histories.{EachAfter, FillsJobs, IsLegal, IsRightAfter, RestsFrom, batch_start, job_of_entry, lane_jobs}
 use Rattle.wf_board.proofs.HistoryLaws.{each_more, rests_more}
-use Rattle.wf_board.specs.States.{opening_state}
+use Rattle.wf_board.specs.Laws.States.{opening_state}
 use Rattle.line_reader.specs.Laws.{AreInOrder}
 use Rattle.wf_desk.specs.Desks.{DeskShape, IsDone, served, served_jobs}
 use Rattle.wf_desk.specs.Desks as desk
@@ -19,7 +19,7 @@ use Rattle.wf_desk.specs.BatchLaws.{EndAt}
 use Rattle.wf_desk.proofs.BatchLaws.{batch_fills}
 use Rattle.wf_desk.proofs.DocketLaws.{all_done, batch_short, front_more, no_more, served_other, served_own}
 use Rattle.transcript_audit.specs.Auditor.{AuditShape, ComesNext, audit_of, end_at, next_job, present_start, with_entry}
-use Rattle.transcript_audit.specs.Outcomes.{IsWhole}
+use Rattle.transcript_audit.specs.Laws.Outcomes.{IsWhole}
 use Rattle.transcript_audit.specs.Keeping.{IsSoundAudit, end_of, jobs_in}
 use Rattle.transcript_audit.proofs.Batches.{end_is, end_read, ends_within, first_ends, last_start, next_start, part_length, read_behind, start_ahead}
 use Rattle.transcript_audit.proofs.Batches.{start_before_end, start_is, start_within}

@@ -4,19 +4,19 @@ use Rattle.std.specs.Prelude.{◌≡◌, ◌≢◌, ℕ, ◌-◌, nat_le, nat_eq
 use Rattle.std.specs.Prelude.{drop, map, slice_get, slice_index_or, Option, None, Some, option_map}
 use Rattle.std.specs.Prelude.{if◌then◌else◌}
 use Rattle.std.proofs.Common.{◌⊎◌}
-use Rattle.policy_book.specs.Shapes.{PolicyShape}
+use Rattle.policy_book.specs.Laws.Shapes.{PolicyShape}
 use Rattle.wf_talk.specs.declared.entry.Entry.{Entry}
 use Rattle.wf_talk.specs.declared.job.Job.{Job}
 use Rattle.wf_talk.specs.declared.reply.Reply.{Reply}
-use Rattle.wf_board.specs.States.{State, numbered_case, opening_state}
-use Rattle.wf_board.specs.Histories.{FillsJobs, IsLegal, IsRightAfter, RestsFrom, job_of_entry}
-use Rattle.wf_board.specs.Histories.{lane_jobs, state_after}
-use Rattle.wf_desk.specs.Parts.{FillsPart}
+use Rattle.wf_board.specs.Laws.States.{State, numbered_case, opening_state}
+use Rattle.wf_board.specs.Laws.Histories.{FillsJobs, IsLegal, IsRightAfter, RestsFrom, job_of_entry}
+use Rattle.wf_board.specs.Laws.Histories.{lane_jobs, state_after}
+use Rattle.wf_desk.specs.Laws.Parts.{FillsPart}
 use Rattle.wire_json.specs.Replies.{entry_text}
 use Rattle.entry_reader.specs.declared.place.Place.{Place}
 use Rattle.entry_reader.specs.Places.{place_of_line}
-use Rattle.entry_reader.specs.Lines.{HasNoReply, HasReply, entry_at}
-use Rattle.entry_laws.specs.Transcripts.{texts_of}
+use Rattle.entry_reader.specs.Laws.Lines.{HasNoReply, HasReply, entry_at}
+use Rattle.entry_laws.specs.Laws.Transcripts.{texts_of}
 use Rattle.transcript_audit.specs.declared.fault.AuditKind.{AuditKind}
 use Rattle.transcript_audit.specs.declared.fault.AuditKind.TheVariants.{Text, At, Job as WrongJob}
 use Rattle.transcript_audit.specs.declared.fault.AuditKind.TheVariants.{Reply as WrongReply}

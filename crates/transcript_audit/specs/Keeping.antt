@@ -11,16 +11,16 @@ use Rattle.wf_talk.specs.declared.request.Ask.{Ask}
 use Rattle.wf_talk.specs.declared.request.Ask.TheVariants as ask
 use Rattle.wf_talk.specs.declared.request.Request.TheVariants as request
 use Rattle.wf_board.specs.Counting.{counted, counted_end, lane_end}
-use Rattle.wf_board.specs.Histories.{EachAfter, FillsJobs, IsLegal, RestsFrom, batch_start}
-use Rattle.wf_board.specs.Histories.{lane_jobs}
-use Rattle.wf_board.specs.States.{opening_state}
+use Rattle.wf_board.specs.Laws.Histories.{EachAfter, FillsJobs, IsLegal, RestsFrom, batch_start}
+use Rattle.wf_board.specs.Laws.Histories.{lane_jobs}
+use Rattle.wf_board.specs.Laws.States.{opening_state}
 use Rattle.wf_desk.specs.Desks.{served_jobs}
 use Rattle.wf_desk.specs.Docket.{IsNextPlace, entry_for}
 use Rattle.line_reader.specs.Laws.{AreInOrder}
 use Rattle.entry_reader.specs.declared.place.Place.{Place}
 use Rattle.entry_reader.specs.declared.fault.TextFault.{TextFault}
 use Rattle.entry_reader.specs.declared.fault.TextFault.TheVariants as text
-use Rattle.entry_reader.specs.Lines.{HasReply}
+use Rattle.entry_reader.specs.Laws.Lines.{HasReply}
 use Rattle.wf_board.specs.declared.admit.AdmitFault.{AdmitFault}
 use Rattle.wf_board.specs.declared.admit.AdmitFault.TheVariants as admit
 use Rattle.transcript_audit.specs.declared.cursor.Cursor.{Cursor}

@@ -1,8 +1,9 @@
 -- What an audit finds, and what a transcript is.
+pub mod Outcomes
 use Rattle.std.specs.Prelude.{◌≡◌, ◌↔◌, ◌<◌, ◌^◌, ℕ, List, length}
 use Rattle.wf_names.specs.declared.limits.TheConstants.{LANE_LIMIT}
-use Rattle.policy_book.specs.Shapes.{PolicyShape}
-use Rattle.policy_book.specs.Facts.{IsSoundPolicy}
+use Rattle.policy_book.specs.Laws.Shapes.{PolicyShape}
+use Rattle.policy_book.specs.Laws.Facts.{IsSoundPolicy}
 use Rattle.wf_talk.specs.declared.entry.Entry.{Entry}
 use Rattle.wf_talk.specs.declared.job.Job.{Job}
 use Rattle.line_reader.specs.Laws.{AreInOrder, AreNamedJobs}

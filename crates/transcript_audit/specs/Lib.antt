@@ -1,4 +1,3 @@
 pub mod Auditor
-pub mod Outcomes
 pub mod Laws
 pub mod Keeping

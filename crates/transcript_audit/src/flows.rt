@@ -1,7 +1,7 @@
 //! Which workflow each case of a board is of.
 ghost use Rattle.std.specs.Prelude.{◌≡◌, map, option_map};
 ghost use Rattle.wf_board.specs.Boards.{numbered};
-ghost use Rattle.wf_board.specs.States.{numbered_case};
+ghost use Rattle.wf_board.specs.Laws.States.{numbered_case};
 
 use grant_table::Cases;
 use wf_names::{CaseId, FlowId};

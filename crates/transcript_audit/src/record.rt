@@ -3,13 +3,13 @@ ghost use Rattle.std.specs.Prelude.{◌≡◌, ◌≤◌, nat_eq, true, length, 
 ghost use Rattle.std.specs.Arc.{arc_value};
 ghost use Rattle.wf_names.specs.declared.limits.TheConstants.{LANE_LIMIT, SESSION_LINE_LIMIT};
 ghost use Rattle.line_reader.specs.Laws.{AreInOrder};
-ghost use Rattle.wf_board.specs.Histories.{IsLegal};
-ghost use Rattle.wf_board.specs.States.{opening_state};
-ghost use Rattle.wf_desk.specs.Parts.{FillsPart};
+ghost use Rattle.wf_board.specs.Laws.Histories.{IsLegal};
+ghost use Rattle.wf_board.specs.Laws.States.{opening_state};
+ghost use Rattle.wf_desk.specs.Laws.Parts.{FillsPart};
 ghost use Rattle.transcript_audit.specs.Auditor.{ComesNext, audit_of, next_job, present_jobs};
 ghost use Rattle.transcript_audit.specs.Auditor.{present_start, with_entry};
 ghost use Rattle.transcript_audit.specs.Keeping.{entry_next, rests_on};
-ghost use Rattle.transcript_audit.specs.Outcomes.{IsWhole};
+ghost use Rattle.transcript_audit.specs.Laws.Outcomes.{IsWhole};
 
 use crate::AuditKind;
 use crate::again::{count, own_start};
@@ -39,7 +39,7 @@ pub(crate) struct Record {
 impl Model for Record {
     ghost use Rattle.std.specs.Arc.{arc_value};
     ghost use Rattle.std.specs.Coded.{codes};
-    ghost use Rattle.policy_book.specs.Shapes.{policy_code};
+    ghost use Rattle.policy_book.specs.Laws.Shapes.{policy_code};
     ghost use Rattle.refutation_tree.specs.Codes.{kids_code};
     ghost use Rattle.transcript_audit.specs.Keeping.{IsRecord, RecordShape};
 

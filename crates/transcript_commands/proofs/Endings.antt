@@ -1,14 +1,14 @@
 -- How the search for a finding ends.
 use Rattle.std.proofs.Common.{◌≡◌, Result, Ok, Err}
 use Rattle.std.specs.Prelude.{IfErr, IsErrAnd}
-use Rattle.wf_outside.specs.Outside.{Filed, told, missing, untold}
+use Rattle.wf_outside.specs.Laws.Outside.{Filed, told, missing, untold}
 use Rattle.run_record.specs.declared.fault.RunFault.{RunFault}
 use Rattle.run_record.specs.declared.fault.RunFault.TheVariants.{Policy, Read, Load, NoMemory, FileTooLong}
 use Rattle.run_record.specs.Fault.{fault_in}
 use Rattle.wf_commands.specs.Load.{IsLoadEnding}
 use Rattle.transcript_commands.specs.declared.finding.Finding.{Finding}
 use Rattle.transcript_commands.specs.Run.{EndsFinding}
-use Rattle.transcript_commands.specs.Running.{EndsWithout}
+use Rattle.transcript_commands.specs.Audit.{EndsWithout}
 use Rattle.transcript_commands.specs.Steps.{IsAuditEnding, IsReadEnding}
 
 load_is : (fault : RunFault) → IsLoadEnding fault → IsAuditEnding fault

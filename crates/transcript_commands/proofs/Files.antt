@@ -1,12 +1,12 @@
 -- How a run stops at its files, or goes on.
 use Rattle.std.proofs.Common.{◌≡◌, ℕ, true, List, Option, None, Some, Ok, Err, inl, inr, sym, subst, ◌∙◌}
 use Rattle.wf_names.specs.declared.limits.TheConstants.{REQUESTS_FILE_LIMIT}
-use Rattle.wf_outside.specs.Outside.{Filed, told, missing, untold}
-use Rattle.policy_book.specs.Shapes.{PolicyShape}
+use Rattle.wf_outside.specs.Laws.Outside.{Filed, told, missing, untold}
+use Rattle.policy_book.specs.Laws.Shapes.{PolicyShape}
 use Rattle.policy_reader.specs.File.{IsFilePolicy}
 use Rattle.line_reader.specs.declared.stop.Stop.{Stop}
 use Rattle.line_reader.specs.declared.whole.CutText.{CutText}
-use Rattle.line_reader.specs.Jobs.{Cut, jobs_of_input}
+use Rattle.line_reader.specs.Laws.Jobs.{Cut, jobs_of_input}
 use Rattle.line_reader.specs.Reader.{lines_of}
 use Rattle.run_record.specs.declared.fault.RunFault.{RunFault}
 use Rattle.run_record.specs.declared.fault.RunFault.TheVariants.{Load, LineTooLong}

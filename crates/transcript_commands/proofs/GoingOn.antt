@@ -1,6 +1,6 @@
 -- The desk with the jobs of the batch in which a session stopped, behind those of the batches before.
 use Rattle.std.proofs.Common.{◌≡◌, ◌++◌, ℕ, List, [], length, take, refl, sym, ap, subst, ◌∙◌, append-nil}
-use Rattle.policy_book.specs.Shapes.{PolicyShape}
+use Rattle.policy_book.specs.Laws.Shapes.{PolicyShape}
 use Rattle.wf_talk.specs.declared.entry.Entry.{Entry}
 use Rattle.wf_talk.specs.declared.job.Job.{Job}
 use Rattle.wf_board.specs.Boards.{BoardShape}

@@ -9,13 +9,13 @@ use Rattle.line_reader.proofs.FirstLines.{lines_first}
 use Rattle.transcript_audit.specs.declared.fault.AuditFault.{AuditFault}
 use Rattle.transcript_audit.specs.declared.fault.AuditFault.TheVariants.{At, NoMemory}
 use Rattle.transcript_audit.specs.declared.fault.AuditKind.{AuditKind}
-use Rattle.policy_book.specs.Shapes.{PolicyShape}
-use Rattle.wf_board.specs.States.{State, opening_state}
-use Rattle.wf_board.specs.Histories.{state_after}
+use Rattle.policy_book.specs.Laws.Shapes.{PolicyShape}
+use Rattle.wf_board.specs.Laws.States.{State, opening_state}
+use Rattle.wf_board.specs.Laws.Histories.{state_after}
 use Rattle.transcript_audit.specs.Auditor.{AuditShape, AreNext, HasFault, audit_of, state_now}
 use Rattle.transcript_audit.proofs.Exact.{next_pushed}
 use Rattle.transcript_audit.specs.Laws.{AreOfSession, FaultsExclude, NextIsOne, PartIsExact}
-use Rattle.transcript_audit.specs.Outcomes.{HasTakenLine, IsFirstFault}
+use Rattle.transcript_audit.specs.Laws.Outcomes.{HasTakenLine, IsFirstFault}
 use Rattle.transcript_commands.specs.Auditing.{FailsIn, HasTakenAll, HasTakenFirst}
 use Rattle.transcript_commands.specs.Resumed.{FailsAt, IsTakenUp, RefusesBy, Session, whole_lines}
 

@@ -3,8 +3,8 @@ use Rattle.std.proofs.Common.{◌≡◌, ℕ, ◌≤◌, List, [], length, Resul
 use Rattle.std.specs.Prelude.{◌↔◌, IfOk, IfErr, IfSome, IsErrAnd}
 use Rattle.std.proofs.lemmas.Bool.{le-ltb, lt-ltb}
 use Rattle.wf_names.specs.declared.limits.TheConstants.{POLICY_FILE_LIMIT, REQUESTS_FILE_LIMIT}
-use Rattle.wf_outside.specs.Outside.{Filed, told, missing, untold}
-use Rattle.policy_book.specs.Shapes.{PolicyShape}
+use Rattle.wf_outside.specs.Laws.Outside.{Filed, told, missing, untold}
+use Rattle.policy_book.specs.Laws.Shapes.{PolicyShape}
 use Rattle.line_reader.specs.declared.whole.Batch.{Batch}
 use Rattle.line_reader.specs.Reader.{AreShort, lines_of}
 use Rattle.transcript_audit.specs.Auditor.{AuditShape, IsTranscript, audit_of}
@@ -21,7 +21,7 @@ use Rattle.transcript_commands.proofs.Legal.{legal_input}
 use Rattle.transcript_commands.specs.Finding.{HasFound, ending_of, finding_text}
 use Rattle.transcript_commands.specs.Laws.{LegalIsExact}
 use Rattle.transcript_commands.specs.Loading.{GivesJobs, JobsOf}
-use Rattle.transcript_commands.specs.Running.{AuditOf, AuditsFile, AuditsPolicy, AuditsRequests, EndsWithout, Input, audit_for}
+use Rattle.transcript_commands.specs.Audit.{AuditOf, AuditsFile, AuditsPolicy, AuditsRequests, EndsWithout, Input, audit_for}
 use Rattle.transcript_commands.specs.Steps.{FindsAs, FindsFile, IsReadEnding}
 
 -- ---- what is found with them

@@ -5,9 +5,9 @@ use Rattle.std.specs.Prelude.{IfSome}
 use Rattle.std.proofs.Common.{rules}
 use Rattle.std.proofs.lemmas.List.{append-nil, append_assoc, length-append}
 use Rattle.wf_names.specs.declared.limits.TheConstants.{TRANSCRIPT_LINE_LIMIT}
-use Rattle.wf_outside.specs.Outside.{HasTaken, IsAtEnd, bytes_before}
+use Rattle.wf_outside.specs.Laws.Outside.{HasTaken, IsAtEnd, bytes_before}
 use Rattle.wf_outside.proofs.OutsideLaws.{more_taken, nothing_taken}
-use Rattle.policy_book.specs.Shapes.{PolicyShape}
+use Rattle.policy_book.specs.Laws.Shapes.{PolicyShape}
 use Rattle.wf_talk.specs.declared.entry.Entry.{Entry}
 use Rattle.wire_json.specs.Replies.{entry_text}
 use Rattle.line_reader.specs.Reader.{ReaderShape, pending, HasSeen, HasReadLine, HasReadToEnd, HasPassed, first_line, behind_line, has_end, line_length}

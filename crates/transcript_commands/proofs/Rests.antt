@@ -7,11 +7,11 @@ use Rattle.basics.proofs.Booleans.{bool_cases}
 use Rattle.wf_names.specs.declared.limits.TheConstants.{BATCH_LINE_LIMIT}
 use Rattle.wf_talk.specs.declared.entry.Entry.{Entry}
 use Rattle.wf_talk.specs.declared.job.Job.{Job}
-use Rattle.wf_board.specs.Histories.{EachAfter, RestsFrom, batch_end, batch_start, job_of_entry, lane_jobs}
+use Rattle.wf_board.specs.Laws.Histories.{EachAfter, RestsFrom, batch_end, batch_start, job_of_entry, lane_jobs}
 use Rattle.line_reader.specs.Laws.{LeadTo}
 use Rattle.wf_desk.specs.Desks.{AnswersPart, AreOfLanes, served_jobs}
 use Rattle.wf_desk.proofs.DocketLaws.{first_of_lanes}
-use Rattle.wf_desk.specs.Parts.{FillsPart, lane_answered}
+use Rattle.wf_desk.specs.Laws.Parts.{FillsPart, lane_answered}
 use Rattle.transcript_audit.specs.Keeping.{IsBatchOf, end_of}
 use Rattle.transcript_audit.proofs.Batches.{batch_there, end_is, end_read, ends_within, last_start, read_behind, rest_of_lanes, start_before_end}
 use Rattle.transcript_audit.proofs.Batches.{start_is}

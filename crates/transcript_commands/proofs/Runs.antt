@@ -2,14 +2,14 @@
 use Rattle.std.proofs.Common.{◌≡◌, ℕ, true, List, [], Option, Result, Ok, Err, refl, subst, ◌∙◌, arith}
 use Rattle.std.specs.Prelude.{IsErrAnd}
 use Rattle.wf_names.specs.declared.limits.TheConstants.{POLICY_FILE_LIMIT}
-use Rattle.wf_outside.specs.Outside.{Filed, told, missing, untold, HasPart, with_bytes}
+use Rattle.wf_outside.specs.Laws.Outside.{Filed, told, missing, untold, HasPart, with_bytes}
 use Rattle.wf_outside.proofs.OutsideLaws.{nothing_put, nothing_taken}
-use Rattle.policy_book.specs.Shapes.{PolicyShape}
+use Rattle.policy_book.specs.Laws.Shapes.{PolicyShape}
 use Rattle.run_record.specs.declared.fault.RunFault.{RunFault}
 use Rattle.run_record.specs.declared.fault.RunFault.TheVariants.{Nothing, Policy, Read, Write, Load, NoMemory, FileTooLong}
 use Rattle.run_record.specs.Fault.{fault_in, is_before_input, CountsLoads, CountsReadsAlone, CountsWrites}
 use Rattle.run_record.specs.Report.{nothing_told}
-use Rattle.run_record.specs.Run.{Run, OverFile}
+use Rattle.run_record.specs.Laws.Run.{Run, OverFile}
 use Rattle.wf_commands.specs.Once.{Ends, HasText, IsQuiet, OverPolicy}
 use Rattle.wf_commands.specs.Load.{EndsTooLong, IsLoadEnding}
 use Rattle.wf_commands.specs.Answer as answer
@@ -17,7 +17,7 @@ use Rattle.wf_commands.proofs.Runs.{ends_refused, loaded, no_writes, own_reads, 
 use Rattle.transcript_commands.specs.declared.finding.Finding.{Finding}
 use Rattle.transcript_commands.specs.declared.finding.Finding.TheVariants.{Legal, Fault, TooLong}
 use Rattle.transcript_commands.specs.Finding.{ending_of, finding_text}
-use Rattle.transcript_commands.specs.Running.{AuditsPolicy, AuditsRun, EndsWithout, ReadsAsAudit}
+use Rattle.transcript_commands.specs.Audit.{AuditsPolicy, AuditsRun, EndsWithout, ReadsAsAudit}
 use Rattle.transcript_commands.specs.Steps.{FailsAs, FindsFile, HasTakenSome, HasToldPart, IsAuditEnding}
 
 -- ---- by the ending

@@ -7,10 +7,10 @@ use Rattle.std.proofs.lemmas.List.{length-take-le, take-append-drop, take-take, 
 use Rattle.basics.proofs.Booleans.{bool_cases, le_back, le_yes}
 use Rattle.wf_talk.specs.declared.entry.Entry.{Entry}
 use Rattle.wf_talk.specs.declared.job.Job.{Job}
-use Rattle.wf_board.specs.Histories.{EachAfter, FillsJobs, RestsFrom, batch_end, batch_jobs, batch_start, job_of_entry, lane_jobs}
+use Rattle.wf_board.specs.Laws.Histories.{EachAfter, FillsJobs, RestsFrom, batch_end, batch_jobs, batch_start, job_of_entry, lane_jobs}
 use Rattle.wf_desk.specs.BatchLaws.{EndAt}
 use Rattle.wf_desk.specs.Desks.{AreOfLanes, DeskShape, jobs_told}
-use Rattle.wf_desk.specs.Parts.{FillsPart}
+use Rattle.wf_desk.specs.Laws.Parts.{FillsPart}
 use Rattle.line_reader.specs.Cutter.{ends_after}
 use Rattle.line_reader.specs.Laws.{LeadTo}
 use Rattle.transcript_audit.proofs.Batches.{first_ends, part_length, start_first as front_start, start_rises}
@@ -18,7 +18,7 @@ use Rattle.transcript_audit.proofs.Parts.{map_first}
 use Rattle.transcript_commands.specs.Unserved.{end_at, jobs_between, start_at}
 use Rattle.transcript_commands.specs.Resumed.{GoesOnAt, Session}
 use Rattle.transcript_commands.proofs.Rests.{answers_part, bounds_order, bounds_within, lanes_between}
-use Rattle.transcript_commands.specs.Begun.{StandsAt, ends_to}
+use Rattle.transcript_commands.specs.Laws.Begun.{StandsAt, ends_to}
 
 -- ---- how many ends are not behind a place
 

@@ -1,12 +1,12 @@
 -- A session that was taken up.
 use Rattle.std.proofs.Common.{◌≡◌, ℕ, ◌≤◌, true, List, [], None, Result, Ok, Err, length, take, refl, sym, ap, subst, ◌∙◌}
 use Rattle.std.specs.Prelude.{IsErrAnd}
-use Rattle.policy_book.specs.Shapes.{PolicyShape}
-use Rattle.policy_book.specs.Facts.{IsSoundPolicy}
+use Rattle.policy_book.specs.Laws.Shapes.{PolicyShape}
+use Rattle.policy_book.specs.Laws.Facts.{IsSoundPolicy}
 use Rattle.line_reader.specs.declared.whole.CutText.{CutText}
-use Rattle.line_reader.specs.Jobs.{Cut, jobs_of_input, next_input, start_from}
+use Rattle.line_reader.specs.Laws.Jobs.{Cut, jobs_of_input, next_input, start_from}
 use Rattle.line_reader.specs.Laws.{AreInOrder, GoesOn, InputsGoOn}
-use Rattle.wf_board.specs.Histories.{batch_start}
+use Rattle.wf_board.specs.Laws.Histories.{batch_start}
 use Rattle.line_reader.specs.BatchReader.{BatchReaderShape}
 use Rattle.run_record.specs.declared.fault.RunFault.{RunFault}
 use Rattle.run_record.specs.declared.fault.RunFault.TheVariants as run
@@ -17,7 +17,7 @@ use Rattle.transcript_commands.specs.declared.start.Beginning.{Beginning}
 use Rattle.transcript_commands.specs.declared.start.TheConstants.{PIECE}
 use Rattle.transcript_commands.specs.declared.refusal.Refusal.{Refusal}
 use Rattle.transcript_commands.specs.declared.refusal.Refusal.TheVariants.{Ends}
-use Rattle.transcript_commands.specs.Begun.{BeginsBy, HasBegun, StandsAt, StopsBy, ends_to, session_of}
+use Rattle.transcript_commands.specs.Laws.Begun.{BeginsBy, HasBegun, StandsAt, StopsBy, ends_to, session_of}
 use Rattle.transcript_commands.specs.Load.{IsCutOf}
 use Rattle.transcript_commands.specs.Refusal.{refused_by}
 use Rattle.transcript_commands.proofs.Stands.{desk_lanes, reaches, stands, told_jobs}

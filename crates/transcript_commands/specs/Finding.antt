@@ -3,7 +3,7 @@ use Rattle.std.specs.Prelude.{◌≡◌, ℕ, ◌+◌, ◌<◌, ◌≤◌, List,
 use Rattle.std.specs.Prelude.{codes, decimal}
 use Rattle.std.proofs.Common.{◌⊎◌}
 use Rattle.wf_names.specs.declared.limits.TheConstants.{TRANSCRIPT_LINE_LIMIT}
-use Rattle.wf_outside.specs.Outside.{HasTaken, IsAtEnd}
+use Rattle.wf_outside.specs.Laws.Outside.{HasTaken, IsAtEnd}
 use Rattle.wf_talk.specs.declared.entry.Entry.{Entry}
 use Rattle.line_reader.specs.Reader.{line_length, lines_of}
 use Rattle.transcript_audit.specs.declared.fault.AuditKind.{AuditKind}

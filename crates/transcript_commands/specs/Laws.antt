@@ -1,6 +1,7 @@
 -- What `legal` means: the lines are the texts of entries that come next, one for each job.
+pub mod Begun
 use Rattle.std.specs.Prelude.{◌≡◌, ◌↔◌, ℕ, List, length}
-use Rattle.policy_book.specs.Shapes.{PolicyShape}
+use Rattle.policy_book.specs.Laws.Shapes.{PolicyShape}
 use Rattle.wf_talk.specs.declared.entry.Entry.{Entry}
 use Rattle.wf_talk.specs.declared.job.Job.{Job}
 use Rattle.transcript_audit.specs.Auditor.{AreNext, IsTranscript, audit_of}

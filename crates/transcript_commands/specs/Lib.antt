@@ -1,15 +1,14 @@
 pub mod Refusal
 pub mod Load
-pub mod Begun
 pub mod Start
 pub mod Unserved
 pub mod Resumed
 pub mod Auditing
 pub mod Sessions
 pub mod Finding
-pub mod Running
 pub mod Loading
 pub mod Steps
 pub mod Laws
 pub mod Run
 pub mod Lines
+pub mod Audit

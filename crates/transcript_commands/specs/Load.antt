@@ -4,13 +4,13 @@ use Rattle.std.specs.Prelude.{◌≡◌, ℕ, ◌≤◌, true, List, length, Opt
 use Rattle.std.specs.Prelude.{Err}
 use Rattle.std.proofs.Common.{◌⊎◌}
 use Rattle.wf_names.specs.declared.limits.TheConstants.{REQUESTS_FILE_LIMIT}
-use Rattle.wf_outside.specs.Outside.{Filed, told, missing, untold}
-use Rattle.policy_book.specs.Shapes.{PolicyShape}
+use Rattle.wf_outside.specs.Laws.Outside.{Filed, told, missing, untold}
+use Rattle.policy_book.specs.Laws.Shapes.{PolicyShape}
 use Rattle.policy_reader.specs.File.{IsFilePolicy}
 use Rattle.line_reader.specs.declared.stop.Stop.{Stop}
 use Rattle.line_reader.specs.declared.stop.Stop.TheVariants as stop
 use Rattle.line_reader.specs.declared.whole.CutText.{CutText}
-use Rattle.line_reader.specs.Jobs.{Cut, jobs_of_input, next_input}
+use Rattle.line_reader.specs.Laws.Jobs.{Cut, jobs_of_input, next_input}
 use Rattle.line_reader.specs.Reader.{lines_of}
 use Rattle.run_record.specs.declared.fault.RunFault.{RunFault}
 use Rattle.run_record.specs.declared.fault.RunFault.TheVariants.{Load, LineTooLong, TooManyLines}

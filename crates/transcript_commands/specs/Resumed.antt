@@ -4,7 +4,7 @@ use Rattle.std.specs.Prelude.{◌≡◌, ℕ, ◌+◌, nat_lt, List, [], ◌∷�
 use Rattle.std.specs.Prelude.{if◌then◌else◌}
 use Rattle.std.proofs.Common.{◌⊎◌}
 use Rattle.wf_names.specs.declared.limits.TheConstants.{TRANSCRIPT_LINE_LIMIT}
-use Rattle.policy_book.specs.Shapes.{PolicyShape}
+use Rattle.policy_book.specs.Laws.Shapes.{PolicyShape}
 use Rattle.wf_talk.specs.declared.entry.Entry.{Entry}
 use Rattle.wf_talk.specs.declared.job.Job.{Job}
 use Rattle.line_reader.specs.Reader.{has_end, line_length, lines_of}

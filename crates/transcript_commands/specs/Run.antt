@@ -1,11 +1,11 @@
 -- Inside: how the search for what an audit finds may end.
 use Rattle.std.specs.Prelude.{ℕ, ◌<◌, ◌≤◌, IfErr, Result}
 use Rattle.wf_names.specs.declared.limits.TheConstants.{LANE_LIMIT}
-use Rattle.wf_outside.specs.Outside.{Filed}
+use Rattle.wf_outside.specs.Laws.Outside.{Filed}
 use Rattle.run_record.specs.declared.fault.RunFault.{RunFault}
 use Rattle.run_record.specs.Fault.{fault_in}
 use Rattle.transcript_commands.specs.declared.finding.Finding.{Finding}
-use Rattle.transcript_commands.specs.Running.{EndsWithout}
+use Rattle.transcript_commands.specs.Audit.{EndsWithout}
 use Rattle.transcript_commands.specs.Steps.{IsAuditEnding}
 
 -- a session has at least one lane, and no more than it may have

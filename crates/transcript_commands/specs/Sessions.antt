@@ -1,7 +1,7 @@
 -- Inside: a session that is to go on from a transcript.
 use Rattle.std.specs.Prelude.{◌≡◌, ℕ, ◌<◌, ◌≤◌, [], length}
 use Rattle.wf_names.specs.declared.limits.TheConstants.{LANE_LIMIT, ROUND_LIMIT}
-use Rattle.policy_book.specs.Shapes.{PolicyShape}
+use Rattle.policy_book.specs.Laws.Shapes.{PolicyShape}
 use Rattle.wf_desk.specs.Desks.{DeskShape, IsDone}
 use Rattle.line_reader.specs.declared.whole.Batch.{Batch}
 use Rattle.transcript_commands.specs.Resumed.{Session}

@@ -1,14 +1,14 @@
 //! The run of the command.
 ghost use Rattle.std.specs.Prelude.{◌≡◌, ◌<◌, ◌≤◌, ℕ, List, Ok, IfErr, IfOk, OnOk};
 ghost use Rattle.wf_names.specs.declared.limits.TheConstants.{LANE_LIMIT, POLICY_FILE_LIMIT};
-ghost use Rattle.wf_outside.specs.Outside.{with_bytes};
+ghost use Rattle.wf_outside.specs.Laws.Outside.{with_bytes};
 ghost use Rattle.run_record.specs.Fault.{fault_in, status_of, CountsLoads, CountsReadsAlone};
 ghost use Rattle.run_record.specs.Fault.{CountsWrites};
-ghost use Rattle.run_record.specs.Run.{run_of, streams_of};
+ghost use Rattle.run_record.specs.Laws.Run.{run_of, streams_of};
 ghost use Rattle.wf_commands.specs.Load.{EndsTooLong};
 ghost use Rattle.transcript_commands.specs.Finding.{finding_text};
 ghost use Rattle.transcript_commands.specs.Run.{EndsFinding, IsOnLanes};
-ghost use Rattle.transcript_commands.specs.Running.{AuditsPolicy, AuditsRun, ReadsAsAudit};
+ghost use Rattle.transcript_commands.specs.Audit.{AuditsPolicy, AuditsRun, ReadsAsAudit};
 ghost use Rattle.transcript_commands.specs.Steps.{FailsAs, FindsAs, FindsFile};
 
 use crate::auditing::audit_input;

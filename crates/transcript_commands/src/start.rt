@@ -1,13 +1,14 @@
 //! Where a session goes on: its files are loaded, and its transcript is taken up.
 ghost use Rattle.std.specs.Prelude.{◌≡◌, ◌≤◌, ℕ, true, List, IfOk, length, take};
-ghost use Rattle.line_reader.specs.Jobs.{jobs_of_input};
+ghost use Rattle.line_reader.specs.Laws.Jobs.{jobs_of_input};
 ghost use Rattle.run_record.specs.Fault.{how_of, refused, CountsLoads};
 ghost use Rattle.transcript_commands.specs.Sessions.{AreServedWithin};
 ghost use Rattle.transcript_commands.specs.Start.{AreWhole, names_in};
 ghost use Rattle.transcript_commands.specs.Load.{IsCutOf, ending_at, OverBoth, OverFiles};
 ghost use Rattle.transcript_commands.specs.Load.{OverTranscript, OverTranscriptFile};
-ghost use Rattle.transcript_commands.specs.Begun.{BeginsBy, EndsBeginning, EndsLoaded, StopsBy};
-ghost use Rattle.transcript_commands.specs.Begun.{ends_to, fault_by, session_of};
+ghost use Rattle.transcript_commands.specs.Laws.Begun.{BeginsBy, EndsBeginning, EndsLoaded};
+ghost use Rattle.transcript_commands.specs.Laws.Begun.{StopsBy};
+ghost use Rattle.transcript_commands.specs.Laws.Begun.{ends_to, fault_by, session_of};
 
 use crate::load::load_requests;
 use crate::{Refusal, Resumed, first_long, resume};

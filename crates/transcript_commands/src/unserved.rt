@@ -3,7 +3,7 @@ ghost use Rattle.std.specs.Prelude.{◌≡◌, ◌≤◌, ◌<◌, length, take,
 ghost use Rattle.wf_names.specs.declared.limits.TheConstants.{BATCH_LINE_LIMIT, SESSION_LINE_LIMIT};
 ghost use Rattle.line_reader.specs.Laws.{LeadTo};
 ghost use Rattle.wf_desk.specs.Desks.{AnswersPart};
-ghost use Rattle.wf_desk.specs.Parts.{FillsPart};
+ghost use Rattle.wf_desk.specs.Laws.Parts.{FillsPart};
 ghost use Rattle.transcript_commands.specs.Unserved.{HasStoppedIn, end_at, jobs_between, start_at};
 
 use line_reader::Batch;

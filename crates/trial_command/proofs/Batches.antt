@@ -7,7 +7,7 @@ use Rattle.std.proofs.lemmas.List.{length-append, length-take-le, take-append-le
 use Rattle.std.proofs.Math.Seq.{drop-append_seam, take-append_seam, take-length}
 use Rattle.wf_talk.specs.declared.entry.Entry.{Entry}
 use Rattle.wf_talk.specs.declared.job.Job.{Job}
-use Rattle.wf_board.specs.Histories.{AreAnsweredOnce, FillsJobs, batch_end, batch_start}
+use Rattle.wf_board.specs.Laws.Histories.{AreAnsweredOnce, FillsJobs, batch_end, batch_start}
 use Rattle.wf_board.proofs.HistoryLaws.{once_all}
 use Rattle.wf_desk.specs.BatchLaws.{AnswersBatch, EndAt}
 use Rattle.wf_desk.proofs.BatchLaws.{batch_fills, end_before, end_last, start_before}

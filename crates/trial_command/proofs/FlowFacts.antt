@@ -6,7 +6,7 @@ use Rattle.std.specs.Ordering.{eq_by_cmp}
 use Rattle.std.specs.FinSet as set
 use Rattle.std.proofs.lemmas.Bool.Decides.{nat_tests}
 use Rattle.std.proofs.lemmas.List.FromFn.{map-range_with_len_more}
-use Rattle.basics.specs.Pairs.{Pairs, pair_cmp}
+use Rattle.basics.specs.Laws.Pairs.{Pairs, pair_cmp}
 use Rattle.basics.specs.PairLaws.{either_inserted, pair_cmp_total, pair_cmp-IsAntisymmetric}
 use Rattle.workflow_schema.specs.Flows.{IsLeastCycle, Precedes, has_twice, next, through}
 use Rattle.basics.proofs.Booleans.{eq_back, or_cases}
@@ -14,7 +14,7 @@ use Rattle.constraint_forms.specs.Assign.{is_member, no_steps}
 use Rattle.constraint_forms.specs.declared.rule.Rule.{Rule}
 use Rattle.constraint_forms.specs.declared.rule.Rule.TheVariants.{Pair, SomeOf, AllOf}
 use Rattle.wf_names.specs.declared.limits.TheConstants.{STEP_LIMIT}
-use Rattle.policy_book.specs.Facts.{AreSoundRules, IsSoundRule, PermitsRolesBelow}
+use Rattle.policy_book.specs.Laws.Facts.{AreSoundRules, IsSoundRule, PermitsRolesBelow}
 use Rattle.trial_command.specs.Named.{step_name}
 use Rattle.trial_command.specs.Policy.{both, trial_flow, trial_rules}
 use Rattle.trial_command.proofs.NameForms.{buy_form, steps_count}

@@ -5,10 +5,10 @@ use Rattle.std.specs.List.{filter, range_with_len}
 use Rattle.std.specs.FinSet as set
 use Rattle.std.proofs.lemmas.List.FromFn.{filter_of_map_range_with_len_more}
 use Rattle.wf_names.specs.declared.limits.TheConstants.{PAIR_LIMIT, USER_LIMIT}
-use Rattle.basics.specs.Pairs.{AllPairs, Pairs, pair_cmp}
+use Rattle.basics.specs.Laws.Pairs.{AllPairs, Pairs, pair_cmp}
 use Rattle.basics.specs.PairLaws.{all_empty, all_insert, pair_cmp_total, pair_cmp-IsAntisymmetric}
-use Rattle.user_relations.specs.Relations.{kind_of, listed, listed_pairs}
-use Rattle.policy_book.specs.Facts.{AreOfUsers}
+use Rattle.user_relations.specs.Laws.Relations.{kind_of, listed, listed_pairs}
+use Rattle.policy_book.specs.Laws.Facts.{AreOfUsers}
 use Rattle.trial_command.specs.Policy.{are_peers, peers, trial_relations, trial_roster, user_pairs}
 use Rattle.trial_command.proofs.NameForms.{apart_form, peer_form, users_count}
 

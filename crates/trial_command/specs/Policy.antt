@@ -3,14 +3,14 @@ use Rattle.std.specs.Prelude.{ℕ, zero, suc, ◌+◌, ◌/◌, ◌%◌, Bool, t
 use Rattle.std.specs.Prelude.{[], ◌∷◌, ◌++◌, map, codes, slice_set}
 use Rattle.std.specs.List.{filter, range_with_len}
 use Rattle.std.specs.FinSet as set
-use Rattle.basics.specs.Pairs.{Pairs}
-use Rattle.rbac_state.specs.Rosters.{RosterShape}
-use Rattle.user_relations.specs.Relations.{RelationShape, listed, complement}
+use Rattle.basics.specs.Laws.Pairs.{Pairs}
+use Rattle.rbac_state.specs.Laws.Rosters.{RosterShape}
+use Rattle.user_relations.specs.Laws.Relations.{RelationShape, listed, complement}
 use Rattle.workflow_schema.specs.Flows.{FlowShape}
 use Rattle.constraint_forms.specs.Assign.{no_steps}
 use Rattle.constraint_forms.specs.declared.rule.Rule.{Rule}
 use Rattle.constraint_forms.specs.declared.rule.Rule.TheVariants.{Pair, SomeOf, AllOf}
-use Rattle.policy_book.specs.Shapes.{PolicyShape}
+use Rattle.policy_book.specs.Laws.Shapes.{PolicyShape}
 use Rattle.trial_command.specs.Draws.{after, drawn_below}
 use Rattle.trial_command.specs.Named.{user_name, step_name, role_name, admin_name, flow_name}
 

@@ -1,12 +1,13 @@
 -- The command `trial`: the jobs of a seed's trial are served, and the replies are counted.
 use Rattle.std.specs.Prelude.{◌≡◌, ℕ, ◌<◌, List, ◌++◌, length, drop, take, Option, codes, decimal}
-use Rattle.wf_outside.specs.Outside.{HasPart, with_bytes}
-use Rattle.wf_board.specs.Decided.{AreExact}
-use Rattle.wf_board.specs.Kept.{KeepsCompletable}
-use Rattle.wf_board.specs.States.{opening_state}
+use Rattle.wf_outside.specs.Laws.Outside.{HasPart, with_bytes}
+use Rattle.wf_board.specs.Laws.Decided.{AreExact}
+use Rattle.wf_board.specs.Laws.Kept.{KeepsCompletable}
+use Rattle.wf_board.specs.Laws.States.{opening_state}
 use Rattle.wf_talk.specs.declared.entry.Entry.{Entry}
-use Rattle.wf_board.specs.Histories.{AreAnsweredOnce, AreRightful, FillsJobs, IsLegal, batch_end}
-use Rattle.wf_board.specs.Histories.{batch_start, state_after}
+use Rattle.wf_board.specs.Laws.Histories.{AreAnsweredOnce, AreRightful, FillsJobs, IsLegal}
+use Rattle.wf_board.specs.Laws.Histories.{batch_end}
+use Rattle.wf_board.specs.Laws.Histories.{batch_start, state_after}
 use Rattle.wf_lanes.specs.Turns.{AreByTurns}
 use Rattle.trial_command.specs.Policy.{trial_policy}
 use Rattle.trial_command.specs.Jobs.{trial_ends, trial_jobs}

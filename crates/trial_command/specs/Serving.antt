@@ -3,7 +3,7 @@ use Rattle.std.specs.Prelude.{◌≡◌, ℕ, ◌<◌, List, ◌++◌, length}
 use Rattle.std.specs.List.{All}
 use Rattle.wf_talk.specs.declared.entry.Entry.{Entry}
 use Rattle.wf_talk.specs.declared.job.Job.{Job}
-use Rattle.wf_board.specs.Histories.{AreAnsweredOnce, FillsJobs}
+use Rattle.wf_board.specs.Laws.Histories.{AreAnsweredOnce, FillsJobs}
 use Rattle.wf_desk.specs.BatchLaws.{AnswersBatch, EndAt}
 use Rattle.wf_desk.specs.Desks.{DeskShape, IsDone}
 use Rattle.wf_lanes.specs.Turns.{AreByTurns}

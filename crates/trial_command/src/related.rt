@@ -5,8 +5,8 @@ ghost use Rattle.std.specs.FinSet as set;
 ghost use Rattle.wf_names.specs.declared.limits.TheConstants.{PAIR_LIMIT, RELATION_LIMIT};
 ghost use Rattle.wf_names.specs.declared.limits.TheConstants.{USER_LIMIT};
 ghost use Rattle.wf_names.specs.Table.{place_of};
-ghost use Rattle.basics.specs.Pairs.{AllPairs};
-ghost use Rattle.user_relations.specs.Relations.{known_names, listed};
+ghost use Rattle.basics.specs.Laws.Pairs.{AllPairs};
+ghost use Rattle.user_relations.specs.Laws.Relations.{known_names, listed};
 ghost use Rattle.trial_command.specs.Policy.{are_peers, peers, trial_relations};
 
 use crate::named::named;

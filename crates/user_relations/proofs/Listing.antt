@@ -9,7 +9,7 @@ use Rattle.std.specs.List.Sorted.{IsStrictlySortedBy}
 use Rattle.std.specs.FinSet as set
 use Rattle.std.proofs.lemmas.List.Elements.{All-nil, All-head, All-tail, All-push, All-weaker}
 use Rattle.std.proofs.lemmas.Bool.{lt-ltb, ltb-true}
-use Rattle.basics.specs.Pairs.{pair_cmp}
+use Rattle.basics.specs.Laws.Pairs.{pair_cmp}
 use Rattle.basics.specs.PairLaws.{pair_cmp_total, pair_cmp-IsAntisymmetric, ascending_none}
 use Rattle.basics.specs.Tables.{set_of, with_row, set_of_first, set_of_next, with_row_first, with_row_passed, with_row_skipped}
 use Rattle.wf_names.specs.UserSets.{has_user, IsNextIn}

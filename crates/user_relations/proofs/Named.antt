@@ -8,7 +8,7 @@ use Rattle.std.proofs.lemmas.Option.{slice_get-map, slice_get-get_or}
 use Rattle.wf_names.specs.Names.{is_name}
 use Rattle.wf_names.specs.Table.{place_of}
 use Rattle.user_relations.specs.declared.kinds.Relation.{Relation}
-use Rattle.user_relations.specs.Relations.{RelationShape, known_names}
+use Rattle.user_relations.specs.Laws.Relations.{RelationShape, known_names}
 use Rattle.user_relations.specs.View.{relation_view, shapes}
 
 pub same_is_name : IsTrue (is_name (codes "same"))

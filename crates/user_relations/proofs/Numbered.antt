@@ -3,11 +3,11 @@ use Rattle.std.proofs.Common.{◌≡◌, ℕ, zero, suc, ◌+◌, List, [], ◌�
 use Rattle.std.specs.Prelude.{Option, Some, option_map, slice_get, Result, OnOk, slice_set}
 use Rattle.std.proofs.lemmas.Option.{slice_get-map, slice_get-get_or}
 use Rattle.std.proofs.lemmas.Result.{on_ok_weaker}
-use Rattle.basics.specs.Pairs.{Pairs}
+use Rattle.basics.specs.Laws.Pairs.{Pairs}
 use Rattle.user_relations.specs.declared.kinds.Kind.{Kind}
 use Rattle.user_relations.specs.declared.kinds.Relation.{Relation}
 use Rattle.user_relations.specs.declared.RelationFault.{RelationFault}
-use Rattle.user_relations.specs.Relations.{RelationShape, RelationKind, listed, kind_of, listed_pairs, pairs_of, with_kind, change_kind}
+use Rattle.user_relations.specs.Laws.Relations.{RelationShape, RelationKind, listed, kind_of, listed_pairs, pairs_of, with_kind, change_kind}
 use Rattle.user_relations.specs.Kinds.{AnswersFault}
 use Rattle.user_relations.specs.Places.{IsPlace}
 use Rattle.user_relations.specs.View.{kind_view, relation_view, shapes}

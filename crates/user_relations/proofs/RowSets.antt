@@ -6,7 +6,7 @@ use Rattle.std.specs.FinSet as set
 use Rattle.std.proofs.lemmas.Bool.{cases_lt, lt-ltb, le-ltb, ltb-true, eqb-true, eq-eqb}
 use Rattle.std.proofs.lemmas.List.{get_or_past}
 use Rattle.basics.proofs.Booleans.{and-false, and_same, and_swap}
-use Rattle.basics.specs.Pairs.{Pairs, pair_cmp}
+use Rattle.basics.specs.Laws.Pairs.{Pairs, pair_cmp}
 use Rattle.basics.specs.PairLaws.{pair_cmp_total}
 use Rattle.basics.specs.Tables.{contains_set_of, set_of_none, set_of_insert, set_of_remove, len_set_of}
 use Rattle.wf_names.specs.declared.limits.TheConstants.{USER_LIMIT}

@@ -3,7 +3,7 @@ use Rattle.std.proofs.Common.{◌≡◌, ℕ, ◌<◌, ◌&&◌, nat_lt, Bool, f
 use Rattle.std.specs.Prelude.{IfSome, MatchOption}
 use Rattle.std.specs.FinSet as set
 use Rattle.std.proofs.lemmas.Bool.{lt-ltb}
-use Rattle.basics.specs.Pairs.{Pairs}
+use Rattle.basics.specs.Laws.Pairs.{Pairs}
 use Rattle.wf_names.specs.declared.limits.TheConstants.{USER_LIMIT}
 use Rattle.wf_names.specs.UserSets.{has_user}
 use Rattle.user_relations.specs.declared.blocks.Block.{Block}

@@ -9,7 +9,7 @@ use Rattle.std.proofs.lemmas.Bool.{cases_eq, leb-false}
 use Rattle.std.proofs.lemmas.List.{map-append}
 use Rattle.std.proofs.lemmas.Map.Keys.{IsDistinct-push}
 use Rattle.std.proofs.Math.Seq.{take-append_seam}
-use Rattle.basics.specs.Pairs.{Pairs, AllPairs}
+use Rattle.basics.specs.Laws.Pairs.{Pairs, AllPairs}
 use Rattle.basics.specs.PairLaws.{pair_cmp_total, all_insert, all_remove}
 use Rattle.wf_names.specs.Table.{place_of}
 use Rattle.wf_names.specs.declared.limits.TheConstants.{USER_LIMIT, RELATION_LIMIT, PAIR_LIMIT}
@@ -17,10 +17,10 @@ use Rattle.user_relations.specs.declared.RelationFault.{RelationFault}
 use Rattle.user_relations.specs.declared.RelationFault.TheVariants.{Already, Full}
 use Rattle.user_relations.specs.declared.kinds.Relation.{Relation}
 use Rattle.user_relations.specs.View.{shapes}
-use Rattle.user_relations.specs.Relations.{RelationShape, RelationKind, listed, complement, kind_of, has_list, is_listed, complemented, complement_of}
-use Rattle.user_relations.specs.Relations.{listed_pairs, pairs_of, known_names, change_kind, with_kind}
+use Rattle.user_relations.specs.Laws.Relations.{RelationShape, RelationKind, listed, complement, kind_of, has_list, is_listed, complemented, complement_of}
+use Rattle.user_relations.specs.Laws.Relations.{listed_pairs, pairs_of, known_names, change_kind, with_kind}
 use Rattle.user_relations.specs.Kinds.{AnswersFault, put_fault, take_fault, relate_fault, unrelate_fault}
-use Rattle.user_relations.specs.Soundness.{AreSoundRelations}
+use Rattle.user_relations.specs.Laws.Soundness.{AreSoundRelations}
 use Rattle.std.specs.declared.alloc.AllocError.{AllocError}
 use Rattle.user_relations.specs.declared.kinds.Relation.{Relation}
 use Rattle.user_relations.specs.View.{shapes}

@@ -6,7 +6,8 @@ use Rattle.wf_names.specs.declared.limits.TheConstants.{PAIR_LIMIT}
 use Rattle.user_relations.specs.declared.RelationFault.{RelationFault}
 use Rattle.user_relations.specs.declared.RelationFault.TheVariants.{Fixed, Already, Absent, Full}
 use Rattle.user_relations.specs.declared.RelationFault.TheVariants.{NoMemory}
-use Rattle.user_relations.specs.Relations.{RelationShape, RelationKind, listed, complement, kind_of}
+use Rattle.user_relations.specs.Laws.Relations.{RelationShape, RelationKind, listed, complement}
+use Rattle.user_relations.specs.Laws.Relations.{kind_of}
 
 -- a pair is put into a listed relation that lacks it and has room
 abbrev pub put_fault : Option RelationKind → ℕ → ℕ → Option RelationFault

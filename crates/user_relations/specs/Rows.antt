@@ -4,7 +4,7 @@ use Rattle.std.specs.Prelude.{slice_index_or}
 use Rattle.std.proofs.Common.{◌⊎◌}
 use Rattle.std.specs.FinSet as set
 use Rattle.std.specs.List.{All}
-use Rattle.basics.specs.Pairs.{Pairs, IsAscending}
+use Rattle.basics.specs.Laws.Pairs.{Pairs, IsAscending}
 use Rattle.basics.specs.Tables.{set_of, with_row}
 use Rattle.wf_names.specs.UserSets.{has_user}
 use Rattle.wf_names.specs.declared.limits.TheConstants.{USER_LIMIT}

@@ -3,7 +3,7 @@ use Rattle.std.specs.Prelude.{List, map}
 use Rattle.user_relations.specs.declared.kinds.Kind.{Kind}
 use Rattle.user_relations.specs.declared.kinds.Kind.TheVariants.{Listed, Complement}
 use Rattle.user_relations.specs.declared.kinds.Relation.{Relation}
-use Rattle.user_relations.specs.Relations.{RelationShape, RelationKind, listed, complement}
+use Rattle.user_relations.specs.Laws.Relations.{RelationShape, RelationKind, listed, complement}
 
 abbrev pub kind_view : Kind → RelationKind
 kind_view (Listed pairs) = listed pairs

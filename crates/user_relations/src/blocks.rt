@@ -3,7 +3,7 @@ ghost use Rattle.std.specs.Prelude.{◌≡◌, ◌≢◌, ◌<◌, ◌≤◌, �
 ghost use Rattle.std.specs.Prelude.{nat_lt, is_some, ℕ, [], length, replicate, IfOk, OnOk, OnErr};
 ghost use Rattle.std.specs.Prelude.{MatchOption, IsTrue, false};
 ghost use Rattle.std.specs.FinSet as set;
-ghost use Rattle.basics.specs.Pairs.{IsAscending};
+ghost use Rattle.basics.specs.Laws.Pairs.{IsAscending};
 ghost use Rattle.wf_names.specs.declared.limits.TheConstants.{USER_LIMIT};
 ghost use Rattle.wf_names.specs.UserSets.{has_user};
 ghost use Rattle.user_relations.specs.declared.blocks.TheConstants.{BLOCKS, BLOCK_ROWS};

@@ -4,14 +4,14 @@ ghost use Rattle.std.specs.Prelude.{IfSome, OnOk, OnErr, MatchOption, IsTrue, â—
 ghost use Rattle.std.specs.Prelude.{true, false, slice_get, Some, None, position, nat_eq};
 ghost use Rattle.std.specs.Cmp.Lexicographic.{pointwise};
 ghost use Rattle.std.specs.FinSet as set;
-ghost use Rattle.basics.specs.Pairs.{IsAscending};
+ghost use Rattle.basics.specs.Laws.Pairs.{IsAscending};
 ghost use Rattle.wf_names.specs.declared.limits.TheConstants.{USER_LIMIT};
 ghost use Rattle.wf_names.specs.Names.{is_name};
 ghost use Rattle.wf_names.specs.Table.{place_of};
 ghost use Rattle.wf_names.specs.UserSets.{has_user};
-ghost use Rattle.user_relations.specs.Relations.{listed, complement, kind_of, kind_holds};
-ghost use Rattle.user_relations.specs.Relations.{listed_pairs, pairs_of, complement_of};
-ghost use Rattle.user_relations.specs.Relations.{known_names, with_kind, has_list};
+ghost use Rattle.user_relations.specs.Laws.Relations.{listed, complement, kind_of, kind_holds};
+ghost use Rattle.user_relations.specs.Laws.Relations.{listed_pairs, pairs_of, complement_of};
+ghost use Rattle.user_relations.specs.Laws.Relations.{known_names, with_kind, has_list};
 ghost use Rattle.user_relations.specs.Kinds.{relate_fault, unrelate_fault, put_fault, take_fault};
 ghost use Rattle.user_relations.specs.Kinds.{AnswersFault};
 ghost use Rattle.user_relations.specs.Places.{IsPlace};

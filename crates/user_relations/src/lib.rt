@@ -6,15 +6,16 @@ ghost use Rattle.std.specs.Prelude.{◌≡◌, ◌≢◌, ◌<◌, ◌≤◌, �
 ghost use Rattle.std.specs.Prelude.{is_some, IfOk, IfSome, OnOk, OnErr, MatchOption, IsErrOf, true};
 ghost use Rattle.std.specs.Prelude.{false, ◌==◌, ◌&&◌, not, nat_lt, slice_get, Some};
 ghost use Rattle.std.specs.FinSet as set;
-ghost use Rattle.basics.specs.Pairs.{AllPairs, IsAscending};
+ghost use Rattle.basics.specs.Laws.Pairs.{AllPairs, IsAscending};
 ghost use Rattle.wf_names.specs.declared.limits.TheConstants.{PAIR_LIMIT, RELATION_LIMIT};
 ghost use Rattle.wf_names.specs.declared.limits.TheConstants.{USER_LIMIT};
 ghost use Rattle.wf_names.specs.Table.{place_of};
 ghost use Rattle.wf_names.specs.UserSets.{has_user};
-ghost use Rattle.user_relations.specs.Relations.{RelationShape, listed, complement, kind_of};
-ghost use Rattle.user_relations.specs.Relations.{pairs_of, is_listed, complement_of, is_related};
-ghost use Rattle.user_relations.specs.Relations.{CanDeclare, known_names, with_kind};
-ghost use Rattle.user_relations.specs.Soundness.{AreSoundRelations};
+ghost use Rattle.user_relations.specs.Laws.Relations.{RelationShape, listed, complement, kind_of};
+ghost use Rattle.user_relations.specs.Laws.Relations.{pairs_of, is_listed, complement_of};
+ghost use Rattle.user_relations.specs.Laws.Relations.{is_related};
+ghost use Rattle.user_relations.specs.Laws.Relations.{CanDeclare, known_names, with_kind};
+ghost use Rattle.user_relations.specs.Laws.Soundness.{AreSoundRelations};
 ghost use Rattle.user_relations.specs.View.{shapes};
 ghost use Rattle.user_relations.specs.Kinds.{relate_fault, unrelate_fault, AnswersFault};
 
@@ -52,13 +53,13 @@ pub struct Relations {
 
 impl Model for Relations {
     ghost use Rattle.std.specs.Prelude.{List};
-    ghost use Rattle.user_relations.specs.Relations.{RelationShape, relations_code};
+    ghost use Rattle.user_relations.specs.Laws.Relations.{RelationShape, relations_code};
 
     ghost Value = { List RelationShape };
 
     ghost coded = { relations_code };
 
-    ghost use Rattle.user_relations.specs.Soundness.{AreSoundRelations};
+    ghost use Rattle.user_relations.specs.Laws.Soundness.{AreSoundRelations};
     ghost use Rattle.user_relations.specs.View.{shapes};
 
     ghost view = { λ r. shapes r.declared.items };

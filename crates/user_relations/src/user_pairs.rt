@@ -2,7 +2,7 @@
 ghost use Rattle.std.specs.Prelude.{◌≡◌, ◌<◌, ◌≤◌, ◌↔◌, ◌&&◌, not, true, false, nat_lt, is_some, ℕ};
 ghost use Rattle.std.specs.Prelude.{IfOk, IfSome, OnOk, OnErr, IsTrue};
 ghost use Rattle.std.specs.FinSet as set;
-ghost use Rattle.basics.specs.Pairs.{IsAscending};
+ghost use Rattle.basics.specs.Laws.Pairs.{IsAscending};
 ghost use Rattle.wf_names.specs.declared.limits.TheConstants.{USER_LIMIT};
 ghost use Rattle.wf_names.specs.UserSets.{has_user};
 
@@ -24,7 +24,7 @@ pub struct UserPairs {
 }
 
 impl Model for UserPairs {
-    ghost use Rattle.basics.specs.Pairs.{Pairs, pairs_code};
+    ghost use Rattle.basics.specs.Laws.Pairs.{Pairs, pairs_code};
     ghost use Rattle.user_relations.specs.Rows.{pairs_in, AreRows};
 
     ghost Value = { Pairs };

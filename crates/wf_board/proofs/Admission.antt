@@ -2,15 +2,15 @@
 use Rattle.std.proofs.Common.{◌≡◌, ◌≢◌, ℕ, inr, Bool, true, false, not, List, [], ◌∷◌, Option, None, Some, option_map, Result, Ok, Err, refl, sym, ap}
 use Rattle.std.proofs.Common.{subst, ◌∙◌}
 use Rattle.std.specs.Prelude.{◌↔◌}
-use Rattle.basics.specs.Reading.{◌>>=◌, or_fault, check}
+use Rattle.basics.specs.Laws.Reading.{◌>>=◌, or_fault, check}
 use Rattle.wf_names.specs.States.{is_done, is_held, user_of}
 use Rattle.constraint_forms.specs.Assign.{user_at}
 use Rattle.refutation_tree.specs.declared.tree.Tree.{Tree}
-use Rattle.refutation_tree.specs.Views.{shape_of}
-use Rattle.policy_book.specs.Shapes.{PolicyShape}
-use Rattle.policy_book.specs.Facts.{IsSoundPolicy}
+use Rattle.refutation_tree.specs.Laws.Views.{shape_of}
+use Rattle.policy_book.specs.Laws.Shapes.{PolicyShape}
+use Rattle.policy_book.specs.Laws.Facts.{IsSoundPolicy}
 use Rattle.policy_book.specs.Policies.{flow_at, is_authorised, problem_of}
-use Rattle.policy_book.specs.Refuting.{refutes}
+use Rattle.policy_book.specs.Laws.Refuting.{refutes}
 use Rattle.case_record.specs.Cases.{CaseShape, assigned_of, finished_case, finished_of, is_open, state_at}
 use Rattle.case_record.specs.Order.{first_missing}
 use Rattle.grant_table.specs.Cases.{CasesShape, case_in}
@@ -18,7 +18,7 @@ use Rattle.grant_table.specs.Kept.{AscendFrom}
 use Rattle.admin_edits.specs.declared.amendment.Amendment.{Amendment}
 use Rattle.admin_edits.specs.declared.fault.EditCause.{EditCause}
 use Rattle.admin_edits.specs.declared.fault.EditCause.TheVariants as fault
-use Rattle.admin_edits.specs.Edits.{amended, amendment_of, is_admin}
+use Rattle.admin_edits.specs.Laws.Edits.{amended, amendment_of, is_admin}
 use Rattle.admin_edits.proofs.Keeping.{HoldsOf, changes_keep_policies_sound}
 use Rattle.admin_edits.specs.ClaimCauses.{assigned_with, first_cause, first_falsified, first_of, permitted_roles, unless}
 use Rattle.wf_talk.specs.declared.request.Request.TheVariants as request
@@ -39,17 +39,17 @@ use Rattle.wf_board.specs.Admission.{has_no_tree, is_view_deed, reply_of, when, 
 use Rattle.wf_board.specs.Boards.{EditionShape, book_of, state_on}
 use Rattle.wf_board.specs.Decisions.{cause_aside, cause_full, decision_aside, decision_of, is_held_by, unless_denied}
 use Rattle.wf_board.specs.Edition.{ArePlansOf, CanAllBeCompleted, IsFirstStranded, IsTreeOf}
-use Rattle.wf_board.specs.Found.{IsAllowed}
+use Rattle.wf_board.specs.Laws.Found.{IsAllowed}
 use Rattle.wf_board.specs.Resolve.{edit_denial, on_edit, on_step, open_case_at, resolve}
-use Rattle.wf_board.specs.States.{Book, State, numbered_case, flow_named, is_full, open_cases, step_named, user_named}
-use Rattle.wf_board.specs.Kept.{IsSoundState}
+use Rattle.wf_board.specs.Laws.States.{Book, State, numbered_case, flow_named, is_full, open_cases, step_named, user_named}
+use Rattle.wf_board.specs.Laws.Kept.{IsSoundState}
 use Rattle.wf_board.specs.Views.{AreStranded, IsWorkOf, steps_of}
 use Rattle.wf_talk.specs.declared.reply.WorkItem.{WorkItem}
-use Rattle.wf_board.specs.Steps.{Answers, IsReplyTo, IsStep, state_after_decision}
+use Rattle.wf_board.specs.Laws.Steps.{Answers, IsReplyTo, IsStep, state_after_decision}
 use Rattle.wf_board.specs.Taking.{board_of, full_or, HasTakenStep, IsKept}
 use Rattle.wf_board.specs.Verdicts.{IsEditionFor, IsMadeOf, IsStrandingFor, IsViewFor}
 use Rattle.wf_board.proofs.Amended.{IsChange, IsFoundCase, change_decided, edition_change, plans_complete, same_case, stranded_case}
-use Rattle.wf_board.specs.KeptPlans.{rows_after}
+use Rattle.wf_board.specs.Laws.KeptPlans.{rows_after}
 use Rattle.wf_board.proofs.Answering.{same_taken}
 use Rattle.wf_board.proofs.Exact.{stranded_not}
 use Rattle.wf_board.proofs.Fixed.{one_stranded}

@@ -4,12 +4,12 @@ use Rattle.std.proofs.Common.{if◌then◌else◌, refl, sym, ap, subst, ◌∙�
 use Rattle.std.specs.Option.{option_map}
 use Rattle.std.proofs.lemmas.Bool.Decides.{nat_tests}
 use Rattle.basics.proofs.Booleans.{bool_cases, eq_is}
-use Rattle.basics.specs.Reading.{◌>>=◌}
+use Rattle.basics.specs.Laws.Reading.{◌>>=◌}
 use Rattle.refutation_tree.specs.declared.tree.Tree.{Tree}
-use Rattle.policy_book.specs.Shapes.{PolicyShape}
+use Rattle.policy_book.specs.Laws.Shapes.{PolicyShape}
 use Rattle.case_record.specs.Cases.{CaseShape, assigned_of, is_open}
 use Rattle.grant_table.specs.declared.rows.Row.{Row}
-use Rattle.grant_table.specs.Lookup.{look_up}
+use Rattle.grant_table.specs.Cases.{look_up}
 use Rattle.grant_table.specs.Cases.{CasesShape, case_in, is_open_row, replanned}
 use Rattle.grant_table.specs.Kept.{AscendFrom}
 use Rattle.grant_table.specs.Kept as table
@@ -17,17 +17,17 @@ use Rattle.grant_table.proofs.Replanning.{replanned_closed, replanned_none, repl
 use Rattle.wf_talk.specs.declared.request.Ask.{Ask}
 use Rattle.wf_talk.specs.declared.reply.Denial.{Denial}
 use Rattle.admin_edits.specs.declared.amendment.Amendment.{Amendment}
-use Rattle.admin_edits.specs.Edits.{amended}
-use Rattle.admin_edits.specs.Found.{IsKnownChange}
+use Rattle.admin_edits.specs.Laws.Edits.{amended}
+use Rattle.admin_edits.specs.Amendment.{IsKnownChange}
 use Rattle.admin_edits.proofs.Keeping.{changes_keep_names, within_after}
 use Rattle.wf_board.specs.declared.deed.Deed.{Deed}
 use Rattle.wf_board.specs.declared.deed.Deed.TheVariants as deed
-use Rattle.wf_board.specs.States.{Book, Numbered, numbered_case, open_cases}
+use Rattle.wf_board.specs.Laws.States.{Book, Numbered, numbered_case, open_cases}
 use Rattle.wf_board.specs.Boards.{EditionShape, numbered, state_on}
 use Rattle.wf_board.specs.Decisions.{cause_full, decision_aside, decision_of, unless_denied}
 use Rattle.wf_board.specs.Edition.{ArePlansOf, CanAllBeCompleted, CanBeCompleted, IsFirstStranded, IsTreeOf}
-use Rattle.wf_board.specs.Kept.{EachRow, IsOfPolicy, IsPlanned}
-use Rattle.wf_board.specs.Steps.{with_edited}
+use Rattle.wf_board.specs.Laws.Kept.{EachRow, IsOfPolicy, IsPlanned}
+use Rattle.wf_board.specs.Laws.Steps.{with_edited}
 use Rattle.wf_board.specs.Taking.{board_of, IsKept}
 use Rattle.wf_board.specs.Verdicts.{IsEditionFor, IsStrandingFor}
 use Rattle.wf_board.proofs.Rows.{case_numbered}

@@ -5,8 +5,8 @@ use Rattle.std.proofs.lemmas.Bool.Decides.{nat_tests}
 use Rattle.basics.proofs.Booleans.{or_false}
 use Rattle.constraint_forms.specs.Assign.{no_steps, no_users}
 use Rattle.refutation_tree.specs.declared.tree.Tree.{Tree}
-use Rattle.policy_book.specs.Shapes.{PolicyShape}
-use Rattle.policy_book.specs.Plans.{IsValidPlan}
+use Rattle.policy_book.specs.Laws.Shapes.{PolicyShape}
+use Rattle.policy_book.specs.Laws.Plans.{IsValidPlan}
 use Rattle.policy_book.specs.Policies.{flow_at, problem_of}
 use Rattle.case_record.specs.Cases.{CaseShape}
 use Rattle.grant_table.specs.declared.rows.Row.{Row}
@@ -18,7 +18,7 @@ use Rattle.wf_talk.specs.declared.reply.Reply.{Reply}
 use Rattle.wf_talk.specs.declared.reply.Reply.TheVariants as reply
 use Rattle.wf_talk.specs.declared.reply.Denial.{Denial}
 use Rattle.wf_talk.specs.declared.reply.Denial.TheVariants.{Full, Strands}
-use Rattle.admin_edits.specs.Edits.{amended}
+use Rattle.admin_edits.specs.Laws.Edits.{amended}
 use Rattle.admin_edits.specs.declared.amendment.Amendment.{Amendment}
 use Rattle.grant_table.specs.Kept.{AscendFrom, IsSoundTable}
 use Rattle.wf_board.specs.Edition.{ArePlansOf, IsFirstStranded}
@@ -26,23 +26,23 @@ use Rattle.wf_board.proofs.Amended.{IsChange, change_decided, edited_keeps, edit
 use Rattle.wf_board.proofs.Amended.{with_plans}
 use Rattle.admin_edits.proofs.Keeping.{HoldsOf}
 use Rattle.wf_board.proofs.Told.{IsTold, aside_told}
-use Rattle.wf_board.specs.Found.{IsAllowed}
+use Rattle.wf_board.specs.Laws.Found.{IsAllowed}
 use Rattle.wf_board.specs.declared.deed.Deed.{Deed}
 use Rattle.wf_board.specs.declared.deed.Deed.TheVariants as deed
 use Rattle.wf_board.specs.declared.verdict.Verdict.TheVariants as verdict
 use Rattle.wf_board.specs.declared.verdict.Answered.{Answered}
 use Rattle.wf_board.specs.declared.verdict.Answered.TheVariants.{Done, Needs}
 use Rattle.wf_board.specs.Boards.{EditionShape, book_of, state_on}
-use Rattle.wf_board.specs.KeptPlans.{rows_after}
+use Rattle.wf_board.specs.Laws.KeptPlans.{rows_after}
 use Rattle.wf_board.specs.Decisions.{decision_aside, decision_of, unless_denied}
-use Rattle.wf_board.specs.States.{Book, State, is_full, open_cases}
-use Rattle.wf_board.specs.Steps.{Answers, state_after_decision, with_changed}
+use Rattle.wf_board.specs.Laws.States.{Book, State, is_full, open_cases}
+use Rattle.wf_board.specs.Laws.Steps.{Answers, state_after_decision, with_changed}
 use Rattle.wf_board.specs.Taking.{board_of, full_or, HasChanged, HasTakenStep, IsKept}
 use Rattle.wf_board.specs.Verdicts.{HasAnswered, IsEditionFor, IsStrandingFor, room_used}
 use Rattle.wf_board.proofs.Rows.{case_numbered, open_numbered}
 use Rattle.wf_board.proofs.Planned.{known_case, opened_keeps, opened_state, plan_kept}
-use Rattle.policy_book.specs.Facts.{IsSoundPolicy}
-use Rattle.wf_board.specs.Kept.{ArePlanned, IsSoundState, KeepsCompletable}
+use Rattle.policy_book.specs.Laws.Facts.{IsSoundPolicy}
+use Rattle.wf_board.specs.Laws.Kept.{ArePlanned, IsSoundState, KeepsCompletable}
 
 -- a step that changes one case
 pub changed_taken : (p : PolicyShape) (before after : CasesShape) (n : ℕ) (f : Row → Row) (g : CaseShape → CaseShape) (decision : Result Deed Denial)

@@ -2,8 +2,8 @@
 use Rattle.std.proofs.Common.{◌≡◌, ℕ, zero, suc, ◌+◌, ◌<◌, ◌≤◌, inl, inr, Bool, true, false, ◌==◌, List, [], ◌∷◌, length, if◌then◌else◌, subst, arith}
 use Rattle.basics.proofs.Booleans.{eq_back, or_cases}
 use Rattle.constraint_forms.specs.Assign.{planned}
-use Rattle.policy_book.specs.Twins.{is_one_of}
-use Rattle.policy_book.specs.Refuting.{passing}
+use Rattle.policy_book.specs.Laws.Twins.{is_one_of}
+use Rattle.policy_book.specs.Laws.Refuting.{passing}
 
 -- each of these is below n
 abbrev pub AllBelow : ℕ → List ℕ → Type 0

@@ -1,10 +1,10 @@
 -- A plan or a tree that decides what is asked decides its deed.
 use Rattle.std.proofs.Common.{◌≡◌, ◌↔◌, ℕ, Bool, true, not, List, Option, None, Some, is_some, Result, Ok, Err, refl, subst}
-use Rattle.basics.specs.Reading.{◌>>=◌}
+use Rattle.basics.specs.Laws.Reading.{◌>>=◌}
 use Rattle.constraint_forms.specs.Assign.{no_steps, no_users}
-use Rattle.policy_book.specs.Shapes.{PolicyShape}
+use Rattle.policy_book.specs.Laws.Shapes.{PolicyShape}
 use Rattle.policy_book.specs.Policies.{problem_of}
-use Rattle.policy_book.specs.Plans.{IsWithin}
+use Rattle.policy_book.specs.Laws.Plans.{IsWithin}
 use Rattle.case_record.specs.Cases.{CaseShape, finished_of}
 use Rattle.grant_table.specs.declared.rows.Row.{Row}
 use Rattle.admin_edits.specs.ClaimCauses.{assigned_with}
@@ -14,9 +14,9 @@ use Rattle.wf_board.specs.declared.deed.Deed.{Deed}
 use Rattle.wf_board.specs.declared.deed.Deed.TheVariants as deed
 use Rattle.wf_board.specs.declared.verdict.Verdict.{Verdict}
 use Rattle.wf_board.specs.declared.verdict.Verdict.TheVariants as verdict
-use Rattle.wf_board.specs.States.{Book}
+use Rattle.wf_board.specs.Laws.States.{Book}
 use Rattle.wf_board.specs.Decisions.{cause_full, decision_aside, needs_verdict, unless_denied}
-use Rattle.wf_board.specs.Found.{AreFound}
+use Rattle.wf_board.specs.Laws.Found.{AreFound}
 use Rattle.wf_board.specs.Taking.{full_or, IsCertificateOf}
 use Rattle.wf_board.specs.Verdicts.{IsCertificate, IsCertified, IsPlanFor, IsRight, IsTreeFor}
 use Rattle.wf_board.proofs.Within.{claimed_within}

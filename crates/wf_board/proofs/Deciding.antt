@@ -6,13 +6,13 @@ use Rattle.std.proofs.lemmas.Bool.Decides.{nat_tests}
 use Rattle.basics.proofs.Booleans.{eq_is}
 use Rattle.constraint_forms.specs.Assign.{no_steps, no_users}
 use Rattle.refutation_tree.specs.declared.tree.Tree.{Tree}
-use Rattle.refutation_tree.specs.Views.{shape_of}
-use Rattle.policy_book.specs.Shapes.{PolicyShape}
-use Rattle.policy_book.specs.Facts.{IsSoundPolicy}
+use Rattle.refutation_tree.specs.Laws.Views.{shape_of}
+use Rattle.policy_book.specs.Laws.Shapes.{PolicyShape}
+use Rattle.policy_book.specs.Laws.Facts.{IsSoundPolicy}
 use Rattle.policy_book.specs.Policies.{problem_of}
 use Rattle.certificate_check.proofs.Refuted.{refutes_soundly}
 use Rattle.case_record.specs.Cases.{CaseShape, assigned_of, finished_of, is_open}
-use Rattle.grant_table.specs.Lookup.{look_up}
+use Rattle.grant_table.specs.Cases.{look_up}
 use Rattle.wf_talk.specs.declared.edit.Edit.{Edit}
 use Rattle.wf_talk.specs.declared.entry.Entry.{Entry}
 use Rattle.wf_talk.specs.declared.request.Request.TheVariants as request
@@ -23,17 +23,17 @@ use Rattle.wf_talk.specs.declared.reply.Reply.TheVariants as reply
 use Rattle.wf_talk.specs.declared.reply.Denial.{Denial}
 use Rattle.wf_talk.specs.declared.reply.Denial.TheVariants as denial
 use Rattle.admin_edits.specs.declared.amendment.Amendment.{Amendment}
-use Rattle.admin_edits.specs.Edits.{amended, amendment_of}
+use Rattle.admin_edits.specs.Laws.Edits.{amended, amendment_of}
 use Rattle.admin_edits.proofs.Keeping.{HoldsOf, changes_keep_policies_sound}
 use Rattle.wf_board.specs.declared.deed.Deed.{Deed}
 use Rattle.wf_board.specs.declared.deed.Deed.TheVariants as deed
-use Rattle.wf_board.specs.States.{Numbered, State, numbered_case, open_cases, opening_state}
+use Rattle.wf_board.specs.Laws.States.{Numbered, State, numbered_case, open_cases, opening_state}
 use Rattle.wf_board.specs.Edition.{CanBeCompleted, IsFirstStranded}
 use Rattle.wf_board.specs.Decisions.{decision_of}
-use Rattle.wf_board.specs.Steps.{Answers, IsReplyTo, IsStep, with_edited}
-use Rattle.wf_board.specs.Histories.{EachAfter, IsRetry, IsRightAfter, state_after}
-use Rattle.wf_board.specs.Kept.{AreCasesNumbered, AreNumberedFrom, IsSoundState, KeepsCompletable}
-use Rattle.wf_board.specs.Decided.{IsChangeExact, IsDeniedByTree, IsEditExact, IsExact, IsGrantExact, IsLeastStranded, IsRefuted}
+use Rattle.wf_board.specs.Laws.Steps.{Answers, IsReplyTo, IsStep, with_edited}
+use Rattle.wf_board.specs.Laws.Histories.{EachAfter, IsRetry, IsRightAfter, state_after}
+use Rattle.wf_board.specs.Laws.Kept.{AreCasesNumbered, AreNumberedFrom, IsSoundState, KeepsCompletable}
+use Rattle.wf_board.specs.Laws.Decided.{IsChangeExact, IsDeniedByTree, IsEditExact, IsExact, IsGrantExact, IsLeastStranded, IsRefuted}
 use Rattle.wf_board.specs.Laws.{HistoriesAreExact}
 use Rattle.wf_board.proofs.Amended.{open_can, same_case}
 use Rattle.wf_board.proofs.Exact.{finished_assigned, refuted_claim, well_formed_any}

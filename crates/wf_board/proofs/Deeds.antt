@@ -1,6 +1,6 @@
 -- Verdicts on deeds that go over the open cases.
 use Rattle.std.proofs.Common.{◌≡◌, ℕ, true, List, map, Ok, inr}
-use Rattle.policy_book.specs.Shapes.{PolicyShape}
+use Rattle.policy_book.specs.Laws.Shapes.{PolicyShape}
 use Rattle.grant_table.specs.declared.rows.Row.{Row}
 use Rattle.grant_table.specs.Cases.{open_rows}
 use Rattle.wf_board.specs.declared.deed.Deed.{Deed}

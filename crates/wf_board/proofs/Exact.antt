@@ -7,11 +7,11 @@ use Rattle.wf_names.specs.States.{is_finished, user_of}
 use Rattle.wf_names.specs.declared.states.StepState.{StepState}
 use Rattle.wf_names.specs.declared.states.StepState.TheVariants.{Free, Held, Finished}
 use Rattle.refutation_tree.specs.declared.tree.Tree.{Tree}
-use Rattle.refutation_tree.specs.Views.{shape_of}
-use Rattle.policy_book.specs.Shapes.{PolicyShape, WorkflowShape}
-use Rattle.policy_book.specs.Facts.{IsSoundPolicy}
+use Rattle.refutation_tree.specs.Laws.Views.{shape_of}
+use Rattle.policy_book.specs.Laws.Shapes.{PolicyShape, WorkflowShape}
+use Rattle.policy_book.specs.Laws.Facts.{IsSoundPolicy}
 use Rattle.policy_book.specs.Policies.{no_workflow, problem_of}
-use Rattle.policy_book.specs.Plans.{AreAssigned, IsCompletable, IsWellFormed}
+use Rattle.policy_book.specs.Laws.Plans.{AreAssigned, IsCompletable, IsWellFormed}
 use Rattle.certificate_check.proofs.Refuted.{assigned_given, refutes_soundly}
 use Rattle.case_record.specs.Cases.{CaseShape, assigned_of, finished_of, state_at}
 use Rattle.case_record.proofs.Laws.{assigned_of-at, finished_of-at}
@@ -20,13 +20,13 @@ use Rattle.wf_talk.specs.declared.reply.Reply.TheVariants as reply
 use Rattle.wf_talk.specs.declared.reply.Denial.TheVariants as denial
 use Rattle.admin_edits.specs.ClaimCauses.{assigned_with}
 use Rattle.wf_board.specs.declared.deed.Deed.TheVariants as deed
-use Rattle.wf_board.specs.States.{Numbered, State, open_cases}
-use Rattle.wf_board.specs.Steps.{Answers, IsReplyTo}
-use Rattle.wf_board.specs.Kept.{IsSoundState}
+use Rattle.wf_board.specs.Laws.States.{Numbered, State, open_cases}
+use Rattle.wf_board.specs.Laws.Steps.{Answers, IsReplyTo}
+use Rattle.wf_board.specs.Laws.Kept.{IsSoundState}
 use Rattle.wf_board.specs.Laws.{ClaimsAreExact, EditsAreExact}
 use Rattle.wf_board.specs.Edition.{CanAllBeCompleted, IsFirstStranded}
 use Rattle.admin_edits.specs.declared.amendment.Amendment.{Amendment}
-use Rattle.admin_edits.specs.Edits.{amended}
+use Rattle.admin_edits.specs.Laws.Edits.{amended}
 use Rattle.admin_edits.proofs.Keeping.{HoldsOf, changes_keep_policies_sound}
 use Rattle.wf_board.proofs.Told.{IsTold, claim_free, told}
 

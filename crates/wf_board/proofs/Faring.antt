@@ -1,7 +1,7 @@
 -- What is said of a decision, and of why it is none.
 use Rattle.std.proofs.Common.{◌≡◌, Bool, true, false, List, [], ◌∷◌, Option, None, Some, Result, Ok, Err, refl}
 use Rattle.std.specs.Option.{option_map}
-use Rattle.basics.specs.Reading.{◌>>=◌, check, or_fault}
+use Rattle.basics.specs.Laws.Reading.{◌>>=◌, check, or_fault}
 use Rattle.wf_talk.specs.declared.reply.Denial.{Denial}
 use Rattle.admin_edits.specs.ClaimCauses.{first_of, unless}
 use Rattle.wf_board.specs.declared.deed.Deed.{Deed}

@@ -3,16 +3,16 @@ use Rattle.std.proofs.Common.{◌≡◌, ℕ, inl, inr, true, false, List, [], �
 use Rattle.wf_names.specs.States.{is_done}
 use Rattle.refutation_tree.specs.declared.tree.Tree.{Tree}
 use Rattle.refutation_tree.specs.declared.tree.Tree.TheVariants as tree
-use Rattle.refutation_tree.specs.Views.{shape_of}
+use Rattle.refutation_tree.specs.Laws.Views.{shape_of}
 use Rattle.constraint_forms.specs.Assign.{no_steps, no_users}
-use Rattle.policy_book.specs.Shapes.{PolicyShape}
-use Rattle.policy_book.specs.Facts.{IsSoundPolicy}
+use Rattle.policy_book.specs.Laws.Shapes.{PolicyShape}
+use Rattle.policy_book.specs.Laws.Facts.{IsSoundPolicy}
 use Rattle.policy_book.specs.Policies.{problem_of}
-use Rattle.policy_book.specs.Plans.{AreAssigned}
+use Rattle.policy_book.specs.Laws.Plans.{AreAssigned}
 use Rattle.certificate_check.proofs.Refuted.{refutes_soundly}
 use Rattle.case_record.specs.Cases.{CaseShape, assigned_of, finished_case, finished_of}
 use Rattle.admin_edits.specs.declared.amendment.Amendment.{Amendment}
-use Rattle.admin_edits.specs.Edits.{amended}
+use Rattle.admin_edits.specs.Laws.Edits.{amended}
 use Rattle.admin_edits.proofs.Keeping.{HoldsOf, changes_keep_policies_sound}
 use Rattle.wf_talk.specs.declared.request.Bad.{Bad}
 use Rattle.wf_talk.specs.declared.reply.Reply.{Reply}
@@ -21,12 +21,12 @@ use Rattle.wf_talk.specs.declared.reply.Denial.{Denial}
 use Rattle.wf_talk.specs.declared.reply.Denial.TheVariants as denial
 use Rattle.wf_board.specs.declared.deed.Deed.{Deed}
 use Rattle.wf_board.specs.declared.deed.Deed.TheVariants as deed
-use Rattle.wf_board.specs.States.{Numbered, State, open_cases}
+use Rattle.wf_board.specs.Laws.States.{Numbered, State, open_cases}
 use Rattle.wf_board.specs.Decisions.{decision_of}
 use Rattle.wf_board.specs.Views.{steps_of}
 use Rattle.wf_board.specs.Edition.{CanBeCompleted, IsFirstStranded, IsTreeOf}
-use Rattle.wf_board.specs.Steps.{Answers, IsReplyTo, face_of, state_after_decision}
-use Rattle.wf_board.specs.Kept.{IsSoundState}
+use Rattle.wf_board.specs.Laws.Steps.{Answers, IsReplyTo, face_of, state_after_decision}
+use Rattle.wf_board.specs.Laws.Kept.{IsSoundState}
 use Rattle.wf_board.specs.Laws.{OutcomeIsFixed, bare}
 use Rattle.wf_board.proofs.Listed.{one_list}
 use Rattle.wf_board.proofs.Exact.{finished_assigned, refuted_claim, stranded_not, well_formed_any}

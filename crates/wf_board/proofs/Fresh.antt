@@ -3,10 +3,10 @@ use Rattle.std.proofs.Common.{◌≡◌, ℕ, ◌+◌, ◌⊎◌, inl, inr, Bool
 use Rattle.std.proofs.Common.{Err, if◌then◌else◌, refl, sym, ap, subst, ◌∙◌, arith}
 use Rattle.std.specs.Option.{option_map}
 use Rattle.std.proofs.lemmas.List.{take-append-drop}
-use Rattle.basics.specs.Reading.{or_fault, check}
+use Rattle.basics.specs.Laws.Reading.{or_fault, check}
 use Rattle.basics.proofs.Booleans.{eq_back, eq_is, or_false}
 use Rattle.case_record.specs.Cases.{CaseShape}
-use Rattle.grant_table.specs.Lookup.{look_up}
+use Rattle.grant_table.specs.Cases.{look_up}
 use Rattle.wf_talk.specs.declared.entry.Entry.{Entry}
 use Rattle.wf_talk.specs.declared.request.Request.TheVariants as request
 use Rattle.wf_talk.specs.declared.request.Ask.{Ask}
@@ -18,15 +18,15 @@ use Rattle.wf_talk.specs.declared.reply.Denial.TheVariants.{NoCase, NoFlow, NoSt
 use Rattle.wf_board.specs.declared.deed.Deed.{Deed}
 use Rattle.wf_board.specs.declared.deed.Deed.TheVariants as deed
 use Rattle.wf_board.specs.declared.verdict.Verdict.{Verdict}
-use Rattle.wf_board.specs.States.{Book, Numbered, State, numbered_case, flow_named, step_named, user_named, with_case_changed}
-use Rattle.admin_edits.specs.Edits.{amendment_of, is_admin}
+use Rattle.wf_board.specs.Laws.States.{Book, Numbered, State, numbered_case, flow_named, step_named, user_named, with_case_changed}
+use Rattle.admin_edits.specs.Laws.Edits.{amendment_of, is_admin}
 use Rattle.admin_edits.specs.declared.amendment.Amendment.{Amendment}
 use Rattle.admin_edits.specs.declared.fault.EditCause.{EditCause}
 use Rattle.wf_board.specs.Resolve.{on_edit, on_step, open_case_at, resolve}
 use Rattle.wf_board.specs.Decisions.{cause_aside, cause_full, decision_aside, decision_of}
-use Rattle.wf_board.specs.Steps.{Answers, IsReplyTo, IsStep, state_after_decision, state_after_deed, state_after_step}
+use Rattle.wf_board.specs.Laws.Steps.{Answers, IsReplyTo, IsStep, state_after_decision, state_after_deed, state_after_step}
 use Rattle.wf_board.specs.Counting.{IsFresh, case_of_ask, changed_case, changes_any, counted, counts_for, is_edited, is_number}
-use Rattle.wf_board.specs.Histories.{EachAfter, IsLegal, IsRetry, IsRightAfter, state_after}
+use Rattle.wf_board.specs.Laws.Histories.{EachAfter, IsLegal, IsRetry, IsRightAfter, state_after}
 use Rattle.wf_board.proofs.HistoryLaws.{after_all, after_more, again_stays, each_from, policy_stays}
 use Rattle.wf_board.specs.Verdicts.{IsRight}
 use Rattle.admin_edits.proofs.Keeping.{HoldsOf, always, then_holds}

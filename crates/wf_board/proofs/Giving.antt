@@ -3,9 +3,9 @@ use Rattle.std.proofs.Common.{◌≡◌, ℕ, true, false, List, Option, Some, s
 use Rattle.wf_names.specs.States.{is_finished}
 use Rattle.wf_names.specs.declared.states.StepState.TheVariants.{Free}
 use Rattle.constraint_forms.specs.Assign.{is_member, planned}
-use Rattle.policy_book.specs.Shapes.{PolicyShape}
+use Rattle.policy_book.specs.Laws.Shapes.{PolicyShape}
 use Rattle.policy_book.specs.Policies.{is_authorised}
-use Rattle.policy_book.specs.Plans.{IsValidPlan, Problem}
+use Rattle.policy_book.specs.Laws.Plans.{IsValidPlan, Problem}
 use Rattle.certificate_check.proofs.Assigned.{either, given}
 use Rattle.case_record.specs.Cases.{CaseShape, assigned_of, finished_of, state_at}
 use Rattle.case_record.proofs.Laws.{finished_of-at}
@@ -13,8 +13,8 @@ use Rattle.grant_table.specs.declared.rows.Row.{Row}
 use Rattle.grant_table.specs.Cases.{case_in, plan_of, row_at}
 use Rattle.admin_edits.specs.ClaimCauses.{assigned_with}
 use Rattle.wf_board.specs.Edition.{IsPlanOf}
-use Rattle.wf_board.specs.Found.{AreFound}
-use Rattle.wf_board.specs.Kept.{ArePlanned, IsPlanned}
+use Rattle.wf_board.specs.Laws.Found.{AreFound}
+use Rattle.wf_board.specs.Laws.Kept.{ArePlanned, IsPlanned}
 use Rattle.wf_board.proofs.Rows.{each_at, row_of_case}
 
 planned_is : (p : PolicyShape) (c : CaseShape) (o : Option (List ℕ)) (plan : List ℕ) → o ≡ Some plan → IsPlanned p c o → IsPlanOf p c plan

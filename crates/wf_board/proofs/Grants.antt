@@ -6,7 +6,7 @@ use Rattle.std.specs.List.{list_any}
 use Rattle.std.proofs.lemmas.Bool.{false≢true}
 use Rattle.std.proofs.lemmas.Bool.Decides.{nat_tests}
 use Rattle.basics.proofs.Booleans.{and_both, and_from}
-use Rattle.basics.specs.Reading.{◌>>=◌}
+use Rattle.basics.specs.Laws.Reading.{◌>>=◌}
 use Rattle.wf_names.specs.States.{user_of}
 use Rattle.wf_names.specs.declared.states.StepState.{StepState}
 use Rattle.wf_names.specs.declared.states.StepState.TheVariants.{Free, Held, Finished}
@@ -15,11 +15,11 @@ use Rattle.constraint_forms.specs.Assign.{planned, user_at}
 use Rattle.constraint_forms.specs.Rules.{Relating, is_falsified, names}
 use Rattle.constraint_forms.proofs.RuleLaws.{falsified_by_named}
 use Rattle.refutation_tree.specs.Tree.{rule}
-use Rattle.policy_book.specs.Shapes.{PolicyShape}
-use Rattle.policy_book.specs.Facts.{IsSoundPolicy}
+use Rattle.policy_book.specs.Laws.Shapes.{PolicyShape}
+use Rattle.policy_book.specs.Laws.Facts.{IsSoundPolicy}
 use Rattle.policy_book.specs.Policies.{flow_at, is_authorised, problem_of}
-use Rattle.policy_book.specs.Plans.{AreAssigned, IsCompletable}
-use Rattle.policy_book.specs.Refuting.{is_broken}
+use Rattle.policy_book.specs.Laws.Plans.{AreAssigned, IsCompletable}
+use Rattle.policy_book.specs.Laws.Refuting.{is_broken}
 use Rattle.certificate_check.proofs.Assigned.{given_other}
 use Rattle.certificate_check.proofs.Refuted.{refutes_soundly}
 use Rattle.case_record.specs.Cases.{CaseShape, assigned_of, finished_of, state_at}
@@ -34,13 +34,13 @@ use Rattle.wf_talk.specs.declared.reply.Denial.{Denial}
 use Rattle.wf_talk.specs.declared.reply.Denial.TheVariants as denial
 use Rattle.admin_edits.specs.ClaimCauses.{assigned_with, first_cause, first_falsified, first_of, permitted_roles, unless}
 use Rattle.wf_board.specs.declared.deed.Deed.TheVariants as deed
-use Rattle.wf_board.specs.States.{Book, State}
+use Rattle.wf_board.specs.Laws.States.{Book, State}
 use Rattle.wf_board.specs.Decisions.{cause_full, decision_of, unless_denied}
-use Rattle.wf_board.specs.Steps.{Answers}
-use Rattle.wf_board.specs.Grants.{AreNamed, MayBeGranted}
+use Rattle.wf_board.specs.Laws.Steps.{Answers}
+use Rattle.wf_board.specs.Laws.Grants.{AreNamed, MayBeGranted}
 use Rattle.wf_board.specs.Edition.{CanBeCompleted}
-use Rattle.wf_board.specs.Found.{AreFound}
-use Rattle.wf_board.specs.Kept.{ArePlanned}
+use Rattle.wf_board.specs.Laws.Found.{AreFound}
+use Rattle.wf_board.specs.Laws.Kept.{ArePlanned}
 use Rattle.wf_board.specs.Laws.{GrantsAreExact}
 use Rattle.wf_board.proofs.Giving.{kept_valid, may_planned, valid_with}
 use Rattle.wf_board.proofs.Told.{place_within, unless_tells}

@@ -6,12 +6,12 @@ use Rattle.wf_names.specs.States.{is_held}
 use Rattle.wf_names.specs.declared.states.StepState.TheVariants.{Free, Held}
 use Rattle.wf_names.specs.declared.states.Phase.TheVariants.{Withdrawn}
 use Rattle.constraint_forms.specs.Assign.{no_steps, no_users}
-use Rattle.policy_book.specs.Shapes.{PolicyShape}
-use Rattle.policy_book.specs.Facts.{IsSoundPolicy}
+use Rattle.policy_book.specs.Laws.Shapes.{PolicyShape}
+use Rattle.policy_book.specs.Laws.Facts.{IsSoundPolicy}
 use Rattle.policy_book.specs.Policies.{flow_at, problem_of}
-use Rattle.policy_book.specs.Plans.{IsCompletable, IsValidPlan}
+use Rattle.policy_book.specs.Laws.Plans.{IsCompletable, IsValidPlan}
 use Rattle.case_record.specs.Cases.{CaseShape, assigned_of, finished_case, finished_of, fresh_case, is_open, state_at, with_phase, with_state}
-use Rattle.grant_table.specs.Lookup.{look_up}
+use Rattle.grant_table.specs.Cases.{look_up}
 use Rattle.wf_talk.specs.declared.entry.Entry.{Entry}
 use Rattle.wf_talk.specs.declared.request.Ask.{Ask}
 use Rattle.wf_talk.specs.declared.reply.Reply.{Reply}
@@ -20,15 +20,16 @@ use Rattle.wf_talk.specs.declared.reply.Denial.{Denial}
 use Rattle.wf_board.specs.declared.deed.Deed.{Deed}
 use Rattle.wf_board.specs.declared.deed.Deed.TheVariants as deed
 use Rattle.admin_edits.specs.declared.amendment.Amendment.{Amendment}
-use Rattle.admin_edits.specs.Edits.{amended}
+use Rattle.admin_edits.specs.Laws.Edits.{amended}
 use Rattle.admin_edits.proofs.Keeping.{HoldsOf, changes_keep_policies_sound}
 use Rattle.wf_board.specs.Edition.{CanAllBeCompleted}
-use Rattle.wf_board.specs.States.{Numbered, State, numbered_case, open_cases, opening_state, with_case_changed}
+use Rattle.wf_board.specs.Laws.States.{Numbered, State, numbered_case, open_cases, opening_state, with_case_changed}
 use Rattle.wf_board.specs.Decisions.{decision_of}
-use Rattle.wf_board.specs.Steps.{Answers, IsReplyTo, IsStep, state_after_decision, state_after_deed, state_after_step, with_changed, with_edited, with_opened}
-use Rattle.wf_board.specs.Histories.{EachAfter, IsRetry, IsRightAfter, state_after}
+use Rattle.wf_board.specs.Laws.Steps.{Answers, IsReplyTo, IsStep, state_after_decision, state_after_deed, state_after_step, with_changed, with_edited}
+use Rattle.wf_board.specs.Laws.Steps.{with_opened}
+use Rattle.wf_board.specs.Laws.Histories.{EachAfter, IsRetry, IsRightAfter, state_after}
 use Rattle.wf_board.proofs.HistoryLaws.{after_more, again_stays}
-use Rattle.wf_board.specs.Kept.{IsOfPolicy, IsSoundState, KeepsCompletable}
+use Rattle.wf_board.specs.Laws.Kept.{IsOfPolicy, IsSoundState, KeepsCompletable}
 use Rattle.wf_board.specs.Laws.{HistoriesKeepCompletable, HistoriesStaySound, PlansStayValid, StepsKeepCompletable}
 use Rattle.wf_board.proofs.Told.{HasStep, IsTold, claim_free, held_by, told}
 use Rattle.wf_board.proofs.Valid.{valid_claimed, valid_finished, valid_freed, valid_fresh}

@@ -5,13 +5,13 @@ use Rattle.wf_names.specs.States.{is_held}
 use Rattle.wf_names.specs.declared.states.StepState.TheVariants.{Free, Held}
 use Rattle.wf_names.specs.declared.states.Phase.{Phase}
 use Rattle.constraint_forms.specs.Assign.{user_at}
-use Rattle.policy_book.specs.Shapes.{PolicyShape}
+use Rattle.policy_book.specs.Laws.Shapes.{PolicyShape}
 use Rattle.policy_book.specs.Policies.{flow_at, problem_of}
-use Rattle.policy_book.specs.Plans.{IsWithin, Problem}
+use Rattle.policy_book.specs.Laws.Plans.{IsWithin, Problem}
 use Rattle.certificate_check.proofs.Assigned.{none_not_some}
 use Rattle.case_record.specs.Cases.{CaseShape, as_finished, assigned_of, finished_case, fresh_case, state_at, with_phase, with_state}
 use Rattle.case_record.proofs.Laws.{assigned_of-finish, assigned_of-hold, assigned_of-release}
-use Rattle.wf_board.specs.Kept.{IsOfPolicy}
+use Rattle.wf_board.specs.Laws.Kept.{IsOfPolicy}
 use Rattle.wf_board.proofs.Valid.{fresh_user, less_given}
 use Rattle.wf_board.proofs.Within.{claimed_within}
 

@@ -8,17 +8,17 @@ use Rattle.std.specs.Ordering.{eq_by_cmp}
 use Rattle.std.proofs.lemmas.Bool.Decides.{eqb_tells}
 use Rattle.std.proofs.lemmas.Map.Views.{tells_apart}
 use Rattle.basics.proofs.Booleans.{and_from, differ, eq_same, or_left, or_right}
-use Rattle.basics.specs.Pairs.{Pairs, pair_cmp}
+use Rattle.basics.specs.Laws.Pairs.{Pairs, pair_cmp}
 use Rattle.basics.specs.PairLaws.{pair_cmp_total, pair_cmp-IsAntisymmetric}
-use Rattle.user_relations.specs.Relations.{RelationKind, RelationShape, change_kind, complement, is_related, kind_holds, kind_of, listed, listed_pairs}
-use Rattle.user_relations.specs.Relations.{pairs_of, with_kind}
+use Rattle.user_relations.specs.Laws.Relations.{RelationKind, RelationShape, change_kind, complement, is_related, kind_holds, kind_of, listed, listed_pairs}
+use Rattle.user_relations.specs.Laws.Relations.{pairs_of, with_kind}
 use Rattle.user_relations.specs.Kinds.{put_fault, take_fault}
 use Rattle.constraint_forms.specs.declared.rule.Rule.{Rule}
 use Rattle.constraint_forms.specs.declared.rule.Rule.TheVariants.{Pair, SomeOf, AllOf, SomeTo, AllTo, AtMost, AtLeast}
 use Rattle.constraint_forms.specs.Assign.{is_member, planned}
 use Rattle.constraint_forms.specs.Rules.{Relating, IsRuleOf, all_from, any_from, is_satisfied}
 use Rattle.policy_book.proofs.Counting.{any_below-at}
-use Rattle.admin_edits.specs.Edits.{pair_fault, unless_fault}
+use Rattle.admin_edits.specs.Laws.Edits.{pair_fault, unless_fault}
 use Rattle.admin_edits.proofs.Unhurt.{kind_other}
 use Rattle.wf_board.specs.Breaking.{gives}
 

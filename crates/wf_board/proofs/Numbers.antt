@@ -12,11 +12,11 @@ use Rattle.wf_talk.specs.declared.reply.Reply.TheVariants as reply
 use Rattle.wf_talk.specs.declared.reply.Denial.{Denial}
 use Rattle.wf_board.specs.declared.deed.Deed.{Deed}
 use Rattle.wf_board.specs.declared.deed.Deed.TheVariants as deed
-use Rattle.wf_board.specs.States.{Numbered, State, numbered_case, opening_state, with_case_changed}
+use Rattle.wf_board.specs.Laws.States.{Numbered, State, numbered_case, opening_state, with_case_changed}
 use Rattle.wf_board.specs.Decisions.{decision_of}
-use Rattle.wf_board.specs.Steps.{state_after_decision, state_after_deed, state_after_step, with_changed, with_opened}
-use Rattle.wf_board.specs.Histories.{state_after}
-use Rattle.wf_board.specs.Kept.{AreCasesNumbered, AreNumberedFrom}
+use Rattle.wf_board.specs.Laws.Steps.{state_after_decision, state_after_deed, state_after_step, with_changed, with_opened}
+use Rattle.wf_board.specs.Laws.Histories.{state_after}
+use Rattle.wf_board.specs.Laws.Kept.{AreCasesNumbered, AreNumberedFrom}
 use Rattle.wf_board.specs.Laws.{HistoriesNumberCases}
 
 -- one more case gets the next number

@@ -7,18 +7,18 @@ use Rattle.wf_names.specs.States.{is_done, is_held}
 use Rattle.wf_names.specs.declared.states.StepState.TheVariants.{Free, Held}
 use Rattle.wf_names.specs.declared.states.Phase.TheVariants.{Withdrawn}
 use Rattle.constraint_forms.specs.Assign.{no_steps, no_users}
-use Rattle.policy_book.specs.Shapes.{PolicyShape}
+use Rattle.policy_book.specs.Laws.Shapes.{PolicyShape}
 use Rattle.policy_book.specs.Policies.{flow_at, problem_of}
-use Rattle.policy_book.specs.Plans.{IsCompletable, IsValidPlan}
+use Rattle.policy_book.specs.Laws.Plans.{IsCompletable, IsValidPlan}
 use Rattle.case_record.specs.Cases.{CaseShape, assigned_of, finished_case, finished_of, fresh_case, is_open, state_at, with_phase, with_state}
 use Rattle.grant_table.specs.declared.rows.Row.{Row}
 use Rattle.grant_table.specs.Cases.{CasesShape, case_in, only, change_row, finished_row, freed_row, held_row, open_rows, plan_while, row_at, with_case}
 use Rattle.grant_table.specs.Cases.{with_row, withdrawn_row}
 use Rattle.admin_edits.specs.ClaimCauses.{assigned_with}
 use Rattle.wf_board.specs.Boards.{state_on}
-use Rattle.wf_board.specs.Found.{AreFound, IsOpenAt}
-use Rattle.wf_board.specs.Kept.{ArePlanned, IsOfPolicy, IsPlanned}
-use Rattle.wf_board.specs.Steps.{with_changed, with_opened}
+use Rattle.wf_board.specs.Laws.Found.{AreFound, IsOpenAt}
+use Rattle.wf_board.specs.Laws.Kept.{ArePlanned, IsOfPolicy, IsPlanned}
+use Rattle.wf_board.specs.Laws.Steps.{with_changed, with_opened}
 use Rattle.wf_board.specs.Taking.{board_of, HasChanged, IsKept}
 use Rattle.wf_board.specs.Verdicts.{snap_rows}
 use Rattle.wf_talk.specs.declared.request.Request.TheVariants as request

@@ -2,7 +2,7 @@
 use Rattle.std.proofs.Common.{◌≡◌, ◌≢◌, ◌≤◌, ◌+◌, ℕ, inl, inr, Bool, List, [], ◌∷◌, map, Option, Some, Result, Ok, Err, if◌then◌else◌, refl, sym, ap}
 use Rattle.std.proofs.Common.{subst, ◌∙◌}
 use Rattle.basics.proofs.Booleans.{bool_cases}
-use Rattle.policy_book.specs.Shapes.{PolicyShape}
+use Rattle.policy_book.specs.Laws.Shapes.{PolicyShape}
 use Rattle.grant_table.specs.declared.rows.Row.{Row}
 use Rattle.grant_table.specs.Cases.{CasesShape, is_open_row, open_rows, replanned, replanned_row}
 use Rattle.grant_table.proofs.Replanning.{replanned_closed, replanned_none, replanned_open}
@@ -16,12 +16,12 @@ use Rattle.wf_board.specs.declared.verdict.Verdict.{Verdict}
 use Rattle.wf_board.specs.declared.verdict.Verdict.TheVariants as verdict
 use Rattle.wf_board.specs.declared.verdict.Answered.{Answered}
 use Rattle.wf_board.specs.declared.verdict.Answered.TheVariants.{Done, Needs}
-use Rattle.wf_board.specs.States.{open_cases}
+use Rattle.wf_board.specs.Laws.States.{open_cases}
 use Rattle.wf_board.specs.Boards.{BoardShape, EditionShape, book_of, numbered}
 use Rattle.wf_board.specs.Decisions.{decision_aside, decision_of}
 use Rattle.wf_board.specs.Deeds.{LeavesBy}
 use Rattle.wf_board.specs.Edition.{ArePlansOf}
-use Rattle.wf_board.specs.KeptPlans.{KeepsPlans, kept_plans, rows_after}
+use Rattle.wf_board.specs.Laws.KeptPlans.{KeepsPlans, kept_plans, rows_after}
 use Rattle.wf_board.specs.Taking.{HasRowsAfter, board_of}
 use Rattle.wf_board.specs.Verdicts.{IsEditionFor, room_used}
 use Rattle.wf_board.proofs.Amended.{edition_change, with_plans}

@@ -5,14 +5,14 @@ use Rattle.std.specs.List.{fold}
 use Rattle.std.specs.Option.{option_map}
 use Rattle.case_record.specs.Cases.{CaseShape, is_open}
 use Rattle.grant_table.specs.declared.rows.Row.{Row}
-use Rattle.grant_table.specs.Lookup.{look_up}
+use Rattle.grant_table.specs.Cases.{look_up}
 use Rattle.grant_table.specs.Cases.{case_in, change_row, only, open_rows, row_at}
 use Rattle.grant_table.specs.Cases as Tables
 use Rattle.basics.proofs.Booleans.{eq_is}
-use Rattle.wf_board.specs.States.{Numbered, numbered_case, with_case_changed}
-use Rattle.wf_board.specs.States as States
+use Rattle.wf_board.specs.Laws.States.{Numbered, numbered_case, with_case_changed}
+use Rattle.wf_board.specs.Laws.States as States
 use Rattle.wf_board.specs.Boards.{numbered}
-use Rattle.wf_board.specs.Kept.{EachRow}
+use Rattle.wf_board.specs.Laws.Kept.{EachRow}
 
 -- a case with a number has a row
 pub row_of_case : (n : ℕ) (rows : List Row) (c : CaseShape) → case_in n rows ≡ Some c → (r : Row) × ((row_at n rows ≡ Some r) × (r.case ≡ c))

@@ -2,7 +2,7 @@
 use Rattle.std.proofs.Common.{◌≡◌, ℕ, inl, inr, Bool, true, false, Result, Ok, Err, refl, sym, ap, subst, ◌∙◌, arith}
 use Rattle.basics.proofs.Booleans.{bool_cases}
 use Rattle.grant_table.specs.Cases.{CasesShape}
-use Rattle.policy_book.specs.Shapes.{PolicyShape}
+use Rattle.policy_book.specs.Laws.Shapes.{PolicyShape}
 use Rattle.wf_talk.specs.declared.request.Ask.{Ask}
 use Rattle.wf_talk.specs.declared.reply.Reply.{Reply}
 use Rattle.wf_talk.specs.declared.reply.Reply.TheVariants as reply
@@ -21,10 +21,10 @@ use Rattle.wf_board.specs.Admission.{has_no_tree}
 use Rattle.wf_board.specs.Boards.{BoardShape, book_of, state_on}
 use Rattle.wf_board.specs.Decisions.{decision_of, needs_plan, needs_verdict}
 use Rattle.wf_board.specs.Deeds.{HasStepped, IsLeftTo, answered_of}
-use Rattle.wf_board.specs.States.{State}
-use Rattle.wf_board.specs.Steps.{Answers, IsReplyTo}
+use Rattle.wf_board.specs.Laws.States.{State}
+use Rattle.wf_board.specs.Laws.Steps.{Answers, IsReplyTo}
 use Rattle.wf_board.specs.Taking.{HasAnsweredAlone, HasAnsweredBy, IsKept, board_of}
-use Rattle.wf_board.specs.Trees.{is_large, shows_large}
+use Rattle.wf_board.specs.Limits.{is_large, shows_large}
 use Rattle.wf_board.specs.Verdicts.{HasAnswered, HasUsed, IsMadeOf, has_shown_large, is_unusable}
 use Rattle.wf_board.proofs.Admission.{cause_bare, want_answers, want_stays}
 use Rattle.wf_board.proofs.PlansKept.{want_rows}

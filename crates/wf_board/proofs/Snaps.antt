@@ -2,11 +2,11 @@
 use Rattle.std.proofs.Common.{◌≡◌, ℕ, ◌⊎◌, inl, inr, Bool, true, false, nat_eq, List, [], ◌∷◌, map, Option, None, Some, Result, Ok, Err, if◌then◌else◌, refl}
 use Rattle.std.proofs.Common.{sym, ap, subst, ◌∙◌}
 use Rattle.std.specs.Option.{option_map}
-use Rattle.basics.specs.Reading.{◌>>=◌, or_fault, check}
-use Rattle.policy_book.specs.Shapes.{PolicyShape}
+use Rattle.basics.specs.Laws.Reading.{◌>>=◌, or_fault, check}
+use Rattle.policy_book.specs.Laws.Shapes.{PolicyShape}
 use Rattle.case_record.specs.Cases.{CaseShape, is_open}
 use Rattle.grant_table.specs.declared.rows.Row.{Row}
-use Rattle.grant_table.specs.Lookup.{look_up}
+use Rattle.grant_table.specs.Cases.{look_up}
 use Rattle.grant_table.specs.Cases.{only, open_rows}
 use Rattle.refutation_tree.specs.declared.tree.Tree.{Tree}
 use Rattle.wf_talk.specs.declared.request.Request.TheVariants as request
@@ -22,11 +22,11 @@ use Rattle.wf_board.specs.declared.verdict.Verdict.TheVariants as verdict
 use Rattle.wf_board.specs.declared.verdict.View.{View}
 use Rattle.wf_board.specs.declared.verdict.View.TheVariants as view
 use Rattle.wf_board.specs.Views.{AreStranded, AreThose, IsGrantable, item_of, steps_of}
-use Rattle.wf_board.specs.States.{Book, Numbered, numbered_case, flow_named, open_cases, step_named, user_named}
-use Rattle.admin_edits.specs.Edits.{is_admin}
+use Rattle.wf_board.specs.Laws.States.{Book, Numbered, numbered_case, flow_named, open_cases, step_named, user_named}
+use Rattle.admin_edits.specs.Laws.Edits.{is_admin}
 use Rattle.wf_board.specs.Resolve.{on_step, open_case_at, resolve, resolve_request}
 use Rattle.wf_board.specs.Edition.{ArePlansOf, IsFirstStranded}
-use Rattle.admin_edits.specs.Edits.{amended}
+use Rattle.admin_edits.specs.Laws.Edits.{amended}
 use Rattle.wf_board.specs.Decisions.{cause_aside, cause_full, decision_aside, decision_of, needs_plan, needs_verdict, unless_denied}
 use Rattle.wf_board.specs.Boards.{BoardShape, EditionShape, book_on, numbered, state_on}
 use Rattle.wf_board.specs.Verdicts.{IsEditionFor, IsPlanFor, IsRight, IsStrandingFor, IsTreeFor, IsViewFor, snap_of}

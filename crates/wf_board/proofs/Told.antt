@@ -3,13 +3,13 @@ use Rattle.std.proofs.Common.{◌≡◌, ℕ, ◌<◌, Bool, true, false, List, 
 use Rattle.std.specs.Prelude.{nat_eq}
 use Rattle.std.specs.Cmp.Lexicographic.{pointwise}
 use Rattle.std.proofs.lemmas.List.Quantifiers.{position-Some}
-use Rattle.basics.specs.Reading.{or_fault, check}
+use Rattle.basics.specs.Laws.Reading.{or_fault, check}
 use Rattle.wf_names.specs.States.{is_held, user_of}
 use Rattle.wf_names.specs.Table.{place_of}
 use Rattle.wf_names.specs.declared.states.StepState.{StepState}
 use Rattle.wf_names.specs.declared.states.StepState.TheVariants.{Free, Held, Finished}
 use Rattle.policy_book.specs.Policies.{flow_at}
-use Rattle.policy_book.specs.Facts.{IsSoundPolicy}
+use Rattle.policy_book.specs.Laws.Facts.{IsSoundPolicy}
 use Rattle.wf_talk.specs.declared.edit.Edit.{Edit}
 use Rattle.case_record.specs.Cases.{CaseShape, is_open, state_at}
 use Rattle.wf_talk.specs.declared.request.Request.TheVariants as request
@@ -17,15 +17,15 @@ use Rattle.wf_talk.specs.declared.request.Ask.{Ask}
 use Rattle.wf_talk.specs.declared.request.Ask.TheVariants as ask
 use Rattle.wf_talk.specs.declared.reply.Denial.{Denial}
 use Rattle.wf_talk.specs.declared.reply.Denial.TheVariants.{Closed, NoCase, NoFlow, NoStep, NoUser, NotAdmin}
-use Rattle.admin_edits.specs.Edits.{amendment_of, is_admin}
+use Rattle.admin_edits.specs.Laws.Edits.{amendment_of, is_admin}
 use Rattle.admin_edits.specs.declared.amendment.Amendment.{Amendment}
 use Rattle.admin_edits.specs.declared.fault.EditCause.{EditCause}
 use Rattle.admin_edits.specs.ClaimCauses.{first_cause, first_of, unless}
 use Rattle.wf_board.specs.declared.deed.Deed.{Deed}
 use Rattle.wf_board.specs.declared.deed.Deed.TheVariants as deed
-use Rattle.wf_board.specs.States.{Book, numbered_case, flow_named, step_named, user_named}
+use Rattle.wf_board.specs.Laws.States.{Book, numbered_case, flow_named, step_named, user_named}
 use Rattle.wf_board.specs.Resolve.{on_edit, on_step, open_case_at, resolve}
-use Rattle.wf_board.specs.Found as found
+use Rattle.wf_board.specs.Laws.Found as found
 use Rattle.wf_board.specs.Decisions.{cause_aside, cause_full, decision_aside, decision_of, is_held_by, unless_denied}
 use Rattle.admin_edits.proofs.Keeping.{amendment_found}
 pub use Rattle.admin_edits.proofs.Keeping.{HoldsOf, then_holds}

@@ -8,18 +8,18 @@ use Rattle.std.proofs.lemmas.Option.{slice_get_within}
 use Rattle.basics.proofs.Lists.{take_next}
 use Rattle.basics.proofs.Booleans.{and_from, bool_cases, differ, eq_is, not_true, or_false, second_false}
 use Rattle.wf_names.specs.States.{is_finished}
-use Rattle.rbac_state.specs.Rosters.{has_role}
-use Rattle.user_relations.specs.Relations.{RelationKind, complement_of, is_related, kind_of, listed, listed_pairs, pairs_of, with_kind}
+use Rattle.rbac_state.specs.Laws.Rosters.{has_role}
+use Rattle.user_relations.specs.Laws.Relations.{RelationKind, complement_of, is_related, kind_of, listed, listed_pairs, pairs_of, with_kind}
 use Rattle.constraint_forms.specs.declared.rule.Rule.{Rule}
 use Rattle.constraint_forms.specs.Assign.{is_member, planned}
 use Rattle.constraint_forms.specs.Rules.{is_satisfied, reads, IsRuleOf}
 use Rattle.constraint_forms.proofs.Reading.{none_read}
-use Rattle.policy_book.specs.Shapes.{PolicyShape, WorkflowShape}
+use Rattle.policy_book.specs.Laws.Shapes.{PolicyShape, WorkflowShape}
 use Rattle.policy_book.specs.Policies.{any_below, flow_at, is_authorised, problem_of, with_flow, with_roster}
-use Rattle.policy_book.specs.Facts.{IsSoundPolicy}
-use Rattle.policy_book.specs.Plans.{IsValidPlan}
+use Rattle.policy_book.specs.Laws.Facts.{IsSoundPolicy}
+use Rattle.policy_book.specs.Laws.Plans.{IsValidPlan}
 use Rattle.policy_book.proofs.Counting.{any_below-at}
-use Rattle.basics.specs.Pairs.{Pairs}
+use Rattle.basics.specs.Laws.Pairs.{Pairs}
 use Rattle.case_record.specs.Cases.{CaseShape, assigned_of, finished_of, state_at}
 use Rattle.case_record.proofs.Laws.{finished_of-at}
 use Rattle.grant_table.specs.declared.rows.Row.{Row}
@@ -28,16 +28,16 @@ use Rattle.grant_table.specs.Kept.{ArePlannedWhileOpen, IsOpenPart}
 use Rattle.grant_table.proofs.Passed.{closed_first, closed_rest}
 use Rattle.admin_edits.specs.declared.amendment.Amendment.{Amendment}
 use Rattle.admin_edits.specs.declared.amendment.Amendment.TheVariants as amend
-use Rattle.admin_edits.specs.Edits.{amended, without_roles}
-use Rattle.admin_edits.specs.Found.{IsKnownChange}
+use Rattle.admin_edits.specs.Laws.Edits.{amended, without_roles}
+use Rattle.admin_edits.specs.Amendment.{IsKnownChange}
 use Rattle.admin_edits.specs.Hurting.{is_number, is_over}
 use Rattle.admin_edits.proofs.Keeping.{changes_keep_names}
 use Rattle.admin_edits.proofs.Unhurt.{flow_there, more_below, not_taken, others_keep, problem_with, related_other, satisfied_same, stays}
 use Rattle.admin_edits.proofs.Unhurt.{unhurt_plans_stay_valid}
 use Rattle.wf_board.specs.Breaking.{breaks, breaks_rule, gives, is_barred, is_broken_over, loses_step, HasPlanFor, NamesStep}
 use Rattle.wf_board.specs.Edition.{IsPlanOf}
-use Rattle.wf_board.specs.Found.{IsAllowed}
-use Rattle.wf_board.specs.Kept.{ArePlanned, EachRow, IsOfPolicy, IsPlanned}
+use Rattle.wf_board.specs.Laws.Found.{IsAllowed}
+use Rattle.wf_board.specs.Laws.Kept.{ArePlanned, EachRow, IsOfPolicy, IsPlanned}
 use Rattle.wf_board.proofs.Amended.{closed_planned}
 use Rattle.wf_board.proofs.Exact.{well_formed_any}
 use Rattle.wf_board.proofs.Meeting.{listed_put, listed_taken, put_other, satisfied_apart, taken_other}

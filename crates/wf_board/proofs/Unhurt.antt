@@ -1,6 +1,6 @@
 -- Under a change that makes no plan invalid the plans stay.
 use Rattle.std.proofs.Common.{◌≡◌, ℕ, ◌+◌, Bool, true, false, List, [], ◌∷◌, map, Option, None, Some, if◌then◌else◌, refl, sym, subst, arith}
-use Rattle.policy_book.specs.Shapes.{PolicyShape}
+use Rattle.policy_book.specs.Laws.Shapes.{PolicyShape}
 use Rattle.case_record.specs.Cases.{CaseShape, assigned_of, finished_of, is_open}
 use Rattle.grant_table.specs.declared.rows.Row.{Row}
 use Rattle.grant_table.specs.Cases.{CasesShape}
@@ -8,18 +8,18 @@ use Rattle.wf_talk.specs.declared.request.Ask.{Ask}
 use Rattle.wf_talk.specs.declared.reply.Reply.TheVariants as reply
 use Rattle.admin_edits.specs.declared.amendment.Amendment.{Amendment}
 use Rattle.admin_edits.specs.declared.amendment.Amendment.TheVariants as amend
-use Rattle.admin_edits.specs.Edits.{amended}
-use Rattle.admin_edits.specs.Found.{IsKnownChange}
+use Rattle.admin_edits.specs.Laws.Edits.{amended}
+use Rattle.admin_edits.specs.Amendment.{IsKnownChange}
 use Rattle.admin_edits.specs.Hurting.{may_hurt}
 use Rattle.admin_edits.proofs.Unhurt.{unhurt_plans_stay_valid}
 use Rattle.wf_board.specs.declared.deed.Deed.TheVariants as deed
 use Rattle.wf_board.specs.declared.verdict.Verdict.TheVariants as verdict
 use Rattle.wf_board.specs.declared.verdict.Answered.TheVariants.{Done}
-use Rattle.wf_board.specs.States.{open_cases}
+use Rattle.wf_board.specs.Laws.States.{open_cases}
 use Rattle.wf_board.specs.Boards.{numbered, state_on}
 use Rattle.wf_board.specs.Edition.{CanAllBeCompleted}
-use Rattle.wf_board.specs.Kept.{ArePlanned, EachRow, IsOfPolicy, IsPlanned}
-use Rattle.wf_board.specs.Steps.{Answers, state_after_decision}
+use Rattle.wf_board.specs.Laws.Kept.{ArePlanned, EachRow, IsOfPolicy, IsPlanned}
+use Rattle.wf_board.specs.Laws.Steps.{Answers, state_after_decision}
 use Rattle.wf_board.specs.Deeds.{HasSettled, IsUndecided, is_harmless}
 use Rattle.wf_board.specs.Taking.{IsKept, KeepsAll, board_of}
 use Rattle.wf_board.specs.Verdicts.{HasAnswered}

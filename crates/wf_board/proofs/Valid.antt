@@ -4,7 +4,7 @@ use Rattle.wf_names.specs.declared.states.StepState.TheVariants.{Free, Held}
 use Rattle.wf_names.specs.States.{is_held, user_of}
 use Rattle.constraint_forms.specs.Assign.{is_member, no_steps, no_users, user_at}
 use Rattle.constraint_forms.proofs.Members.{none_member}
-use Rattle.policy_book.specs.Plans.{IsValidPlan, Problem}
+use Rattle.policy_book.specs.Laws.Plans.{IsValidPlan, Problem}
 use Rattle.case_record.specs.Cases.{CaseShape, assigned_of, finished_case, finished_of, fresh_case, state_at, with_state}
 use Rattle.case_record.proofs.Laws.{assigned_of-at, assigned_of-finish, assigned_of-hold, assigned_of-release, blank_at, finished_of-finish, finished_of-hold}
 use Rattle.case_record.proofs.Laws.{finished_of-release}

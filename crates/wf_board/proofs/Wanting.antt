@@ -1,6 +1,6 @@
 -- What a board may have no memory for.
 use Rattle.std.proofs.Common.{◌≡◌, ℕ, inl, inr, Bool, true, false, List, Option, None, Some, Result, Ok, Err, refl, sym, ◌∙◌}
-use Rattle.basics.specs.Reading.{◌>>=◌, or_fault, check}
+use Rattle.basics.specs.Laws.Reading.{◌>>=◌, or_fault, check}
 use Rattle.wf_names.specs.States.{is_held}
 use Rattle.case_record.specs.Cases.{CaseShape, is_open, state_at}
 use Rattle.admin_edits.specs.ClaimCauses.{unless}
@@ -14,13 +14,13 @@ use Rattle.wf_talk.specs.declared.reply.Denial.TheVariants.{Closed, NoCase, NoSt
 use Rattle.wf_board.specs.declared.deed.Deed.{Deed}
 use Rattle.wf_board.specs.declared.deed.Deed.TheVariants as deed
 use Rattle.wf_board.specs.declared.verdict.Verdict.{Verdict}
-use Rattle.wf_board.specs.States.{Book, numbered_case, step_named, user_named}
-use Rattle.admin_edits.specs.Edits.{is_admin}
+use Rattle.wf_board.specs.Laws.States.{Book, numbered_case, step_named, user_named}
+use Rattle.admin_edits.specs.Laws.Edits.{is_admin}
 use Rattle.wf_board.specs.Resolve.{on_step, open_case_at, resolve}
 use Rattle.wf_board.specs.Boards.{BoardShape, state_on}
 use Rattle.wf_board.specs.Decisions.{cause_aside, cause_full, decision_aside, decision_of, is_held_by, needs_verdict, takes_memory, unless_denied}
-use Rattle.wf_board.specs.Histories.{may_lack_memory}
-use Rattle.wf_board.specs.Trees.{shows_large}
+use Rattle.wf_board.specs.Laws.Histories.{may_lack_memory}
+use Rattle.wf_board.specs.Limits.{shows_large}
 use Rattle.wf_board.specs.Verdicts.{IsDecided, LacksMemory, is_opening}
 use Rattle.wf_board.proofs.Snaps.{IsAlwaysAside, finish_plain, needs_aside, plain_needs, release_plain, return_plain, show_plain, withdraw_plain}
 

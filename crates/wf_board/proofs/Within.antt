@@ -4,14 +4,14 @@ use Rattle.wf_names.specs.States.{user_of}
 use Rattle.wf_names.specs.declared.states.StepState.{StepState}
 use Rattle.wf_names.specs.declared.states.StepState.TheVariants.{Free}
 use Rattle.constraint_forms.specs.Assign.{user_at}
-use Rattle.policy_book.specs.Shapes.{PolicyShape}
+use Rattle.policy_book.specs.Laws.Shapes.{PolicyShape}
 use Rattle.policy_book.specs.Policies.{problem_of}
-use Rattle.policy_book.specs.Plans.{IsValidPlan, IsWithin}
+use Rattle.policy_book.specs.Laws.Plans.{IsValidPlan, IsWithin}
 use Rattle.certificate_check.proofs.Assigned.{given, same_some}
 use Rattle.case_record.specs.Cases.{CaseShape, assigned_of, finished_of, state_at}
 use Rattle.case_record.proofs.Laws.{assigned_of-at}
 use Rattle.admin_edits.specs.ClaimCauses.{assigned_with}
-use Rattle.wf_board.specs.Kept.{IsOfPolicy}
+use Rattle.wf_board.specs.Laws.Kept.{IsOfPolicy}
 
 has_step : (states : List StepState) (s u : ℕ) → user_of (slice_index_or states s Free) ≡ Some u → s < length states
 has_step [] s u h = cc

@@ -1,6 +1,6 @@
 -- Inside: how a board takes a reply over its policy and its table of cases.
 use Rattle.std.specs.Prelude.{◌≡◌, ℕ, Bool, false, true, Result, Ok, Err}
-use Rattle.policy_book.specs.Shapes.{PolicyShape}
+use Rattle.policy_book.specs.Laws.Shapes.{PolicyShape}
 use Rattle.grant_table.specs.Cases.{CasesShape}
 use Rattle.wf_talk.specs.declared.reply.Reply.{Reply}
 use Rattle.wf_talk.specs.declared.reply.Reply.TheVariants as reply
@@ -15,9 +15,9 @@ use Rattle.wf_board.specs.declared.verdict.Verdict.TheVariants as verdict
 use Rattle.wf_board.specs.declared.verdict.View.{View}
 use Rattle.wf_board.specs.declared.verdict.View.TheVariants as view
 use Rattle.wf_board.specs.Admit.{MayLackMemoryFor}
-use Rattle.wf_board.specs.States.{Book}
+use Rattle.wf_board.specs.Laws.States.{Book}
 use Rattle.wf_board.specs.Boards.{state_on}
-use Rattle.wf_board.specs.Steps.{Answers}
+use Rattle.wf_board.specs.Laws.Steps.{Answers}
 use Rattle.wf_board.specs.Taking.{board_of, HasTakenStep}
 use Rattle.wf_board.specs.Verdicts.{IsStrandingFor, IsViewFor}
 

@@ -11,11 +11,11 @@ use Rattle.wf_board.specs.declared.deed.Deed.{Deed}
 use Rattle.wf_board.specs.declared.deed.Deed.TheVariants as deed
 use Rattle.wf_board.specs.declared.verdict.Verdict.{Verdict}
 use Rattle.wf_board.specs.declared.verdict.Verdict.TheVariants as verdict
-use Rattle.wf_board.specs.States.{State}
+use Rattle.wf_board.specs.Laws.States.{State}
 use Rattle.wf_board.specs.Boards.{BoardShape, state_on}
 use Rattle.wf_board.specs.Decisions.{decision_of, takes_memory}
-use Rattle.wf_board.specs.KeptPlans.{KeepsPlans}
-use Rattle.wf_board.specs.Steps.{IsStep, room_taken, state_after_step}
+use Rattle.wf_board.specs.Laws.KeptPlans.{KeepsPlans}
+use Rattle.wf_board.specs.Laws.Steps.{IsStep, room_taken, state_after_step}
 use Rattle.wf_board.specs.Verdicts.{is_opening, is_want}
 
 -- an edit against which there is no cause

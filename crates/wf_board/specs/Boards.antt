@@ -1,9 +1,9 @@
 -- A board and a snapshot of it, as contracts see them.
 use Rattle.std.specs.Prelude.{ℕ, List, map}
-use Rattle.policy_book.specs.Shapes.{PolicyShape}
+use Rattle.policy_book.specs.Laws.Shapes.{PolicyShape}
 use Rattle.grant_table.specs.declared.rows.Row.{Row}
 use Rattle.grant_table.specs.Cases.{CasesShape}
-use Rattle.wf_board.specs.States.{Book, Numbered, State}
+use Rattle.wf_board.specs.Laws.States.{Book, Numbered, State}
 
 -- the policy, the table of cases, and how many edits were accepted
 pub record BoardShape : Type 0 where

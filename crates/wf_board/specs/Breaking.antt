@@ -2,11 +2,11 @@
 use Rattle.std.specs.Prelude.{◌≡◌, ℕ, ◌<◌, ◌==◌, ◌&&◌, not, Bool, false, List, length, Option, None}
 use Rattle.std.specs.Prelude.{Some, slice_get}
 use Rattle.wf_names.specs.States.{is_finished}
-use Rattle.user_relations.specs.Relations.{RelationShape, is_related}
+use Rattle.user_relations.specs.Laws.Relations.{RelationShape, is_related}
 use Rattle.constraint_forms.specs.declared.rule.Rule.{Rule}
 use Rattle.constraint_forms.specs.Assign.{planned}
 use Rattle.constraint_forms.specs.Rules.{is_satisfied}
-use Rattle.policy_book.specs.Shapes.{PolicyShape}
+use Rattle.policy_book.specs.Laws.Shapes.{PolicyShape}
 use Rattle.policy_book.specs.Policies.{any_below, flow_at, is_authorised}
 use Rattle.case_record.specs.Cases.{CaseShape, state_at}
 use Rattle.admin_edits.specs.declared.amendment.Amendment.{Amendment}

@@ -1,6 +1,6 @@
 -- Why a request is denied, before the last decision: whether its case can be completed.
 use Rattle.std.specs.Prelude.{◌==◌, ℕ, Bool, true, false, not, Option, None, Some, Result, Ok, Err}
-use Rattle.basics.specs.Reading.{◌>>=◌}
+use Rattle.basics.specs.Laws.Reading.{◌>>=◌}
 use Rattle.wf_names.specs.States.{is_held}
 use Rattle.wf_names.specs.declared.states.StepState.{StepState}
 use Rattle.wf_names.specs.declared.states.StepState.TheVariants.{Free, Held, Finished}
@@ -15,8 +15,15 @@ use Rattle.admin_edits.specs.ClaimCauses as causes
 use Rattle.admin_edits.specs.ClaimCauses.{first_cause, unless}
 use Rattle.wf_board.specs.declared.deed.Deed.{Deed}
 use Rattle.wf_board.specs.declared.deed.Deed.TheVariants as deed
-use Rattle.wf_board.specs.States.{Book, is_full}
+use Rattle.wf_board.specs.Laws.States.{Book, is_full}
 use Rattle.wf_board.specs.Resolve.{resolve}
+use Rattle.wf_board.specs.declared.decision.Refused.{Refused}
+use Rattle.wf_board.specs.declared.decision.Refused.TheVariants.{Denied, NoMemory}
+
+-- the denial where a deed is not done; want of memory is none
+abbrev pub denial_in : Refused → Option Denial
+denial_in (Denied d) = Some d
+denial_in NoMemory = None
 
 -- a user holds a step that stands so
 abbrev pub is_held_by : ℕ → StepState → Bool

@@ -14,15 +14,15 @@ use Rattle.wf_board.specs.declared.verdict.Answered.{Answered}
 use Rattle.wf_board.specs.declared.verdict.Answered.TheVariants as answered
 use Rattle.wf_board.specs.declared.verdict.Stepped.{Stepped}
 use Rattle.wf_board.specs.declared.verdict.Stepped.TheVariants.{Done, Undecided}
-use Rattle.policy_book.specs.Shapes.{PolicyShape}
+use Rattle.policy_book.specs.Laws.Shapes.{PolicyShape}
 use Rattle.grant_table.specs.Cases.{CasesShape}
-use Rattle.wf_board.specs.States.{Book}
+use Rattle.wf_board.specs.Laws.States.{Book}
 use Rattle.wf_board.specs.Boards.{BoardShape, book_of, state_on}
 use Rattle.wf_board.specs.Decisions.{decision_aside, decision_of, needs_plan, needs_verdict}
-use Rattle.wf_board.specs.Found.{IsFound}
-use Rattle.wf_board.specs.KeptPlans.{KeepsPlans}
-use Rattle.wf_board.specs.Steps.{IsStep, room_taken, state_after_step}
-use Rattle.wf_board.specs.Trees.{shows_large}
+use Rattle.wf_board.specs.Laws.Found.{IsFound}
+use Rattle.wf_board.specs.Laws.KeptPlans.{KeepsPlans}
+use Rattle.wf_board.specs.Laws.Steps.{IsStep, room_taken, state_after_step}
+use Rattle.wf_board.specs.Limits.{shows_large}
 use Rattle.wf_board.specs.Verdicts.{IsDecided, IsEditionFor, IsPlanFor, IsStrandingFor, IsTreeFor}
 use Rattle.wf_board.specs.Verdicts.{IsViewFor}
 

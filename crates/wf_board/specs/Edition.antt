@@ -2,13 +2,13 @@
 use Rattle.std.specs.Prelude.{◌≡◌, ℕ, List, [], ◌∷◌, IsTrue}
 use Rattle.std.proofs.Common.{◌⊎◌}
 use Rattle.refutation_tree.specs.declared.tree.Tree.{Tree}
-use Rattle.refutation_tree.specs.Views.{shape_of}
-use Rattle.policy_book.specs.Shapes.{PolicyShape}
+use Rattle.refutation_tree.specs.Laws.Views.{shape_of}
+use Rattle.policy_book.specs.Laws.Shapes.{PolicyShape}
 use Rattle.policy_book.specs.Policies.{problem_of}
-use Rattle.policy_book.specs.Plans.{IsCompletable, IsValidPlan}
-use Rattle.policy_book.specs.Refuting.{refutes}
+use Rattle.policy_book.specs.Laws.Plans.{IsCompletable, IsValidPlan}
+use Rattle.policy_book.specs.Laws.Refuting.{refutes}
 use Rattle.case_record.specs.Cases.{CaseShape, assigned_of, finished_of}
-use Rattle.wf_board.specs.States.{Numbered}
+use Rattle.wf_board.specs.Laws.States.{Numbered}
 
 -- a plan is valid for a case under a policy
 abbrev pub IsPlanOf : PolicyShape → CaseShape → List ℕ → Type 0

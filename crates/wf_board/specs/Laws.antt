@@ -1,9 +1,17 @@
 -- Laws of sessions.
+pub mod Decided
+pub mod Found
+pub mod Grants
+pub mod Histories
+pub mod Kept
+pub mod KeptPlans
+pub mod States
+pub mod Steps
 use Rattle.std.specs.Prelude.{◌≡◌, ◌↔◌, ℕ, List, [], take, Ok}
-use Rattle.policy_book.specs.Shapes.{PolicyShape}
-use Rattle.policy_book.specs.Facts.{IsSoundPolicy}
+use Rattle.policy_book.specs.Laws.Shapes.{PolicyShape}
+use Rattle.policy_book.specs.Laws.Facts.{IsSoundPolicy}
 use Rattle.policy_book.specs.Policies.{problem_of}
-use Rattle.policy_book.specs.Plans.{IsCompletable, IsValidPlan}
+use Rattle.policy_book.specs.Laws.Plans.{IsCompletable, IsValidPlan}
 use Rattle.case_record.specs.Cases.{CaseShape, assigned_of, finished_case, finished_of}
 use Rattle.case_record.specs.Cases.{state_at, with_state}
 use Rattle.wf_names.specs.declared.states.StepState.TheVariants.{Free, Held}
@@ -19,18 +27,18 @@ use Rattle.wf_talk.specs.declared.reply.Denial.TheVariants as denial
 use Rattle.refutation_tree.specs.declared.tree.Tree.TheVariants as tree
 use Rattle.wf_board.specs.declared.deed.Deed.TheVariants as deed
 use Rattle.admin_edits.specs.declared.amendment.Amendment.{Amendment}
-use Rattle.admin_edits.specs.Edits.{amended}
-use Rattle.wf_board.specs.States.{State, open_cases, opening_state}
+use Rattle.admin_edits.specs.Laws.Edits.{amended}
+use Rattle.wf_board.specs.Laws.States.{State, open_cases, opening_state}
 use Rattle.wf_board.specs.Edition.{CanAllBeCompleted}
 use Rattle.wf_board.specs.Decisions.{decision_of}
-use Rattle.wf_board.specs.Steps.{IsStep, state_after_step}
-use Rattle.wf_board.specs.Histories.{IsLegal, state_after}
+use Rattle.wf_board.specs.Laws.Steps.{IsStep, state_after_step}
+use Rattle.wf_board.specs.Laws.Histories.{IsLegal, state_after}
 use Rattle.wf_board.specs.declared.verdict.Verdict.{Verdict}
 use Rattle.wf_board.specs.Boards.{BoardShape, book_on, state_on}
 use Rattle.wf_board.specs.Verdicts.{IsRight, snap_of}
-use Rattle.wf_board.specs.Kept.{AreCasesNumbered, IsSoundState, KeepsCompletable}
-use Rattle.wf_board.specs.Decided.{AreExact}
-use Rattle.wf_board.specs.Grants.{AreNamed, MayBeGranted}
+use Rattle.wf_board.specs.Laws.Kept.{AreCasesNumbered, IsSoundState, KeepsCompletable}
+use Rattle.wf_board.specs.Laws.Decided.{AreExact}
+use Rattle.wf_board.specs.Laws.Grants.{AreNamed, MayBeGranted}
 
 -- every step keeps each open case completable
 abbrev pub StepsKeepCompletable : Type 0

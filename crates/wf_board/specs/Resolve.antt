@@ -1,6 +1,6 @@
 -- What is asked, with the case as it stands and numbers in place of names.
 use Rattle.std.specs.Prelude.{ℕ, List, Result, Ok, Err}
-use Rattle.basics.specs.Reading.{◌>>=◌, or_fault, check}
+use Rattle.basics.specs.Laws.Reading.{◌>>=◌, or_fault, check}
 use Rattle.case_record.specs.Cases.{CaseShape, is_open}
 use Rattle.wf_talk.specs.declared.request.Request.{Request}
 use Rattle.wf_talk.specs.declared.request.Request.TheVariants as request
@@ -11,12 +11,12 @@ use Rattle.wf_talk.specs.declared.reply.Denial.TheVariants as denial
 use Rattle.admin_edits.specs.declared.amendment.Amendment.{Amendment}
 use Rattle.admin_edits.specs.declared.fault.EditCause.{EditCause}
 use Rattle.admin_edits.specs.declared.fault.EditCause.TheVariants as fault
-use Rattle.admin_edits.specs.Edits.{amendment_of, is_admin}
+use Rattle.admin_edits.specs.Laws.Edits.{amendment_of, is_admin}
 use Rattle.wf_board.specs.declared.deed.Deed.{Deed}
 use Rattle.wf_board.specs.declared.deed.Deed.TheVariants.{Open, Claim, Finish, GiveBack, Release}
 use Rattle.wf_board.specs.declared.deed.Deed.TheVariants.{Withdraw, Change, Show, Work, WhatIf}
 use Rattle.wf_board.specs.declared.deed.Deed.TheVariants.{TurnAway}
-use Rattle.wf_board.specs.States.{Book, numbered_case, flow_named, step_named, user_named}
+use Rattle.wf_board.specs.Laws.States.{Book, numbered_case, flow_named, step_named, user_named}
 
 -- the open case with a number
 abbrev pub open_case_at : Book → ℕ → Result CaseShape Denial

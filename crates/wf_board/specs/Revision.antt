@@ -1,9 +1,9 @@
 -- Inside: a change of a policy is known to have no fault in one way alone.
 use Rattle.std.specs.Coded.{Unit-prop, le_prop}
-use Rattle.policy_book.specs.Shapes.{PolicyShape}
+use Rattle.policy_book.specs.Laws.Shapes.{PolicyShape}
 use Rattle.admin_edits.specs.declared.amendment.Amendment.{Amendment}
 use Rattle.admin_edits.specs.declared.amendment.Amendment.TheVariants as amend
-use Rattle.admin_edits.specs.Found.{IsKnownChange}
+use Rattle.admin_edits.specs.Amendment.{IsKnownChange}
 
 -- the numbers of a change are known in one way alone
 pub known-prop : (p : PolicyShape) (a : Amendment) → IsProp (IsKnownChange p a)

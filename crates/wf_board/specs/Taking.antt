@@ -1,13 +1,13 @@
 -- Inside: how a board answers over its policy and its table of cases.
 use Rattle.std.specs.Prelude.{◌≡◌, ◌≢◌, ℕ, ◌+◌, ◌≤◌, Bool, false, true, List, Option, Result}
 use Rattle.std.specs.Prelude.{IsTrue, None, Ok}
-use Rattle.basics.specs.Reading.{◌>>=◌}
+use Rattle.basics.specs.Laws.Reading.{◌>>=◌}
 use Rattle.wf_names.specs.States.{is_held}
-use Rattle.refutation_tree.specs.Views.{shape_of}
-use Rattle.policy_book.specs.Shapes.{PolicyShape}
+use Rattle.refutation_tree.specs.Laws.Views.{shape_of}
+use Rattle.policy_book.specs.Laws.Shapes.{PolicyShape}
 use Rattle.policy_book.specs.declared.course.Course.{Course}
-use Rattle.policy_book.specs.Plans.{IsValidPlan, Problem}
-use Rattle.policy_book.specs.Refuting.{refutes}
+use Rattle.policy_book.specs.Laws.Plans.{IsValidPlan, Problem}
+use Rattle.policy_book.specs.Laws.Refuting.{refutes}
 use Rattle.case_record.specs.Cases.{CaseShape, state_at}
 use Rattle.grant_table.specs.declared.rows.Row.{Row}
 use Rattle.grant_table.specs.Cases.{CasesShape, change_row}
@@ -16,21 +16,21 @@ use Rattle.wf_talk.specs.declared.reply.Reply.{Reply}
 use Rattle.wf_talk.specs.declared.reply.Reply.TheVariants as reply
 use Rattle.wf_talk.specs.declared.reply.Denial.{Denial}
 use Rattle.admin_edits.specs.declared.amendment.Amendment.{Amendment}
-use Rattle.admin_edits.specs.Edits.{amended}
+use Rattle.admin_edits.specs.Laws.Edits.{amended}
 use Rattle.wf_board.specs.declared.deed.Deed.{Deed}
 use Rattle.wf_board.specs.declared.deed.Deed.TheVariants as deed
 use Rattle.wf_board.specs.declared.verdict.Verdict.{Verdict}
 use Rattle.wf_board.specs.declared.verdict.Verdict.TheVariants as verdict
 use Rattle.wf_board.specs.declared.verdict.Answered.{Answered}
 use Rattle.wf_board.specs.declared.verdict.Answered.TheVariants.{Done, Needs}
-use Rattle.wf_board.specs.States.{Book}
+use Rattle.wf_board.specs.Laws.States.{Book}
 use Rattle.wf_board.specs.Boards.{BoardShape, book_of, state_on}
-use Rattle.wf_board.specs.KeptPlans.{rows_after}
-use Rattle.wf_board.specs.Found.{IsFound, IsOpenAt}
+use Rattle.wf_board.specs.Laws.KeptPlans.{rows_after}
+use Rattle.wf_board.specs.Laws.Found.{IsFound, IsOpenAt}
 use Rattle.wf_board.specs.Decisions.{cause_aside, cause_full, decision_of, needs_verdict}
 use Rattle.wf_board.specs.Decisions.{takes_memory, unless_denied}
-use Rattle.wf_board.specs.Steps.{Answers, room_taken, state_after_decision, with_changed}
-use Rattle.wf_board.specs.Kept.{AreNumbered, ArePlanned, EachRow, IsPlanned}
+use Rattle.wf_board.specs.Laws.Steps.{Answers, room_taken, state_after_decision, with_changed}
+use Rattle.wf_board.specs.Laws.Kept.{AreNumbered, ArePlanned, EachRow, IsPlanned}
 use Rattle.wf_board.specs.Verdicts.{HasAnswered, HasUsed, MayLackMemory, is_opening, is_unusable}
 use Rattle.wf_board.specs.Verdicts.{room_used}
 

@@ -2,10 +2,10 @@
 use Rattle.std.specs.Prelude.{◌≡◌, ◌≢◌, ℕ, Bool, false, true, List, [], Result, Ok, IsTrue}
 use Rattle.std.proofs.Common.{◌⊎◌}
 use Rattle.constraint_forms.specs.Assign.{no_users, no_steps}
-use Rattle.refutation_tree.specs.Views.{shape_of}
+use Rattle.refutation_tree.specs.Laws.Views.{shape_of}
 use Rattle.policy_book.specs.Policies.{problem_of}
-use Rattle.policy_book.specs.Plans.{IsValidPlan}
-use Rattle.policy_book.specs.Refuting.{refutes}
+use Rattle.policy_book.specs.Laws.Plans.{IsValidPlan}
+use Rattle.policy_book.specs.Laws.Refuting.{refutes}
 use Rattle.case_record.specs.Cases.{finished_of}
 use Rattle.grant_table.specs.declared.rows.Row.{Row}
 use Rattle.grant_table.specs.Cases.{only, open_rows}
@@ -18,7 +18,7 @@ use Rattle.wf_talk.specs.declared.reply.Denial.{Denial}
 use Rattle.wf_talk.specs.declared.reply.Denial.TheVariants as denial
 use Rattle.refutation_tree.specs.declared.tree.Tree.{Tree}
 use Rattle.admin_edits.specs.ClaimCauses.{assigned_with}
-use Rattle.admin_edits.specs.Edits.{amended}
+use Rattle.admin_edits.specs.Laws.Edits.{amended}
 use Rattle.wf_board.specs.declared.deed.Deed.{Deed}
 use Rattle.wf_board.specs.declared.deed.Deed.TheVariants as deed
 use Rattle.wf_board.specs.declared.verdict.Verdict.{Verdict}
@@ -27,13 +27,13 @@ use Rattle.wf_board.specs.declared.verdict.View.{View}
 use Rattle.wf_board.specs.declared.verdict.View.TheVariants as view
 use Rattle.wf_board.specs.declared.verdict.Answered.{Answered}
 use Rattle.wf_board.specs.declared.verdict.Answered.TheVariants.{Done, Needs}
-use Rattle.wf_board.specs.States.{Book, open_cases}
+use Rattle.wf_board.specs.Laws.States.{Book, open_cases}
 use Rattle.wf_board.specs.Boards.{BoardShape, EditionShape, SnapShape, state_on}
 use Rattle.wf_board.specs.Edition.{ArePlansOf, IsFirstStranded}
 use Rattle.wf_board.specs.Views.{AreStranded, IsWorkOf}
 use Rattle.wf_board.specs.Decisions.{decision_aside, decision_of, needs_verdict, takes_memory}
-use Rattle.wf_board.specs.Steps.{IsStep, room_taken, state_after_step}
-use Rattle.wf_board.specs.Trees.{is_large, shows_large}
+use Rattle.wf_board.specs.Laws.Steps.{IsStep, room_taken, state_after_step}
+use Rattle.wf_board.specs.Limits.{is_large, shows_large}
 
 -- a plan by which the case of a deed can be completed
 abbrev pub IsPlanFor : Book → Result Deed Denial → List ℕ → Type 0

@@ -2,13 +2,13 @@
 -- an edit would strand.
 use Rattle.std.specs.Prelude.{◌≡◌, ℕ, ◌+◌, zero, suc, List, [], ◌∷◌, ◌++◌, length, None}
 use Rattle.std.proofs.Common.{◌⊎◌}
-use Rattle.policy_book.specs.Shapes.{PolicyShape}
+use Rattle.policy_book.specs.Laws.Shapes.{PolicyShape}
 use Rattle.policy_book.specs.Policies.{problem_of}
-use Rattle.policy_book.specs.Plans.{IsCompletable}
+use Rattle.policy_book.specs.Laws.Plans.{IsCompletable}
 use Rattle.case_record.specs.Cases.{CaseShape, finished_of}
 use Rattle.wf_talk.specs.declared.reply.WorkItem.{WorkItem}
 use Rattle.admin_edits.specs.ClaimCauses.{assigned_with, first_cause}
-use Rattle.wf_board.specs.States.{Book, Numbered, open_cases}
+use Rattle.wf_board.specs.Laws.States.{Book, Numbered, open_cases}
 use Rattle.wf_board.specs.Edition.{CanBeCompleted}
 
 -- `names` has the names of those of the values that have the property `In`, in their order; all

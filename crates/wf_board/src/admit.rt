@@ -8,7 +8,7 @@ ghost use Rattle.wf_board.specs.Admission.{when, HasAdmitted, IsVerdictFor};
 ghost use Rattle.wf_board.specs.Admit.{HasVerdict};
 ghost use Rattle.wf_board.specs.Boards.{book_of, state_on};
 ghost use Rattle.wf_board.specs.Decisions.{cause_aside, decision_of};
-ghost use Rattle.wf_board.specs.Found.{IsFound, IsOpenAt};
+ghost use Rattle.wf_board.specs.Laws.Found.{IsFound, IsOpenAt};
 ghost use Rattle.wf_board.specs.Taking.{board_of, full_or, keeps_policy, IsUnhindered, IsHeldAt};
 ghost use Rattle.wf_board.specs.Taking.{IsKept};
 ghost use Rattle.wf_board.specs.Verdicts.{IsRight};

@@ -3,7 +3,7 @@ ghost use Rattle.std.specs.Prelude.{◌≡◌, ◌↔◌, true};
 ghost use Rattle.wf_talk.specs.declared.reply.Reply.TheVariants as replies;
 ghost use Rattle.wf_talk.specs.declared.reply.Denial.TheVariants as denials;
 ghost use Rattle.wf_board.specs.Admission.{has_no_tree};
-ghost use Rattle.wf_board.specs.Steps.{face_of};
+ghost use Rattle.wf_board.specs.Laws.Steps.{face_of};
 
 use case_record::Case;
 use wf_names::{FlowId, RoleId, StepId, StepState, UserId};

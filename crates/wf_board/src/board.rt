@@ -7,11 +7,11 @@ ghost use Rattle.wf_board.specs.Boards.{book_of, state_on};
 ghost use Rattle.wf_board.specs.Decisions.{decision_aside, decision_of, needs_plan, needs_verdict};
 ghost use Rattle.wf_board.specs.Deeds.{answered_of, is_over_open, FitsDeed, HasSettled};
 ghost use Rattle.wf_board.specs.Deeds.{HasStepped, IsUndecided, Leaves, LeavesBy};
-ghost use Rattle.wf_board.specs.Found.{IsAllowed, IsFound};
-ghost use Rattle.wf_board.specs.KeptPlans.{kept_plans, KeepsPlans, KeepsPlansBy};
-ghost use Rattle.wf_board.specs.Kept.{AreNumbered, ArePlanned, IsSoundState, KeepsCompletable};
-ghost use Rattle.wf_board.specs.States.{opening_state};
-ghost use Rattle.wf_board.specs.Steps.{room_taken, state_after_step};
+ghost use Rattle.wf_board.specs.Laws.Found.{IsAllowed, IsFound};
+ghost use Rattle.wf_board.specs.Laws.KeptPlans.{kept_plans, KeepsPlans, KeepsPlansBy};
+ghost use Rattle.wf_board.specs.Laws.Kept.{AreNumbered, ArePlanned, IsSoundState, KeepsCompletable};
+ghost use Rattle.wf_board.specs.Laws.States.{opening_state};
+ghost use Rattle.wf_board.specs.Laws.Steps.{room_taken, state_after_step};
 ghost use Rattle.wf_board.specs.Taking.{keeps_policy, KeepsAll};
 ghost use Rattle.wf_board.specs.Verdicts.{has_shown_large, HasAnswered, IsCertified, IsDecided};
 ghost use Rattle.wf_board.specs.Verdicts.{IsEditionFor, IsPlanFor, IsRight, MayLackMemory};
@@ -44,9 +44,9 @@ pub struct Board {
 impl Model for Board {
     ghost use Rattle.std.specs.Arc.{arc_value};
     ghost use Rattle.std.specs.Coded.{codes};
-    ghost use Rattle.policy_book.specs.Shapes.{policy_code};
+    ghost use Rattle.policy_book.specs.Laws.Shapes.{policy_code};
     ghost use Rattle.wf_board.specs.Boards.{BoardShape};
-    ghost use Rattle.wf_board.specs.Kept.{AreNumbered, ArePlanned};
+    ghost use Rattle.wf_board.specs.Laws.Kept.{AreNumbered, ArePlanned};
 
     ghost Value = { BoardShape };
 

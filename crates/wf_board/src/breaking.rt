@@ -7,7 +7,7 @@ ghost use Rattle.case_record.specs.Cases.{state_at};
 ghost use Rattle.wf_board.specs.Breaking.{breaks, breaks_rule, gives, is_barred, is_broken_over};
 ghost use Rattle.wf_board.specs.Breaking.{loses_step, HasPlanFor, NamesStep};
 ghost use Rattle.wf_board.specs.Edition.{IsPlanOf};
-ghost use Rattle.wf_board.specs.Kept.{ArePlanned, EachRow, IsOfPolicy, IsPlanned};
+ghost use Rattle.wf_board.specs.Laws.Kept.{ArePlanned, EachRow, IsOfPolicy, IsPlanned};
 
 use crate::Revision;
 use admin_edits::{Amendment, is_over};

@@ -1,16 +1,16 @@
 //! Plans and trees that come with what is asked.
 ghost use Rattle.std.specs.Prelude.{◌≡◌, ◌<◌, ◌↔◌, Ok, length, true, IsTrue};
 ghost use Rattle.wf_names.specs.declared.limits.TheConstants.{STEP_LIMIT};
-ghost use Rattle.refutation_tree.specs.Views.{shape_of};
-ghost use Rattle.policy_book.specs.Plans.{IsValidPlan, IsWithin};
+ghost use Rattle.refutation_tree.specs.Laws.Views.{shape_of};
+ghost use Rattle.policy_book.specs.Laws.Plans.{IsValidPlan, IsWithin};
 ghost use Rattle.policy_book.specs.Course.{problem_in};
 ghost use Rattle.policy_book.specs.Policies.{problem_of};
-ghost use Rattle.policy_book.specs.Refuting.{refutes};
+ghost use Rattle.policy_book.specs.Laws.Refuting.{refutes};
 ghost use Rattle.case_record.specs.Cases.{assigned_of, finished_of};
 ghost use Rattle.admin_edits.specs.ClaimCauses.{assigned_with};
 ghost use Rattle.wf_board.specs.Boards.{book_of};
-ghost use Rattle.wf_board.specs.Found.{AreFound, IsFound};
-ghost use Rattle.wf_board.specs.Kept.{ArePlanned};
+ghost use Rattle.wf_board.specs.Laws.Found.{AreFound, IsFound};
+ghost use Rattle.wf_board.specs.Laws.Kept.{ArePlanned};
 ghost use Rattle.wf_board.specs.Taking.{IsCertificateOf};
 ghost use Rattle.wf_board.specs.Verdicts.{IsCertificate, IsCertified};
 

@@ -2,8 +2,8 @@
 ghost use Rattle.std.specs.Prelude.{IfSome, Ok};
 ghost use Rattle.wf_board.specs.Boards.{book_of, book_on};
 ghost use Rattle.wf_board.specs.Deeds.{DecidesDeed};
-ghost use Rattle.wf_board.specs.Found.{IsFound};
-ghost use Rattle.wf_board.specs.Kept.{ArePlanned};
+ghost use Rattle.wf_board.specs.Laws.Found.{IsFound};
+ghost use Rattle.wf_board.specs.Laws.Kept.{ArePlanned};
 ghost use Rattle.wf_board.specs.Verdicts.{Decides, IsPlanFor};
 
 use crate::{Deed, Snap, Verdict};

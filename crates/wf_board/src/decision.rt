@@ -3,7 +3,7 @@ ghost use Rattle.std.specs.Prelude.{◌≡◌, ◌<◌, ◌&&◌, ℕ, List, len
 ghost use Rattle.std.specs.Prelude.{IfOk, OnErr};
 ghost use Rattle.std.specs.List.{list_any};
 ghost use Rattle.wf_names.specs.States.{is_held};
-ghost use Rattle.basics.specs.Reading.{Gives};
+ghost use Rattle.basics.specs.Laws.Reading.{Gives};
 ghost use Rattle.case_record.specs.Cases.{state_at};
 ghost use Rattle.admin_edits.specs.ClaimCauses as causes;
 ghost use Rattle.wf_board.specs.Boards.{book_of};
@@ -12,14 +12,14 @@ ghost use Rattle.constraint_forms.specs.Rules.{is_falsified, names};
 ghost use Rattle.policy_book.specs.Policies.{flow_at, problem_of};
 ghost use Rattle.admin_edits.specs.ClaimCauses.{assigned_with};
 ghost use Rattle.grant_table.specs.Cases.{plan_at};
-ghost use Rattle.wf_board.specs.Kept.{ArePlanned, IsOfPolicy};
-ghost use Rattle.wf_board.specs.Found.{AreFound, IsFound};
+ghost use Rattle.wf_board.specs.Laws.Kept.{ArePlanned, IsOfPolicy};
+ghost use Rattle.wf_board.specs.Laws.Found.{AreFound, IsFound};
 ghost use Rattle.wf_board.specs.Decisions.{cause_aside, cause_full, decision_aside, decision_of};
 ghost use Rattle.wf_board.specs.Decisions.{is_held_by, is_view, needs_plan, needs_verdict};
 ghost use Rattle.wf_board.specs.Decisions.{takes_memory};
 ghost use Rattle.wf_board.specs.Taking.{undenied};
-ghost use Rattle.wf_board.specs.Refusals.{denial_in};
-ghost use Rattle.wf_board.specs.States.{is_full};
+ghost use Rattle.wf_board.specs.Decisions.{denial_in};
+ghost use Rattle.wf_board.specs.Laws.States.{is_full};
 
 use crate::Deed;
 use crate::resolve::resolve;

@@ -22,7 +22,7 @@ pub struct Edition {
 impl Model for Edition {
     ghost use Rattle.std.specs.Arc.{arc_value};
     ghost use Rattle.std.specs.Coded.{codes};
-    ghost use Rattle.policy_book.specs.Shapes.{policy_code};
+    ghost use Rattle.policy_book.specs.Laws.Shapes.{policy_code};
     ghost use Rattle.wf_board.specs.Boards.{EditionShape};
 
     ghost Value = { EditionShape };

@@ -1,7 +1,7 @@
 //! Which workflow each case of a board is of.
 ghost use Rattle.std.specs.Prelude.{◌≡◌, option_map};
 ghost use Rattle.wf_board.specs.Boards.{state_on};
-ghost use Rattle.wf_board.specs.States.{numbered_case};
+ghost use Rattle.wf_board.specs.Laws.States.{numbered_case};
 
 use crate::Board;
 use wf_names::{CaseId, FlowId};

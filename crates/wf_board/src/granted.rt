@@ -1,11 +1,11 @@
 //! Takes the replies to openings and claims that somebody else gave.
 ghost use Rattle.std.specs.Prelude.{◌≡◌, ◌≢◌, ◌<◌, ◌↔◌, None, Ok, length, true};
 ghost use Rattle.constraint_forms.specs.Assign.{no_steps, no_users};
-ghost use Rattle.refutation_tree.specs.Views.{shape_of};
-ghost use Rattle.policy_book.specs.Plans.{IsValidPlan, IsWithin};
+ghost use Rattle.refutation_tree.specs.Laws.Views.{shape_of};
+ghost use Rattle.policy_book.specs.Laws.Plans.{IsValidPlan, IsWithin};
 ghost use Rattle.policy_book.specs.Course.{problem_in};
 ghost use Rattle.policy_book.specs.Policies.{problem_of};
-ghost use Rattle.policy_book.specs.Refuting.{refutes};
+ghost use Rattle.policy_book.specs.Laws.Refuting.{refutes};
 ghost use Rattle.case_record.specs.Cases.{finished_of};
 ghost use Rattle.admin_edits.specs.ClaimCauses.{assigned_with};
 ghost use Rattle.wf_talk.specs.declared.reply.Reply.TheVariants as replies;
@@ -13,7 +13,7 @@ ghost use Rattle.wf_board.specs.declared.deed.Deed.TheVariants as deeds;
 ghost use Rattle.wf_board.specs.Admission.{HasAdmitted};
 ghost use Rattle.wf_board.specs.Boards.{book_of};
 ghost use Rattle.wf_board.specs.Decisions.{cause_aside};
-ghost use Rattle.wf_board.specs.Found.{AreFound};
+ghost use Rattle.wf_board.specs.Laws.Found.{AreFound};
 ghost use Rattle.wf_board.specs.Taking.{IsUnhindered, HasRoomToOpen, IsKept};
 
 use crate::AdmitFault;

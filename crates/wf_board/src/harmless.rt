@@ -1,9 +1,9 @@
 //! Changes of the policy that make no kept plan invalid.
 ghost use Rattle.std.specs.Prelude.{◌≡◌, true, IfOk, IfSome};
 ghost use Rattle.std.specs.Arc.{arc_value};
-ghost use Rattle.wf_board.specs.Found.{IsAllowed};
+ghost use Rattle.wf_board.specs.Laws.Found.{IsAllowed};
 ghost use Rattle.wf_board.specs.Deeds.{is_harmless, is_harmless_deed};
-ghost use Rattle.wf_board.specs.Kept.{ArePlanned};
+ghost use Rattle.wf_board.specs.Laws.Kept.{ArePlanned};
 ghost use Rattle.wf_board.specs.Taking.{KeepsAll};
 
 use crate::breaking::all_stay;

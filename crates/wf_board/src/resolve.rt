@@ -1,6 +1,6 @@
 //! What a line asks, with numbers in place of names.
 ghost use Rattle.std.specs.Prelude.{◌≡◌, ◌<◌, ℕ, length, Err, IfErr, IfOk, MatchResult, Ok, Some};
-ghost use Rattle.basics.specs.Reading.{check, or_fault};
+ghost use Rattle.basics.specs.Laws.Reading.{check, or_fault};
 ghost use Rattle.policy_book.specs.Policies.{flow_at};
 ghost use Rattle.case_record.specs.Cases.{CaseShape};
 ghost use Rattle.grant_table.specs.Cases.{case_in};
@@ -8,12 +8,12 @@ ghost use Rattle.admin_edits.specs.declared.amendment.Amendment.{Amendment};
 ghost use Rattle.wf_talk.specs.declared.request.Request.TheVariants as requests;
 ghost use Rattle.wf_board.specs.declared.deed.Deed.{Deed};
 ghost use Rattle.wf_board.specs.Boards.{book_of};
-ghost use Rattle.wf_board.specs.Found.{AreFound, IsAllowed, IsFound, IsOpenAt};
-ghost use Rattle.wf_board.specs.Kept.{ArePlanned, IsOfPolicy};
+ghost use Rattle.wf_board.specs.Laws.Found.{AreFound, IsAllowed, IsFound, IsOpenAt};
+ghost use Rattle.wf_board.specs.Laws.Kept.{ArePlanned, IsOfPolicy};
 ghost use Rattle.wf_board.specs.Resolve.{edit_denial, on_edit, on_step, open_case_at, resolve};
 ghost use Rattle.wf_board.specs.Resolve.{resolve_request};
-ghost use Rattle.wf_board.specs.States.{numbered_case};
-ghost use Rattle.admin_edits.specs.Edits.{amendment_of, is_admin};
+ghost use Rattle.wf_board.specs.Laws.States.{numbered_case};
+ghost use Rattle.admin_edits.specs.Laws.Edits.{amendment_of, is_admin};
 ghost use Rattle.wf_names.specs.Table.{place_of};
 
 use crate::Deed;

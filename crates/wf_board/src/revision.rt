@@ -1,10 +1,10 @@
 //! A change of the policy, with the policies before and after it.
 ghost use Rattle.std.specs.Prelude.{◌≡◌};
-ghost use Rattle.admin_edits.specs.Edits.{amended};
+ghost use Rattle.admin_edits.specs.Laws.Edits.{amended};
 ghost use Rattle.std.proofs.Props.{props};
 ghost use Rattle.std.specs.Coded.{Coded-set};
-ghost use Rattle.policy_book.specs.Shapes.{policy_code};
-ghost use Rattle.wf_board.specs.Found.{IsAllowed};
+ghost use Rattle.policy_book.specs.Laws.Shapes.{policy_code};
+ghost use Rattle.wf_board.specs.Laws.Found.{IsAllowed};
 ghost use Rattle.wf_board.specs.Revision.{known-prop};
 
 use admin_edits::Amendment;

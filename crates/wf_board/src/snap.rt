@@ -1,7 +1,7 @@
 //! Snapshots of a board.
 ghost use Rattle.std.specs.Prelude.{◌≡◌};
 ghost use Rattle.std.specs.Arc.{arc_value};
-ghost use Rattle.wf_board.specs.Kept.{ArePlanned};
+ghost use Rattle.wf_board.specs.Laws.Kept.{ArePlanned};
 
 use grant_table::Cases;
 use policy_book::Policy;
@@ -19,9 +19,9 @@ pub struct Snap {
 impl Model for Snap {
     ghost use Rattle.std.specs.Arc.{arc_value};
     ghost use Rattle.std.specs.Coded.{codes};
-    ghost use Rattle.policy_book.specs.Shapes.{policy_code};
+    ghost use Rattle.policy_book.specs.Laws.Shapes.{policy_code};
     ghost use Rattle.wf_board.specs.Boards.{SnapShape};
-    ghost use Rattle.wf_board.specs.Kept.{ArePlanned};
+    ghost use Rattle.wf_board.specs.Laws.Kept.{ArePlanned};
 
     ghost Value = { SnapShape };
 

@@ -1,18 +1,18 @@
 //! Takes the denials of edits that somebody else gave.
 ghost use Rattle.std.specs.Prelude.{◌≡◌, ◌≢◌, ◌↔◌, Ok, true, IfOk};
-ghost use Rattle.refutation_tree.specs.Views.{shape_of};
+ghost use Rattle.refutation_tree.specs.Laws.Views.{shape_of};
 ghost use Rattle.refutation_tree.specs.declared.tree.Tree.{Tree};
 ghost use Rattle.policy_book.specs.Policies.{problem_of};
-ghost use Rattle.policy_book.specs.Refuting.{refutes};
+ghost use Rattle.policy_book.specs.Laws.Refuting.{refutes};
 ghost use Rattle.case_record.specs.Cases.{assigned_of, finished_of};
-ghost use Rattle.admin_edits.specs.Edits.{amended};
+ghost use Rattle.admin_edits.specs.Laws.Edits.{amended};
 ghost use Rattle.wf_talk.specs.declared.reply.Reply.TheVariants as replies;
 ghost use Rattle.wf_talk.specs.declared.reply.Denial.TheVariants as denials;
 ghost use Rattle.wf_board.specs.declared.deed.Deed.TheVariants as deeds;
 ghost use Rattle.wf_board.specs.Admission.{HasAdmitted, IsVerdictFor};
 ghost use Rattle.wf_board.specs.Boards.{book_of};
-ghost use Rattle.wf_board.specs.Found.{IsAllowed};
-ghost use Rattle.wf_board.specs.Kept.{IsOfPolicy};
+ghost use Rattle.wf_board.specs.Laws.Found.{IsAllowed};
+ghost use Rattle.wf_board.specs.Laws.Kept.{IsOfPolicy};
 ghost use Rattle.wf_board.specs.Taking.{IsUnhindered};
 ghost use Rattle.wf_board.specs.Verdicts.{IsStrandingFor};
 

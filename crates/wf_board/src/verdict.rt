@@ -1,6 +1,6 @@
 //! Verdicts on whether cases can be completed, and what a board answers with one.
 ghost use Rattle.std.specs.Prelude.{◌≡◌};
-ghost use Rattle.wf_board.specs.Trees.{is_large};
+ghost use Rattle.wf_board.specs.Limits.{is_large};
 ghost use Rattle.wf_board.specs.Verdicts.{is_unusable, is_want};
 
 use crate::{Deed, Edition, TREE_LIMIT};

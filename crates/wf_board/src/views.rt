@@ -6,7 +6,7 @@ ghost use Rattle.wf_board.specs.Admission.{is_view_deed, reply_of, HasAdmitted, 
 ghost use Rattle.wf_board.specs.Boards.{book_of};
 ghost use Rattle.wf_board.specs.Decisions.{decision_aside, decision_of};
 ghost use Rattle.wf_board.specs.Taking.{HasTakenStep, IsKept};
-ghost use Rattle.wf_board.specs.Trees.{shows_large};
+ghost use Rattle.wf_board.specs.Limits.{shows_large};
 ghost use Rattle.wf_board.specs.Verdicts.{IsMadeOf, IsViewFor};
 
 use crate::admit::when;

@@ -6,7 +6,7 @@ use Rattle.wf_names.specs.declared.limits.TheConstants.{STEP_LIMIT}
 use Rattle.wf_names.specs.declared.states.StepState.{StepState}
 use Rattle.wf_names.specs.declared.states.StepState.TheVariants.{Free, Held, Finished}
 use Rattle.constraint_forms.specs.Assign.{is_member, user_at}
-use Rattle.policy_book.specs.Plans.{AreAssigned}
+use Rattle.policy_book.specs.Laws.Plans.{AreAssigned}
 use Rattle.certificate_check.proofs.Assigned.{either, given, given_other, given_same, still_assigned}
 use Rattle.wf_commands.specs.declared.case.Case.{Case}
 use Rattle.wf_commands.specs.Cases.{with_said, IsCaseSoFar, IsOfUsers}

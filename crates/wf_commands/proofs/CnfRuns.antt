@@ -2,15 +2,15 @@
 use Rattle.std.proofs.Common.{◌≡◌, ℕ, List, Option, Some, Result, Ok, Err, arith, inl, inr}
 use Rattle.std.specs.Prelude.{IsErrAnd}
 use Rattle.wf_names.specs.declared.limits.TheConstants.{LINE_LIMIT, POLICY_FILE_LIMIT}
-use Rattle.wf_outside.specs.Outside.{Filed, told, missing, untold, HasPart, Rose, with_bytes}
-use Rattle.policy_book.specs.Shapes.{PolicyShape}
+use Rattle.wf_outside.specs.Laws.Outside.{Filed, told, missing, untold, HasPart, Rose, with_bytes}
+use Rattle.policy_book.specs.Laws.Shapes.{PolicyShape}
 use Rattle.cnf_export.specs.Encoders.{EncoderShape}
 use Rattle.cnf_export.specs.Text.{dimacs_text}
 use Rattle.run_record.specs.declared.fault.RunFault.{RunFault}
 use Rattle.run_record.specs.declared.fault.RunFault.TheVariants.{Nothing, Write, NoMemory}
 use Rattle.run_record.specs.Fault.{fault_in, CountsLoads, CountsReadsAlone}
 use Rattle.run_record.specs.Report.{nothing_told}
-use Rattle.run_record.specs.Run.{Run, OverFile}
+use Rattle.run_record.specs.Laws.Run.{Run, OverFile}
 use Rattle.wf_commands.specs.Answer.{AnswersFile, IsCommandEnding}
 use Rattle.wf_commands.specs.Once.{Ends, HasReadInput, OverPolicy, ReadsInput, RunsOnce}
 use Rattle.wf_commands.specs.Load.{EndsTooLong, IsLoadEnding}

@@ -1,7 +1,7 @@
 -- What the ending of a step says of the ending of its run.
 use Rattle.std.proofs.Common.{◌≡◌, ℕ, Bool, true, false, Result, Ok, Err, refl, subst}
 use Rattle.std.specs.Prelude.{IsErrAnd, IfErr}
-use Rattle.wf_outside.specs.Outside.{Filed}
+use Rattle.wf_outside.specs.Laws.Outside.{Filed}
 use Rattle.run_record.specs.declared.fault.RunFault.{RunFault}
 use Rattle.run_record.specs.declared.fault.RunFault.TheVariants.{Usage}
 use Rattle.run_record.specs.Fault as ending

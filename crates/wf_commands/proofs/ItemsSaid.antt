@@ -4,7 +4,7 @@ use Rattle.std.specs.Prelude.{None, option_and_then}
 use Rattle.serde_json.specs.declared.value.Value.{Value}
 use Rattle.serde_json.specs.Find.{as_str}
 use Rattle.serde_json.specs.View.{view, items_view}
-use Rattle.policy_book.specs.Shapes.{PolicyShape}
+use Rattle.policy_book.specs.Laws.Shapes.{PolicyShape}
 use Rattle.wf_commands.specs.Cases.{free_said, said_at, user_said}
 
 pub said_none : (p : PolicyShape) (vs : List Value) → (length vs ≡ 1 → ⊥) → (length vs ≡ 2 → ⊥) → said_at p (items_view vs) ≡ None

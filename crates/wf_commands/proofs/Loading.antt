@@ -7,8 +7,8 @@ use Rattle.wf_names.specs.declared.limits.TheConstants.{POLICY_FILE_LIMIT}
 use Rattle.wf_outside.specs.declared.loaded.LoadFault.{LoadFault}
 use Rattle.wf_outside.specs.declared.loaded.LoadFault.TheVariants.{Failed, TooLong}
 use Rattle.wf_outside.specs.declared.loaded.LoadFault.TheVariants as load
-use Rattle.wf_outside.specs.Outside.{Filed, told, missing, untold, LoadsAs, LoadsFile}
-use Rattle.policy_book.specs.Shapes.{PolicyShape}
+use Rattle.wf_outside.specs.Laws.Outside.{Filed, told, missing, untold, LoadsAs, LoadsFile}
+use Rattle.policy_book.specs.Laws.Shapes.{PolicyShape}
 use Rattle.policy_reader.specs.Files.{policy_of_file}
 use Rattle.run_record.specs.declared.fault.RunFault.{RunFault}
 use Rattle.run_record.specs.declared.fault.RunFault.TheVariants.{Load, NoMemory, FileTooLong}

@@ -2,16 +2,16 @@
 use Rattle.std.proofs.Common.{◌≡◌, ℕ, Bool, true, false, List, [], Option, None, Some, Result, Ok, Err, refl, sym, subst, ◌∙◌, arith}
 use Rattle.std.specs.Prelude.{IsErrAnd}
 use Rattle.wf_names.specs.declared.limits.TheConstants.{POLICY_FILE_LIMIT}
-use Rattle.wf_outside.specs.Outside.{Filed, told, missing, untold, HasPart, Rose, with_bytes}
+use Rattle.wf_outside.specs.Laws.Outside.{Filed, told, missing, untold, HasPart, Rose, with_bytes}
 use Rattle.wf_outside.proofs.OutsideLaws.{nothing_put, nothing_at_most}
-use Rattle.policy_book.specs.Shapes.{PolicyShape}
+use Rattle.policy_book.specs.Laws.Shapes.{PolicyShape}
 use Rattle.run_record.specs.declared.fault.RunFault.{RunFault}
 use Rattle.run_record.specs.declared.fault.RunFault.TheVariants.{Nothing, Write}
 use Rattle.run_record.specs.Fault as ending
 use Rattle.run_record.specs.Fault.{How, When, how_of, when_of, when_so, is_early, fault_in, is_before_input}
 use Rattle.run_record.specs.Fault.{CountsLoads, CountsReads, CountsReadsAlone, CountsWrites, ReadsSo, ReadsSoAlone}
 use Rattle.run_record.specs.Report.{nothing_told}
-use Rattle.run_record.specs.Run.{Run, OverFile}
+use Rattle.run_record.specs.Laws.Run.{Run, OverFile}
 use Rattle.wf_commands.specs.declared.answer.Answer.{Answer}
 use Rattle.wf_commands.specs.Once.{Ends, EndsSo, HasText, IsQuiet, OverPolicy, ReadsInput, ReadsUpTo, RunsOnce, WritesBy}
 use Rattle.wf_commands.specs.Answer.{ending_with, AnswersAs, AnswersFile, EndsUnanswered, IsCommandEnding, RefusesSo}

@@ -1,6 +1,6 @@
 -- How the lines of workflows follow one another.
 use Rattle.std.proofs.Common.{◌≡◌, ℕ, suc, ◌+◌, List, subst, arith}
-use Rattle.policy_book.specs.Shapes.{PolicyShape}
+use Rattle.policy_book.specs.Laws.Shapes.{PolicyShape}
 use Rattle.wf_commands.specs.Solve.{TellsFirst, TellsNext}
 
 -- the line of the next workflow behind those of the first n

@@ -6,8 +6,8 @@ use Rattle.std.proofs.lemmas.List.{drop_more}
 use Rattle.serde_json.specs.declared.value.Value.{Value}
 use Rattle.serde_json.specs.Data.{no_items}
 use Rattle.serde_json.specs.View.{view, items_view}
-use Rattle.basics.specs.Reading.{◌>>=◌, Gives, each}
-use Rattle.policy_book.specs.Shapes.{PolicyShape}
+use Rattle.basics.specs.Laws.Reading.{◌>>=◌, Gives, each}
+use Rattle.policy_book.specs.Laws.Shapes.{PolicyShape}
 use Rattle.run_record.specs.declared.fault.InputFault.{InputFault}
 use Rattle.run_record.specs.declared.fault.InputFault.TheVariants.{NoUser}
 use Rattle.wf_commands.specs.Input.{listed_items}

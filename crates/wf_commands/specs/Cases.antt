@@ -6,13 +6,13 @@ use Rattle.std.specs.List.{list_all}
 use Rattle.std.specs.Cmp.Lexicographic.{pointwise}
 use Rattle.serde_json.specs.Data.{Data, Items, no_items, item}
 use Rattle.serde_json.specs.Find.{as_str, as_array}
-use Rattle.basics.specs.Reading.{◌>>=◌, or_fault, check, each}
+use Rattle.basics.specs.Laws.Reading.{◌>>=◌, or_fault, check, each}
 use Rattle.wf_names.specs.declared.limits.TheConstants.{STEP_LIMIT}
 use Rattle.wf_names.specs.declared.states.StepState.{StepState}
 use Rattle.wf_names.specs.declared.states.StepState.TheVariants.{Free, Held, Finished}
 use Rattle.constraint_forms.specs.Assign.{no_users, no_steps, user_at}
-use Rattle.policy_book.specs.Shapes.{PolicyShape}
-use Rattle.policy_book.specs.Plans.{Problem, AreAssigned, IsWithin}
+use Rattle.policy_book.specs.Laws.Shapes.{PolicyShape}
+use Rattle.policy_book.specs.Laws.Plans.{Problem, AreAssigned, IsWithin}
 use Rattle.wire_json.specs.Values.{value_of}
 use Rattle.run_record.specs.declared.fault.InputFault.{InputFault}
 use Rattle.run_record.specs.declared.fault.InputFault.TheVariants.{Syntax, Length, NoUser}

@@ -2,13 +2,13 @@
 use Rattle.std.specs.Prelude.{◌≡◌, ◌↔◌, ℕ, ◌++◌, ℤ, Bool, List, length, codes, decimal, Option}
 use Rattle.std.specs.Prelude.{IfSome, MatchOption, MatchResult, MatchBool, nat_lt}
 use Rattle.wf_names.specs.declared.limits.TheConstants.{LINE_LIMIT}
-use Rattle.wf_outside.specs.Outside.{Filed, told, missing, untold}
+use Rattle.wf_outside.specs.Laws.Outside.{Filed, told, missing, untold}
 use Rattle.serde_json.specs.Written.{compact_text}
-use Rattle.policy_book.specs.Shapes.{PolicyShape}
+use Rattle.policy_book.specs.Laws.Shapes.{PolicyShape}
 use Rattle.policy_book.specs.Policies.{flow_at, problem_of}
-use Rattle.policy_book.specs.Plans.{IsCompletable}
+use Rattle.policy_book.specs.Laws.Plans.{IsCompletable}
 use Rattle.wire_json.specs.Entries.{plan_data}
-use Rattle.cnf_export.specs.Encodings.{clauses_of, literals, variables_of}
+use Rattle.cnf_export.specs.Laws.Encodings.{clauses_of, literals, variables_of}
 use Rattle.cnf_export.specs.declared.tally.TheConstants.{LITERAL_LIMIT}
 use Rattle.cnf_export.specs.Saying.{has_variable}
 use Rattle.cnf_export.specs.ModelLaws.{IsSatisfiable}

@@ -1,10 +1,10 @@
 -- Inside: what the steps of a run give.
 use Rattle.std.specs.Prelude.{◌≡◌, ℕ, ◌<◌, ◌≤◌, Bool, List, length, Result, Ok, Err}
 use Rattle.wf_names.specs.declared.limits.TheConstants.{LINE_LIMIT}
-use Rattle.wf_outside.specs.Outside.{Filed, told, missing, untold}
-use Rattle.policy_book.specs.Shapes.{PolicyShape}
+use Rattle.wf_outside.specs.Laws.Outside.{Filed, told, missing, untold}
+use Rattle.policy_book.specs.Laws.Shapes.{PolicyShape}
 use Rattle.policy_book.specs.Policies.{flow_at, problem_of}
-use Rattle.cnf_export.specs.Encodings.{literals, variables_of}
+use Rattle.cnf_export.specs.Laws.Encodings.{literals, variables_of}
 use Rattle.cnf_export.specs.Encoders.{EncoderShape}
 use Rattle.cnf_export.specs.declared.tally.TheConstants.{LITERAL_LIMIT}
 use Rattle.cnf_export.specs.ModelText.{model_of_text}

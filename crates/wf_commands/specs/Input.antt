@@ -4,11 +4,11 @@ use Rattle.std.specs.Prelude.{Some, if◌then◌else◌, is_some, option_and_the
 use Rattle.std.specs.List.{list_all}
 use Rattle.serde_json.specs.Data.{Data, Items, no_items, item}
 use Rattle.serde_json.specs.Find.{as_str, as_array}
-use Rattle.basics.specs.Reading.{◌>>=◌, or_fault, check, each}
+use Rattle.basics.specs.Laws.Reading.{◌>>=◌, or_fault, check, each}
 use Rattle.constraint_forms.specs.Assign.{planned}
 use Rattle.wf_names.specs.Names.{is_name}
 use Rattle.wf_names.specs.Table.{place_of}
-use Rattle.policy_book.specs.Shapes.{PolicyShape}
+use Rattle.policy_book.specs.Laws.Shapes.{PolicyShape}
 use Rattle.wire_json.specs.Values.{value_of}
 use Rattle.run_record.specs.declared.fault.InputFault.{InputFault}
 use Rattle.run_record.specs.declared.fault.InputFault.TheVariants.{NoFlow, Syntax, Length, NoUser}

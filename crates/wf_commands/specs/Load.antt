@@ -1,8 +1,8 @@
 -- What loading a file gives, and the policy in it, by what is told of the file.
 use Rattle.std.specs.Prelude.{◌≡◌, ℕ, ◌<◌, ◌≤◌, List, length, Result, Ok, Err}
-use Rattle.wf_outside.specs.Outside.{Filed, told, missing, untold}
+use Rattle.wf_outside.specs.Laws.Outside.{Filed, told, missing, untold}
 use Rattle.wf_names.specs.declared.limits.TheConstants.{POLICY_FILE_LIMIT}
-use Rattle.policy_book.specs.Shapes.{PolicyShape}
+use Rattle.policy_book.specs.Laws.Shapes.{PolicyShape}
 use Rattle.policy_reader.specs.Files.{policy_of_file}
 use Rattle.run_record.specs.declared.fault.RunFault.{RunFault}
 use Rattle.run_record.specs.declared.fault.RunFault.TheVariants.{Policy, Load, NoMemory}

@@ -2,13 +2,13 @@
 use Rattle.std.specs.Prelude.{◌≡◌, ℕ, ◌<◌, true, List, length, Option, Some}
 use Rattle.std.proofs.Common.{◌⊎◌}
 use Rattle.wf_names.specs.declared.limits.TheConstants.{LINE_LIMIT, POLICY_FILE_LIMIT}
-use Rattle.wf_outside.specs.Outside.{Filed, told, missing, untold, HasPart}
-use Rattle.policy_book.specs.Shapes.{PolicyShape}
+use Rattle.wf_outside.specs.Laws.Outside.{Filed, told, missing, untold, HasPart}
+use Rattle.policy_book.specs.Laws.Shapes.{PolicyShape}
 use Rattle.run_record.specs.declared.fault.RunFault.{RunFault}
 use Rattle.run_record.specs.declared.fault.RunFault.TheVariants.{Nothing, NoMemory}
 use Rattle.run_record.specs.Fault.{is_before_input}
 use Rattle.run_record.specs.Report.{nothing_told}
-use Rattle.run_record.specs.Run.{Run, IsOrderly, OverFile}
+use Rattle.run_record.specs.Laws.Run.{Run, IsOrderly, OverFile}
 use Rattle.wf_commands.specs.Once.{HasReadInput, OverPolicy, RunsOnce}
 use Rattle.wf_commands.specs.Load.{EndsTooLong}
 use Rattle.wf_commands.specs.declared.model_file.TheConstants.{MODEL_FILE_LIMIT}

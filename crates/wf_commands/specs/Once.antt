@@ -1,10 +1,11 @@
 -- The commands that answer once: each loads a policy, and writes one text.
 use Rattle.std.specs.Prelude.{◌≡◌, ℕ, ◌+◌, ◌≤◌, List, [], length, Option, None, Some, MatchResult}
 use Rattle.std.specs.Prelude.{MatchBool, nat_lt}
-use Rattle.wf_outside.specs.Outside.{with_bytes, HasPart, HasTaken, HasTakenAtMost, HasTakenCount}
-use Rattle.wf_outside.specs.Outside.{IsAtEnd}
+use Rattle.wf_outside.specs.Laws.Outside.{with_bytes, HasPart, HasTaken, HasTakenAtMost}
+use Rattle.wf_outside.specs.Laws.Outside.{HasTakenCount}
+use Rattle.wf_outside.specs.Laws.Outside.{IsAtEnd}
 use Rattle.wf_names.specs.declared.limits.TheConstants.{POLICY_FILE_LIMIT}
-use Rattle.policy_book.specs.Shapes.{PolicyShape}
+use Rattle.policy_book.specs.Laws.Shapes.{PolicyShape}
 use Rattle.policy_reader.specs.Files.{policy_of_file}
 use Rattle.run_record.specs.declared.fault.RunFault.{RunFault}
 use Rattle.run_record.specs.declared.fault.RunFault.TheVariants.{Nothing, Found, Policy}
@@ -12,7 +13,7 @@ use Rattle.run_record.specs.declared.fault.RunFault.TheVariants.{FileTooLong}
 use Rattle.run_record.specs.Fault.{How, answered, unloaded, unread, unwritten, lacking, how_of}
 use Rattle.run_record.specs.Fault.{When, early, midway, overlong, late, when_of, CountsReadsAlone}
 use Rattle.run_record.specs.Report.{nothing_told}
-use Rattle.run_record.specs.Run.{Run, IsOrderly, OverFile}
+use Rattle.run_record.specs.Laws.Run.{Run, IsOrderly, OverFile}
 use Rattle.wf_commands.specs.Load.{EndsTooLong}
 
 -- a run that is refused ends so, and writes nothing

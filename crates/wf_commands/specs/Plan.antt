@@ -4,9 +4,9 @@ use Rattle.std.specs.Prelude.{MatchOption, MatchResult, MatchBool, nat_lt, codes
 use Rattle.std.specs.Prelude.{slice_index_or}
 use Rattle.wf_names.specs.declared.limits.TheConstants.{LINE_LIMIT}
 use Rattle.constraint_forms.specs.Assign.{no_users, no_steps}
-use Rattle.policy_book.specs.Shapes.{PolicyShape}
+use Rattle.policy_book.specs.Laws.Shapes.{PolicyShape}
 use Rattle.policy_book.specs.Policies.{flow_at, problem_of}
-use Rattle.policy_book.specs.Plans.{IsValidPlan}
+use Rattle.policy_book.specs.Laws.Plans.{IsValidPlan}
 use Rattle.certificate_check.specs.declared.plan.PlanFault.{PlanFault}
 use Rattle.certificate_check.specs.declared.plan.PlanFault.TheVariants.{Moved, Role, Rule}
 use Rattle.certificate_check.specs.Plan.{plan_verdict}
@@ -14,7 +14,7 @@ use Rattle.run_record.specs.declared.fault.RunFault.{RunFault}
 use Rattle.run_record.specs.declared.fault.RunFault.TheVariants.{Nothing, Found, LineTooLong}
 use Rattle.run_record.specs.declared.fault.RunFault.TheVariants.{BadInput}
 use Rattle.run_record.specs.declared.fault.InputFault.TheVariants.{NoFlow}
-use Rattle.run_record.specs.Run.{Run}
+use Rattle.run_record.specs.Laws.Run.{Run}
 use Rattle.wf_commands.specs.Input.{plan_of_input, number_named}
 use Rattle.wf_commands.specs.Once.{Refuses, RunsOnce}
 

@@ -2,16 +2,16 @@
 use Rattle.std.specs.Prelude.{◌≡◌, ◌↔◌, ℕ, List, None, IsTrue, MatchOption}
 use Rattle.constraint_forms.specs.Assign.{no_users, no_steps}
 use Rattle.refutation_tree.specs.Tree.{Shape}
-use Rattle.policy_book.specs.Shapes.{PolicyShape}
+use Rattle.policy_book.specs.Laws.Shapes.{PolicyShape}
 use Rattle.policy_book.specs.Policies.{problem_of}
-use Rattle.policy_book.specs.Refuting.{refutes}
+use Rattle.policy_book.specs.Laws.Refuting.{refutes}
 use Rattle.resilience_check.specs.Left.{IsLeastAbsence, IsResilient, problem_without}
 use Rattle.resilience_check.specs.Covering.{AreValidPlans, CoversAbsences}
 use Rattle.wire_json.specs.Absences.{absence_line, family_line}
 use Rattle.run_record.specs.declared.fault.RunFault.{RunFault}
 use Rattle.run_record.specs.declared.fault.RunFault.TheVariants.{Nothing, Found, BadInput}
 use Rattle.run_record.specs.declared.fault.InputFault.TheVariants.{NoFlow}
-use Rattle.run_record.specs.Run.{Run}
+use Rattle.run_record.specs.Laws.Run.{Run}
 use Rattle.wf_commands.specs.Input.{number_named}
 use Rattle.wf_commands.specs.Once.{Refuses, RunsOnce}
 

@@ -1,11 +1,11 @@
 -- The command `show`: the policy is written.
 use Rattle.std.specs.Prelude.{◌≡◌, ℕ, List, None, Ok}
-use Rattle.policy_book.specs.Shapes.{PolicyShape}
+use Rattle.policy_book.specs.Laws.Shapes.{PolicyShape}
 use Rattle.policy_reader.specs.Files.{document_in, policy_of_file}
 use Rattle.policy_reader.specs.Documents.{document_of}
 use Rattle.run_record.specs.declared.fault.RunFault.{RunFault}
 use Rattle.run_record.specs.declared.fault.RunFault.TheVariants.{Nothing}
-use Rattle.run_record.specs.Run.{Run}
+use Rattle.run_record.specs.Laws.Run.{Run}
 use Rattle.wf_commands.specs.Once.{RunsOnce}
 
 -- the text is the document that the policy is written as, and reads as the policy

@@ -3,15 +3,15 @@ use Rattle.std.specs.Prelude.{◌≡◌, ℕ, zero, suc, List, [], ◌++◌, len
 use Rattle.std.proofs.Common.{◌⊎◌}
 use Rattle.constraint_forms.specs.Assign.{no_users, no_steps}
 use Rattle.refutation_tree.specs.Tree.{Shape}
-use Rattle.policy_book.specs.Shapes.{PolicyShape}
+use Rattle.policy_book.specs.Laws.Shapes.{PolicyShape}
 use Rattle.policy_book.specs.Policies.{problem_of}
-use Rattle.policy_book.specs.Plans.{IsValidPlan}
-use Rattle.policy_book.specs.Refuting.{refutes}
-use Rattle.policy_book.specs.Lean.{is_lean}
+use Rattle.policy_book.specs.Laws.Plans.{IsValidPlan}
+use Rattle.policy_book.specs.Laws.Refuting.{refutes}
+use Rattle.policy_book.specs.Laws.Lean.{is_lean}
 use Rattle.wire_json.specs.Findings.{plan_line, tree_line}
 use Rattle.run_record.specs.declared.fault.RunFault.{RunFault}
 use Rattle.run_record.specs.declared.fault.RunFault.TheVariants.{Nothing}
-use Rattle.run_record.specs.Run.{Run}
+use Rattle.run_record.specs.Laws.Run.{Run}
 use Rattle.wf_commands.specs.Once.{RunsOnce}
 
 -- a line tells a valid plan of a workflow

@@ -1,8 +1,8 @@
 //! What a command answers.
 ghost use Rattle.std.specs.Prelude.{◌≡◌, ℕ, List, Option, None, Ok, IfErr};
-ghost use Rattle.policy_book.specs.Shapes.{PolicyShape};
+ghost use Rattle.policy_book.specs.Laws.Shapes.{PolicyShape};
 ghost use Rattle.policy_reader.specs.Files.{policy_of_file};
-ghost use Rattle.policy_reader.specs.Printable.{IsPrintable};
+ghost use Rattle.policy_reader.specs.Laws.Printable.{IsPrintable};
 ghost use Rattle.run_record.specs.declared.fault.RunFault.{RunFault};
 ghost use Rattle.run_record.specs.Fault.{fault_in, CountsReadsAlone};
 ghost use Rattle.wf_commands.specs.Answer.{ending_with, AnswersAs, IsAnswerEnding};

@@ -2,7 +2,7 @@
 ghost use Rattle.std.specs.Prelude.{◌≡◌, ◌<◌, ◌≤◌, ◌+◌, length, Some, IfErr, IfOk};
 ghost use Rattle.std.specs.List.{list_all};
 ghost use Rattle.serde_json.specs.View.{view, items_view};
-ghost use Rattle.basics.specs.Reading.{Gives, each};
+ghost use Rattle.basics.specs.Laws.Reading.{Gives, each};
 ghost use Rattle.wf_names.specs.declared.limits.TheConstants.{STEP_LIMIT};
 ghost use Rattle.policy_book.specs.Course.{problem_in};
 ghost use Rattle.run_record.specs.declared.fault.InputFault.TheVariants.{NoUser};

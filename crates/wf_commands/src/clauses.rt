@@ -3,7 +3,7 @@ ghost use Rattle.std.specs.Prelude.{◌≡◌, ◌<◌, length, Some, IfErr, IfO
 ghost use Rattle.wf_names.specs.declared.limits.TheConstants.{LINE_LIMIT, POLICY_FILE_LIMIT};
 ghost use Rattle.run_record.specs.Fault.{fault_in, status_of, CountsLoads, CountsReadsAlone};
 ghost use Rattle.run_record.specs.Report.{nothing_told, told_by};
-ghost use Rattle.run_record.specs.Run.{run_of, streams_of};
+ghost use Rattle.run_record.specs.Laws.Run.{run_of, streams_of};
 ghost use Rattle.wf_commands.specs.Answer.{IsAnswerEnding, IsCommandEnding};
 ghost use Rattle.wf_commands.specs.Load.{EndsTooLong};
 ghost use Rattle.wf_commands.specs.Once.{ReadsInput};

@@ -3,7 +3,7 @@ ghost use Rattle.std.specs.Prelude.{◌≡◌, ◌<◌, ◌≤◌, ◌++◌, len
 ghost use Rattle.serde_json.specs.View.{view};
 ghost use Rattle.serde_json.specs.Written.{compact_text};
 ghost use Rattle.policy_book.specs.Course.{problem_in};
-ghost use Rattle.cnf_export.specs.Encodings.{variables_of};
+ghost use Rattle.cnf_export.specs.Laws.Encodings.{variables_of};
 ghost use Rattle.cnf_export.specs.Saying.{has_variable};
 ghost use Rattle.wire_json.specs.Entries.{named, plan_data};
 ghost use Rattle.wf_commands.specs.Answer.{AnswersAs, ending_with};

@@ -4,7 +4,7 @@ ghost use Rattle.std.specs.Prelude.{option_and_then, IfErr, IfOk, IfSome, OnOk};
 ghost use Rattle.std.specs.List.{list_all};
 ghost use Rattle.serde_json.specs.View.{view, items_view};
 ghost use Rattle.serde_json.specs.Find.{as_str};
-ghost use Rattle.basics.specs.Reading.{Gives, or_fault, each};
+ghost use Rattle.basics.specs.Laws.Reading.{Gives, or_fault, each};
 ghost use Rattle.wf_names.specs.declared.limits.TheConstants.{STEP_LIMIT};
 ghost use Rattle.policy_book.specs.Policies.{flow_at};
 ghost use Rattle.wire_json.specs.Values.{value_of};

@@ -2,7 +2,7 @@
 ghost use Rattle.std.specs.Prelude.{◌≡◌, ℕ, List, IfErr, IfOk};
 ghost use Rattle.wf_names.specs.declared.limits.TheConstants.{POLICY_FILE_LIMIT};
 ghost use Rattle.policy_reader.specs.File.{IsFilePolicy};
-ghost use Rattle.policy_reader.specs.Printable.{IsPrintable};
+ghost use Rattle.policy_reader.specs.Laws.Printable.{IsPrintable};
 ghost use Rattle.run_record.specs.Fault.{fault_in, CountsLoads};
 ghost use Rattle.wf_commands.specs.Load.{EndsTooLong, GivesBytes, GivesPolicy, IsLoadEnding};
 

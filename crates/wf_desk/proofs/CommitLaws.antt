@@ -15,10 +15,10 @@ use Rattle.wf_board.specs.declared.verdict.Verdict.TheVariants as verdict
 use Rattle.wf_board.specs.Boards.{BoardShape, SnapShape, state_on}
 use Rattle.wf_board.specs.Counting.{count_of, counted, counted_end, counts_for, lane_end, last_end_from}
 use Rattle.wf_board.specs.Decisions.{decision_of, is_view, needs_verdict}
-use Rattle.wf_board.specs.Histories.{IsRightAfter}
+use Rattle.wf_board.specs.Laws.Histories.{IsRightAfter}
 use Rattle.wf_board.proofs.HistoryLaws.{again_rests, again_stays, step_rests}
-use Rattle.wf_board.specs.States.{opening_state}
-use Rattle.wf_board.specs.Steps.{IsStep, state_after_step}
+use Rattle.wf_board.specs.Laws.States.{opening_state}
+use Rattle.wf_board.specs.Laws.Steps.{IsStep, state_after_step}
 use Rattle.wf_board.specs.Verdicts.{IsCertified, IsDecided, IsRight, snap_of}
 use Rattle.wf_board.proofs.Counted.{count_later, end_more, end_there}
 use Rattle.wf_board.proofs.Fresh.{fresh_right}
@@ -28,8 +28,9 @@ use Rattle.wf_desk.specs.declared.task.Task.{Task}
 use Rattle.wf_desk.specs.declared.outcome.Outcome.{Outcome}
 use Rattle.wf_desk.specs.declared.outcome.Outcome.TheVariants as outcome
 use Rattle.wf_desk.specs.Desks.{DeskShape, HasAdded, loss_of, next_job, no_loss, served}
-use Rattle.wf_desk.specs.Commits.{HasCommittedChecked, IsNext, IsReplyWhere, IsRightFor, IsTask, floor_of, is_fresh, is_fresh_or_change, is_last_round, is_lost}
-use Rattle.wf_desk.specs.Commits.{job_of_task}
+use Rattle.wf_desk.specs.Laws.Commits.{HasCommittedChecked, IsNext, IsReplyWhere, IsRightFor, IsTask, floor_of, is_fresh, is_fresh_or_change, is_last_round}
+use Rattle.wf_desk.specs.Laws.Commits.{is_lost}
+use Rattle.wf_desk.specs.Laws.Commits.{job_of_task}
 use Rattle.wf_desk.specs.Keeping.{HasCommittedNone, IsDesk, own_start}
 use Rattle.wf_desk.specs.Docket.{IsNextPlace, entry_for}
 use Rattle.wf_desk.proofs.DeskLaws.{Grows, HasMoved, MayLose, desk_added, desk_lost, with_parts}

@@ -11,14 +11,14 @@ use Rattle.wf_talk.specs.declared.job.Job.{Job}
 use Rattle.wf_talk.specs.declared.request.Ask.{Ask}
 use Rattle.wf_board.specs.Boards.{BoardShape, state_on}
 use Rattle.wf_board.specs.Counting.{counted, counts_for, lane_end}
-use Rattle.wf_board.specs.Histories.{AreRightful, IsRightAfter, IsRightful, RestsFrom, job_of_entry, lane_jobs}
+use Rattle.wf_board.specs.Laws.Histories.{AreRightful, IsRightAfter, IsRightful, RestsFrom, job_of_entry, lane_jobs}
 use Rattle.wf_board.proofs.HistoryLaws.{after_more, each_more, edits_within, rests_more, wants_more}
-use Rattle.wf_board.specs.States.{State, opening_state}
-use Rattle.wf_board.specs.Steps.{state_after_step}
+use Rattle.wf_board.specs.Laws.States.{State, opening_state}
+use Rattle.wf_board.specs.Laws.Steps.{state_after_step}
 use Rattle.wf_board.proofs.Counted.{count_from_more, count_later, count_past, end_more, end_within}
 use Rattle.wf_desk.specs.declared.loss.Loss.{Loss}
 use Rattle.wf_desk.specs.Desks.{DeskShape, IsSoundDesk, loss_of, next_job, no_loss, served}
-use Rattle.wf_desk.specs.Commits.{floor_of, with_loss}
+use Rattle.wf_desk.specs.Laws.Commits.{floor_of, with_loss}
 use Rattle.wf_desk.specs.Keeping.{IsDesk, IsLanePlace, LossRests, own_start}
 use Rattle.wf_desk.specs.Docket.{IsNextPlace}
 use Rattle.wf_desk.proofs.DocketLaws.{batch_short, batch_within, front_more, lane_both, lane_own, next_at, served_other, served_own}

@@ -11,7 +11,7 @@ use Rattle.std.proofs.Math.Seq.{take-length}
 use Rattle.basics.proofs.Booleans.{bool_cases, eq_back, eq_is}
 use Rattle.wf_talk.specs.declared.entry.Entry.{Entry}
 use Rattle.wf_talk.specs.declared.job.Job.{Job}
-use Rattle.wf_board.specs.Histories.{EachAfter, RestsFrom, job_of_entry, lane_jobs}
+use Rattle.wf_board.specs.Laws.Histories.{EachAfter, RestsFrom, job_of_entry, lane_jobs}
 use Rattle.wf_desk.specs.Desks.{AreOfLanes, DeskShape, IsDone, IsSoundDesk, left_of, next_job, served, served_jobs}
 use Rattle.wf_desk.specs.Keeping.{IsLanePlace}
 use Rattle.wf_desk.specs.BatchLaws.{AnswersBatch}

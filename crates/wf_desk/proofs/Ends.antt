@@ -2,7 +2,7 @@
 use Rattle.std.proofs.Common.{◌≡◌, ℕ, zero, suc, ◌+◌, ◌<◌, ◌≤◌, List, [], ◌∷◌, ◌++◌, length, ap, ◌∙◌, arith}
 use Rattle.std.proofs.lemmas.List.{length-append}
 use Rattle.std.proofs.Math.Seq.{get_or-append_seam}
-use Rattle.wf_board.specs.Histories.{batch_end, batch_start}
+use Rattle.wf_board.specs.Laws.Histories.{batch_end, batch_start}
 use Rattle.wf_desk.specs.BatchLaws.{EndAt}
 
 ends_last : (ends : List ℕ) (x : ℕ) → batch_start (ends ++ x ∷ []) (length (ends ++ x ∷ [])) ≡ x

@@ -8,7 +8,7 @@ use Rattle.basics.proofs.Booleans.{bool_cases, eq_back}
 use Rattle.wf_names.specs.declared.limits.TheConstants.{LANE_LIMIT}
 use Rattle.wf_talk.specs.declared.entry.Entry.{Entry}
 use Rattle.wf_talk.specs.declared.job.Job.{Job}
-use Rattle.wf_board.specs.Histories.{job_of_entry, lane_jobs}
+use Rattle.wf_board.specs.Laws.Histories.{job_of_entry, lane_jobs}
 use Rattle.wf_desk.specs.Desks.{AreOfLanes}
 use Rattle.wf_desk.specs.Docket.{AnswersFirst, IsNextPlace, IsPlaceBehind, jobs_answered}
 use Rattle.wf_desk.proofs.DocketLaws.{lane_both, lane_own, next_there, none_of_lanes, served_other, served_own}

@@ -10,8 +10,8 @@ use Rattle.wf_talk.specs.declared.job.Job.{Job}
 use Rattle.wf_talk.specs.declared.reply.Reply.{Reply}
 use Rattle.wf_board.specs.declared.verdict.Verdict.{Verdict}
 use Rattle.wf_board.specs.Boards.{SnapShape, book_on, state_on}
-use Rattle.wf_board.specs.Histories.{EachAfter, IsRightAfter, job_of_entry, lane_jobs, state_after}
-use Rattle.wf_board.specs.States.{State, opening_state}
+use Rattle.wf_board.specs.Laws.Histories.{EachAfter, IsRightAfter, job_of_entry, lane_jobs, state_after}
+use Rattle.wf_board.specs.Laws.States.{State, opening_state}
 use Rattle.wf_board.specs.Verdicts.{Decides, IsRight}
 use Rattle.wf_board.proofs.Snaps.{snaps_suffice}
 use Rattle.wf_desk.specs.declared.outcome.Outcome.{Outcome}
@@ -23,7 +23,7 @@ use Rattle.wf_desk.specs.declared.schedule.Mark.{Mark}
 use Rattle.wf_desk.specs.declared.schedule.Mark.TheVariants.{NoJob, Served}
 use Rattle.wf_desk.specs.declared.schedule.Solved.{Solved}
 use Rattle.wf_desk.specs.Desks.{DeskShape, HasAdded, IsSoundDesk, served, state_after_first}
-use Rattle.wf_desk.specs.Commits.{HasCommitted, HasServed, IsTask, job_of_task, with_loss}
+use Rattle.wf_desk.specs.Laws.Commits.{HasCommitted, HasServed, IsTask, job_of_task, with_loss}
 use Rattle.wf_desk.specs.Schedules.{AreEventsOf, HasDone, HasDoneAll, HasGoneOn, HasGrown, Standing, held_by, lane_answers}
 use Rattle.wf_desk.specs.Schedules.{lane_left, lane_of, mark_of, no_tasks}
 use Rattle.wf_desk.specs.Holding.{AreHeld, IsHeld, standing}

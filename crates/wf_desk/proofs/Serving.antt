@@ -17,7 +17,7 @@ use Rattle.wf_desk.specs.declared.task.Task.{Task}
 use Rattle.wf_desk.specs.declared.outcome.Outcome.{Outcome}
 use Rattle.wf_desk.specs.declared.outcome.Outcome.TheVariants as outcome
 use Rattle.wf_desk.specs.Desks.{DeskShape, HasAdded, no_loss}
-use Rattle.wf_desk.specs.Commits.{HasCommitted, HasCommittedChecked, IsNext, IsReplyWhere, is_fresh, is_fresh_or_change, is_lost, job_of_task}
+use Rattle.wf_desk.specs.Laws.Commits.{HasCommitted, HasCommittedChecked, IsNext, IsReplyWhere, is_fresh, is_fresh_or_change, is_lost, job_of_task}
 use Rattle.wf_desk.specs.Docket.{entry_for}
 use Rattle.wf_desk.specs.Keeping.{HasLookedAt, HasMissed}
 use Rattle.wf_desk.proofs.CommitLaws.{added_as}

@@ -2,8 +2,8 @@
 use Rattle.std.specs.Prelude.{◌≡◌, ℕ, ◌<◌, ◌≤◌, List, length, map}
 use Rattle.wf_talk.specs.declared.entry.Entry.{Entry}
 use Rattle.wf_talk.specs.declared.job.Job.{Job}
-use Rattle.wf_board.specs.Histories.{EachAfter, FillsJobs, RestsFrom, batch_end, batch_start}
-use Rattle.wf_board.specs.Histories.{job_of_entry, lane_jobs}
+use Rattle.wf_board.specs.Laws.Histories.{EachAfter, FillsJobs, RestsFrom, batch_end, batch_start}
+use Rattle.wf_board.specs.Laws.Histories.{job_of_entry, lane_jobs}
 
 -- the ends of batches are counts of the jobs, and the last is that of all
 pub record EndAt (batch_ends : List ℕ) (count : ℕ) : Type 0 where

@@ -4,16 +4,16 @@ use Rattle.std.specs.Prelude.{replicate, slice_get, slice_index_or, slice_set, O
 use Rattle.std.specs.Prelude.{OnErr, OnOk, Result}
 use Rattle.std.specs.declared.alloc.AllocError.{AllocError}
 use Rattle.wf_names.specs.declared.limits.TheConstants.{LANE_LIMIT}
-use Rattle.policy_book.specs.Shapes.{PolicyShape}
+use Rattle.policy_book.specs.Laws.Shapes.{PolicyShape}
 use Rattle.wf_talk.specs.declared.entry.Entry.{Entry}
 use Rattle.wf_talk.specs.declared.job.Job.{Job}
 use Rattle.wf_talk.specs.declared.reply.Reply.{Reply}
 use Rattle.wf_talk.specs.declared.reply.Reply.TheVariants.{NoMemory}
 pub use Rattle.wf_talk.specs.Jobs.{AreOfLanes}
 use Rattle.wf_board.specs.Boards.{BoardShape, state_on}
-use Rattle.wf_board.specs.States.{State, opening_state}
-use Rattle.wf_board.specs.Histories.{AreRightful, EachAfter, IsLegal, RestsFrom, job_of_entry}
-use Rattle.wf_board.specs.Histories.{lane_jobs, state_after}
+use Rattle.wf_board.specs.Laws.States.{State, opening_state}
+use Rattle.wf_board.specs.Laws.Histories.{AreRightful, EachAfter, IsLegal, RestsFrom, job_of_entry}
+use Rattle.wf_board.specs.Laws.Histories.{lane_jobs, state_after}
 use Rattle.wf_desk.specs.declared.loss.Loss.{Loss}
 
 -- the policy at the beginning, how many lanes there are, after how many lost rounds a request is

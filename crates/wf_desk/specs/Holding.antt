@@ -2,7 +2,7 @@
 use Rattle.std.specs.Prelude.{◌≡◌, ℕ, ◌≤◌, List, length, Option, Some}
 use Rattle.wf_desk.specs.declared.schedule.Solved.{Solved}
 use Rattle.wf_desk.specs.Desks.{DeskShape}
-use Rattle.wf_desk.specs.Commits.{IsRightFor}
+use Rattle.wf_desk.specs.Laws.Commits.{IsRightFor}
 use Rattle.wf_desk.specs.Schedules.{Standing, held_by}
 
 -- a lane's task was taken from the desk, and its verdict is right for the state as it was then

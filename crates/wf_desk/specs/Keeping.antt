@@ -6,7 +6,7 @@ use Rattle.wf_names.specs.declared.limits.TheConstants.{LANE_LIMIT}
 use Rattle.wf_talk.specs.declared.job.Job.{Job}
 use Rattle.wf_talk.specs.declared.request.Ask.{Ask}
 use Rattle.wf_board.specs.Counting.{counted, lane_end}
-use Rattle.wf_board.specs.Histories.{lane_jobs}
+use Rattle.wf_board.specs.Laws.Histories.{lane_jobs}
 use Rattle.wf_board.specs.Boards.{state_on}
 use Rattle.wf_board.specs.Decisions.{decision_of, is_view, needs_verdict}
 use Rattle.wf_board.specs.Deeds.{IsUndecided}
@@ -18,8 +18,8 @@ use Rattle.wf_desk.specs.declared.outcome.Outcome.{Outcome}
 use Rattle.wf_desk.specs.declared.outcome.Outcome.TheVariants as outcome
 use Rattle.wf_desk.specs.Desks.{AreOfLanes, DeskShape, HasAdded, IsSoundDesk, loss_of, next_job}
 use Rattle.wf_desk.specs.Desks.{served}
-use Rattle.wf_desk.specs.Commits.{IsReplyWhere, floor_of, is_fresh_or_change, is_last_round}
-use Rattle.wf_desk.specs.Commits.{is_lost, job_of_task, with_loss}
+use Rattle.wf_desk.specs.Laws.Commits.{IsReplyWhere, floor_of, is_fresh_or_change, is_last_round}
+use Rattle.wf_desk.specs.Laws.Commits.{is_lost, job_of_task, with_loss}
 
 -- behind a lane's last entry of the batch
 abbrev pub own_start : DeskShape → ℕ → ℕ

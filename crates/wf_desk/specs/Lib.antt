@@ -1,9 +1,8 @@
 pub mod Desks
-pub mod Commits
 pub mod Docket
 pub mod Keeping
 pub mod BatchLaws
 pub mod Schedules
 pub mod Holding
 pub mod Tabled
-pub mod Parts
+pub mod Laws

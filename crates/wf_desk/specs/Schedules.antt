@@ -5,7 +5,7 @@ use Rattle.wf_names.specs.declared.limits.TheConstants.{LANE_LIMIT}
 use Rattle.wf_talk.specs.declared.entry.Entry.{Entry}
 use Rattle.wf_talk.specs.declared.job.Job.{Job}
 use Rattle.wf_board.specs.Boards.{book_on}
-use Rattle.wf_board.specs.Histories.{job_of_entry, lane_jobs}
+use Rattle.wf_board.specs.Laws.Histories.{job_of_entry, lane_jobs}
 use Rattle.wf_board.specs.Verdicts.{Decides}
 use Rattle.wf_desk.specs.declared.outcome.Outcome.{Outcome}
 use Rattle.wf_desk.specs.declared.outcome.Outcome.TheVariants as outcome
@@ -16,7 +16,7 @@ use Rattle.wf_desk.specs.declared.schedule.Mark.TheVariants.{Began, NoJob, NoMem
 use Rattle.wf_desk.specs.declared.schedule.Mark.TheVariants.{NotNext, NoTask, Served}
 use Rattle.wf_desk.specs.declared.schedule.Solved.{Solved}
 use Rattle.wf_desk.specs.Desks.{DeskShape, next_job, served}
-use Rattle.wf_desk.specs.Commits.{HasCommitted, HasServed, IsTask}
+use Rattle.wf_desk.specs.Laws.Commits.{HasCommitted, HasServed, IsTask}
 
 -- the lane of an event
 abbrev pub lane_of : Event → ℕ

@@ -5,19 +5,21 @@ ghost use Rattle.std.specs.Prelude.{Option, Ok};
 ghost use Rattle.wf_names.specs.declared.limits.TheConstants.{BATCH_LINE_LIMIT, LANE_LIMIT};
 ghost use Rattle.wf_names.specs.declared.limits.TheConstants.{ROUND_LIMIT};
 ghost use Rattle.wf_board.specs.Boards.{book_on, state_on};
-ghost use Rattle.wf_board.specs.States.{opening_state};
+ghost use Rattle.wf_board.specs.Laws.States.{opening_state};
 ghost use Rattle.wf_board.specs.Deeds.{IsUndecided};
-ghost use Rattle.wf_board.specs.Found.{IsFound};
+ghost use Rattle.wf_board.specs.Laws.Found.{IsFound};
 ghost use Rattle.wf_board.specs.Verdicts.{Decides, IsDecided, IsPlanFor, IsRight};
 ghost use Rattle.std.specs.Arc.{arc_value};
-ghost use Rattle.wf_board.specs.Histories.{IsLegal, state_after};
+ghost use Rattle.wf_board.specs.Laws.Histories.{IsLegal, state_after};
 ghost use Rattle.wf_desk.specs.Desks.{AnswersPart, AreOfLanes, HasAdded, HasTakenBatch, IsDone};
 ghost use Rattle.wf_desk.specs.Desks.{IsSoundDesk, desk_with, jobs_told, left_of, next_job};
 ghost use Rattle.wf_desk.specs.Desks.{no_loss};
-ghost use Rattle.wf_desk.specs.Commits.{HasCommitted, HasCommittedChecked, HasServed, HasTakenUp};
-ghost use Rattle.wf_desk.specs.Commits.{IsAgain, IsNext, IsRightFor, IsTask, floor_of, is_change};
-ghost use Rattle.wf_desk.specs.Commits.{is_fresh, is_fresh_or_change, is_last_round, is_lost};
-ghost use Rattle.wf_desk.specs.Commits.{job_of_task, with_loss};
+ghost use Rattle.wf_desk.specs.Laws.Commits.{HasCommitted, HasCommittedChecked, HasServed};
+ghost use Rattle.wf_desk.specs.Laws.Commits.{HasTakenUp};
+ghost use Rattle.wf_desk.specs.Laws.Commits.{IsAgain, IsNext, IsRightFor, IsTask, floor_of};
+ghost use Rattle.wf_desk.specs.Laws.Commits.{is_change};
+ghost use Rattle.wf_desk.specs.Laws.Commits.{is_fresh, is_fresh_or_change, is_last_round, is_lost};
+ghost use Rattle.wf_desk.specs.Laws.Commits.{job_of_task, with_loss};
 ghost use Rattle.wf_desk.specs.Keeping.{HasCommittedNone, HasLookedAt, HasMissed, HasNext};
 ghost use Rattle.wf_desk.specs.Keeping.{LeavesDeed, may_lose};
 
@@ -57,7 +59,7 @@ pub struct Desk {
 impl Model for Desk {
     ghost use Rattle.std.specs.Arc.{arc_value};
     ghost use Rattle.std.specs.Coded.{codes};
-    ghost use Rattle.policy_book.specs.Shapes.{policy_code};
+    ghost use Rattle.policy_book.specs.Laws.Shapes.{policy_code};
     ghost use Rattle.refutation_tree.specs.Codes.{kids_code};
     ghost use Rattle.wf_desk.specs.Desks.{DeskShape};
     ghost use Rattle.std.specs.Prelude.{take, drop};

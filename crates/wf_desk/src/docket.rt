@@ -2,7 +2,7 @@
 ghost use Rattle.std.specs.Prelude.{◌≡◌, ◌≤◌, ◌<◌, ◌+◌, ℕ, length, slice_get, slice_index_or};
 ghost use Rattle.std.specs.Prelude.{slice_set, Some};
 ghost use Rattle.wf_names.specs.declared.limits.TheConstants.{LANE_LIMIT};
-ghost use Rattle.wf_board.specs.Histories.{lane_jobs};
+ghost use Rattle.wf_board.specs.Laws.Histories.{lane_jobs};
 ghost use Rattle.wf_talk.specs.Jobs.{AreOfLanes};
 ghost use Rattle.wf_desk.specs.Docket.{AnswersFirst, IsNextPlace, IsPlaceBehind};
 

@@ -4,7 +4,7 @@ use Rattle.std.specs.declared.alloc.AllocError.{AllocError}
 use Rattle.wf_desk.specs.declared.task.Taken.{Taken}
 use Rattle.wf_desk.specs.declared.task.Taken.TheVariants as taken
 use Rattle.wf_desk.specs.Desks.{DeskShape}
-use Rattle.wf_desk.specs.Commits.{HasPlanned, HasTakenUp}
+use Rattle.wf_desk.specs.Laws.Commits.{HasPlanned, HasTakenUp}
 use Rattle.wf_desk.specs.Schedules.{HasGrown}
 use Rattle.wf_desk.proofs.Scheduling.{grown_added, grown_none, grown_served, grown_then}
 

@@ -5,7 +5,7 @@ use Rattle.std.proofs.lemmas.List.Sums.{sum_by-append}
 use Rattle.basics.proofs.Booleans.{bool_cases, eq_is, eq_back}
 use Rattle.wf_talk.specs.declared.entry.Entry.{Entry}
 use Rattle.wf_talk.specs.declared.job.Job.{Job}
-use Rattle.wf_board.specs.Histories.{EachAfter, job_of_entry, lane_jobs}
+use Rattle.wf_board.specs.Laws.Histories.{EachAfter, job_of_entry, lane_jobs}
 use Rattle.wf_lanes.specs.Turns.{AreByTurns, IsInTurn, turns_of}
 use Rattle.wf_lanes.proofs.TurnOrder.{turns_with, turns_own, turns_other}
 

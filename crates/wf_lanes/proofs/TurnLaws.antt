@@ -4,10 +4,10 @@ use Rattle.std.proofs.Common.{append_assoc, append-nil, length-append}
 use Rattle.std.proofs.lemmas.Bool.Decides.{nat_tests}
 use Rattle.basics.proofs.Booleans.{bool_cases}
 use Rattle.wf_board.specs.Boards.{state_on}
-use Rattle.wf_board.specs.Histories.{lane_jobs}
+use Rattle.wf_board.specs.Laws.Histories.{lane_jobs}
 use Rattle.wf_board.proofs.HistoryLaws.{once_all, step_once}
 use Rattle.wf_desk.specs.Desks.{AreOfLanes, DeskShape, IsDone, IsSoundDesk, next_job}
-use Rattle.wf_desk.specs.Commits.{HasServed}
+use Rattle.wf_desk.specs.Laws.Commits.{HasServed}
 use Rattle.wf_desk.proofs.DocketLaws.{batch_within, none_of_lanes}
 use Rattle.wf_desk.specs.Schedules.{HasGrown}
 use Rattle.wf_desk.proofs.Scheduling.{grown_added, grown_then}

@@ -7,9 +7,9 @@ use Rattle.std.proofs.lemmas.List.Sums.{sum_by-append}
 use Rattle.basics.proofs.Booleans.{bool_cases, eq_is}
 use Rattle.wf_talk.specs.declared.entry.Entry.{Entry}
 use Rattle.wf_talk.specs.declared.job.Job.{Job}
-use Rattle.wf_board.specs.Histories.{job_of_entry, lane_jobs}
+use Rattle.wf_board.specs.Laws.Histories.{job_of_entry, lane_jobs}
 use Rattle.wf_board.proofs.HistoryLaws.{each_more}
-use Rattle.wf_desk.specs.Commits.{HasServed}
+use Rattle.wf_desk.specs.Laws.Commits.{HasServed}
 use Rattle.wf_desk.specs.Desks.{DeskShape, next_job, served, served_jobs}
 use Rattle.wf_desk.proofs.DocketLaws.{next_lane, rest_none, served_other}
 use Rattle.wf_lanes.specs.Turns.{IsInTurn, turns_of}

@@ -18,7 +18,7 @@ use Rattle.wf_desk.specs.declared.outcome.Outcome.TheVariants as outcome
 use Rattle.wf_desk.specs.declared.tabled.Fixed.{Fixed}
 use Rattle.wf_desk.specs.declared.task.Task.{Task}
 use Rattle.wf_desk.specs.Desks.{DeskShape, HasAdded, next_job, served}
-use Rattle.wf_desk.specs.Commits.{job_of_task, HasCommitted, HasPlanned, HasServed, IsRightFor, IsTask}
+use Rattle.wf_desk.specs.Laws.Commits.{job_of_task, HasCommitted, HasPlanned, HasServed, IsRightFor, IsTask}
 use Rattle.wf_desk.proofs.DocketLaws as docket
 use Rattle.wf_desk.specs.Schedules.{HasGrown}
 use Rattle.wf_desk.specs.Tabled.{fixed_of, tagged, tagged_of}

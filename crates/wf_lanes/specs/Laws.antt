@@ -1,7 +1,7 @@
 -- The law of turns.
 use Rattle.std.specs.Prelude.{◌≡◌, ℕ, List, map}
 use Rattle.wf_talk.specs.declared.entry.Entry.{Entry}
-use Rattle.wf_board.specs.Histories.{job_of_entry, lane_jobs}
+use Rattle.wf_board.specs.Laws.Histories.{job_of_entry, lane_jobs}
 use Rattle.wf_lanes.specs.Turns.{AreByTurns}
 
 -- entries that come by turns answer jobs in one order: where each lane's jobs are the same, all are

@@ -1,7 +1,7 @@
 -- What became of a desk whose jobs were served by turns.
 use Rattle.std.specs.Prelude.{ℕ, ◌+◌, ◌-◌, ◌≤◌, nat_eq, List, [], length, count_by}
 use Rattle.wf_talk.specs.declared.entry.Entry.{Entry}
-use Rattle.wf_board.specs.Histories.{AreAnsweredOnce, EachAfter}
+use Rattle.wf_board.specs.Laws.Histories.{AreAnsweredOnce, EachAfter}
 use Rattle.wf_desk.specs.Desks.{DeskShape}
 use Rattle.wf_desk.specs.Schedules.{HasGrown}
 

@@ -9,7 +9,8 @@ use Rattle.wf_desk.specs.declared.outcome.Outcome.{Outcome}
 use Rattle.wf_desk.specs.declared.tabled.Fixed.{Fixed}
 use Rattle.wf_desk.specs.declared.task.Task.{Task}
 use Rattle.wf_desk.specs.Desks.{DeskShape, IsSoundDesk, next_job}
-use Rattle.wf_desk.specs.Commits.{HasCommitted, HasPlanned, HasServed, IsTask, next_asks_search}
+use Rattle.wf_desk.specs.Laws.Commits.{HasCommitted, HasPlanned, HasServed, IsTask}
+use Rattle.wf_desk.specs.Laws.Commits.{next_asks_search}
 use Rattle.wf_desk.specs.Tabled.{fixed_of, tagged_of}
 use Rattle.wf_lanes.specs.declared.worker.Begun.{Begun}
 use Rattle.wf_lanes.specs.declared.worker.Begun.TheVariants as begun

@@ -1,7 +1,7 @@
 //! Who is told of a search that is about to begin.
 ghost use Rattle.std.specs.Prelude.{◌≡◌};
 ghost use Rattle.wf_board.specs.Boards.{book_on};
-ghost use Rattle.wf_board.specs.Histories.{may_lack_memory};
+ghost use Rattle.wf_board.specs.Laws.Histories.{may_lack_memory};
 ghost use Rattle.wf_board.specs.Verdicts.{Decides};
 
 use constraint_forms::Plan;

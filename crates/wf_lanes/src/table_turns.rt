@@ -5,7 +5,7 @@ ghost use Rattle.wf_board.specs.Boards.{book_on};
 ghost use Rattle.wf_board.specs.Verdicts.{Decides};
 ghost use Rattle.wf_talk.specs.declared.entry.Entry.{Entry};
 ghost use Rattle.wf_desk.specs.declared.tabled.Fixed.{Fixed};
-ghost use Rattle.wf_desk.specs.Commits.{HasCommitted, IsRightFor, next_asks_search};
+ghost use Rattle.wf_desk.specs.Laws.Commits.{HasCommitted, IsRightFor, next_asks_search};
 ghost use Rattle.wf_lanes.specs.Workers.{BeginsTurn, HasBegunAt, HasCommittedTask, IsBegun, IsIdle};
 
 use crate::worker::{Begun, Turns};

@@ -5,7 +5,7 @@ use Rattle.std.proofs.lemmas.Grind.{common_steps}
 use Rattle.std.proofs.lemmas.List.{take-append-drop, append-nil, take-append-le, length-append, length-take, take_rest}
 use Rattle.std.proofs.Math.Seq.{take-append-add, take-length, take-add}
 use Rattle.wf_outside.specs.declared.loaded.LoadFault.TheVariants.{TooLong}
-use Rattle.wf_outside.specs.Outside.{with_bytes, bytes_before, HasTaken, IsAtEnd, HasTakenAtMost, HasPart, ReadsAll}
+use Rattle.wf_outside.specs.Laws.Outside.{with_bytes, bytes_before, HasTaken, IsAtEnd, HasTakenAtMost, HasPart, ReadsAll}
 
 -- no bytes are taken where nothing changed
 pub nothing_taken : (left : Option (List ℕ)) → HasTaken left left []

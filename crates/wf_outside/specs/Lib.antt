@@ -1,3 +1,2 @@
 pub mod MemShelf
-pub mod Memory
-pub mod Outside
+pub mod Laws

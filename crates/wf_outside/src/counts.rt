@@ -1,5 +1,5 @@
 ghost use Rattle.std.specs.Prelude.{◌≡◌};
-ghost use Rattle.wf_outside.specs.Memory.{is_failing, after_call, after_fault};
+ghost use Rattle.wf_outside.specs.Laws.Memory.{is_failing, after_call, after_fault};
 
 use std::marker::Model;
 
@@ -12,7 +12,7 @@ pub struct Counts {
 }
 
 impl Model for Counts {
-    ghost use Rattle.wf_outside.specs.Memory.{CountsShape};
+    ghost use Rattle.wf_outside.specs.Laws.Memory.{CountsShape};
 
     ghost Value = { CountsShape };
 

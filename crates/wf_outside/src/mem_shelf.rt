@@ -1,8 +1,8 @@
 ghost use Rattle.std.specs.Prelude.{◌≡◌, ◌≤◌, ◌<◌, ◌++◌, ◌↔◌, ℕ, List, map, length, IfOk};
 ghost use Rattle.std.specs.Prelude.{MatchOption};
-ghost use Rattle.wf_outside.specs.Memory.{file_of, LoadsFrom, counts_after};
+ghost use Rattle.wf_outside.specs.Laws.Memory.{file_of, LoadsFrom, counts_after};
 ghost use Rattle.wf_outside.specs.MemShelf.{file_view};
-ghost use Rattle.wf_outside.specs.Outside.{LoadsAs, told, missing};
+ghost use Rattle.wf_outside.specs.Laws.Outside.{LoadsAs, told, missing};
 
 use crate::counts::Counts;
 use crate::{LoadFault, Loaded, Shelf};
@@ -25,7 +25,7 @@ pub struct MemShelf {
 
 impl Model for MemShelf {
     ghost use Rattle.std.specs.Prelude.{map};
-    ghost use Rattle.wf_outside.specs.Memory.{MemShelfShape};
+    ghost use Rattle.wf_outside.specs.Laws.Memory.{MemShelfShape};
     ghost use Rattle.wf_outside.specs.MemShelf.{file_view};
 
     ghost Value = { MemShelfShape };

@@ -1,7 +1,7 @@
 ghost use Rattle.std.specs.Prelude.{◌≡◌, ◌≤◌, ◌<◌, ◌++◌, ◌↔◌, ℕ, List, [], length, take, Some};
 ghost use Rattle.std.specs.Prelude.{IsTrue, IsErr, IsOk, IfOk, OnErr};
-ghost use Rattle.wf_outside.specs.Memory.{after_call, after_fault, piece_len, is_refusing};
-ghost use Rattle.wf_outside.specs.Outside.{with_bytes};
+ghost use Rattle.wf_outside.specs.Laws.Memory.{after_call, after_fault, piece_len, is_refusing};
+ghost use Rattle.wf_outside.specs.Laws.Outside.{with_bytes};
 
 use crate::counts::Counts;
 use crate::{Failed, Sink};
@@ -20,7 +20,7 @@ pub struct MemSink {
 
 impl Model for MemSink {
     ghost use Rattle.std.specs.Prelude.{◌≤◌, length, vec_capacity};
-    ghost use Rattle.wf_outside.specs.Memory.{MemSinkShape};
+    ghost use Rattle.wf_outside.specs.Laws.Memory.{MemSinkShape};
 
     ghost Value = { MemSinkShape };
 
@@ -80,7 +80,7 @@ impl Sink for MemSink {
 
     ghost is_flushed = { λ _. Unit {0} };
 
-    #[tactic(auto, unfolding(crate::specs::Outside::with_bytes))]
+    #[tactic(auto, unfolding(crate::specs::Laws::Outside::with_bytes))]
     fn put(&mut self, bytes: &[u8]) -> Result<usize, Failed>
         // The call fails exactly where its number says so or none can be taken, and then nothing
         // else happens.

@@ -1,7 +1,7 @@
 ghost use Rattle.std.specs.Prelude.{◌≡◌, ◌≤◌, ◌<◌, ◌++◌, ◌↔◌, ℕ, List, length, take, drop, min};
 ghost use Rattle.std.specs.Prelude.{Some, IsTrue, IsErr, IfOk, OnErr};
-ghost use Rattle.wf_outside.specs.Memory.{is_failing, after_call, after_fault, GivesFront};
-ghost use Rattle.wf_outside.specs.Outside.{Rose, HasTaken, IsAtEnd};
+ghost use Rattle.wf_outside.specs.Laws.Memory.{is_failing, after_call, after_fault, GivesFront};
+ghost use Rattle.wf_outside.specs.Laws.Outside.{Rose, HasTaken, IsAtEnd};
 
 use crate::counts::Counts;
 use crate::{Failed, Source};
@@ -19,7 +19,7 @@ pub struct MemSource {
 
 impl Model for MemSource {
     ghost use Rattle.std.specs.Prelude.{◌≤◌, ◌<◌, length, drop};
-    ghost use Rattle.wf_outside.specs.Memory.{MemSourceShape};
+    ghost use Rattle.wf_outside.specs.Laws.Memory.{MemSourceShape};
 
     ghost Value = { MemSourceShape };
 

@@ -1,5 +1,5 @@
 ghost use Rattle.std.specs.Prelude.{◌≡◌, ◌≤◌, ℕ, List, length, IfOk, IsErrOf};
-ghost use Rattle.wf_outside.specs.Outside.{Filed, Rose, StaysUnlessFailed, LoadsAs};
+ghost use Rattle.wf_outside.specs.Laws.Outside.{Filed, Rose, StaysUnlessFailed, LoadsAs};
 
 use crate::{LoadFault, Loaded};
 use std::alloc::Global;

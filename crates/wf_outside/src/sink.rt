@@ -1,6 +1,6 @@
 ghost use Rattle.std.specs.Prelude.{◌≡◌, ◌≤◌, ◌<◌, ℕ, List, length, take, Option, IfOk, OnOk};
 ghost use Rattle.std.specs.Prelude.{OnErr};
-ghost use Rattle.wf_outside.specs.Outside.{Rose, with_bytes, HasPart};
+ghost use Rattle.wf_outside.specs.Laws.Outside.{Rose, with_bytes, HasPart};
 
 use crate::Failed;
 

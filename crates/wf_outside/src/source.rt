@@ -1,7 +1,7 @@
 ghost use Rattle.std.specs.Prelude.{◌≡◌, ◌≤◌, ◌<◌, ◌+◌, ◌++◌, ℕ, List, length, take, Option, IfOk};
 ghost use Rattle.std.specs.Prelude.{IfSome, OnOk, OnErr, IsErrOf};
-ghost use Rattle.wf_outside.specs.Outside.{Rose, CountsFailed, StaysUnlessFailed, HasTaken};
-ghost use Rattle.wf_outside.specs.Outside.{HasTakenCount, HasTakenAtMost, IsAtEnd, ReadsAll};
+ghost use Rattle.wf_outside.specs.Laws.Outside.{Rose, CountsFailed, StaysUnlessFailed, HasTaken};
+ghost use Rattle.wf_outside.specs.Laws.Outside.{HasTakenCount, HasTakenAtMost, IsAtEnd, ReadsAll};
 ghost use Rattle.wf_outside.specs.declared.loaded.LoadFault.TheVariants.{Failed as ReadFailed};
 
 use crate::{LoadFault, Loaded};

@@ -5,13 +5,13 @@ use Rattle.std.proofs.lemmas.Grind.{common_steps}
 use Rattle.std.proofs.lemmas.List.{take-append-drop, take-append-le, take-take, take_all, append-nil, length-append, length-drop}
 use Rattle.std.proofs.lemmas.List.{length-take-le, get_or_append_left}
 use Rattle.std.proofs.Math.Seq.{drop-append_seam, take-append_seam}
-use Rattle.wf_outside.specs.Outside.{with_bytes, HasPart}
+use Rattle.wf_outside.specs.Laws.Outside.{with_bytes, HasPart}
 use Rattle.wf_outside.proofs.OutsideLaws.{more_put, part_all}
-use Rattle.policy_book.specs.Shapes.{PolicyShape}
+use Rattle.policy_book.specs.Laws.Shapes.{PolicyShape}
 use Rattle.wf_talk.specs.declared.entry.Entry.{Entry}
 use Rattle.wf_talk.specs.declared.job.Job.{Job}
-use Rattle.wf_board.specs.States.{State, opening_state}
-use Rattle.wf_board.specs.Histories.{FillsJobs, IsLegal, batch_start, state_after}
+use Rattle.wf_board.specs.Laws.States.{State, opening_state}
+use Rattle.wf_board.specs.Laws.Histories.{FillsJobs, IsLegal, batch_start, state_after}
 use Rattle.wf_board.proofs.HistoryLaws.{after_all}
 use Rattle.wf_desk.specs.Desks.{DeskShape, IsDone, IsSoundDesk, jobs_told, with_room}
 use Rattle.wf_desk.specs.BatchLaws.{AnswersBatch, AnswersNext, EndAt}
@@ -24,7 +24,7 @@ use Rattle.run_record.specs.declared.fault.RunFault.{RunFault}
 use Rattle.run_record.specs.declared.fault.RunFault.TheVariants as fault
 use Rattle.run_record.specs.Report.{Told}
 use Rattle.wf_server.specs.Sessions.{Setting, WritesPart, last_start, text_from}
-use Rattle.entry_laws.specs.Transcripts.{transcript_text}
+use Rattle.entry_laws.specs.Laws.Transcripts.{transcript_text}
 use Rattle.wf_server.specs.Names.{KeepsTexts}
 use Rattle.wf_server.specs.Ways.{setting_of}
 use Rattle.wf_server.specs.declared.batch.Answered.{Answered}

@@ -1,7 +1,7 @@
 -- What a run reads and writes that ends before its session.
 use Rattle.std.proofs.Common.{ℕ, refl, arith}
 use Rattle.run_record.specs.Fault.{How, unasked, unread, unwritten, lacking, ReadsSo, WritesSo}
-use Rattle.transcript_commands.specs.Begun.{EndsBeginning}
+use Rattle.transcript_commands.specs.Laws.Begun.{EndsBeginning}
 
 pub reads_so : (how : How) (count : ℕ) → EndsBeginning how → ReadsSo how count count
 reads_so unasked count ending = absurd ending

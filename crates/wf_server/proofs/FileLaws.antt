@@ -5,14 +5,14 @@ use Rattle.std.proofs.lemmas.Bool.{lt-ltb}
 use Rattle.std.proofs.lemmas.List.{drop_all, length-append, length-take-le, take_more}
 use Rattle.wf_outside.proofs.OutsideLaws.{nothing_put}
 use Rattle.wf_talk.specs.declared.job.Job.{Job}
-use Rattle.wf_board.specs.Histories.{batch_start}
+use Rattle.wf_board.specs.Laws.Histories.{batch_start}
 use Rattle.wf_desk.specs.Desks.{DeskShape, jobs_told}
 use Rattle.line_reader.specs.Cutter.{ends_after}
 use Rattle.line_reader.specs.Laws.{AreInOrder}
 use Rattle.transcript_audit.proofs.Batches.{ends_within, next_start, end_read, part_length, start_ahead, start_within}
 use Rattle.transcript_commands.specs.Unserved.{jobs_between}
 use Rattle.transcript_commands.proofs.Rests.{lanes_between, near_from}
-use Rattle.transcript_commands.specs.Begun.{StandsAt}
+use Rattle.transcript_commands.specs.Laws.Begun.{StandsAt}
 use Rattle.transcript_commands.proofs.Stands.{jobs_here}
 use Rattle.run_record.specs.declared.fault.RunFault.{RunFault}
 use Rattle.run_record.specs.declared.fault.RunFault.TheVariants as fault

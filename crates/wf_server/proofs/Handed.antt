@@ -8,20 +8,21 @@ use Rattle.wf_names.specs.declared.limits.TheConstants.{LANE_LIMIT, SESSION_LINE
 use Rattle.wf_talk.specs.declared.entry.Entry.{Entry}
 use Rattle.wf_talk.specs.declared.job.Job.{Job}
 use Rattle.wf_talk.specs.Jobs.{AreOfLanes, IsNamedAsk}
-use Rattle.line_reader.specs.Jobs.{Cut, UpToAnEnd, cut_all, end_batch, end_full_batch, end_line, flush, jobs_from, last_or, next_input, step}
+use Rattle.line_reader.specs.Laws.Jobs.{Cut, UpToAnEnd, cut_all, end_batch, end_full_batch, end_line, flush, jobs_from, last_or, next_input, step}
 use Rattle.line_reader.specs.Laws.{AddsNamed, AreLinesBelow, AreNamedJobs, GoesOn, LeadTo}
 use Rattle.line_reader.proofs.CutLaws.{cut_all-append}
+use Rattle.line_reader.proofs.Order.{lead_last}
 use Rattle.line_reader.specs.declared.batch_reader.Paused.{Paused}
 use Rattle.line_reader.specs.declared.batch_reader.Paused.TheVariants as paused
 use Rattle.line_reader.specs.BatchReader.{ReadsBatch}
-use Rattle.wf_board.specs.Histories.{FillsJobs, batch_end, batch_jobs, batch_start, job_of_entry, lane_jobs}
+use Rattle.wf_board.specs.Laws.Histories.{FillsJobs, batch_end, batch_jobs, batch_start, job_of_entry, lane_jobs}
 use Rattle.wf_desk.specs.BatchLaws.{EndAt}
 use Rattle.run_record.specs.declared.fault.RunFault.{RunFault}
 use Rattle.run_record.specs.declared.fault.RunFault.TheVariants as fault
 use Rattle.run_record.specs.Report.{Told}
 use Rattle.transcript_audit.proofs.Batches.{first_ends, last_start}
 use Rattle.transcript_audit.proofs.Excludes.{EachJob, each_first, each_lane, each_rest}
-use Rattle.entry_laws.specs.Fits.{AreOfLines}
+use Rattle.entry_laws.specs.Laws.Fits.{AreOfLines}
 use Rattle.wf_server.specs.Sessions.{ReadsFor, handed_in}
 use Rattle.wf_server.specs.Batches.{AreInOrderFrom}
 

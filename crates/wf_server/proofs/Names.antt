@@ -1,23 +1,23 @@
 -- The entries of a legal history are written with the names of the policy after them all.
 use Rattle.std.proofs.Common.{◌≡◌, ℕ, ◌⊎◌, inl, inr, List, [], ◌∷◌, ◌++◌, length, refl, sym, ap, subst, ◌∙◌, append_assoc}
-use Rattle.policy_book.specs.Shapes.{PolicyShape}
+use Rattle.policy_book.specs.Laws.Shapes.{PolicyShape}
 use Rattle.wf_talk.specs.declared.entry.Entry.{Entry}
 use Rattle.wf_talk.specs.declared.request.Ask.{Ask}
 use Rattle.wf_talk.specs.declared.reply.Reply.{Reply}
 use Rattle.wf_talk.specs.declared.reply.Reply.TheVariants as reply
-use Rattle.admin_edits.specs.Keeping.{ChangesKeepNames, KeepsNames}
+use Rattle.admin_edits.specs.Laws.Keeping.{ChangesKeepNames, KeepsNames}
 use Rattle.wf_board.specs.Boards.{state_on}
-use Rattle.wf_board.specs.States.{State, opening_state}
+use Rattle.wf_board.specs.Laws.States.{State, opening_state}
 use Rattle.wf_board.specs.Decisions.{decision_of}
-use Rattle.wf_board.specs.Steps.{IsStep, state_after_step}
-use Rattle.wf_board.specs.Histories.{EachAfter, IsRightAfter, state_after}
+use Rattle.wf_board.specs.Laws.Steps.{IsStep, state_after_step}
+use Rattle.wf_board.specs.Laws.Histories.{EachAfter, IsRightAfter, state_after}
 use Rattle.wf_board.proofs.HistoryLaws.{after_all, after_more, again_stays, each_later}
-use Rattle.wf_board.specs.Kept.{IsSoundState, KeepsCompletable}
+use Rattle.wf_board.specs.Laws.Kept.{IsSoundState, KeepsCompletable}
 use Rattle.wf_board.specs.Laws.{StepsKeepCompletable}
 use Rattle.wire_json.specs.Replies.{entry_text, reply_data}
 use Rattle.wire_json.proofs.Lines.{text_same}
 use Rattle.wf_desk.specs.Desks.{DeskShape, IsSoundDesk}
-use Rattle.entry_laws.specs.Transcripts.{transcript_text}
+use Rattle.entry_laws.specs.Laws.Transcripts.{transcript_text}
 use Rattle.wf_server.specs.Batches.{entries_text}
 use Rattle.wf_server.specs.Names.{IsKeptState, KeepsTexts, TextsStay}
 use Rattle.wf_server.proofs.NamesKept.{keeps_same, keeps_then}

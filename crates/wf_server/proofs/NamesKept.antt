@@ -10,12 +10,12 @@ use Rattle.wf_names.specs.declared.states.StepState.{StepState}
 use Rattle.wf_names.specs.declared.states.StepState.TheVariants.{Free, Held, Finished}
 use Rattle.constraint_forms.specs.Assign.{planned}
 use Rattle.refutation_tree.specs.Tree.{Shape, Kids, holder, rule, node, no_kids, tree_kid, twin_kid}
-use Rattle.policy_book.specs.Shapes.{PolicyShape}
+use Rattle.policy_book.specs.Laws.Shapes.{PolicyShape}
 use Rattle.policy_book.specs.Policies.{flow_at}
-use Rattle.policy_book.specs.Plans.{Problem, IsValidPlan}
-use Rattle.policy_book.specs.Twins.{are_twins, is_one_of}
-use Rattle.policy_book.specs.Refuting.{refutes, all_refute, authorised_users, have_users, is_unassigned, passing}
-use Rattle.admin_edits.specs.Keeping.{KeepsNames}
+use Rattle.policy_book.specs.Laws.Plans.{Problem, IsValidPlan}
+use Rattle.policy_book.specs.Laws.Twins.{are_twins, is_one_of}
+use Rattle.policy_book.specs.Laws.Refuting.{refutes, all_refute, authorised_users, have_users, is_unassigned, passing}
+use Rattle.admin_edits.specs.Laws.Keeping.{KeepsNames}
 use Rattle.wf_board.proofs.Below.{AllBelow, one_below, planned_below}
 use Rattle.wire_json.specs.Entries.{named, names_data, plan_data, seen_data, single, state_data, step_data, user_data}
 use Rattle.wire_json.specs.Trees.{branches_data, node_data, tree_data}

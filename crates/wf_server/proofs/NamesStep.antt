@@ -6,11 +6,11 @@ use Rattle.std.proofs.lemmas.List.{length-append}
 use Rattle.serde_json.specs.Data.{array, number, object, member, no_members, unsigned}
 use Rattle.serde_json.specs.View.{items_of}
 use Rattle.basics.proofs.Booleans.{and_both, or_cases}
-use Rattle.basics.specs.Pairs.{AllPairs, Pairs}
+use Rattle.basics.specs.Laws.Pairs.{AllPairs, Pairs}
 use Rattle.basics.specs.PairLaws.{all_insert, all_remove}
 use Rattle.refutation_tree.specs.declared.tree.Tree.{Tree}
-use Rattle.refutation_tree.specs.Views.{shape_of}
-use Rattle.policy_book.specs.Shapes.{PolicyShape}
+use Rattle.refutation_tree.specs.Laws.Views.{shape_of}
+use Rattle.policy_book.specs.Laws.Shapes.{PolicyShape}
 use Rattle.policy_book.specs.Policies.{any_below, problem_of}
 use Rattle.case_record.specs.Cases.{CaseShape, assigned_of, finished_of}
 use Rattle.wf_talk.specs.declared.reply.Face.{Face}
@@ -21,15 +21,15 @@ use Rattle.wf_talk.specs.declared.reply.Reply.{Reply}
 use Rattle.wf_talk.specs.declared.reply.Reply.TheVariants as reply
 use Rattle.admin_edits.specs.declared.amendment.Amendment.{Amendment}
 use Rattle.admin_edits.specs.declared.amendment.Amendment.TheVariants as amend
-use Rattle.admin_edits.specs.Edits.{amended, without_roles}
-use Rattle.admin_edits.specs.Found as edits
-use Rattle.admin_edits.specs.Keeping.{ChangesKeepNames, KeepsNames}
+use Rattle.admin_edits.specs.Laws.Edits.{amended, without_roles}
+use Rattle.admin_edits.specs.Amendment as edits
+use Rattle.admin_edits.specs.Laws.Keeping.{ChangesKeepNames, KeepsNames}
 use Rattle.wf_board.specs.declared.deed.Deed.{Deed}
 use Rattle.wf_board.specs.declared.deed.Deed.TheVariants as deed
-use Rattle.wf_board.specs.States.{Numbered, State, open_cases}
+use Rattle.wf_board.specs.Laws.States.{Numbered, State, open_cases}
 use Rattle.wf_board.specs.Edition.{IsFirstStranded}
-use Rattle.wf_board.specs.Steps.{Answers, IsReplyTo, face_of, state_after_decision, state_after_deed}
-use Rattle.wf_board.specs.Kept.{IsOfPolicy}
+use Rattle.wf_board.specs.Laws.Steps.{Answers, IsReplyTo, face_of, state_after_decision, state_after_deed}
+use Rattle.wf_board.specs.Laws.Kept.{IsOfPolicy}
 use Rattle.wire_json.specs.Entries.{named, phase_data, seen_data, single}
 use Rattle.wire_json.specs.Trees.{tree_data}
 use Rattle.wire_json.specs.Replies.{face_data, reply_data, strands_data, work_data}

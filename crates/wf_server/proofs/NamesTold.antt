@@ -1,9 +1,9 @@
 -- What a decision denies is written alike with the names of a later policy.
 use Rattle.std.proofs.Common.{◌≡◌, ℕ, List, Some, Result, Ok, Err, refl, ap, codes}
-use Rattle.basics.specs.Reading.{check, or_fault}
+use Rattle.basics.specs.Laws.Reading.{check, or_fault}
 use Rattle.wf_names.specs.States.{user_of}
-use Rattle.policy_book.specs.Shapes.{PolicyShape}
-use Rattle.policy_book.specs.Facts.{IsSoundPolicy}
+use Rattle.policy_book.specs.Laws.Shapes.{PolicyShape}
+use Rattle.policy_book.specs.Laws.Facts.{IsSoundPolicy}
 use Rattle.case_record.specs.Cases.{CaseShape, is_open, state_at}
 use Rattle.wf_talk.specs.declared.edit.Edit.{Edit}
 use Rattle.wf_talk.specs.declared.request.Request.TheVariants as request
@@ -15,16 +15,16 @@ use Rattle.admin_edits.specs.ClaimCauses.{first_cause}
 use Rattle.admin_edits.specs.declared.amendment.Amendment.{Amendment}
 use Rattle.admin_edits.specs.declared.fault.EditCause.{EditCause}
 use Rattle.admin_edits.specs.declared.fault.EditCause.TheVariants as fault
-use Rattle.admin_edits.specs.Edits.{amendment_of, is_admin}
-use Rattle.admin_edits.specs.Found as edits
-use Rattle.admin_edits.specs.Keeping.{KeepsNames}
+use Rattle.admin_edits.specs.Laws.Edits.{amendment_of, is_admin}
+use Rattle.admin_edits.specs.Amendment as edits
+use Rattle.admin_edits.specs.Laws.Keeping.{KeepsNames}
 use Rattle.admin_edits.proofs.Keeping.{amendment_found}
 use Rattle.wf_board.specs.declared.deed.Deed.{Deed}
 use Rattle.wf_board.specs.declared.deed.Deed.TheVariants as deed
-use Rattle.wf_board.specs.States.{State, numbered_case, flow_named, step_named, user_named}
+use Rattle.wf_board.specs.Laws.States.{State, numbered_case, flow_named, step_named, user_named}
 use Rattle.wf_board.specs.Resolve.{edit_denial, on_edit, on_step, open_case_at, resolve}
 use Rattle.wf_board.specs.Decisions.{cause_aside, cause_full, decision_aside, decision_of}
-use Rattle.wf_board.specs.Kept.{IsOfPolicy, IsSoundState}
+use Rattle.wf_board.specs.Laws.Kept.{IsOfPolicy, IsSoundState}
 use Rattle.wf_board.proofs.Faring.{Fares, IsCauseSo, check_fares, four_so, map_so, or_fares, then_fares, unless_fares, unless_so}
 use Rattle.wf_board.proofs.Within.{user_known}
 use Rattle.wire_json.specs.Entries.{single}

@@ -3,25 +3,25 @@ use Rattle.std.proofs.Common.{◌≡◌, ℕ, zero, suc, ◌<◌, ◌≤◌, nat
 use Rattle.std.proofs.Common.{Some, Result, Ok, Err, ◌&&◌, inl, inr, refl, sym, ap, subst, ◌∙◌, arith, ◌⊎◌}
 use Rattle.std.proofs.lemmas.Grind.{common_steps}
 use Rattle.std.proofs.lemmas.List.{take_all}
-use Rattle.wf_outside.specs.Outside.{Filed, HasTaken}
+use Rattle.wf_outside.specs.Laws.Outside.{Filed, HasTaken}
 use Rattle.wf_outside.proofs.OutsideLaws.{nothing_taken}
 use Rattle.wf_talk.specs.declared.entry.Entry.{Entry}
-use Rattle.wf_board.specs.Histories.{AreAnsweredOnce, AreRightful, IsLegal, batch_start, state_after}
+use Rattle.wf_board.specs.Laws.Histories.{AreAnsweredOnce, AreRightful, IsLegal, batch_start, state_after}
 use Rattle.wf_board.specs.Laws.{HistoriesAreExact, HistoriesKeepCompletable}
-use Rattle.wf_board.specs.States.{opening_state}
+use Rattle.wf_board.specs.Laws.States.{opening_state}
 use Rattle.wf_desk.specs.Desks.{AreOfLanes, DeskShape, jobs_told}
 use Rattle.line_reader.specs.Cutter.{after_handing}
-use Rattle.line_reader.specs.Jobs.{Cut, UpToAnEnd, jobs_of_input, last_or, next_input, start_from}
+use Rattle.line_reader.specs.Laws.Jobs.{Cut, UpToAnEnd, jobs_of_input, last_or, next_input, start_from}
 use Rattle.line_reader.specs.Laws.{AreInOrder, GoesOn}
-use Rattle.line_reader.specs.Naming.{JobsStayNamed}
+use Rattle.line_reader.specs.Laws.Naming.{JobsStayNamed}
 use Rattle.entry_reader.specs.Named.{HasNames}
-use Rattle.entry_laws.specs.Fits.{LinesFit}
+use Rattle.entry_laws.specs.Laws.Fits.{LinesFit}
 use Rattle.line_reader.specs.BatchReader.{BatchReaderShape}
 use Rattle.run_record.specs.declared.fault.RunFault.{RunFault}
 use Rattle.run_record.specs.declared.fault.RunFault.TheVariants as fault
 use Rattle.run_record.specs.Fault.{how_of, is_before_input, CountsLoads, CountsReads, CountsWrites}
 use Rattle.run_record.specs.Report.{Told, nothing_told}
-use Rattle.run_record.specs.Run.{Run, IsOrderly, IsUntouched, Streams}
+use Rattle.run_record.specs.Laws.Run.{Run, IsOrderly, IsUntouched, Streams}
 use Rattle.transcript_audit.specs.declared.fault.AuditKind.{AuditKind}
 use Rattle.transcript_commands.specs.Finding.{audit_fault_line}
 use Rattle.transcript_commands.specs.Resumed.{IsRefused, Session}
@@ -29,17 +29,17 @@ use Rattle.transcript_commands.specs.declared.start.Beginning.{Beginning}
 use Rattle.transcript_commands.specs.declared.start.TheConstants.{PIECE}
 use Rattle.transcript_commands.specs.declared.refusal.Refusal.{Refusal}
 use Rattle.transcript_commands.specs.declared.refusal.Refusal.TheVariants.{Ends, Line}
-use Rattle.transcript_commands.specs.Begun.{BeginsBy, EndsBeginning, HasBegun, StopsBy, fault_by, session_of}
+use Rattle.transcript_commands.specs.Laws.Begun.{BeginsBy, EndsBeginning, HasBegun, StopsBy, fault_by, session_of}
 use Rattle.transcript_commands.specs.Load.{FileNames, OverFiles}
 use Rattle.transcript_commands.proofs.Files.{files_goal, files_map}
-use Rattle.command_words.specs.Words.{AreOptions, Command, Options, may_repeat, resume, serve}
+use Rattle.command_words.specs.Laws.Words.{AreOptions, Command, Options, may_repeat, resume, serve}
 use Rattle.wf_server.specs.Runs.{HasRun}
 use Rattle.transcript_audit.proofs.Batches.{last_start}
 use Rattle.wf_server.specs.Sessions.{ReadsFor, Served, Setting, handed_in}
 use Rattle.wf_server.specs.Ways.{setting_of}
 use Rattle.wf_server.specs.Batches.{Serves, AreInOrderFrom, HasAnsweredAll, IsServing, IsWriteEnding}
 use Rattle.wf_server.specs.Files.{FileTo, IsToldTo}
-use Rattle.wf_server.specs.Resuming.{CountsRefusal, EndsBy, RefusesAs, ResumesFrom, ResumesRun, TellsAs, setting_behind}
+use Rattle.wf_server.specs.Laws.Resuming.{CountsRefusal, EndsBy, RefusesAs, ResumesFrom, ResumesRun, TellsAs, setting_behind}
 use Rattle.wf_server.proofs.SessionLaws.{lanes_of, late_reads, serves_kept}
 use Rattle.wf_server.proofs.ServeLaws.{loads_late}
 use Rattle.wf_server.proofs.WayLaws.{once_legal}

@@ -1,24 +1,24 @@
 -- How a session stands over the file of its policy.
 use Rattle.std.proofs.Common.{◌≡◌, ℕ, List, false, Result, Ok, Err, inl, inr, refl, sym, subst}
-use Rattle.wf_outside.specs.Outside.{Filed, told, missing, untold}
-use Rattle.policy_book.specs.Shapes.{PolicyShape}
+use Rattle.wf_outside.specs.Laws.Outside.{Filed, told, missing, untold}
+use Rattle.policy_book.specs.Laws.Shapes.{PolicyShape}
 use Rattle.policy_reader.specs.File.{IsFilePolicy}
 use Rattle.run_record.specs.declared.fault.RunFault.{RunFault}
 use Rattle.run_record.specs.declared.fault.RunFault.TheVariants.{Policy, Load, NoMemory, FileTooLong}
 use Rattle.run_record.specs.Fault.{is_before_input, CountsLoads, CountsReads}
-use Rattle.run_record.specs.Run.{Run, IsUntouched, OverFile}
+use Rattle.run_record.specs.Laws.Run.{Run, IsUntouched, OverFile}
 use Rattle.wf_commands.specs.Load.{GivesPolicy, IsLoadEnding, PolicyOf}
 use Rattle.wf_commands.proofs.Endings.{unloaded_ending, unloaded_reads}
 use Rattle.wf_commands.proofs.Runs.{no_writes, own_reads}
 use Rattle.wf_server.specs.declared.serve.TheConstants.{PIECE}
-use Rattle.line_reader.specs.Jobs.{start}
+use Rattle.line_reader.specs.Laws.Jobs.{start}
 use Rattle.wf_server.specs.Sessions.{Served}
-use Rattle.wf_board.specs.States.{opening_state}
-use Rattle.wf_board.specs.Histories.{AreRightful}
-use Rattle.entry_laws.specs.Fits.{FitLines}
-use Rattle.entry_laws.specs.Transcripts.{texts_of}
-use Rattle.command_words.specs.Words.{AreOptions, Options}
-use Rattle.wf_server.specs.Serving.{setting, EndsBefore, ServesFile, ServesRun}
+use Rattle.wf_board.specs.Laws.States.{opening_state}
+use Rattle.wf_board.specs.Laws.Histories.{AreRightful}
+use Rattle.entry_laws.specs.Laws.Fits.{FitLines}
+use Rattle.entry_laws.specs.Laws.Transcripts.{texts_of}
+use Rattle.command_words.specs.Laws.Words.{AreOptions, Options}
+use Rattle.wf_server.specs.Laws.Serving.{setting, EndsBefore, ServesFile, ServesRun}
 
 ends_before : (file : List ℕ) (fault : RunFault) → PolicyOf file (Err fault) → IsLoadEnding fault → EndsBefore file fault
 ends_before file FileTooLong gives ending = gives

@@ -7,8 +7,8 @@ use Rattle.line_reader.specs.declared.stop.Stop.TheVariants as stop
 use Rattle.line_reader.specs.declared.batch_reader.Paused.{Paused}
 use Rattle.line_reader.specs.declared.batch_reader.Paused.TheVariants as paused
 use Rattle.line_reader.specs.BatchReader.{BatchReaderShape, GoesOnReading}
-use Rattle.wf_board.specs.States.{opening_state}
-use Rattle.wf_board.specs.Histories.{AreAnsweredOnce, AreRightful, IsLegal}
+use Rattle.wf_board.specs.Laws.States.{opening_state}
+use Rattle.wf_board.specs.Laws.Histories.{AreAnsweredOnce, AreRightful, IsLegal}
 use Rattle.wf_desk.specs.Desks.{AreOfLanes, DeskShape, IsSoundDesk}
 use Rattle.run_record.specs.Report.{Told}
 use Rattle.wf_server.specs.declared.batch.Answered.{Answered}

@@ -4,28 +4,28 @@ use Rattle.std.proofs.Common.{append_assoc}
 use Rattle.std.specs.Prelude.{◌≢◌}
 use Rattle.std.proofs.lemmas.List.{length-append, length-take, take-append-drop}
 use Rattle.wf_names.specs.declared.limits.TheConstants.{BATCH_LINE_LIMIT}
-use Rattle.wf_outside.specs.Outside.{HasTaken, with_bytes}
+use Rattle.wf_outside.specs.Laws.Outside.{HasTaken, with_bytes}
 use Rattle.wf_outside.proofs.OutsideLaws.{nothing_taken, nothing_put}
 use Rattle.wf_talk.specs.declared.job.Job.{Job}
 use Rattle.line_reader.specs.declared.stop.Stop.TheVariants as stop
-use Rattle.line_reader.specs.Jobs.{Cut, start, jobs_from, last_or}
+use Rattle.line_reader.specs.Laws.Jobs.{Cut, start, jobs_from, last_or}
 use Rattle.line_reader.specs.Cutter.{after_handing, ends_after}
 use Rattle.line_reader.specs.Laws.{JobsAreInOrder, LeadTo}
 use Rattle.line_reader.specs.declared.batch_reader.Paused.{Paused}
 use Rattle.line_reader.specs.declared.batch_reader.Paused.TheVariants as paused
 use Rattle.line_reader.specs.BatchReader.{BatchReaderShape, Handed, handed_more, HasRead, IsReadUp, ReadsBatch, CountsPause}
-use Rattle.wf_board.specs.States.{opening_state}
-use Rattle.wf_board.specs.Histories.{FillsJobs, IsLegal}
+use Rattle.wf_board.specs.Laws.States.{opening_state}
+use Rattle.wf_board.specs.Laws.Histories.{FillsJobs, IsLegal}
 use Rattle.wf_desk.specs.Desks.{AreOfLanes, DeskShape, desk_with, jobs_told}
 use Rattle.wf_desk.proofs.DocketLaws.{first_of_lanes}
-use Rattle.policy_book.specs.Facts.{IsSoundPolicy}
-use Rattle.policy_book.specs.Shapes.{PolicyShape}
+use Rattle.policy_book.specs.Laws.Facts.{IsSoundPolicy}
+use Rattle.policy_book.specs.Laws.Shapes.{PolicyShape}
 use Rattle.wf_board.specs.Laws.{HistoriesAreExact, HistoriesKeepCompletable}
 use Rattle.run_record.specs.declared.fault.RunFault.{RunFault}
 use Rattle.run_record.specs.declared.fault.RunFault.TheVariants as fault
 use Rattle.run_record.specs.Fault.{is_before_input, CountsWrites}
 use Rattle.run_record.specs.Report.{Told, nothing_told}
-use Rattle.run_record.specs.Run.{Streams}
+use Rattle.run_record.specs.Laws.Run.{Streams}
 use Rattle.wf_server.specs.Sessions.{ReadsFor, Served, Setting, handed_in, text_from}
 use Rattle.wf_server.specs.Ways.{setting_of}
 use Rattle.wf_server.specs.declared.batch.Answered.{Answered}

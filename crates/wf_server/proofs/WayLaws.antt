@@ -2,9 +2,9 @@
 use Rattle.std.proofs.Common.{◌≡◌, ℕ, List, [], ◌∷◌, ◌++◌, inl, inr, drop, sym, ap, subst, ◌∙◌, arith}
 use Rattle.std.proofs.lemmas.List.{drop-append-le}
 use Rattle.wf_talk.specs.declared.entry.Entry.{Entry}
-use Rattle.wf_board.specs.Histories.{AreAnsweredOnce, EachAfter, IsLegal, IsRightAfter, state_after}
+use Rattle.wf_board.specs.Laws.Histories.{AreAnsweredOnce, EachAfter, IsLegal, IsRightAfter, state_after}
 use Rattle.wf_board.proofs.HistoryLaws.{once_all, step_once}
-use Rattle.wf_board.specs.States.{State}
+use Rattle.wf_board.specs.Laws.States.{State}
 use Rattle.wf_desk.specs.Desks.{DeskShape, IsSoundDesk}
 use Rattle.wf_lanes.specs.Turns.{HasServedOn}
 

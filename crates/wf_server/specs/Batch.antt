@@ -1,7 +1,7 @@
 -- Inside: a desk before a batch and after it.
 use Rattle.std.specs.Prelude.{◌≡◌, ◌<◌, List, length, take, drop}
 use Rattle.wf_talk.specs.declared.job.Job.{Job}
-use Rattle.wf_board.specs.Histories.{AreAnsweredOnce}
+use Rattle.wf_board.specs.Laws.Histories.{AreAnsweredOnce}
 use Rattle.wf_desk.specs.Desks.{AreOfLanes, DeskShape, IsDone, jobs_told}
 use Rattle.run_record.specs.Report.{Told}
 use Rattle.wf_server.specs.Batches.{IsBatch}

@@ -4,19 +4,19 @@ use Rattle.std.specs.Prelude.{Option, None, Some, Result, Ok, Err}
 use Rattle.std.specs.List.{flat_map}
 use Rattle.std.proofs.Common.{◌⊎◌}
 use Rattle.wf_names.specs.declared.limits.TheConstants.{BATCH_LINE_LIMIT, SESSION_LINE_LIMIT}
-use Rattle.wf_outside.specs.Outside.{with_bytes}
+use Rattle.wf_outside.specs.Laws.Outside.{with_bytes}
 use Rattle.wf_talk.specs.declared.entry.Entry.{Entry}
 use Rattle.wf_talk.specs.declared.job.Job.{Job}
 use Rattle.line_reader.specs.Cutter.{ends_after}
-use Rattle.line_reader.specs.Jobs.{Cut, jobs_from}
+use Rattle.line_reader.specs.Laws.Jobs.{Cut, jobs_from}
 use Rattle.line_reader.specs.Laws.{AreInOrder}
 use Rattle.line_reader.specs.declared.stop.Stop.TheVariants as stop
 use Rattle.line_reader.specs.declared.batch_reader.Paused.{Paused}
 use Rattle.line_reader.specs.declared.batch_reader.Paused.TheVariants as paused
 use Rattle.line_reader.specs.BatchReader.{BatchReaderShape, HasRead}
 use Rattle.wire_json.specs.Replies.{entry_text}
-use Rattle.policy_book.specs.Shapes.{PolicyShape}
-use Rattle.wf_board.specs.Histories.{FillsJobs}
+use Rattle.policy_book.specs.Laws.Shapes.{PolicyShape}
+use Rattle.wf_board.specs.Laws.Histories.{FillsJobs}
 use Rattle.wf_desk.specs.BatchLaws.{EndAt}
 use Rattle.wf_desk.specs.Desks.{AreOfLanes, DeskShape, IsDone, jobs_told}
 use Rattle.run_record.specs.declared.fault.RunFault.{RunFault}
@@ -24,7 +24,7 @@ use Rattle.run_record.specs.declared.fault.RunFault.TheVariants.{Nothing, Read, 
 use Rattle.run_record.specs.declared.fault.RunFault.TheVariants.{LineTooLong, TooManyLines}
 use Rattle.run_record.specs.Fault.{CountsReads, CountsWrites}
 use Rattle.run_record.specs.Report.{Told}
-use Rattle.run_record.specs.Run.{Streams}
+use Rattle.run_record.specs.Laws.Run.{Streams}
 use Rattle.wf_server.specs.declared.batch.Answered.{Answered}
 use Rattle.wf_server.specs.Sessions.{Setting, handed_in, last_start, text_from, ReadsFor, WritesFor}
 use Rattle.wf_server.specs.Sessions.{WritesPart}

@@ -1,13 +1,13 @@
 -- Inside: answering the jobs of a requests file, batch after batch.
 use Rattle.std.specs.Prelude.{◌≡◌, ℕ, ◌<◌, ◌≤◌, List, length, take, Option, Result, Ok, Err}
 use Rattle.wf_talk.specs.declared.job.Job.{Job}
-use Rattle.wf_board.specs.Histories.{batch_start}
+use Rattle.wf_board.specs.Laws.Histories.{batch_start}
 use Rattle.wf_desk.specs.Desks.{DeskShape}
 use Rattle.run_record.specs.declared.fault.RunFault.{RunFault}
 use Rattle.run_record.specs.declared.fault.RunFault.TheVariants.{Write}
 use Rattle.run_record.specs.Report.{Told}
 use Rattle.line_reader.specs.Laws.{AreInOrder}
-use Rattle.transcript_commands.specs.Begun.{StandsAt}
+use Rattle.transcript_commands.specs.Laws.Begun.{StandsAt}
 use Rattle.wf_server.specs.Batch.{CanBeServed}
 use Rattle.wf_server.specs.Batches.{HasAnsweredAll, HasAnsweredPart}
 use Rattle.wf_server.specs.Ways.{setting_of}

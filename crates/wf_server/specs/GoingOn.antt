@@ -1,9 +1,9 @@
 -- Inside: a session that goes on behind the entries of an earlier one.
 use Rattle.std.specs.Prelude.{◌≡◌, List, length, take, drop}
 use Rattle.wf_talk.specs.declared.entry.Entry.{Entry}
-use Rattle.wf_board.specs.Histories.{AreAnsweredOnce, AreRightful}
+use Rattle.wf_board.specs.Laws.Histories.{AreAnsweredOnce, AreRightful}
 use Rattle.wf_desk.specs.Desks.{DeskShape}
-use Rattle.command_words.specs.Words.{Options}
+use Rattle.command_words.specs.Laws.Words.{Options}
 use Rattle.transcript_commands.specs.declared.start.Earlier.{Earlier}
 use Rattle.wf_server.specs.Ways.{ServesOnce}
 

@@ -2,11 +2,10 @@ pub mod Sessions
 pub mod Ways
 pub mod Batches
 pub mod Names
-pub mod Serving
 pub mod Files
-pub mod Resuming
 pub mod Runs
 pub mod Batch
 pub mod Session
 pub mod GoingOn
 pub mod Serve
+pub mod Laws

@@ -1,12 +1,12 @@
 -- Inside: what is written of entries is the same with the names of a later policy.
 use Rattle.std.specs.Prelude.{◌≡◌, ℕ, List, ◌++◌}
-use Rattle.rbac_state.specs.Rosters.{IsSoundRoster}
+use Rattle.rbac_state.specs.Laws.Rosters.{IsSoundRoster}
 use Rattle.wf_talk.specs.declared.entry.Entry.{Entry}
-use Rattle.wf_board.specs.States.{State, opening_state}
-use Rattle.wf_board.specs.Histories.{IsLegal, state_after}
-use Rattle.wf_board.specs.Kept.{IsSoundState, KeepsCompletable}
+use Rattle.wf_board.specs.Laws.States.{State, opening_state}
+use Rattle.wf_board.specs.Laws.Histories.{IsLegal, state_after}
+use Rattle.wf_board.specs.Laws.Kept.{IsSoundState, KeepsCompletable}
 use Rattle.wf_desk.specs.Desks.{DeskShape}
-use Rattle.entry_laws.specs.Transcripts.{transcript_text}
+use Rattle.entry_laws.specs.Laws.Transcripts.{transcript_text}
 use Rattle.wf_server.specs.Batches.{entries_text}
 
 -- all that a board keeps of its state

@@ -3,18 +3,19 @@ use Rattle.std.specs.Prelude.{◌≡◌, Bool, true, false, Option, None, Some}
 use Rattle.std.proofs.Common.{◌⊎◌}
 use Rattle.run_record.specs.declared.fault.RunFault.{RunFault}
 use Rattle.run_record.specs.declared.fault.RunFault.TheVariants.{NoMemory, Usage}
-use Rattle.run_record.specs.Run.{Run, IsOrderly, IsUntouched}
+use Rattle.run_record.specs.Laws.Run.{Run, IsOrderly, IsUntouched}
 use Rattle.wf_commands.specs.Plan.{Plans}
 use Rattle.wf_commands.specs.Show.{Shows}
 use Rattle.wf_commands.specs.Solve.{Solves}
 use Rattle.wf_commands.specs.Resilience.{ChecksResilience}
-use Rattle.transcript_commands.specs.Running.{AuditsRun}
+use Rattle.transcript_commands.specs.Audit.{AuditsRun}
 use Rattle.wf_commands.specs.Model.{ReadsModelFile, WritesClauses}
 use Rattle.trial_command.specs.Run.{RunsTrial}
-use Rattle.command_words.specs.Words.{Command, plan, show, solve, resilience, cnf, serve, audit}
-use Rattle.command_words.specs.Words.{resume, trial}
-use Rattle.wf_server.specs.Serving.{ServesRun}
-use Rattle.wf_server.specs.Resuming.{ResumesRun}
+use Rattle.command_words.specs.Laws.Words.{Command, plan, show, solve, resilience, cnf, serve}
+use Rattle.command_words.specs.Laws.Words.{audit}
+use Rattle.command_words.specs.Laws.Words.{resume, trial}
+use Rattle.wf_server.specs.Laws.Serving.{ServesRun}
+use Rattle.wf_server.specs.Laws.Resuming.{ResumesRun}
 
 -- a run does what its command is, where a request may be answered again or not; where the words are
 -- none it ends before anything

@@ -1,16 +1,16 @@
 -- Inside: the session of a policy.
-use Rattle.policy_book.specs.Shapes.{PolicyShape}
-use Rattle.line_reader.specs.Jobs.{start}
-use Rattle.wf_board.specs.States.{opening_state}
-use Rattle.wf_board.specs.Histories.{AreRightful}
-use Rattle.entry_laws.specs.Fits.{FitLines}
-use Rattle.entry_laws.specs.Transcripts.{texts_of}
+use Rattle.policy_book.specs.Laws.Shapes.{PolicyShape}
+use Rattle.line_reader.specs.Laws.Jobs.{start}
+use Rattle.wf_board.specs.Laws.States.{opening_state}
+use Rattle.wf_board.specs.Laws.Histories.{AreRightful}
+use Rattle.entry_laws.specs.Laws.Fits.{FitLines}
+use Rattle.entry_laws.specs.Laws.Transcripts.{texts_of}
 use Rattle.run_record.specs.declared.fault.RunFault.{RunFault}
 use Rattle.run_record.specs.Report.{Told}
-use Rattle.run_record.specs.Run.{Streams}
-use Rattle.command_words.specs.Words.{Options}
+use Rattle.run_record.specs.Laws.Run.{Streams}
+use Rattle.command_words.specs.Laws.Words.{Options}
 use Rattle.wf_server.specs.declared.serve.TheConstants.{PIECE}
-use Rattle.wf_server.specs.Serving.{setting}
+use Rattle.wf_server.specs.Laws.Serving.{setting}
 use Rattle.wf_server.specs.Sessions.{Served}
 
 -- a policy was served: a session was, its entries are rightful, and the text of each fits a line of

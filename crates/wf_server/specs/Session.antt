@@ -1,8 +1,8 @@
 -- Inside: how a session goes on after a batch.
 use Rattle.std.specs.Prelude.{◌≡◌, List, take, drop}
 use Rattle.wf_talk.specs.declared.entry.Entry.{Entry}
-use Rattle.wf_board.specs.States.{opening_state}
-use Rattle.wf_board.specs.Histories.{AreAnsweredOnce, AreRightful, IsLegal}
+use Rattle.wf_board.specs.Laws.States.{opening_state}
+use Rattle.wf_board.specs.Laws.Histories.{AreAnsweredOnce, AreRightful, IsLegal}
 use Rattle.wf_desk.specs.Desks.{DeskShape}
 use Rattle.wf_server.specs.Ways.{ServesOnce}
 

@@ -2,25 +2,25 @@
 use Rattle.std.specs.Prelude.{◌≡◌, ◌≢◌, ℕ, ◌-◌, ◌<◌, true, false, List, length, take, drop, max}
 use Rattle.std.specs.Prelude.{Option}
 use Rattle.std.proofs.Common.{◌⊎◌}
-use Rattle.wf_outside.specs.Outside.{HasPart, with_bytes}
+use Rattle.wf_outside.specs.Laws.Outside.{HasPart, with_bytes}
 use Rattle.wf_talk.specs.declared.entry.Entry.{Entry}
 use Rattle.line_reader.specs.declared.stop.Stop.TheVariants as stop
-use Rattle.line_reader.specs.Jobs.{Cut, UpToAnEnd}
+use Rattle.line_reader.specs.Laws.Jobs.{Cut, UpToAnEnd}
 use Rattle.line_reader.specs.declared.batch_reader.Paused.{Paused}
 use Rattle.line_reader.specs.declared.batch_reader.Paused.TheVariants as paused
 use Rattle.line_reader.specs.BatchReader.{Handed, HasReadAll, StopsCutting, IsReadUp, ReadsBatch}
-use Rattle.policy_book.specs.Shapes.{PolicyShape}
-use Rattle.wf_board.specs.States.{opening_state}
-use Rattle.wf_board.specs.Decided.{AreExact}
-use Rattle.wf_board.specs.Kept.{KeepsCompletable}
-use Rattle.wf_board.specs.Histories.{IsLegal, FillsJobs, batch_start, state_after}
+use Rattle.policy_book.specs.Laws.Shapes.{PolicyShape}
+use Rattle.wf_board.specs.Laws.States.{opening_state}
+use Rattle.wf_board.specs.Laws.Decided.{AreExact}
+use Rattle.wf_board.specs.Laws.Kept.{KeepsCompletable}
+use Rattle.wf_board.specs.Laws.Histories.{IsLegal, FillsJobs, batch_start, state_after}
 use Rattle.run_record.specs.declared.fault.RunFault.{RunFault}
 use Rattle.run_record.specs.declared.fault.RunFault.TheVariants.{Nothing, Read, Write, NoMemory}
 use Rattle.run_record.specs.declared.fault.RunFault.TheVariants.{LineTooLong, TooManyLines}
 use Rattle.run_record.specs.Fault.{CountsReads, CountsWrites}
 use Rattle.run_record.specs.Report.{Told}
-use Rattle.run_record.specs.Run.{Streams}
-use Rattle.entry_laws.specs.Transcripts.{transcript_text}
+use Rattle.run_record.specs.Laws.Run.{Streams}
+use Rattle.entry_laws.specs.Laws.Transcripts.{transcript_text}
 
 -- how a session is served: the policy at its beginning, how many lanes there are, after how many
 -- rounds a request that could not be decided is answered again, and how many entries were taken up

@@ -2,7 +2,7 @@
 ghost use Rattle.std.specs.Prelude.{◌≡◌, ◌≢◌, ◌≤◌, ◌<◌, ◌+◌, ℕ, List, [], ◌∷◌, ◌++◌, length};
 ghost use Rattle.std.specs.Prelude.{drop, Option, Err, IfErr, OnOk, OnErr};
 ghost use Rattle.wf_names.specs.declared.limits.TheConstants.{SESSION_LINE_LIMIT};
-ghost use Rattle.wf_board.specs.Histories.{AreAnsweredOnce};
+ghost use Rattle.wf_board.specs.Laws.Histories.{AreAnsweredOnce};
 ghost use Rattle.wf_desk.specs.Desks.{IsDone, IsSoundDesk};
 ghost use Rattle.wf_desk.specs.Schedules.{HasGrown};
 ghost use Rattle.run_record.specs.Fault.{fault_in, CountsWrites};

@@ -3,12 +3,12 @@ ghost use Rattle.std.specs.Prelude.{◌≡◌, ◌<◌, Bool, map, nat_lt, strin
 ghost use Rattle.std.specs.Prelude.{IfOk, false, true};
 ghost use Rattle.run_record.specs.Fault.{status_of};
 ghost use Rattle.run_record.specs.Report.{told_by};
-ghost use Rattle.run_record.specs.Run.{run_of, streams_of};
-ghost use Rattle.wf_board.specs.Histories.{AreAnsweredOnce};
+ghost use Rattle.run_record.specs.Laws.Run.{run_of, streams_of};
+ghost use Rattle.wf_board.specs.Laws.Histories.{AreAnsweredOnce};
 ghost use Rattle.wf_desk.specs.Desks.{AreOfLanes, IsDone};
 ghost use Rattle.wf_desk.specs.Schedules.{HasGrown};
-ghost use Rattle.command_words.specs.Asked.{asked, CanServe};
-ghost use Rattle.command_words.specs.Words.{command_of, may_repeat, reads_input};
+ghost use Rattle.command_words.specs.Command.{asked, CanServe};
+ghost use Rattle.command_words.specs.Laws.Words.{command_of, may_repeat, reads_input};
 ghost use Rattle.wf_server.specs.Runs.{Does, HasRun, IsWordsEnding, is_of_policy, takes_up};
 
 use crate::going_on::run_resume;

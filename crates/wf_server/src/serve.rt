@@ -2,13 +2,13 @@
 ghost use Rattle.std.specs.Prelude.{◌≡◌, false};
 ghost use Rattle.run_record.specs.Fault.{status_of, is_before_input};
 ghost use Rattle.run_record.specs.Report.{told_by};
-ghost use Rattle.run_record.specs.Run.{run_of, streams_of};
+ghost use Rattle.run_record.specs.Laws.Run.{run_of, streams_of};
 ghost use Rattle.policy_reader.specs.File.{IsFilePolicy};
-ghost use Rattle.wf_board.specs.Histories.{AreAnsweredOnce};
-ghost use Rattle.command_words.specs.Words.{AreOptions};
-ghost use Rattle.command_words.specs.Asked.{options_in};
+ghost use Rattle.wf_board.specs.Laws.Histories.{AreAnsweredOnce};
+ghost use Rattle.command_words.specs.Laws.Words.{AreOptions};
+ghost use Rattle.command_words.specs.Command.{options_in};
 ghost use Rattle.wf_server.specs.Serve.{HasServedPolicy};
-ghost use Rattle.wf_server.specs.Serving.{ServesRun};
+ghost use Rattle.wf_server.specs.Laws.Serving.{ServesRun};
 ghost use Rattle.wf_server.specs.Ways.{ServesOnce};
 
 use crate::session::run_session;

@@ -1,16 +1,16 @@
 //! The session: batch after batch is read, answered and written.
 ghost use Rattle.std.specs.Prelude.{◌≡◌, ◌<◌, None};
-ghost use Rattle.wf_board.specs.States.{opening_state};
-ghost use Rattle.wf_board.specs.Histories.{AreAnsweredOnce, AreRightful, IsLegal};
+ghost use Rattle.wf_board.specs.Laws.States.{opening_state};
+ghost use Rattle.wf_board.specs.Laws.Histories.{AreAnsweredOnce, AreRightful, IsLegal};
 ghost use Rattle.wf_desk.specs.Desks.{IsSoundDesk};
-ghost use Rattle.line_reader.specs.Jobs.{Cut, start};
+ghost use Rattle.line_reader.specs.Laws.Jobs.{Cut, start};
 ghost use Rattle.line_reader.specs.BatchReader.{CanReadOn, GoesOnReading};
 ghost use Rattle.run_record.specs.Fault.{status_of};
 ghost use Rattle.run_record.specs.Report.{told_by};
-ghost use Rattle.run_record.specs.Run.{Streams, streams_of};
-ghost use Rattle.command_words.specs.Words.{AreOptions};
-ghost use Rattle.command_words.specs.Asked.{options_in};
-ghost use Rattle.wf_server.specs.Serving.{setting};
+ghost use Rattle.run_record.specs.Laws.Run.{Streams, streams_of};
+ghost use Rattle.command_words.specs.Laws.Words.{AreOptions};
+ghost use Rattle.command_words.specs.Command.{options_in};
+ghost use Rattle.wf_server.specs.Laws.Serving.{setting};
 ghost use Rattle.wf_server.specs.Batches.{told_of, ending_after, IsServing, BatchEnds, Serves};
 ghost use Rattle.wf_server.specs.Batch.{IsServedOn};
 ghost use Rattle.wf_server.specs.Session.{AreBehind};

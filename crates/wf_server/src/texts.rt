@@ -1,6 +1,6 @@
 //! What is written of entries is the same with the names of a later policy.
-ghost use Rattle.wf_board.specs.States.{opening_state};
-ghost use Rattle.wf_board.specs.Histories.{state_after};
+ghost use Rattle.wf_board.specs.Laws.States.{opening_state};
+ghost use Rattle.wf_board.specs.Laws.Histories.{state_after};
 ghost use Rattle.entry_reader.specs.Named.{HasNames};
 ghost use Rattle.wf_server.specs.Names.{KeepsTexts};
 

@@ -1,7 +1,7 @@
 //! Writing the entries of a batch.
 ghost use Rattle.std.specs.Prelude.{◌≡◌, ◌≢◌, ◌<◌, length, Err, IfErr, OnOk, OnErr};
 ghost use Rattle.std.specs.List.{flat_map};
-ghost use Rattle.wf_outside.specs.Outside.{HasPart, with_bytes};
+ghost use Rattle.wf_outside.specs.Laws.Outside.{HasPart, with_bytes};
 ghost use Rattle.wire_json.specs.Replies.{entry_text};
 ghost use Rattle.run_record.specs.Fault.{fault_in, CountsWrites};
 ghost use Rattle.wf_server.specs.Batches.{entries_text, IsWriteEnding};

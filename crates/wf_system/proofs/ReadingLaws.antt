@@ -3,7 +3,7 @@ use Rattle.std.proofs.Common.{◌≡◌, ℕ, ◌<◌, ◌≤◌, List, ◌++◌
 use Rattle.std.proofs.lemmas.List.{length-append}
 use Rattle.std.specs.Io.KnownBytes.{Consumes, IsAtEnd}
 use Rattle.wf_outside.specs.declared.loaded.LoadFault.TheVariants.{TooLong}
-use Rattle.wf_outside.specs.Outside.{ReadsAll}
+use Rattle.wf_outside.specs.Laws.Outside.{ReadsAll}
 
 -- read up to the end, it is all that the reader had
 pub reads_whole : (before after : Option (List ℕ)) (bytes : List ℕ) (limit : ℕ) → Consumes before after bytes → IsAtEnd after → length bytes ≤ limit →

@@ -1,6 +1,6 @@
 -- Which endings have a text, and what is written of them.
 use Rattle.std.specs.Prelude.{ℕ, Bool, true, false, List, [], ◌∷◌, ◌++◌, if◌then◌else◌}
-use Rattle.run_record.specs.Texts.{fault_said}
+use Rattle.run_record.specs.Fault.{fault_said}
 use Rattle.run_record.specs.declared.fault.RunFault.{RunFault}
 use Rattle.run_record.specs.declared.fault.RunFault.TheVariants.{Nothing, Found}
 

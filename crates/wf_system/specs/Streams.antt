@@ -2,7 +2,7 @@
 use Rattle.std.specs.Prelude.{ℕ, List, Option, IfSome, Result, Err}
 use Rattle.wf_outside.specs.declared.loaded.LoadFault.{LoadFault}
 use Rattle.wf_outside.specs.declared.loaded.LoadFault.TheVariants.{Failed}
-use Rattle.wf_outside.specs.Outside.{ReadsAll}
+use Rattle.wf_outside.specs.Laws.Outside.{ReadsAll}
 use Rattle.wf_system.specs.declared.streams.StdinSource.{StdinSource}
 use Rattle.wf_system.specs.declared.streams.StdoutSink.{StdoutSink}
 

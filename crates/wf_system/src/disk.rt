@@ -1,6 +1,6 @@
 //! The disk as a shelf that does not tell what it holds; what the reader of a file tells is kept.
 ghost use Rattle.std.specs.Prelude.{◌≡◌, ◌≤◌, length, IfOk, IsErrOf};
-ghost use Rattle.wf_outside.specs.Outside.{untold, Rose, StaysUnlessFailed};
+ghost use Rattle.wf_outside.specs.Laws.Outside.{untold, Rose, StaysUnlessFailed};
 ghost use Rattle.wf_system.specs.Streams.{HandsOn};
 
 use crate::reading::read_all;

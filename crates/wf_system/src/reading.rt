@@ -2,7 +2,7 @@
 ghost use Rattle.std.specs.Prelude.{◌≡◌, ◌≤◌, ◌<◌, ◌+◌, ℕ, List, length, Option, IfOk, IfSome};
 ghost use Rattle.std.specs.Prelude.{OnOk, IsErrOf};
 ghost use Rattle.std.specs.Io.KnownBytes.{Consumes, IsAtEnd};
-ghost use Rattle.wf_outside.specs.Outside.{ReadsAll};
+ghost use Rattle.wf_outside.specs.Laws.Outside.{ReadsAll};
 
 use std::alloc::Global;
 use std::io::Read;

@@ -2,7 +2,7 @@
 //! the system gives and takes cannot be known; what a reader or a writer tells is kept.
 ghost use Rattle.std.specs.Prelude.{◌≡◌, ◌≤◌, ◌<◌, false, length, take, None, IfOk, OnOk, OnErr};
 ghost use Rattle.std.specs.Io.KnownBytes.{Keeps, ReadConsumes, WriteAppends};
-ghost use Rattle.wf_outside.specs.Outside.{HasTaken, Rose, with_bytes};
+ghost use Rattle.wf_outside.specs.Laws.Outside.{HasTaken, Rose, with_bytes};
 ghost use Rattle.wf_system.specs.Streams.{reader_left, writer_held};
 
 use std::io::{Read, Write};
@@ -30,7 +30,7 @@ impl<R: Read + Drop> Source for StdinSource<R> {
 
     ghost faults = { λ s. s.faults };
 
-    #[tactic(auto, unfolding(wf_outside::specs::Outside::bytes_before))]
+    #[tactic(auto, unfolding(wf_outside::specs::Laws::Outside::bytes_before))]
     fn take(&mut self, buf: &mut [u8]) -> Result<usize, Failed>
         // The bytes are those that the reader gave; none only at its end, and a fault loses none.
         ensures gives { ReadConsumes (reader_left R.remaining self.old)
@@ -83,7 +83,7 @@ impl<W: Write + Drop> Sink for StdoutSink<W> {
 
     ghost is_flushed = { λ s. s.kept ≡ false };
 
-    #[tactic(auto, unfolding(wf_outside::specs::Outside::with_bytes))]
+    #[tactic(auto, unfolding(wf_outside::specs::Laws::Outside::with_bytes))]
     fn put(&mut self, bytes: &[u8]) -> Result<usize, Failed>
         // The bytes that count as taken are those that the writer took; after a fault there are
         // none.

@@ -2,7 +2,7 @@
 use Rattle.std.proofs.Common.{◌≡◌, ℕ, List, Bool, true, false, Option, Some, None, Err, refl, sym, ap, ◌∙◌}
 use Rattle.std.specs.Prelude.{◌==◌, length, IsUtf8, if◌then◌else◌}
 use Rattle.std.specs.Str.Lossy.{utf8_valid_len}
-use Rattle.basics.specs.Reading.{◌>>=◌, or_fault}
+use Rattle.basics.specs.Laws.Reading.{◌>>=◌, or_fault}
 use Rattle.serde_json.specs.Data.{Data}
 use Rattle.serde_json.specs.Find.{as_object}
 use Rattle.serde_json.specs.Read.{read}

@@ -6,11 +6,11 @@ use Rattle.serde_json.specs.declared.value.Value.{Value}
 use Rattle.serde_json.specs.Data.{Data, array}
 use Rattle.serde_json.specs.View.{view, items_of}
 use Rattle.refutation_tree.specs.Tree.{Kids}
-use Rattle.refutation_tree.specs.Views.{branch_onto, kid_onto, kids_of_items}
+use Rattle.refutation_tree.specs.Laws.Views.{branch_onto, kid_onto, kids_of_items}
 use Rattle.refutation_tree.specs.declared.tree.Branch.{Branch}
 use Rattle.refutation_tree.specs.declared.tree.Kid.{Kid}
 use Rattle.refutation_tree.specs.declared.tree.Kid.TheVariants as kid
-use Rattle.policy_book.specs.Shapes.{PolicyShape}
+use Rattle.policy_book.specs.Laws.Shapes.{PolicyShape}
 use Rattle.wire_json.specs.Entries.{user_data}
 use Rattle.wire_json.specs.Trees.{branches_data, kid_data}
 use Rattle.wire_json.proofs.Texts.{all_dropped}

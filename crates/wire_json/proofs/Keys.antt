@@ -4,7 +4,7 @@ use Rattle.std.specs.Prelude.{[], ◌||◌, is_some, unwrap_or, IsErrAnd}
 use Rattle.std.specs.List.{list_any}
 use Rattle.std.proofs.lemmas.List.Folds.{list_any-append}
 use Rattle.serde_json.specs.Data.{Data, Members}
-use Rattle.basics.specs.Reading.{◌>>=◌, Gives, or_fault, check, each}
+use Rattle.basics.specs.Laws.Reading.{◌>>=◌, Gives, or_fault, check, each}
 use Rattle.wf_talk.specs.declared.edit.Edit.{Edit}
 use Rattle.wf_talk.specs.declared.request.Request.{Request}
 use Rattle.wf_talk.specs.declared.request.Bad.{Bad}

@@ -12,10 +12,10 @@ use Rattle.serde_json.specs.Written.{comma_if, compact_text, items_text}
 use Rattle.wf_names.specs.Names.{is_name}
 use Rattle.wf_names.specs.Table.{AreNames}
 use Rattle.refutation_tree.specs.Tree.{Shape, Kids, holder, rule, node, no_kids, tree_kid, twin_kid, nodes_of, nodes_of_kids}
-use Rattle.policy_book.specs.Shapes.{PolicyShape}
+use Rattle.policy_book.specs.Laws.Shapes.{PolicyShape}
 use Rattle.policy_book.specs.Policies.{flow_at}
 use Rattle.wire_json.specs.Entries.{named, single, step_data, user_data}
-use Rattle.wire_json.specs.Lengths.{HasSmallRules, HaveSmallRules, TreeTextsAreShort}
+use Rattle.wire_json.specs.Laws.Lengths.{HasSmallRules, HaveSmallRules, TreeTextsAreShort}
 use Rattle.wire_json.specs.Trees.{branches_data, tree_data}
 use Rattle.wire_json.proofs.Texts.{name_stays}
 

@@ -19,7 +19,7 @@ use Rattle.serde_json.specs.Data as v
 use Rattle.serde_json.specs.Data.{Data, Members, no_members, member, object, put}
 use Rattle.serde_json.specs.Read.{of_json, of_members, converted}
 use Rattle.serde_json.proofs.Numbers.{number_of-decimal}
-use Rattle.basics.specs.Reading.{◌>>=◌, or_fault}
+use Rattle.basics.specs.Laws.Reading.{◌>>=◌, or_fault}
 use Rattle.wf_names.specs.Names.{is_name}
 use Rattle.wf_names.proofs.NameForms.{name_utf8}
 use Rattle.wf_talk.specs.declared.request.Request.{Request}

@@ -5,7 +5,7 @@ use Rattle.serde_json.specs.Data.{Data, array, object, no_members, member}
 use Rattle.serde_json.specs.View.{items_of}
 use Rattle.serde_json.specs.Written.{compact_text}
 use Rattle.refutation_tree.specs.Tree.{Shape}
-use Rattle.policy_book.specs.Shapes.{PolicyShape}
+use Rattle.policy_book.specs.Laws.Shapes.{PolicyShape}
 use Rattle.wire_json.specs.Entries.{names_data, plan_data, single}
 use Rattle.wire_json.specs.Trees.{tree_data}
 

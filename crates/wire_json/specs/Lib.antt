@@ -10,4 +10,4 @@ pub mod Pieces
 pub mod Trees
 pub mod Replies
 pub mod Findings
-pub mod Lengths
+pub mod Laws

@@ -4,7 +4,7 @@ use Rattle.serde_json.specs.Data.{Data, boolean, number, unsigned, array, object
 use Rattle.serde_json.specs.Data.{member}
 use Rattle.serde_json.specs.View.{items_of}
 use Rattle.serde_json.specs.Written.{compact_text}
-use Rattle.refutation_tree.specs.Views.{shape_of}
+use Rattle.refutation_tree.specs.Laws.Views.{shape_of}
 use Rattle.wf_talk.specs.declared.entry.Entry.{Entry}
 use Rattle.wf_talk.specs.declared.reply.Reply.{Reply}
 use Rattle.wf_talk.specs.declared.reply.Reply.TheVariants as reply
@@ -14,7 +14,7 @@ use Rattle.wf_talk.specs.declared.reply.Denial.{Denial}
 use Rattle.wf_talk.specs.declared.reply.Denial.TheVariants as denial
 use Rattle.wf_talk.specs.declared.edit.Missing.{Missing}
 use Rattle.wf_talk.specs.declared.edit.Missing.TheVariants.{Flow, Step, Relation, User, Role}
-use Rattle.policy_book.specs.Shapes.{PolicyShape}
+use Rattle.policy_book.specs.Laws.Shapes.{PolicyShape}
 use Rattle.wire_json.specs.Entries.{word, single, named, names_data, user_data, step_data}
 use Rattle.wire_json.specs.Entries.{plan_data, state_data, seen_data, phase_data, bad_data}
 use Rattle.wire_json.specs.Trees.{tree_data}

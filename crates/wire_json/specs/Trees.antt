@@ -4,11 +4,11 @@ use Rattle.serde_json.specs.Data.{Data, number, unsigned, array, object, no_memb
 use Rattle.serde_json.specs.View.{items_of}
 use Rattle.refutation_tree.specs.Tree.{Shape, Kids, holder, rule, node, no_kids, tree_kid}
 use Rattle.refutation_tree.specs.Tree.{twin_kid}
-use Rattle.refutation_tree.specs.Views.{shape_of}
+use Rattle.refutation_tree.specs.Laws.Views.{shape_of}
 use Rattle.refutation_tree.specs.declared.tree.Branch.{Branch}
 use Rattle.refutation_tree.specs.declared.tree.Kid.{Kid}
 use Rattle.refutation_tree.specs.declared.tree.Kid.TheVariants as kid
-use Rattle.policy_book.specs.Shapes.{PolicyShape}
+use Rattle.policy_book.specs.Laws.Shapes.{PolicyShape}
 use Rattle.wire_json.specs.Entries.{single, user_data, step_data}
 
 -- a step, and the users who are tried for it

@@ -1,7 +1,7 @@
 -- Inside: the rows of requests and of edits by the words that the code knows.
 use Rattle.std.specs.Prelude.{ℕ, [], ◌∷◌, codes, slice_index_or, Result, Ok}
 use Rattle.serde_json.specs.Data.{Data}
-use Rattle.basics.specs.Reading.{◌>>=◌, check, each}
+use Rattle.basics.specs.Laws.Reading.{◌>>=◌, check, each}
 use Rattle.wf_talk.specs.declared.request.Request.{Request}
 use Rattle.wf_talk.specs.declared.request.Request.TheVariants.{Show}
 use Rattle.wf_talk.specs.declared.request.Bad.{Bad}

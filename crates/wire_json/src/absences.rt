@@ -1,7 +1,7 @@
 //! Writing what is found of a workflow that has to do without some users.
 ghost use Rattle.std.specs.Prelude.{◌≡◌, ◌++◌, IfOk, OnOk};
 ghost use Rattle.serde_json.specs.Written.{comma_if, compact_text};
-ghost use Rattle.refutation_tree.specs.Views.{shape_of};
+ghost use Rattle.refutation_tree.specs.Laws.Views.{shape_of};
 ghost use Rattle.wire_json.specs.Entries.{names_data, plan_data, user_data};
 ghost use Rattle.wire_json.specs.Absences.{absence_data, absence_line, family_data, family_line};
 ghost use Rattle.wire_json.specs.Absences.{plans_data};

@@ -1,6 +1,6 @@
 //! Reading a request of a change of the policy, by the keys of its edit.
 ghost use Rattle.std.specs.Prelude.{Some, codes, option_and_then, if◌then◌else◌};
-ghost use Rattle.basics.specs.Reading.{Gives, or_fault};
+ghost use Rattle.basics.specs.Laws.Reading.{Gives, or_fault};
 ghost use Rattle.wf_talk.specs.declared.request.Bad.TheVariants as bad;
 ghost use Rattle.wire_json.specs.Requests as read;
 ghost use Rattle.wire_json.specs.Objects.{data_of, members_in};

@@ -2,7 +2,7 @@
 ghost use Rattle.std.specs.Prelude.{◌≡◌, ◌++◌, ◌∷◌, [], codes, OnOk};
 ghost use Rattle.serde_json.specs.Data.{number, unsigned};
 ghost use Rattle.serde_json.specs.Written.{compact_text};
-ghost use Rattle.refutation_tree.specs.Views.{shape_of};
+ghost use Rattle.refutation_tree.specs.Laws.Views.{shape_of};
 ghost use Rattle.wire_json.specs.Entries.{single, names_data, step_data, state_data};
 ghost use Rattle.wire_json.specs.Trees.{tree_data};
 ghost use Rattle.wire_json.specs.Replies.{denial_data, missing_data, strands_data};

@@ -1,7 +1,7 @@
 //! Writing what a search found for a workflow.
 ghost use Rattle.std.specs.Prelude.{◌≡◌, ◌++◌, ◌∷◌, [], OnOk};
 ghost use Rattle.serde_json.specs.Written.{compact_text};
-ghost use Rattle.refutation_tree.specs.Views.{shape_of};
+ghost use Rattle.refutation_tree.specs.Laws.Views.{shape_of};
 ghost use Rattle.wire_json.specs.Findings.{plan_found, plan_line, tree_found, tree_line};
 
 use crate::reply::{push_flow, push_users};

@@ -5,7 +5,7 @@ ghost use Rattle.std.specs.Cmp.Lexicographic.{pointwise};
 ghost use Rattle.serde_json.specs.Data.{object};
 ghost use Rattle.serde_json.specs.View.{view, members_view};
 ghost use Rattle.serde_json.specs.Find.{get, as_object};
-ghost use Rattle.basics.specs.Reading.{Gives, or_fault};
+ghost use Rattle.basics.specs.Laws.Reading.{Gives, or_fault};
 ghost use Rattle.wf_talk.specs.declared.request.Bad.TheVariants as bad;
 ghost use Rattle.wire_json.specs.Requests as read;
 ghost use Rattle.wire_json.specs.Objects.{data_of, members_in, members_of};

@@ -1,7 +1,7 @@
 //! Reading a line as a request.
 ghost use Rattle.std.specs.Prelude.{◌≡◌, ◌++◌, IsTrue, IfOk, IfSome, Some, None, Err, false};
 ghost use Rattle.std.specs.Prelude.{option_map, option_and_then, map, codes};
-ghost use Rattle.basics.specs.Reading.{Gives, or_fault, check};
+ghost use Rattle.basics.specs.Laws.Reading.{Gives, or_fault, check};
 ghost use Rattle.wf_names.specs.Names.{is_name};
 ghost use Rattle.wf_talk.specs.declared.request.Bad.TheVariants as bad;
 ghost use Rattle.wire_json.specs.Requests as read;

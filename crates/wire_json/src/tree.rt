@@ -3,7 +3,7 @@ ghost use Rattle.std.specs.Prelude.{◌≡◌, ◌∷◌, [], IfOk, codes};
 ghost use Rattle.serde_json.specs.Data.{array};
 ghost use Rattle.serde_json.specs.View.{view, items_of};
 ghost use Rattle.refutation_tree.specs.Tree.{Kids, holder};
-ghost use Rattle.refutation_tree.specs.Views.{branch_onto, kids_of_items, shape_of};
+ghost use Rattle.refutation_tree.specs.Laws.Views.{branch_onto, kids_of_items, shape_of};
 ghost use Rattle.wire_json.specs.Entries.{single, user_data};
 ghost use Rattle.wire_json.specs.Trees.{branches_data, kid_data, node_data, tree_data};
 

@@ -5,7 +5,7 @@ ghost use Rattle.wf_names.specs.declared.limits.TheConstants.{NAME_LIMIT};
 ghost use Rattle.serde_json.specs.Data.{array};
 ghost use Rattle.serde_json.specs.View.{items_of};
 ghost use Rattle.serde_json.specs.Written.{comma_if, compact_text};
-ghost use Rattle.refutation_tree.specs.Views.{kids_of_items, shape_of};
+ghost use Rattle.refutation_tree.specs.Laws.Views.{kids_of_items, shape_of};
 ghost use Rattle.wire_json.specs.Entries.{named, user_data};
 ghost use Rattle.wire_json.specs.Pieces.{pair_text};
 ghost use Rattle.wire_json.specs.Trees.{branch_data, branches_data, node_data, tree_data};

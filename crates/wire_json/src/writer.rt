@@ -31,7 +31,7 @@ pub struct LineWriter<'a> {
 
 impl<'a> Model for LineWriter<'a> {
     ghost use Rattle.std.specs.Prelude.{◌≡◌, ◌≤◌, drop, length};
-    ghost use Rattle.policy_book.specs.Shapes.{PolicyShape, policy_code};
+    ghost use Rattle.policy_book.specs.Laws.Shapes.{PolicyShape, policy_code};
     ghost use Rattle.wire_json.specs.Pieces.{plan_ending};
 
     ghost Value = { PolicyShape };

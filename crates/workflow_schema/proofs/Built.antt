@@ -2,7 +2,7 @@
 use Rattle.std.proofs.Common.{◌≡◌, ℕ, suc, ◌<◌, inl, inr, true, false, ◌&&◌, nat_eq, List, [], ◌∷◌, length, sym, subst, ◌∙◌, arith}
 use Rattle.std.specs.List.{All}
 use Rattle.std.specs.FinSet as set
-use Rattle.basics.specs.Pairs.{Pairs, AllPairs, pair_cmp}
+use Rattle.basics.specs.Laws.Pairs.{Pairs, AllPairs, pair_cmp}
 use Rattle.wf_names.specs.declared.limits.TheConstants.{ROLE_LIMIT, STEP_LIMIT}
 use Rattle.workflow_schema.specs.Tables.{table_has, leads, pairs_in, permitted_by}
 use Rattle.workflow_schema.specs.Flows.{Precedes, is_before, is_count, IsLeastCycle}

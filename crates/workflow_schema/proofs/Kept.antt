@@ -2,7 +2,7 @@
 use Rattle.std.proofs.Common.{◌≡◌, ℕ, ◌<◌, ◌≤◌, inl, inr, Bool, true, not, ◌&&◌, ◌||◌, nat_eq, nat_lt, nat_le, List, length, sym, ◌∙◌, arith}
 use Rattle.std.specs.Bool.{IsTrue}
 use Rattle.std.specs.FinSet as set
-use Rattle.basics.specs.Pairs.{Pairs}
+use Rattle.basics.specs.Laws.Pairs.{Pairs}
 use Rattle.wf_names.specs.declared.limits.TheConstants.{ROLE_LIMIT, STEP_LIMIT}
 use Rattle.workflow_schema.specs.Tables.{permitted_by, table_has}
 use Rattle.workflow_schema.specs.Flows.{FlowShape, Precedes, is_before, is_count, IsFlow}

@@ -9,7 +9,7 @@ use Rattle.std.specs.declared.cmp.Ordering.TheVariants.{Less, Equal, Greater}
 use Rattle.std.specs.Cmp.{unsigned_tied}
 use Rattle.workflow_schema.specs.Tables.{is_set, table_has}
 use Rattle.workflow_schema.proofs.Words.{is_set-zero}
-use Rattle.basics.specs.Pairs.{Pairs, pair_cmp}
+use Rattle.basics.specs.Laws.Pairs.{Pairs, pair_cmp}
 use Rattle.basics.specs.PairLaws.{pair_cmp_total}
 use Rattle.workflow_schema.specs.Flows.{has_twice}
 use Rattle.basics.proofs.Booleans.{or_left, or_right}

@@ -1,7 +1,7 @@
 -- A table as the set of its pairs, (row, bit) or (bit, row).
 use Rattle.std.proofs.Common.{◌≡◌, ℕ, true, false, not, ◌&&◌, ◌||◌, nat_eq, nat_lt, List, length, get_or, refl, sym, ap, ◌∙◌, replicate}
 use Rattle.std.specs.FinSet as set
-use Rattle.basics.specs.Pairs.{Pairs, pair_cmp}
+use Rattle.basics.specs.Laws.Pairs.{Pairs, pair_cmp}
 use Rattle.basics.specs.PairLaws.{pair_cmp_total, pair_cmp-IsAntisymmetric}
 use Rattle.basics.specs.Tables.{contains_set_of}
 use Rattle.workflow_schema.specs.declared.table.TheConstants.{WORD_BITS}

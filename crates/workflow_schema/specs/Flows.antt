@@ -3,7 +3,7 @@ use Rattle.std.specs.Prelude.{◌≡◌, ℕ, ◌<◌, Bool, true, false, ◌&&�
 use Rattle.std.specs.Prelude.{◌∷◌, length, refl}
 use Rattle.std.specs.Coded.{Coded, code_by, coded×, coded_ℕ, coded_list}
 use Rattle.std.specs.FinSet as set
-use Rattle.basics.specs.Pairs.{Pairs, pair_cmp, pairs_code, AllPairs}
+use Rattle.basics.specs.Laws.Pairs.{Pairs, pair_cmp, pairs_code, AllPairs}
 use Rattle.wf_names.specs.declared.limits.TheConstants.{STEP_LIMIT, ROLE_LIMIT}
 use Rattle.workflow_schema.specs.Tables.{leads}
 

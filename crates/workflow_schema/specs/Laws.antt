@@ -2,7 +2,7 @@
 use Rattle.std.specs.Prelude.{◌≡◌, ℕ, ◌<◌, ◌↔◌, true, IsTrue}
 use Rattle.std.specs.FinSet as set
 use Rattle.wf_names.specs.declared.limits.TheConstants.{STEP_LIMIT}
-use Rattle.basics.specs.Pairs.{Pairs}
+use Rattle.basics.specs.Laws.Pairs.{Pairs}
 use Rattle.workflow_schema.specs.Flows.{FlowShape, IsFlow, Precedes, is_before}
 
 -- the test of the closed order holds exactly where a chain of order pairs leads from one step to

@@ -1,6 +1,6 @@
 -- Inside: what the tables of a workflow keep.
 use Rattle.std.specs.Prelude.{◌≡◌, ℕ, List, length}
-use Rattle.basics.specs.Pairs.{Pairs}
+use Rattle.basics.specs.Laws.Pairs.{Pairs}
 use Rattle.wf_names.specs.declared.limits.TheConstants.{STEP_LIMIT}
 use Rattle.workflow_schema.specs.Tables.{table_has, permitted_by}
 use Rattle.workflow_schema.specs.Flows.{IsFlow, Precedes, is_before}

@@ -2,7 +2,7 @@
 ghost use Rattle.std.specs.Prelude.{◌≡◌, ℕ, ◌<◌, ◌≤◌, true, false, length, MatchOption};
 ghost use Rattle.std.specs.List.{All};
 ghost use Rattle.std.specs.FinSet as set;
-ghost use Rattle.basics.specs.Pairs.{pair_cmp};
+ghost use Rattle.basics.specs.Laws.Pairs.{pair_cmp};
 ghost use Rattle.wf_names.specs.declared.limits.TheConstants.{ROLE_LIMIT, STEP_LIMIT};
 ghost use Rattle.workflow_schema.specs.Flows.{has_twice};
 ghost use Rattle.workflow_schema.specs.Tables.{table_has};

@@ -1,7 +1,7 @@
 //! Sets of pairs of steps, kept as a table of flags.
 ghost use Rattle.std.specs.Prelude.{◌≡◌, ◌<◌, false, not, IfErr, IfOk};
 ghost use Rattle.std.specs.FinSet as set;
-ghost use Rattle.basics.specs.Pairs.{AllPairs};
+ghost use Rattle.basics.specs.Laws.Pairs.{AllPairs};
 ghost use Rattle.wf_names.specs.declared.limits.TheConstants.{STEP_LIMIT};
 ghost use Rattle.workflow_schema.specs.Flows.{IsLeastCycle};
 ghost use Rattle.workflow_schema.specs.Stored.{IsClosedOrder};
@@ -20,7 +20,7 @@ pub struct StepPairs {
 
 impl Model for StepPairs {
     ghost use Rattle.std.specs.Prelude.{◌≡◌, length};
-    ghost use Rattle.basics.specs.Pairs.{Pairs, pairs_code};
+    ghost use Rattle.basics.specs.Laws.Pairs.{Pairs, pairs_code};
     ghost use Rattle.wf_names.specs.declared.limits.TheConstants.{STEP_LIMIT};
     ghost use Rattle.workflow_schema.specs.Tables.{pairs_in};
 

@@ -13,9 +13,9 @@ use Rattle.constraint_forms.specs.Assign.{is_member, no_steps, user_at}
 use Rattle.constraint_forms.specs.Rules.{any_read}
 use Rattle.constraint_forms.proofs.Reading.{some_read}
 use Rattle.constraint_forms.proofs.Members.{none_member}
-use Rattle.policy_book.specs.Plans.{Problem}
-use Rattle.policy_book.specs.Twins.{agree, are_related_alike, are_twins, has_no_step, has_twin, is_alike_to, is_rule_alike, may_do_the_same}
-use Rattle.policy_book.specs.Twins.{treats_alike}
+use Rattle.policy_book.specs.Laws.Plans.{Problem}
+use Rattle.policy_book.specs.Laws.Twins.{agree, are_related_alike, are_twins, has_no_step, has_twin, is_alike_to, is_rule_alike, may_do_the_same}
+use Rattle.policy_book.specs.Laws.Twins.{treats_alike}
 use Rattle.certificate_check.proofs.Below.{all_pass, one_fails, same_agree}
 use Rattle.certificate_check.proofs.TwinLaws.{mean_twins, twins_chain, twins_mean, twins_turned}
 use Rattle.certificate_check.proofs.Assigned.{given}

@@ -8,7 +8,7 @@ use Rattle.constraint_forms.specs.declared.rule.Rule.{Rule}
 use Rattle.constraint_forms.specs.Assign.{is_member}
 use Rattle.basics.proofs.Booleans.{and-false, lt_no, lt_yes, or-false}
 use Rattle.refutation_tree.specs.Tree.{Shape, Kids, no_kids, tree_kid, twin_kid, joined}
-use Rattle.policy_book.specs.Refuting.{mentions, any_mentions}
+use Rattle.policy_book.specs.Laws.Refuting.{mentions, any_mentions}
 use Rattle.wsp_solver.specs.Searches.{AreMentioned, AreMentionedIn}
 
 pub length_set : (set : List Bool) (s : ℕ) (b : Bool) → length (slice_set set s b) ≡ length set

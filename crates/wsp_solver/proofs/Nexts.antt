@@ -4,9 +4,9 @@ use Rattle.std.proofs.lemmas.Bool.{cases_eq, cases_lt, false≢true}
 use Rattle.basics.proofs.Booleans.{eq_same}
 use Rattle.constraint_forms.specs.Flags.{word_of}
 use Rattle.refutation_tree.specs.Tree.{Kids, no_kids, tree_kid, twin_kid}
-use Rattle.policy_book.specs.Plans.{Problem}
-use Rattle.policy_book.specs.Refuting.{have_users, passing}
-use Rattle.policy_book.specs.Twins.{are_twins}
+use Rattle.policy_book.specs.Laws.Plans.{Problem}
+use Rattle.policy_book.specs.Laws.Refuting.{have_users, passing}
+use Rattle.policy_book.specs.Laws.Twins.{are_twins}
 use Rattle.certificate_check.specs.Walks.{AreUsersBelow}
 use Rattle.wsp_solver.specs.Crews.{AreDutiesBelow, duties_of, has_steps}
 use Rattle.wsp_solver.specs.Searches.{AreOfUsersBelow}

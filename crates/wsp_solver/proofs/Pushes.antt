@@ -5,10 +5,10 @@ use Rattle.std.proofs.lemmas.Bool.{and_from}
 use Rattle.basics.proofs.Booleans.{and_both}
 use Rattle.refutation_tree.specs.Tree.{Shape, Kids, no_kids, tree_kid, twin_kid, joined, nodes_of, nodes_of_kids}
 use Rattle.refutation_tree.proofs.ShapeLaws.{joined-assoc}
-use Rattle.policy_book.specs.Plans.{Problem}
-use Rattle.policy_book.specs.Twins.{are_twins, has_twin, is_one_of}
-use Rattle.policy_book.specs.Refuting.{refutes, all_refute, have_users, mentions, passing}
-use Rattle.policy_book.specs.Lean.{is_lean, are_lean}
+use Rattle.policy_book.specs.Laws.Plans.{Problem}
+use Rattle.policy_book.specs.Laws.Twins.{are_twins, has_twin, is_one_of}
+use Rattle.policy_book.specs.Laws.Refuting.{refutes, all_refute, have_users, mentions, passing}
+use Rattle.policy_book.specs.Laws.Lean.{is_lean, are_lean}
 use Rattle.certificate_check.specs.Walks.{AreUsersBelow}
 use Rattle.policy_book.proofs.Passing.{passing_at}
 use Rattle.wsp_solver.specs.Searches.{AreOfUsersBelow}

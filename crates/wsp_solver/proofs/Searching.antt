@@ -11,8 +11,8 @@ use Rattle.constraint_forms.specs.Assign.{user_at, planned, is_member}
 use Rattle.constraint_forms.proofs.RuleLaws.{totals_decide, falsified_by_named}
 use Rattle.refutation_tree.specs.Tree.{Kids, no_kids}
 use Rattle.refutation_tree.proofs.ShapeLaws.{joined-none}
-use Rattle.policy_book.specs.Plans.{Problem, IsValidPlan, IsWellFormed, IsWithin}
-use Rattle.policy_book.specs.Refuting.{have_users, passing, is_misheld, is_broken, is_rule_naming}
+use Rattle.policy_book.specs.Laws.Plans.{Problem, IsValidPlan, IsWellFormed, IsWithin}
+use Rattle.policy_book.specs.Laws.Refuting.{have_users, passing, is_misheld, is_broken, is_rule_naming}
 use Rattle.certificate_check.proofs.Assigned.{none_not_some, given_other, given_same}
 use Rattle.policy_book.proofs.Passing.{passing_at}
 use Rattle.wsp_solver.specs.Searches.{AreOfUsersBelow, IsAssignedPlan, NoLeafRefutes, NoLeafRefutesWithout, free_count}

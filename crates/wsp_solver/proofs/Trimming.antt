@@ -6,16 +6,16 @@ use Rattle.std.proofs.lemmas.List.{drop_all}
 use Rattle.basics.proofs.Booleans.{and_both, differ, or_cases, or_left, or_right}
 use Rattle.constraint_forms.specs.Assign.{is_member}
 use Rattle.refutation_tree.specs.Tree.{Shape, Kids, holder, rule, node, no_kids, tree_kid, twin_kid, joined, nodes_of, nodes_of_kids}
-use Rattle.refutation_tree.specs.Views.{branch_onto, kid_onto, kids_of_items, shape_of}
+use Rattle.refutation_tree.specs.Laws.Views.{branch_onto, kid_onto, kids_of_items, shape_of}
 use Rattle.refutation_tree.specs.declared.tree.Branch.{Branch}
 use Rattle.refutation_tree.specs.declared.tree.Kid.{Kid}
 use Rattle.refutation_tree.specs.declared.tree.Kid.TheVariants.{Tree as Tree_kid, Twin}
 use Rattle.refutation_tree.specs.declared.tree.Tree.{Tree}
 use Rattle.refutation_tree.proofs.ShapeLaws.{joined-assoc, joined-none, kids_of_items-drop, nodes-drop}
-use Rattle.policy_book.specs.Plans.{Problem}
-use Rattle.policy_book.specs.Twins.{are_twins, has_twin, is_one_of}
-use Rattle.policy_book.specs.Refuting.{refutes, all_refute, authorised_users, have_users, is_unassigned, mentions}
-use Rattle.policy_book.specs.Lean.{is_lean, are_lean}
+use Rattle.policy_book.specs.Laws.Plans.{Problem}
+use Rattle.policy_book.specs.Laws.Twins.{are_twins, has_twin, is_one_of}
+use Rattle.policy_book.specs.Laws.Refuting.{refutes, all_refute, authorised_users, have_users, is_unassigned, mentions}
+use Rattle.policy_book.specs.Laws.Lean.{is_lean, are_lean}
 use Rattle.certificate_check.specs.Walks.{AreUsersBelow, tree_users, kid_user_onto}
 use Rattle.certificate_check.proofs.Trees.{one_of_all, one_of_more, passing_below, refutes_at, tree_user_below}
 use Rattle.wsp_solver.specs.Searches.{AreMentioned, AreMentionedIn}

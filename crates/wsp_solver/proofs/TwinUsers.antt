@@ -4,13 +4,13 @@ use Rattle.std.proofs.Common.{if◌then◌else◌, ◌⊎◌, inl, inr, arith}
 use Rattle.std.proofs.lemmas.Bool.{false≢true}
 use Rattle.basics.proofs.Booleans.{and_both, eq_back, eq_is, not_true, or-false, or_cases, or_left, or_right}
 use Rattle.refutation_tree.specs.Tree.{Shape, Kids, no_kids, tree_kid, twin_kid, joined}
-use Rattle.refutation_tree.specs.Views.{kid_onto, kids_of_items}
+use Rattle.refutation_tree.specs.Laws.Views.{kid_onto, kids_of_items}
 use Rattle.refutation_tree.specs.declared.tree.Branch.{Branch}
 use Rattle.refutation_tree.specs.declared.tree.Kid.{Kid}
 use Rattle.refutation_tree.specs.declared.tree.Kid.TheVariants.{Tree as Tree_kid, Twin}
-use Rattle.policy_book.specs.Plans.{Problem}
-use Rattle.policy_book.specs.Refuting.{have_users, passing}
-use Rattle.policy_book.specs.Twins.{are_related_alike, are_twins, has_no_step, has_twin, is_one_of, may_do_the_same}
+use Rattle.policy_book.specs.Laws.Plans.{Problem}
+use Rattle.policy_book.specs.Laws.Refuting.{have_users, passing}
+use Rattle.policy_book.specs.Laws.Twins.{are_related_alike, are_twins, has_no_step, has_twin, is_one_of, may_do_the_same}
 use Rattle.certificate_check.specs.Walks.{AreUsersBelow, tree_users, kid_user_onto}
 use Rattle.certificate_check.proofs.Assigned.{either}
 use Rattle.certificate_check.proofs.TwinLaws.{twins_chain}

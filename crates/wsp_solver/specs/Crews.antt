@@ -7,8 +7,8 @@ use Rattle.constraint_forms.specs.Assign.{no_steps}
 use Rattle.constraint_forms.specs.Flags.{word_of}
 use Rattle.constraint_forms.specs.Rules.{any_read}
 use Rattle.policy_book.specs.Duties.{steps_below}
-use Rattle.policy_book.specs.Plans.{Problem}
-use Rattle.policy_book.specs.Twins.{are_twins, is_alike_to}
+use Rattle.policy_book.specs.Laws.Plans.{Problem}
+use Rattle.policy_book.specs.Laws.Twins.{are_twins, is_alike_to}
 use Rattle.wsp_solver.specs.Searches.{NamesSteps}
 use Rattle.wsp_solver.specs.declared.crew.Crew.{Crew}
 

@@ -1,11 +1,11 @@
 -- What is kept of a tree that is trimmed.
 use Rattle.std.specs.Prelude.{ℕ, ◌≤◌, Bool, List, ◌∷◌, Option, IsTrue}
 use Rattle.refutation_tree.specs.Tree.{Shape, Kids, no_kids, tree_kid, twin_kid, nodes_of}
-use Rattle.refutation_tree.specs.Views.{shape_of}
+use Rattle.refutation_tree.specs.Laws.Views.{shape_of}
 use Rattle.refutation_tree.specs.declared.tree.Tree.{Tree}
-use Rattle.policy_book.specs.Plans.{Problem}
-use Rattle.policy_book.specs.Refuting.{refutes}
-use Rattle.policy_book.specs.Lean.{is_lean}
+use Rattle.policy_book.specs.Laws.Plans.{Problem}
+use Rattle.policy_book.specs.Laws.Refuting.{refutes}
+use Rattle.policy_book.specs.Laws.Lean.{is_lean}
 use Rattle.wsp_solver.specs.declared.leaf.Refutation.{Refutation}
 use Rattle.wsp_solver.specs.Searches.{AreMentioned}
 

@@ -4,11 +4,11 @@ use Rattle.std.specs.Prelude.{Some, is_some, if◌then◌else◌, IsTrue, length
 use Rattle.std.specs.Prelude.{slice_index_or}
 use Rattle.constraint_forms.specs.Assign.{user_at, planned, is_member, no_steps}
 use Rattle.refutation_tree.specs.Tree.{Shape, Kids, holder, rule, joined, nodes_of}
-use Rattle.refutation_tree.specs.Views.{shape_of}
-use Rattle.policy_book.specs.Plans.{Problem, IsValidPlan}
-use Rattle.policy_book.specs.Refuting.{refutes, have_users, is_rule_naming, passing, mentions}
-use Rattle.policy_book.specs.Refuting.{any_mentions}
-use Rattle.policy_book.specs.Lean.{is_lean}
+use Rattle.refutation_tree.specs.Laws.Views.{shape_of}
+use Rattle.policy_book.specs.Laws.Plans.{Problem, IsValidPlan}
+use Rattle.policy_book.specs.Laws.Refuting.{refutes, have_users, is_rule_naming, passing, mentions}
+use Rattle.policy_book.specs.Laws.Refuting.{any_mentions}
+use Rattle.policy_book.specs.Laws.Lean.{is_lean}
 use Rattle.refutation_tree.specs.declared.tree.Tree.{Tree}
 use Rattle.constraint_forms.specs.declared.rule.Rule.{Rule}
 use Rattle.wsp_solver.specs.declared.leaf.Refutation.{Refutation}

@@ -1,7 +1,7 @@
 -- What a search is about, and what it finds.
 use Rattle.std.specs.Prelude.{ℕ, List, Option, IsTrue}
 use Rattle.policy_book.specs.Course.{problem_in}
-use Rattle.policy_book.specs.Plans.{Problem, AreAssigned, IsValidPlan, IsWithin}
+use Rattle.policy_book.specs.Laws.Plans.{Problem, AreAssigned, IsValidPlan, IsWithin}
 use Rattle.wsp_solver.specs.Crews.{IsCrewOf}
 use Rattle.wsp_solver.specs.Searches.{IsRefutation}
 use Rattle.wsp_solver.specs.declared.crew.Crew.{Crew}

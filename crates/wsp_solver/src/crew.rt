@@ -4,7 +4,7 @@ ghost use Rattle.std.specs.Prelude.{◌≡◌, ◌<◌, ◌≤◌, ℕ, [], None
 ghost use Rattle.std.specs.Prelude.{replicate, slice_get, false, IfOk, IsTrue, MatchOption};
 ghost use Rattle.policy_book.specs.Course.{problem_in};
 ghost use Rattle.constraint_forms.specs.Rules.{any_read};
-ghost use Rattle.policy_book.specs.Twins.{are_related_alike, are_twins};
+ghost use Rattle.policy_book.specs.Laws.Twins.{are_related_alike, are_twins};
 ghost use Rattle.wsp_solver.specs.Crews.{AreDutiesBelow, AreFirstTwins, IsCrewOf, IsFirstTwin};
 ghost use Rattle.wsp_solver.specs.Crews.{IsNextWith, class_in, duties_below, duties_of, has_steps};
 ghost use Rattle.wsp_solver.specs.Crews.{is_told_apart, tells_apart};

@@ -1,7 +1,7 @@
 //! A plan that is found quickly and checked.
 ghost use Rattle.std.specs.Prelude.{IfOk, IfSome};
 ghost use Rattle.policy_book.specs.Course.{problem_in};
-ghost use Rattle.policy_book.specs.Plans.{IsWithin, IsValidPlan};
+ghost use Rattle.policy_book.specs.Laws.Plans.{IsWithin, IsValidPlan};
 
 use certificate_check::is_valid_plan;
 use plan_finder::Finder;

@@ -2,11 +2,11 @@
 ghost use Rattle.std.specs.Prelude.{◌≡◌, ◌<◌, ◌≤◌, [], length, IfOk, IsTrue};
 ghost use Rattle.wf_names.specs.declared.limits.TheConstants.{STEP_LIMIT};
 ghost use Rattle.refutation_tree.specs.Tree.{node};
-ghost use Rattle.refutation_tree.specs.Views.{kids_of_items, shape_of};
-ghost use Rattle.policy_book.specs.Plans.{IsWithin};
+ghost use Rattle.refutation_tree.specs.Laws.Views.{kids_of_items, shape_of};
+ghost use Rattle.policy_book.specs.Laws.Plans.{IsWithin};
 ghost use Rattle.policy_book.specs.Policies.{problem_of};
-ghost use Rattle.policy_book.specs.Refuting.{all_refute, authorised_users, have_users};
-ghost use Rattle.policy_book.specs.Refuting.{is_unassigned, refutes};
+ghost use Rattle.policy_book.specs.Laws.Refuting.{all_refute, authorised_users, have_users};
+ghost use Rattle.policy_book.specs.Laws.Refuting.{is_unassigned, refutes};
 ghost use Rattle.wsp_solver.specs.Crews.{IsCrewOf};
 ghost use Rattle.wsp_solver.specs.Task.{asked};
 ghost use Rattle.wsp_solver.specs.Lean.{IsTrimmed, IsTrimming};

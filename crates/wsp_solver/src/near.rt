@@ -1,7 +1,7 @@
 //! Valid plans near another plan.
 ghost use Rattle.std.specs.Prelude.{◌<◌, length, IfSome};
 ghost use Rattle.wf_names.specs.declared.limits.TheConstants.{STEP_LIMIT};
-ghost use Rattle.policy_book.specs.Plans.{IsWithin, IsValidPlan};
+ghost use Rattle.policy_book.specs.Laws.Plans.{IsWithin, IsValidPlan};
 ghost use Rattle.policy_book.specs.Policies.{problem_of};
 
 use crate::next::{is_unassigned, no_users};

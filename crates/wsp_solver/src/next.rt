@@ -4,7 +4,7 @@ ghost use Rattle.std.specs.Prelude.{MatchOption};
 ghost use Rattle.wf_names.specs.declared.limits.TheConstants.{STEP_LIMIT};
 ghost use Rattle.constraint_forms.specs.Assign.{user_at};
 ghost use Rattle.policy_book.specs.Course.{problem_in};
-ghost use Rattle.policy_book.specs.Refuting.{is_unassigned};
+ghost use Rattle.policy_book.specs.Laws.Refuting.{is_unassigned};
 ghost use Rattle.wsp_solver.specs.Searches.{IsAssignedPlan};
 
 use plan_finder::Finder;

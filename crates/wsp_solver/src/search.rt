@@ -1,10 +1,10 @@
 //! The search over the users of the steps that are not assigned yet.
 ghost use Rattle.std.specs.Prelude.{◌≡◌, ◌<◌, ◌≤◌, length, IfOk, IsTrue};
 ghost use Rattle.wf_names.specs.declared.limits.TheConstants.{STEP_LIMIT};
-ghost use Rattle.policy_book.specs.Plans.{AreAssigned, IsWithin};
+ghost use Rattle.policy_book.specs.Laws.Plans.{AreAssigned, IsWithin};
 ghost use Rattle.policy_book.specs.Course.{problem_in};
 ghost use Rattle.policy_book.specs.Policies.{problem_of};
-ghost use Rattle.policy_book.specs.Refuting.{is_unassigned};
+ghost use Rattle.policy_book.specs.Laws.Refuting.{is_unassigned};
 ghost use Rattle.wsp_solver.specs.Crews.{IsCrewOf};
 ghost use Rattle.wsp_solver.specs.Searches.{HasDecided, FitsRoom, HasSolved};
 ghost use Rattle.wsp_solver.specs.Searches.{NoLeafRefutes, NoLeafRefutesWithout};

@@ -1,9 +1,9 @@
 //! Twins among the branches of a node.
 ghost use Rattle.std.specs.Prelude.{◌≡◌, ◌<◌, [], length, true, false, IsTrue, MatchOption};
 ghost use Rattle.policy_book.specs.Course.{problem_in};
-ghost use Rattle.policy_book.specs.Twins.{are_twins, has_no_step, has_twin, is_one_of};
+ghost use Rattle.policy_book.specs.Laws.Twins.{are_twins, has_no_step, has_twin, is_one_of};
 ghost use Rattle.certificate_check.specs.Walks.{AreUsersBelow, kid_user_onto};
-ghost use Rattle.refutation_tree.specs.Views.{kids_of_items};
+ghost use Rattle.refutation_tree.specs.Laws.Views.{kids_of_items};
 ghost use Rattle.wsp_solver.specs.Crews.{IsCrewOf};
 ghost use Rattle.wsp_solver.specs.Lean.{kid_users};
 

@@ -1,5 +1,5 @@
 use Rattle.std.proofs.Common.{◌≡◌, ◌==◌, ◌&&◌, false, not}
-use Rattle.rbac_state.specs.Rosters.{has_role}
+use Rattle.rbac_state.specs.Laws.Rosters.{has_role}
 use Rattle.policy_book.specs.Policies.{any_below}
 use Rattle.admin_edits.proofs.cause.has_other.Given as goal
 

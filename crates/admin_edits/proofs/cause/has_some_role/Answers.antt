@@ -1,5 +1,5 @@
 use Rattle.std.proofs.Common.{◌≡◌, ◌<◌, true, sym, ap, length, arith}
-use Rattle.rbac_state.specs.Rosters.{has_role}
+use Rattle.rbac_state.specs.Laws.Rosters.{has_role}
 use Rattle.policy_book.proofs.Counting.{any_below-at}
 use Rattle.admin_edits.proofs.cause.has_some_role.Goals as goal
 

@@ -1,7 +1,7 @@
 use Rattle.std.proofs.Common.{◌≡◌, ◌<◌, ◌++◌, ◌-◌, ◌+◌, ℕ, Bool, List, length, sym, ap, subst, ◌∙◌}
 use Rattle.std.specs.FinSet as set
 use Rattle.policy_book.specs.Policies.{flow_at}
-use Rattle.policy_book.specs.Refuting.{passing}
+use Rattle.policy_book.specs.Laws.Refuting.{passing}
 use Rattle.admin_edits.specs.ClaimCauses.{permitted_roles}
 use Rattle.admin_edits.proofs.Searches.{fails, passes}
 use Rattle.admin_edits.proofs.claim_cause.permitted_roles.Goals as goal

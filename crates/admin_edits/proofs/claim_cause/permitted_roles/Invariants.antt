@@ -1,7 +1,7 @@
 use Rattle.std.proofs.Common.{◌≡◌, ◌++◌, ◌-◌, length}
 use Rattle.std.specs.FinSet as set
 use Rattle.policy_book.specs.Policies.{flow_at}
-use Rattle.policy_book.specs.Refuting.{passing}
+use Rattle.policy_book.specs.Laws.Refuting.{passing}
 use Rattle.admin_edits.specs.ClaimCauses.{permitted_roles}
 use Rattle.admin_edits.proofs.claim_cause.permitted_roles.Given as goal
 

@@ -1,8 +1,8 @@
 use Rattle.std.proofs.Common.{◌≡◌, ◌∙◌, false, sym, ap}
 use Rattle.std.specs.FinSet as set
 use Rattle.basics.specs.PairLaws.{pair_cmp_total, pair_cmp-IsAntisymmetric, remove_absent}
-use Rattle.basics.specs.Pairs.{Pairs}
-use Rattle.rbac_state.specs.Rosters.{RosterShape}
+use Rattle.basics.specs.Laws.Pairs.{Pairs}
+use Rattle.rbac_state.specs.Laws.Rosters.{RosterShape}
 use Rattle.policy_book.specs.Policies.{with_roster}
 use Rattle.admin_edits.proofs.edited.dismiss.Goals as goal
 

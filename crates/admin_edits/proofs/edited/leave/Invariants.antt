@@ -1,6 +1,6 @@
 use Rattle.std.proofs.Common.{◌≡◌}
 use Rattle.policy_book.specs.Policies.{with_roster}
-use Rattle.admin_edits.specs.Edits.{without_roles}
+use Rattle.admin_edits.specs.Laws.Edits.{without_roles}
 use Rattle.admin_edits.proofs.edited.leave.Given as goal
 
 -- the roles so far are taken away

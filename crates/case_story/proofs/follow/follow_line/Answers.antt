@@ -1,5 +1,5 @@
 use Rattle.std.proofs.Common.{ℕ, ◌+◌, ◌-◌, List, take, drop, length, Err, refl, sym, subst, ◌∙◌}
-use Rattle.transcript_audit.specs.Outcomes.{HasTakenLine}
+use Rattle.transcript_audit.specs.Laws.Outcomes.{HasTakenLine}
 use Rattle.case_story.specs.declared.place.Place.{Place}
 use Rattle.case_story.specs.declared.verdict.Verdict.TheVariants.{Fault}
 use Rattle.case_story.specs.Followed.{StopsTo}

@@ -1,4 +1,4 @@
-use Rattle.case_story.specs.Run.{Tells}
+use Rattle.case_story.specs.Transcript.{Tells}
 use Rattle.case_story.specs.Session.{named_by}
 use Rattle.case_story.specs.Sessions.{Names}
 use Rattle.case_story.proofs.Answering.{found_all, found_none}

@@ -1,6 +1,6 @@
 use Rattle.std.proofs.Common.{List, ℕ, refl, subst, ap, ◌∙◌}
-use Rattle.wf_outside.specs.Outside.{HasPart, with_bytes}
-use Rattle.case_story.specs.Run.{Tells}
+use Rattle.wf_outside.specs.Laws.Outside.{HasPart, with_bytes}
+use Rattle.case_story.specs.Transcript.{Tells}
 use Rattle.case_story.specs.Session.{named_by}
 use Rattle.case_story.specs.Sessions.{Names}
 use Rattle.case_story.proofs.Answering.{told_none, told_part, told_whole}

@@ -1,11 +1,11 @@
 use Rattle.std.proofs.Common.{ℕ, List, Option, None, Some, IfSome, Ok, sym, subst}
 use Rattle.policy_book.specs.Policies.{problem_of}
-use Rattle.policy_book.specs.Plans.{IsValidPlan}
+use Rattle.policy_book.specs.Laws.Plans.{IsValidPlan}
 use Rattle.case_record.specs.Cases.{CaseShape, finished_of}
 use Rattle.admin_edits.specs.ClaimCauses.{assigned_with}
 use Rattle.wf_board.specs.declared.deed.Deed.TheVariants as deed
 use Rattle.wf_board.specs.Boards.{book_of}
-use Rattle.wf_board.specs.States.{Book}
+use Rattle.wf_board.specs.Laws.States.{Book}
 use Rattle.wf_board.specs.Verdicts.{IsPlanFor}
 use Rattle.case_views.proofs.decider.near_plan.Goals as goal
 

@@ -2,7 +2,7 @@ use Rattle.std.proofs.Common.{◌≡◌, IfSome, subst, arith}
 use Rattle.std.proofs.lemmas.Grind.{common_steps}
 use Rattle.constraint_forms.specs.Assign.{planned}
 use Rattle.policy_book.specs.Policies.{problem_of}
-use Rattle.policy_book.specs.Plans.{IsValidPlan}
+use Rattle.policy_book.specs.Laws.Plans.{IsValidPlan}
 use Rattle.case_record.specs.Cases.{assigned_of, finished_of}
 use Rattle.admin_edits.specs.ClaimCauses.{assigned_with}
 use Rattle.wf_board.proofs.Giving.{valid_with}

@@ -1,7 +1,7 @@
 use Rattle.std.proofs.Common.{sym, ap, subst, ◌∙◌}
 use Rattle.std.specs.List.{flat_map}
-use Rattle.policy_book.specs.Shapes.{PolicyShape}
-use Rattle.admin_edits.specs.Edits.{amended}
+use Rattle.policy_book.specs.Laws.Shapes.{PolicyShape}
+use Rattle.admin_edits.specs.Laws.Edits.{amended}
 use Rattle.case_views.specs.Listing.{AreStrandedIn, list_of}
 use Rattle.case_views.proofs.Spreading.{stranded_joined}
 use Rattle.case_views.proofs.spread.spread_stranded.Goals as goal

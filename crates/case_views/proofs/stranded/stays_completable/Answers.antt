@@ -1,5 +1,5 @@
 use Rattle.std.proofs.Common.{sym, subst}
-use Rattle.wf_board.specs.Kept.{IsOfPolicy}
+use Rattle.wf_board.specs.Laws.Kept.{IsOfPolicy}
 use Rattle.wf_board.proofs.Amended.{of_policy_amended}
 use Rattle.case_views.proofs.stranded.stays_completable.Goals as goal
 

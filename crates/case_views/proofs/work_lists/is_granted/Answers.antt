@@ -1,7 +1,7 @@
 use Rattle.std.proofs.Common.{sym, subst, ◌∙◌}
 use Rattle.std.specs.Prelude.{MatchBool}
 use Rattle.policy_book.specs.Policies.{problem_of}
-use Rattle.policy_book.specs.Plans.{IsWellFormed}
+use Rattle.policy_book.specs.Laws.Plans.{IsWellFormed}
 use Rattle.admin_edits.specs.ClaimCauses.{first_cause}
 use Rattle.wf_board.specs.Views.{IsGrantable}
 use Rattle.case_views.proofs.Listing.{clear_of, told_by}

@@ -1,5 +1,5 @@
 use Rattle.std.proofs.Common.{ℕ}
-use Rattle.policy_book.specs.Shapes.{PolicyShape}
+use Rattle.policy_book.specs.Laws.Shapes.{PolicyShape}
 use Rattle.wf_board.specs.Boards.{numbered}
 use Rattle.wf_board.specs.Views.{steps_from}
 use Rattle.case_views.specs.Granting.{TellsSteps}

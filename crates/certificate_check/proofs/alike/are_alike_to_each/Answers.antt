@@ -1,6 +1,6 @@
 use Rattle.std.proofs.Common.{◌≡◌, ℕ, List, ◌||◌, ◌==◌, length, sym, ap, ◌∙◌, arith}
 use Rattle.policy_book.specs.Course.{problem_in}
-use Rattle.policy_book.specs.Twins.{is_alike_to}
+use Rattle.policy_book.specs.Laws.Twins.{is_alike_to}
 use Rattle.certificate_check.proofs.Below.{one_fails}
 use Rattle.certificate_check.proofs.alike.are_alike_to_each.Goals as goal
 

@@ -1,6 +1,6 @@
 use Rattle.std.proofs.Common.{◌≡◌, ◌||◌, ◌==◌, true}
 use Rattle.policy_book.specs.Course.{problem_in}
-use Rattle.policy_book.specs.Twins.{all_below, is_alike_to}
+use Rattle.policy_book.specs.Laws.Twins.{all_below, is_alike_to}
 use Rattle.certificate_check.proofs.alike.are_alike_to_each.Given as goal
 
 abbrev pub invariant-users : goal.invariant-users

@@ -1,6 +1,6 @@
 use Rattle.std.proofs.Common.{ℕ, Bool, length, slice_get, sym, ap, ◌∙◌, arith}
 use Rattle.policy_book.specs.Policies.{problem_of}
-use Rattle.policy_book.specs.Twins.{is_rule_alike}
+use Rattle.policy_book.specs.Laws.Twins.{is_rule_alike}
 use Rattle.certificate_check.proofs.Below.{each_passes, one_fails, one_more_passes}
 use Rattle.certificate_check.proofs.alike.are_related_alike.Goals as goal
 

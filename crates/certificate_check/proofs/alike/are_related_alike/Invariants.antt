@@ -1,6 +1,6 @@
 use Rattle.std.proofs.Common.{◌≡◌, true, slice_get}
 use Rattle.policy_book.specs.Policies.{problem_of}
-use Rattle.policy_book.specs.Twins.{all_below, is_rule_alike}
+use Rattle.policy_book.specs.Laws.Twins.{all_below, is_rule_alike}
 use Rattle.certificate_check.proofs.alike.are_related_alike.Given as goal
 
 abbrev pub invariant-rules : goal.invariant-rules

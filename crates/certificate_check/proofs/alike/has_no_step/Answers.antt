@@ -1,6 +1,6 @@
 use Rattle.std.proofs.Common.{◌≡◌, length, not, sym, ap, ◌∙◌, arith}
 use Rattle.constraint_forms.specs.Assign.{user_at}
-use Rattle.policy_book.specs.Twins.{all_below, is_given_to}
+use Rattle.policy_book.specs.Laws.Twins.{all_below, is_given_to}
 use Rattle.certificate_check.proofs.Below.{one_fails, one_more_passes}
 use Rattle.certificate_check.proofs.alike.has_no_step.Goals as goal
 

@@ -1,7 +1,7 @@
 use Rattle.std.proofs.Common.{◌≡◌, ◌||◌, ◌==◌, length, refl, sym, ap, ◌∙◌}
 use Rattle.std.proofs.lemmas.Bool.{false≢true}
 use Rattle.policy_book.specs.Course.{problem_in}
-use Rattle.policy_book.specs.Twins.{all_below, is_alike_to}
+use Rattle.policy_book.specs.Laws.Twins.{all_below, is_alike_to}
 use Rattle.certificate_check.proofs.Rows.{alike_behind, unlike_ahead}
 use Rattle.certificate_check.proofs.alike.have_same_rows.Goals as goal
 

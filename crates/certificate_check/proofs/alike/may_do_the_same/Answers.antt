@@ -1,6 +1,6 @@
 use Rattle.std.proofs.Common.{◌≡◌, ℕ, List, length, sym, ap, ◌∙◌, arith}
 use Rattle.policy_book.specs.Course.{problem_in}
-use Rattle.policy_book.specs.Twins.{agree}
+use Rattle.policy_book.specs.Laws.Twins.{agree}
 use Rattle.certificate_check.proofs.Below.{one_fails}
 use Rattle.certificate_check.proofs.alike.may_do_the_same.Goals as goal
 

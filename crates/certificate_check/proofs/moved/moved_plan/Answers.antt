@@ -1,7 +1,7 @@
 use Rattle.std.proofs.Common.{◌≡◌, ℕ, List, Some, slice_get, slice_set, true, subst, sym, arith}
 use Rattle.std.proofs.lemmas.Grind.{common_steps}
 use Rattle.policy_book.specs.Policies.{is_authorised, problem_of}
-use Rattle.policy_book.specs.Plans.{IsValidPlan}
+use Rattle.policy_book.specs.Laws.Plans.{IsValidPlan}
 use Rattle.certificate_check.specs.Plan.{keeps_rule}
 use Rattle.certificate_check.proofs.Moving.{moved_valid}
 use Rattle.certificate_check.proofs.moved.moved_plan.Goals as goal

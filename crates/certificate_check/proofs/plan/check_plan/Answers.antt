@@ -1,5 +1,5 @@
 use Rattle.std.proofs.Common.{sym, subst, Result, ◌↔◌, IsOk}
-use Rattle.policy_book.specs.Plans.{IsValidPlan}
+use Rattle.policy_book.specs.Laws.Plans.{IsValidPlan}
 use Rattle.policy_book.specs.Policies.{problem_of}
 use Rattle.certificate_check.specs.declared.plan.PlanFault.{PlanFault}
 use Rattle.certificate_check.proofs.Verdicts.{verdict_tells}

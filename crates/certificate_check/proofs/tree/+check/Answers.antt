@@ -1,15 +1,15 @@
 use Rattle.std.proofs.Common.{Option, ◌≡◌, ◌+◌, ◌&&◌, ℕ, [], drop, take, Bool, true, false, List, refl, sym, ap, ◌∙◌, arith}
 use denote.Param.Weighed.{at_most}
 use Rattle.refutation_tree.specs.declared.tree.Branches.TheDeep.{size-Branch}
-use Rattle.refutation_tree.specs.Views.{kids_of_items, shape_of}
+use Rattle.refutation_tree.specs.Laws.Views.{kids_of_items, shape_of}
 use Rattle.refutation_tree.specs.declared.tree.Branch.{Branch}
 use Rattle.refutation_tree.specs.declared.tree.Tree.{Tree}
 use Rattle.refutation_tree.specs.declared.tree.Tree.TheVariants.{Step}
 use Rattle.refutation_tree.specs.Tree.{Kids}
 use Rattle.refutation_tree.proofs.Depths.{branches_below}
-use Rattle.policy_book.specs.Plans.{Problem}
+use Rattle.policy_book.specs.Laws.Plans.{Problem}
 use Rattle.policy_book.specs.Course.{problem_in}
-use Rattle.policy_book.specs.Refuting.{all_refute, authorised_users, have_users, is_unassigned, refutes}
+use Rattle.policy_book.specs.Laws.Refuting.{all_refute, authorised_users, have_users, is_unassigned, refutes}
 use Rattle.certificate_check.specs.Walks.{tree_users}
 use Rattle.certificate_check.proofs.Trees.{refutes_at, branch_user, first_below, passing_below}
 use Rattle.certificate_check.proofs.tree.+check.Goals as goal

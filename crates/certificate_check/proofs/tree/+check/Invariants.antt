@@ -1,9 +1,9 @@
 use denote.Param.Weighed.{most}
 use Rattle.std.proofs.Common.{◌≡◌, ◌+◌, ◌*◌, drop, take, []}
 use Rattle.refutation_tree.specs.declared.tree.Branches.TheDeep.{deep-Tree, size-Branch}
-use Rattle.refutation_tree.specs.Views.{kids_of_items}
+use Rattle.refutation_tree.specs.Laws.Views.{kids_of_items}
 use Rattle.policy_book.specs.Course.{problem_in}
-use Rattle.policy_book.specs.Refuting.{all_refute}
+use Rattle.policy_book.specs.Laws.Refuting.{all_refute}
 use Rattle.certificate_check.specs.Walks.{tree_users}
 use Rattle.certificate_check.proofs.tree.+check.Given as goal
 

@@ -1,7 +1,7 @@
 use Rattle.std.proofs.Common.{◌+◌, ◌||◌, drop, sym, ap, ◌∙◌, arith}
 use Rattle.refutation_tree.proofs.Depths.{branches_below}
-use Rattle.refutation_tree.specs.Views.{kids_of_items, shape_of}
-use Rattle.policy_book.specs.Refuting.{any_mentions, mentions}
+use Rattle.refutation_tree.specs.Laws.Views.{kids_of_items, shape_of}
+use Rattle.policy_book.specs.Laws.Refuting.{any_mentions, mentions}
 use Rattle.certificate_check.proofs.Trees.{mentions_at}
 use Rattle.certificate_check.proofs.tree.+mentions.Goals as goal
 

@@ -1,6 +1,6 @@
 use Rattle.std.proofs.Common.{◌+◌, ◌||◌, [], take, sym, ap, ◌∙◌}
 use Rattle.basics.proofs.Booleans.{or_left}
-use Rattle.policy_book.specs.Twins.{is_one_of}
+use Rattle.policy_book.specs.Laws.Twins.{is_one_of}
 use Rattle.certificate_check.specs.Walks.{tree_users, kid_user_onto}
 use Rattle.certificate_check.proofs.Trees.{one_of_all, one_of_more}
 use Rattle.certificate_check.proofs.tree.has_tree.Goals as goal

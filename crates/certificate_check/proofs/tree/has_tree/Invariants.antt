@@ -1,5 +1,5 @@
 use Rattle.std.proofs.Common.{◌≡◌, [], false, take}
-use Rattle.policy_book.specs.Twins.{is_one_of}
+use Rattle.policy_book.specs.Laws.Twins.{is_one_of}
 use Rattle.certificate_check.specs.Walks.{tree_users}
 use Rattle.certificate_check.proofs.tree.has_tree.Given as goal
 

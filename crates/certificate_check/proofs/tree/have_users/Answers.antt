@@ -1,7 +1,7 @@
 use Rattle.std.proofs.Common.{◌≡◌, ◌≤◌, ◌<◌, ◌+◌, ◌-◌, length, drop, true, false, refl, sym, ap, subst, ◌∙◌, arith}
-use Rattle.refutation_tree.specs.Views.{kids_of_items}
+use Rattle.refutation_tree.specs.Laws.Views.{kids_of_items}
 use Rattle.policy_book.specs.Course.{problem_in}
-use Rattle.policy_book.specs.Refuting.{authorised_users, have_users, passing}
+use Rattle.policy_book.specs.Laws.Refuting.{authorised_users, have_users, passing}
 use Rattle.certificate_check.proofs.Trees.{none_next, passing_end, passing_next, users_next}
 use Rattle.certificate_check.proofs.tree.have_users.Goals as goal
 

@@ -1,6 +1,6 @@
 use Rattle.std.proofs.Common.{◌≡◌, ◌+◌, nat_eq, ℕ, drop, refl, sym, ap, ◌∙◌}
 use Rattle.refutation_tree.specs.Tree.{Kids}
-use Rattle.refutation_tree.specs.Views.{kids_of_items, kid_onto}
+use Rattle.refutation_tree.specs.Laws.Views.{kids_of_items, kid_onto}
 use Rattle.refutation_tree.specs.declared.tree.Kid.{Kid}
 use Rattle.refutation_tree.specs.declared.tree.Kid.TheVariants.{Tree as Tree_kid, Twin}
 use Rattle.refutation_tree.proofs.ShapeLaws.{kids_of_items-drop}

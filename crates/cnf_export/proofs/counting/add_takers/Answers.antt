@@ -1,7 +1,7 @@
 use Rattle.std.proofs.Common.{◌∙◌, ◌<◌, ◌++◌, ◌∷◌, [], ℕ, length, ap, sym, arith, refl, map}
 use Rattle.constraint_forms.specs.Assign.{is_member}
-use Rattle.cnf_export.specs.Clauses.{yes_to}
-use Rattle.cnf_export.specs.Encodings.{has}
+use Rattle.cnf_export.specs.Laws.Clauses.{yes_to}
+use Rattle.cnf_export.specs.Laws.Encodings.{has}
 use Rattle.cnf_export.specs.Terms.{encoding_in}
 use Rattle.cnf_export.proofs.Listing.{listed_none, listed_one}
 use Rattle.cnf_export.proofs.counting.add_takers.Goals as goal

@@ -1,8 +1,8 @@
 use Rattle.std.proofs.Common.{◌≡◌, ◌-◌, ◌++◌, map, length}
 use Rattle.constraint_forms.specs.Assign.{is_member}
-use Rattle.policy_book.specs.Refuting.{passing}
-use Rattle.cnf_export.specs.Clauses.{yes_to}
-use Rattle.cnf_export.specs.Encodings.{has, members}
+use Rattle.policy_book.specs.Laws.Refuting.{passing}
+use Rattle.cnf_export.specs.Laws.Clauses.{yes_to}
+use Rattle.cnf_export.specs.Laws.Encodings.{has, members}
 use Rattle.cnf_export.specs.Terms.{encoding_in}
 use Rattle.cnf_export.proofs.counting.add_takers.Given as goal
 

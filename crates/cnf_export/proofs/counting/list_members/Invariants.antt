@@ -1,7 +1,7 @@
 use Rattle.std.proofs.Common.{◌≡◌, ◌-◌, ◌++◌, suc, map, length}
 use Rattle.constraint_forms.specs.Assign.{is_member}
-use Rattle.policy_book.specs.Refuting.{passing}
-use Rattle.cnf_export.specs.Encodings.{members}
+use Rattle.policy_book.specs.Laws.Refuting.{passing}
+use Rattle.cnf_export.specs.Laws.Encodings.{members}
 use Rattle.cnf_export.proofs.counting.list_members.Given as goal
 
 -- the members so far, and those to come

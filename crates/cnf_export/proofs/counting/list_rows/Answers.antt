@@ -1,5 +1,5 @@
 use Rattle.std.proofs.Common.{◌<◌, ◌∙◌, ◌+◌, ◌*◌, ℕ, map, arith}
-use Rattle.cnf_export.specs.Encodings.{count_rows}
+use Rattle.cnf_export.specs.Laws.Encodings.{count_rows}
 use Rattle.cnf_export.proofs.Listing.{next_number}
 use Rattle.cnf_export.proofs.counting.list_rows.Goals as goal
 

@@ -1,6 +1,6 @@
 use Rattle.std.proofs.Common.{◌≡◌, ◌+◌, ◌*◌, ◌-◌, ◌++◌, map}
 use Rattle.std.specs.List.{flat_map}
-use Rattle.cnf_export.specs.Encodings.{count_rows, numbers}
+use Rattle.cnf_export.specs.Laws.Encodings.{count_rows, numbers}
 use Rattle.cnf_export.proofs.counting.list_rows.Given as goal
 
 -- the rows so far, and those to come

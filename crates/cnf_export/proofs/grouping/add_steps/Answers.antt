@@ -1,5 +1,5 @@
 use Rattle.std.proofs.Common.{◌<◌, ◌∙◌, arith}
-use Rattle.cnf_export.specs.Encodings.{step_groups}
+use Rattle.cnf_export.specs.Laws.Encodings.{step_groups}
 use Rattle.cnf_export.proofs.Listing.{next_number}
 use Rattle.cnf_export.proofs.grouping.add_steps.Goals as goal
 

@@ -1,6 +1,6 @@
 use Rattle.std.proofs.Common.{◌≡◌, ◌-◌, ◌++◌}
 use Rattle.std.specs.List.{flat_map}
-use Rattle.cnf_export.specs.Encodings.{numbers, step_groups}
+use Rattle.cnf_export.specs.Laws.Encodings.{numbers, step_groups}
 use Rattle.cnf_export.proofs.grouping.add_steps.Given as goal
 
 abbrev pub invariant-steps : goal.invariant-steps

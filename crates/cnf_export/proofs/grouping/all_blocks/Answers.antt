@@ -1,5 +1,5 @@
 use Rattle.std.proofs.Common.{ap, arith}
-use Rattle.cnf_export.specs.Encodings.{rules_blocks}
+use Rattle.cnf_export.specs.Laws.Encodings.{rules_blocks}
 use Rattle.cnf_export.proofs.Listing.{drop_some}
 use Rattle.cnf_export.proofs.grouping.all_blocks.Goals as goal
 

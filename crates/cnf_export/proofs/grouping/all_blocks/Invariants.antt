@@ -1,5 +1,5 @@
 use Rattle.std.proofs.Common.{◌≡◌, ◌≤◌, ◌+◌, ◌*◌, drop}
-use Rattle.cnf_export.specs.Encodings.{rules_blocks, step_blocks}
+use Rattle.cnf_export.specs.Laws.Encodings.{rules_blocks, step_blocks}
 use Rattle.cnf_export.proofs.grouping.all_blocks.Given as goal
 
 abbrev pub invariant-rules : goal.invariant-rules

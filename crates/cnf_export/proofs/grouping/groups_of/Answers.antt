@@ -1,5 +1,5 @@
 use Rattle.std.proofs.Common.{◌∙◌, ◌+◌, ◌++◌, drop, sym, ap, arith, append_assoc}
-use Rattle.cnf_export.specs.Encodings.{blocks, rule_groups, rules_groups}
+use Rattle.cnf_export.specs.Laws.Encodings.{blocks, rule_groups, rules_groups}
 use Rattle.cnf_export.proofs.Listing.{drop_some, some_same}
 use Rattle.cnf_export.proofs.grouping.groups_of.Goals as goal
 

@@ -1,5 +1,5 @@
 use Rattle.std.proofs.Common.{◌≡◌, ◌≤◌, ◌+◌, ◌*◌, ◌++◌, drop}
-use Rattle.cnf_export.specs.Encodings.{groups, rules_groups}
+use Rattle.cnf_export.specs.Laws.Encodings.{groups, rules_groups}
 use Rattle.cnf_export.proofs.grouping.groups_of.Given as goal
 
 -- the groups so far, and those of the rules to come

@@ -2,8 +2,8 @@ use Rattle.std.proofs.Common.{◌≡◌, ◌∙◌, ◌++◌, ◌==◌, nat_le, 
 use Rattle.std.proofs.Common.{subst}
 use Rattle.constraint_forms.specs.Assign.{planned}
 use Rattle.policy_book.specs.Policies.{problem_of}
-use Rattle.cnf_export.specs.Clauses.{IsModelOf}
-use Rattle.cnf_export.specs.Encodings.{clauses_of, encoding_of}
+use Rattle.cnf_export.specs.Laws.Clauses.{IsModelOf}
+use Rattle.cnf_export.specs.Laws.Encodings.{clauses_of, encoding_of}
 use Rattle.cnf_export.specs.Models.{AreSound, plan_said}
 use Rattle.cnf_export.specs.Saying.{grid, has_variable, plan_flags, rules_flags}
 use Rattle.cnf_export.proofs.Grids.{said_back, says_plan}

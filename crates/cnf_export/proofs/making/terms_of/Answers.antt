@@ -1,6 +1,6 @@
 use Rattle.std.proofs.Common.{◌∙◌, ℕ, List, sym, ap, subst}
 use Rattle.policy_book.specs.Course.{problem_in}
-use Rattle.user_relations.specs.Relations.{is_related}
+use Rattle.user_relations.specs.Laws.Relations.{is_related}
 use Rattle.cnf_export.specs.Terms.{AreDomains}
 use Rattle.cnf_export.proofs.Domains.{same_encoding}
 use Rattle.cnf_export.proofs.making.terms_of.Goals as goal

@@ -1,4 +1,4 @@
-use Rattle.cnf_export.specs.Encodings.{encoding_of}
+use Rattle.cnf_export.specs.Laws.Encodings.{encoding_of}
 use Rattle.cnf_export.specs.Models.{plan_said}
 use Rattle.cnf_export.specs.Saying.{has_variable, plan_flags}
 use Rattle.cnf_export.proofs.Grids.{says_plan}

@@ -1,6 +1,6 @@
 use Rattle.std.proofs.Common.{◌≡◌, ◌≤◌, ◌+◌, Some, length}
 use Rattle.std.specs.List.{slice_split}
-use Rattle.basics.specs.Reading.{each}
+use Rattle.basics.specs.Laws.Reading.{each}
 use Rattle.cnf_export.specs.ModelText.{is_lf, take_line, words_read}
 use Rattle.cnf_export.proofs.model_text.read_lines.Given as goal
 

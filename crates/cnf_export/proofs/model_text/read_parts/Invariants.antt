@@ -1,6 +1,6 @@
 use Rattle.std.proofs.Common.{◌≡◌, ◌≤◌, ◌+◌, length}
 use Rattle.std.specs.List.{slice_split}
-use Rattle.basics.specs.Reading.{each}
+use Rattle.basics.specs.Laws.Reading.{each}
 use Rattle.cnf_export.specs.ModelText.{is_blank, next_part, words_read}
 use Rattle.cnf_export.proofs.model_text.read_parts.Given as goal
 

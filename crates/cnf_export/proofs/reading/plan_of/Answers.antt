@@ -1,7 +1,7 @@
 use Rattle.std.proofs.Common.{◌∙◌, sym, ap, subst}
-use Rattle.policy_book.specs.Plans.{IsValidPlan}
+use Rattle.policy_book.specs.Laws.Plans.{IsValidPlan}
 use Rattle.policy_book.specs.Policies.{problem_of}
-use Rattle.cnf_export.specs.Encodings.{clauses_of}
+use Rattle.cnf_export.specs.Laws.Encodings.{clauses_of}
 use Rattle.cnf_export.specs.Models.{AreSound}
 use Rattle.cnf_export.specs.Readings.{first_false}
 use Rattle.cnf_export.specs.Saying.{has_variable}

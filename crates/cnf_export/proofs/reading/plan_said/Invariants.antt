@@ -1,5 +1,5 @@
 use Rattle.std.proofs.Common.{◌≡◌, ◌+◌, ◌*◌, ◌-◌, ◌++◌, length, map}
-use Rattle.cnf_export.specs.Encodings.{numbers}
+use Rattle.cnf_export.specs.Laws.Encodings.{numbers}
 use Rattle.cnf_export.specs.Models.{last_below}
 use Rattle.cnf_export.specs.Saying.{has_variable}
 use Rattle.cnf_export.proofs.reading.plan_said.Given as goal

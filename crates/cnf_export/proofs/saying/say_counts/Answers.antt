@@ -1,5 +1,5 @@
 use Rattle.std.proofs.Common.{◌≡◌, ◌∙◌, ◌+◌, ◌-◌, ◌++◌, ℕ, suc, nat_lt, cond, map, sym, ap, arith}
-use Rattle.cnf_export.specs.Encodings.{numbers}
+use Rattle.cnf_export.specs.Laws.Encodings.{numbers}
 use Rattle.std.specs.List.{flat_map}
 use Rattle.wf_names.specs.UserSets.{count_below}
 use Rattle.cnf_export.specs.Models.{has_some}

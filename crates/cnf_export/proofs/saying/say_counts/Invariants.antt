@@ -1,7 +1,7 @@
 use Rattle.std.proofs.Common.{◌≡◌, ◌≤◌, ◌-◌, ◌++◌, suc, nat_lt, map}
 use Rattle.std.specs.List.{flat_map}
 use Rattle.wf_names.specs.UserSets.{count_below}
-use Rattle.cnf_export.specs.Encodings.{numbers}
+use Rattle.cnf_export.specs.Laws.Encodings.{numbers}
 use Rattle.cnf_export.specs.Models.{has_some}
 use Rattle.cnf_export.proofs.saying.say_counts.Given as goal
 

@@ -1,5 +1,5 @@
 use Rattle.std.proofs.Common.{◌≡◌, ◌-◌, ◌++◌, ℕ, Bool, map}
-use Rattle.cnf_export.specs.Encodings.{numbers}
+use Rattle.cnf_export.specs.Laws.Encodings.{numbers}
 use Rattle.cnf_export.specs.Saying.{Says}
 use Rattle.cnf_export.proofs.saying.say_each.Given as goal
 

@@ -1,5 +1,5 @@
 use Rattle.std.proofs.Common.{◌∙◌, ◌++◌, ℕ, nat_le, map, ap, arith}
-use Rattle.cnf_export.specs.Encodings.{numbers}
+use Rattle.cnf_export.specs.Laws.Encodings.{numbers}
 use Rattle.constraint_forms.specs.Assign.{planned}
 use Rattle.cnf_export.proofs.Listing.{next_number}
 use Rattle.cnf_export.proofs.saying.say_until.Goals as goal

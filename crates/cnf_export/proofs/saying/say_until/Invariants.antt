@@ -1,6 +1,6 @@
 use Rattle.std.proofs.Common.{◌≡◌, ◌-◌, ◌++◌, nat_le, map}
 use Rattle.std.specs.List.{flat_map}
-use Rattle.cnf_export.specs.Encodings.{numbers}
+use Rattle.cnf_export.specs.Laws.Encodings.{numbers}
 use Rattle.constraint_forms.specs.Assign.{planned}
 use Rattle.cnf_export.proofs.saying.say_until.Given as goal
 

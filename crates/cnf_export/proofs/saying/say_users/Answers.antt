@@ -1,5 +1,5 @@
 use Rattle.std.proofs.Common.{◌∙◌, ◌++◌, ◌==◌, ℕ, map, ap, arith}
-use Rattle.cnf_export.specs.Encodings.{numbers}
+use Rattle.cnf_export.specs.Laws.Encodings.{numbers}
 use Rattle.constraint_forms.specs.Assign.{planned}
 use Rattle.cnf_export.proofs.Listing.{next_number}
 use Rattle.cnf_export.proofs.saying.say_users.Goals as goal

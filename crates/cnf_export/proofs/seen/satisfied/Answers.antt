@@ -1,5 +1,5 @@
 use Rattle.std.proofs.Common.{◌≡◌, ◌∙◌, ◌+◌, ◌||◌, true, false, drop, sym, ap}
-use Rattle.cnf_export.specs.Clauses.{is_true, satisfies}
+use Rattle.cnf_export.specs.Laws.Clauses.{is_true, satisfies}
 use Rattle.cnf_export.proofs.Listing.{drop_some}
 use Rattle.cnf_export.specs.Saying.{has_variable}
 use Rattle.cnf_export.proofs.seen.satisfied.Goals as goal

@@ -1,5 +1,5 @@
 use Rattle.std.proofs.Common.{◌≡◌, drop}
-use Rattle.cnf_export.specs.Clauses.{satisfies}
+use Rattle.cnf_export.specs.Laws.Clauses.{satisfies}
 use Rattle.cnf_export.specs.Saying.{has_variable}
 use Rattle.cnf_export.proofs.seen.satisfied.Given as goal
 

@@ -1,5 +1,5 @@
 use Rattle.std.proofs.Common.{List, ℕ, refl, subst}
-use Rattle.wf_outside.specs.Outside.{HasPart}
+use Rattle.wf_outside.specs.Laws.Outside.{HasPart}
 use Rattle.cnf_export.proofs.Written.{added, all_put, emptied, next_is, none_left, none_put, part_put, so_far}
 use Rattle.cnf_export.proofs.writing.write_left.Goals as goal
 

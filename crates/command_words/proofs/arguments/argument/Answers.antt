@@ -2,7 +2,7 @@ use Rattle.std.proofs.Common.{◌∙◌, ap, arith, sym, codes}
 use Rattle.std.proofs.lemmas.Fmt.{decimal_digit}
 use Rattle.clap.specs.Words.{Text}
 use Rattle.wf_names.specs.declared.limits.TheConstants.{LANE_LIMIT, ROUND_LIMIT}
-use Rattle.command_words.specs.Words.{ranged}
+use Rattle.command_words.specs.Laws.Words.{ranged}
 use Rattle.command_words.specs.Forms.{rule_for}
 use Rattle.command_words.proofs.arguments.argument.Goals as goal
 

@@ -1,6 +1,6 @@
 use Rattle.std.proofs.Common.{sym, subst}
 use Rattle.refutation_tree.specs.Tree.{no_kids}
-use Rattle.refutation_tree.specs.Views.{branch_onto}
+use Rattle.refutation_tree.specs.Laws.Views.{branch_onto}
 use Rattle.entry_reader.specs.Plain.{AreLow}
 use Rattle.entry_reader.proofs.LowTrees.{low_more}
 use Rattle.entry_reader.proofs.plain_tree.+guess_tree.Goals as goal

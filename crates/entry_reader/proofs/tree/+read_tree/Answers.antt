@@ -2,7 +2,7 @@ use Rattle.std.proofs.Common.{◌+◌, drop, ap, ◌∙◌, arith}
 use Rattle.std.specs.Prelude.{option_map}
 use Rattle.serde_json.specs.View.{view, items_view}
 use Rattle.refutation_tree.specs.Tree.{joined}
-use Rattle.refutation_tree.specs.Views.{shape_of}
+use Rattle.refutation_tree.specs.Laws.Views.{shape_of}
 use Rattle.entry_reader.specs.Values.{kids_in}
 use Rattle.entry_reader.proofs.Small.{items_next, items_done, item_below}
 use Rattle.entry_reader.proofs.TreeParts.{kids_start, kids_more, kids_end, branch_tree}

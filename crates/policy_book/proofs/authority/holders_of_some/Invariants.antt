@@ -1,7 +1,7 @@
 use Rattle.std.proofs.Common.{◌≡◌, ℕ, ◌&&◌}
 use Rattle.std.specs.FinSet as set
 use Rattle.wf_names.specs.UserSets.{has_user}
-use Rattle.rbac_state.specs.Rosters.{has_role}
+use Rattle.rbac_state.specs.Laws.Rosters.{has_role}
 use Rattle.policy_book.specs.Policies.{any_below}
 use Rattle.policy_book.proofs.authority.holders_of_some.Given as goal
 

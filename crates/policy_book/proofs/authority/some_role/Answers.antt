@@ -1,6 +1,6 @@
 use Rattle.std.proofs.Common.{◌≡◌, ◌<◌, true, sym, ap, ◌&&◌, length, arith}
 use Rattle.std.specs.FinSet as set
-use Rattle.rbac_state.specs.Rosters.{has_role}
+use Rattle.rbac_state.specs.Laws.Rosters.{has_role}
 use Rattle.policy_book.proofs.Counting.{any_below-at}
 use Rattle.policy_book.proofs.authority.some_role.Goals as goal
 

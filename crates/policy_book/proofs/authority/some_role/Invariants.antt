@@ -1,6 +1,6 @@
 use Rattle.std.proofs.Common.{◌≡◌, false, ◌&&◌}
 use Rattle.std.specs.FinSet as set
-use Rattle.rbac_state.specs.Rosters.{has_role}
+use Rattle.rbac_state.specs.Laws.Rosters.{has_role}
 use Rattle.policy_book.specs.Policies.{any_below}
 use Rattle.policy_book.proofs.authority.some_role.Given as goal
 

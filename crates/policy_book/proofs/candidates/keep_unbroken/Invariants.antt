@@ -1,8 +1,8 @@
 use Rattle.std.proofs.Common.{◌≡◌, ℕ, ◌&&◌, not, Some, slice_get, slice_set}
 use Rattle.wf_names.specs.UserSets.{has_user}
 use Rattle.policy_book.specs.Policies.{problem_of}
-use Rattle.policy_book.specs.Refuting.{is_broken}
-use Rattle.policy_book.specs.Twins.{all_below}
+use Rattle.policy_book.specs.Laws.Refuting.{is_broken}
+use Rattle.policy_book.specs.Laws.Twins.{all_below}
 use Rattle.policy_book.proofs.candidates.keep_unbroken.Given as goal
 
 abbrev pub invariant-rules : goal.invariant-rules

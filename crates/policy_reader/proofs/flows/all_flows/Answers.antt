@@ -1,5 +1,5 @@
 use Rattle.policy_reader.proofs.Words.{arith, next_flow}
-use Rattle.policy_reader.specs.Grammars.{today}
+use Rattle.policy_reader.specs.Laws.Grammars.{today}
 use Rattle.policy_reader.proofs.Fresh.{left_start, left_new, left_next, left_ascend, left_count}
 use Rattle.policy_reader.proofs.Grown.{grown_none, grown_more, printable}
 use Rattle.policy_reader.proofs.flows.all_flows.Goals as goal

@@ -1,5 +1,5 @@
 use Rattle.policy_reader.proofs.Words.{table_view, each, entries, next_flow, IsGrown}
-use Rattle.policy_reader.specs.Grammars.{today}
+use Rattle.policy_reader.specs.Laws.Grammars.{today}
 use Rattle.policy_reader.proofs.Fresh.{IsLeft}
 use Rattle.policy_reader.proofs.flows.all_flows.Given as goal
 

@@ -1,6 +1,6 @@
 use Rattle.policy_reader.proofs.Words.{sym, subst, length, table_view, kind_view, shapes, entries, IsReadKind}
 use Rattle.policy_reader.proofs.Relating.{kept_push, names_push}
-use Rattle.user_relations.specs.Relations.{RelationShape}
+use Rattle.user_relations.specs.Laws.Relations.{RelationShape}
 use Rattle.policy_reader.proofs.RuleLists.{on_ok}
 use Rattle.policy_reader.proofs.relations.next_relation.Goals as goal
 

@@ -1,6 +1,6 @@
 use Rattle.std.proofs.Common.{◌<◌, length, sym, subst}
 use Rattle.basics.specs.PairLaws.{all_insert}
-use Rattle.rbac_state.specs.Rosters.{RosterShape}
+use Rattle.rbac_state.specs.Laws.Rosters.{RosterShape}
 use Rattle.rbac_state.proofs.Soundness.{sound_members}
 use Rattle.rbac_state.proofs.Roster.enrol.Goals as goal
 

@@ -1,8 +1,8 @@
 use Rattle.std.proofs.Common.{ap, sym, subst, ◌∙◌, ◌≡◌, []}
 use Rattle.std.specs.FinSet as set
 use Rattle.wf_names.specs.Table.{Table}
-use Rattle.basics.specs.Pairs.{Pairs}
-use Rattle.rbac_state.specs.Rosters.{IsSoundRoster}
+use Rattle.basics.specs.Laws.Pairs.{Pairs}
+use Rattle.rbac_state.specs.Laws.Rosters.{IsSoundRoster}
 use Rattle.rbac_state.proofs.Soundness.{sound_new}
 use Rattle.rbac_state.proofs.Roster.new.Goals as goal
 

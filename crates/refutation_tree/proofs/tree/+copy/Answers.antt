@@ -1,6 +1,6 @@
 use Rattle.std.proofs.Common.{◌+◌, sym, ap, ◌∙◌, drop}
 use Rattle.refutation_tree.specs.Tree.{no_kids, joined}
-use Rattle.refutation_tree.specs.Views.{branch_onto, kids_of_items}
+use Rattle.refutation_tree.specs.Laws.Views.{branch_onto, kids_of_items}
 use Rattle.std.proofs.lemmas.List.{drop_all}
 use Rattle.refutation_tree.proofs.ShapeLaws.{kids_of_items-drop, kid_onto-joined, joined-assoc, joined-none}
 use Rattle.refutation_tree.proofs.tree.+copy.Goals as goal

@@ -1,6 +1,6 @@
 use Rattle.std.proofs.Common.{◌≡◌, drop}
 use Rattle.refutation_tree.specs.Tree.{joined}
-use Rattle.refutation_tree.specs.Views.{kids_of_items}
+use Rattle.refutation_tree.specs.Laws.Views.{kids_of_items}
 use Rattle.refutation_tree.proofs.tree.+copy.Given as goal
 
 abbrev pub invariant-Branches::copy-branches : goal.invariant-Branches::copy-branches

@@ -1,6 +1,6 @@
 use Rattle.std.proofs.Common.{◌≡◌, ◌≤◌, ◌+◌, ◌-◌, ◌^◌, drop}
 use Rattle.refutation_tree.specs.Tree.{capped, nodes_of_kids}
-use Rattle.refutation_tree.specs.Views.{kids_of_items}
+use Rattle.refutation_tree.specs.Laws.Views.{kids_of_items}
 use Rattle.refutation_tree.proofs.tree.+nodes.Given as goal
 
 abbrev pub invariant-Branches::nodes-branches : goal.invariant-Branches::nodes-branches

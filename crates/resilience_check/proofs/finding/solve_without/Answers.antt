@@ -1,7 +1,7 @@
 use Rattle.std.proofs.Common.{IfOk, List, Bool, Option, ℕ, subst}
 use Rattle.constraint_forms.specs.Assign.{no_steps, no_users}
 use Rattle.policy_book.specs.Policies.{problem_of}
-use Rattle.policy_book.specs.Shapes.{PolicyShape}
+use Rattle.policy_book.specs.Laws.Shapes.{PolicyShape}
 use Rattle.wsp_solver.specs.Searches.{HasSolved}
 use Rattle.resilience_check.proofs.finding.solve_without.Goals as goal
 

@@ -1,8 +1,8 @@
 use Rattle.std.proofs.Common.{◌∙◌, length, ap, sym, subst, arith}
 use Rattle.std.specs.FinSet as set
-use Rattle.basics.specs.Pairs.{Pairs}
-use Rattle.rbac_state.specs.Rosters.{IsSoundRoster, RosterShape}
-use Rattle.policy_book.specs.Shapes.{PolicyShape}
+use Rattle.basics.specs.Laws.Pairs.{Pairs}
+use Rattle.rbac_state.specs.Laws.Rosters.{IsSoundRoster, RosterShape}
+use Rattle.policy_book.specs.Laws.Shapes.{PolicyShape}
 use Rattle.resilience_check.specs.Searches.{with_members}
 use Rattle.resilience_check.proofs.Memberships.{all_roles_less, no_role_yet, one_role_less}
 use Rattle.resilience_check.proofs.left.take_roles.Goals as goal

@@ -1,5 +1,5 @@
 use Rattle.std.proofs.Common.{IfOk, sym, subst}
-use Rattle.policy_book.specs.Plans.{IsWithin, Problem}
+use Rattle.policy_book.specs.Laws.Plans.{IsWithin, Problem}
 use Rattle.wsp_solver.specs.Searches.{HasSolved}
 use Rattle.rule_core.proofs.Assigned.{assigned_in}
 use Rattle.rule_core.proofs.search.solve_with.Goals as goal

@@ -1,7 +1,7 @@
 use Rattle.std.proofs.Common.{Bool, List, Option, IfOk, subst, ℕ}
 use Rattle.constraint_forms.specs.Assign.{no_steps}
 use Rattle.policy_book.specs.Course.{problem_in}
-use Rattle.rule_core.specs.Whys.{IsWhy}
+use Rattle.rule_core.specs.Laws.Whys.{IsWhy}
 use Rattle.rule_core.proofs.search.why_at_start.Goals as goal
 
 pub returns : goal.returns

@@ -2,7 +2,7 @@ use Rattle.std.proofs.Common.{subst}
 use Rattle.std.proofs.lemmas.Bool.{false≢true}
 use Rattle.constraint_forms.specs.Assign.{no_steps, no_users}
 use Rattle.policy_book.specs.Course.{problem_in}
-use Rattle.rule_core.specs.Whys.{IsWhy}
+use Rattle.rule_core.specs.Laws.Whys.{IsWhy}
 use Rattle.tell_run.proofs.planless.can_be_done.Goals as goal
 use Rattle.tell_run.proofs.planless.can_be_done.Goals.{in-Plan, in_default}
 

@@ -1,5 +1,5 @@
 use Rattle.std.proofs.Common.{List, ℕ, subst}
-use Rattle.wf_outside.specs.Outside.{HasPart}
+use Rattle.wf_outside.specs.Laws.Outside.{HasPart}
 use Rattle.tell_run.proofs.Filed.{judged_part}
 use Rattle.tell_run.proofs.policy.run_policy.Goals as goal
 

@@ -1,6 +1,6 @@
 use Rattle.std.proofs.Common.{subst}
-use Rattle.wf_outside.specs.Outside.{Filed}
-use Rattle.transcript_commands.specs.Running.{AuditsPolicy}
+use Rattle.wf_outside.specs.Laws.Outside.{Filed}
+use Rattle.transcript_commands.specs.Audit.{AuditsPolicy}
 use Rattle.transcript_commands.specs.Steps.{FindsAs}
 use Rattle.transcript_commands.specs.Run.{EndsFinding}
 use Rattle.transcript_commands.proofs.Endings.{loads_end}

@@ -1,5 +1,5 @@
 use Rattle.std.proofs.Common.{sym, ap, ◌∙◌}
-use Rattle.wf_outside.specs.Outside.{with_bytes}
+use Rattle.wf_outside.specs.Laws.Outside.{with_bytes}
 use Rattle.wf_outside.proofs.OutsideLaws.{nothing_put}
 use Rattle.transcript_commands.specs.declared.finding.Finding.{Finding}
 use Rattle.transcript_commands.specs.Finding.{finding_text}

@@ -1,8 +1,8 @@
 use Rattle.std.proofs.Common.{ap, subst, sym}
-use Rattle.policy_book.specs.Shapes.{PolicyShape}
+use Rattle.policy_book.specs.Laws.Shapes.{PolicyShape}
 use Rattle.line_reader.specs.Laws.{AreInOrder}
 use Rattle.wf_desk.specs.Desks.{DeskShape}
-use Rattle.wf_desk.specs.Parts.{FillsPart}
+use Rattle.wf_desk.specs.Laws.Parts.{FillsPart}
 use Rattle.transcript_commands.specs.Resumed.{GoesOnAt}
 use Rattle.transcript_commands.specs.Sessions.{session_over}
 use Rattle.transcript_commands.proofs.GoingOn.{goes_on_with, restored_with}

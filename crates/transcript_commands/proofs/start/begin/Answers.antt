@@ -1,6 +1,6 @@
-use Rattle.policy_book.specs.Shapes.{PolicyShape}
-use Rattle.wf_outside.specs.Outside.{Filed}
-use Rattle.transcript_commands.specs.Begun.{BeginsBy, StopsBy, session_of}
+use Rattle.policy_book.specs.Laws.Shapes.{PolicyShape}
+use Rattle.wf_outside.specs.Laws.Outside.{Filed}
+use Rattle.transcript_commands.specs.Laws.Begun.{BeginsBy, StopsBy, session_of}
 use Rattle.transcript_commands.specs.Load.{OverBoth}
 use Rattle.transcript_commands.proofs.Files.{moved, policy_fails, policy_there}
 use Rattle.transcript_commands.proofs.Taken.{stopped}

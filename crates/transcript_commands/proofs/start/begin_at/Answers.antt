@@ -1,10 +1,10 @@
 use Rattle.std.proofs.Common.{Result, Err, true, refl}
-use Rattle.line_reader.specs.Jobs.{jobs_of_input}
+use Rattle.line_reader.specs.Laws.Jobs.{jobs_of_input}
 use Rattle.run_record.specs.declared.fault.RunFault.TheVariants.{LineTooLong}
 use Rattle.transcript_commands.specs.declared.start.Beginning.{Beginning}
 use Rattle.transcript_commands.specs.declared.refusal.Refusal.{Refusal}
 use Rattle.transcript_commands.specs.declared.refusal.Refusal.TheVariants.{Ends}
-use Rattle.transcript_commands.specs.Begun.{BeginsBy, StopsBy, session_of}
+use Rattle.transcript_commands.specs.Laws.Begun.{BeginsBy, StopsBy, session_of}
 use Rattle.transcript_commands.proofs.Files.{line_long, lines_short}
 use Rattle.transcript_commands.proofs.start.begin_at.Goals as goal
 

@@ -1,7 +1,7 @@
 use Rattle.std.proofs.Common.{true, subst}
-use Rattle.line_reader.specs.Jobs.{jobs_of_input}
+use Rattle.line_reader.specs.Laws.Jobs.{jobs_of_input}
 use Rattle.transcript_commands.specs.declared.start.TheConstants.{TRANSCRIPT_FILE_LIMIT}
-use Rattle.transcript_commands.specs.Begun.{BeginsBy, StopsBy, session_of}
+use Rattle.transcript_commands.specs.Laws.Begun.{BeginsBy, StopsBy, session_of}
 use Rattle.transcript_commands.specs.Load.{OverTranscript}
 use Rattle.transcript_commands.proofs.Files.{text_fails, text_there}
 use Rattle.transcript_commands.proofs.Taken.{stopped}

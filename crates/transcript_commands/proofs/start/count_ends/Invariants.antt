@@ -1,5 +1,5 @@
 use Rattle.std.proofs.Common.{◌≡◌, ◌+◌, drop}
-use Rattle.transcript_commands.specs.Begun.{ends_to}
+use Rattle.transcript_commands.specs.Laws.Begun.{ends_to}
 use Rattle.transcript_commands.proofs.start.count_ends.Given as goal
 
 abbrev pub invariant-ends : goal.invariant-ends

@@ -2,7 +2,7 @@ use Rattle.std.proofs.Common.{take, ap, sym, subst, ◌∙◌}
 use Rattle.wf_desk.specs.Desks.{DeskShape}
 use Rattle.transcript_commands.specs.Resumed.{HasResumed, Session}
 use Rattle.transcript_commands.specs.Sessions.{session_over}
-use Rattle.transcript_commands.specs.Begun.{ends_to}
+use Rattle.transcript_commands.specs.Laws.Begun.{ends_to}
 use Rattle.transcript_commands.proofs.Taken.{has_begun, lacked, refused_so}
 use Rattle.transcript_commands.proofs.start.take_up.Goals as goal
 

@@ -1,5 +1,5 @@
 use Rattle.std.proofs.Common.{◌≡◌, ◌≤◌, length, take}
-use Rattle.wf_board.specs.Histories.{batch_start}
+use Rattle.wf_board.specs.Laws.Histories.{batch_start}
 use Rattle.trial_command.specs.Serving.{HasServedAll}
 use Rattle.trial_command.proofs.session.serve_batches.Given as goal
 

@@ -1,7 +1,7 @@
 use Rattle.std.proofs.Common.{◌≡◌, drop, rules, sym, subst}
-use Rattle.policy_book.specs.Facts.{IsSoundPolicy}
-use Rattle.wf_board.specs.States.{opening_state}
-use Rattle.wf_board.specs.Histories.{AreRightful, IsLegal}
+use Rattle.policy_book.specs.Laws.Facts.{IsSoundPolicy}
+use Rattle.wf_board.specs.Laws.States.{opening_state}
+use Rattle.wf_board.specs.Laws.Histories.{AreRightful, IsLegal}
 use Rattle.trial_command.specs.Policy.{trial_policy}
 use Rattle.trial_command.proofs.session.serve_trial.Goals as goal
 

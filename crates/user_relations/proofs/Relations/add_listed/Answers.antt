@@ -1,6 +1,6 @@
 use Rattle.std.proofs.Common.{arith}
 use Rattle.std.specs.FinSet as set
-use Rattle.basics.specs.Pairs.{pair_cmp}
+use Rattle.basics.specs.Laws.Pairs.{pair_cmp}
 use Rattle.basics.specs.PairLaws.{all_empty}
 use Rattle.user_relations.proofs.Relations.add_listed.Goals as goal
 

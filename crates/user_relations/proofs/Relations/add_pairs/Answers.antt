@@ -2,7 +2,7 @@ use Rattle.std.proofs.Common.{◌∙◌, ap, sym, length, List, ◌<◌, arith}
 use Rattle.std.specs.Prelude.{is_some}
 use Rattle.wf_names.specs.Table.{place_of}
 use Rattle.wf_names.specs.declared.limits.TheConstants.{RELATION_LIMIT}
-use Rattle.user_relations.specs.Relations.{RelationShape, known_names}
+use Rattle.user_relations.specs.Laws.Relations.{RelationShape, known_names}
 use Rattle.user_relations.specs.View.{shapes}
 use Rattle.user_relations.proofs.Sound.{sound_push_pairs}
 use Rattle.user_relations.proofs.Relations.add_pairs.Goals as goal

@@ -1,5 +1,5 @@
 use Rattle.std.proofs.Common.{◌∙◌, ap, sym, List}
-use Rattle.user_relations.specs.Relations.{RelationShape, kind_of, is_listed, complement_of}
+use Rattle.user_relations.specs.Laws.Relations.{RelationShape, kind_of, is_listed, complement_of}
 use Rattle.user_relations.specs.View.{shapes}
 use Rattle.user_relations.proofs.Sound.{sound_complement, sound_back}
 use Rattle.user_relations.proofs.Relations.make_complement.Goals as goal

@@ -3,7 +3,7 @@ use Rattle.std.specs.Prelude.{slice_get}
 use Rattle.std.specs.Cmp.Lexicographic.{pointwise}
 use Rattle.std.specs.List.{IsDistinct}
 use Rattle.wf_names.proofs.Places.{place_of-name}
-use Rattle.user_relations.specs.Relations.{RelationShape, known_names}
+use Rattle.user_relations.specs.Laws.Relations.{RelationShape, known_names}
 use Rattle.user_relations.specs.View.{shapes}
 use Rattle.user_relations.proofs.Relations.name.Goals as goal
 

@@ -1,8 +1,8 @@
 use Rattle.std.proofs.Common.{◌∙◌, ap, sym}
 use Rattle.std.specs.Prelude.{Option}
 use Rattle.std.specs.FinSet as set
-use Rattle.basics.specs.Pairs.{pair_cmp}
-use Rattle.user_relations.specs.Relations.{RelationKind, listed_pairs}
+use Rattle.basics.specs.Laws.Pairs.{pair_cmp}
+use Rattle.user_relations.specs.Laws.Relations.{RelationKind, listed_pairs}
 use Rattle.user_relations.proofs.kinds.is_in_list.Goals as goal
 
 pub returns-in-None : goal.returns-in-None

@@ -1,5 +1,5 @@
 use Rattle.std.proofs.Common.{◌∙◌, nat_lt, ap}
-use Rattle.user_relations.specs.Relations.{listed_pairs}
+use Rattle.user_relations.specs.Laws.Relations.{listed_pairs}
 use Rattle.user_relations.proofs.RowSets.{none_told}
 use Rattle.user_relations.proofs.kinds.listed_after.Goals as goal
 

@@ -1,6 +1,6 @@
 use Rattle.std.specs.FinSet as set
-use Rattle.basics.specs.Pairs.{Pairs}
-use Rattle.user_relations.specs.Relations.{RelationKind}
+use Rattle.basics.specs.Laws.Pairs.{Pairs}
+use Rattle.user_relations.specs.Laws.Relations.{RelationKind}
 use Rattle.std.specs.Prelude.{Option}
 use Rattle.user_relations.specs.Kinds.{take_fault}
 use Rattle.user_relations.proofs.Numbered.{pairs_written, fault_read}

@@ -1,8 +1,8 @@
 use Rattle.std.proofs.Common.{subst}
-use Rattle.basics.specs.Reading.{Fails}
+use Rattle.basics.specs.Laws.Reading.{Fails}
 use Rattle.wf_board.specs.Boards.{book_of}
 use Rattle.wf_board.specs.Decisions.{decision_of}
-use Rattle.wf_board.specs.Refusals.{denial_in}
+use Rattle.wf_board.specs.Decisions.{denial_in}
 use Rattle.wf_board.proofs.Admission.{cause_bare}
 use Rattle.wf_board.proofs.admit.admit.Goals as goal
 

@@ -2,7 +2,7 @@ use Rattle.std.proofs.Common.{sym, subst}
 use Rattle.grant_table.specs.Cases.{CasesShape}
 use Rattle.wf_board.specs.Boards.{book_of}
 use Rattle.wf_board.specs.Deeds.{FitsDeed}
-use Rattle.wf_board.specs.Kept.{ArePlanned}
+use Rattle.wf_board.specs.Laws.Kept.{ArePlanned}
 use Rattle.wf_board.proofs.Deeds.{fits_open}
 use Rattle.wf_board.proofs.Planned.{planned_live}
 use Rattle.wf_board.proofs.board.over_open.Goals as goal

@@ -1,4 +1,4 @@
-use Rattle.wf_board.specs.Kept.{IsPlanned}
+use Rattle.wf_board.specs.Laws.Kept.{IsPlanned}
 use Rattle.wf_board.proofs.Unbroken.{each_more}
 use Rattle.wf_board.proofs.breaking.these_stay.Goals as goal
 

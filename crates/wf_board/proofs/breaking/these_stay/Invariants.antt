@@ -1,5 +1,5 @@
 use Rattle.std.proofs.Common.{take}
-use Rattle.wf_board.specs.Kept.{EachRow, IsPlanned}
+use Rattle.wf_board.specs.Laws.Kept.{EachRow, IsPlanned}
 use Rattle.wf_board.proofs.breaking.these_stay.Given as goal
 
 -- each row so far has a plan

@@ -1,5 +1,5 @@
 use Rattle.std.proofs.Common.{ap, ◌∙◌}
-use Rattle.basics.specs.Reading.{or_fault}
+use Rattle.basics.specs.Laws.Reading.{or_fault}
 use Rattle.wf_talk.specs.declared.reply.Denial.TheVariants.{NoCase}
 use Rattle.wf_board.proofs.Rows.{case_numbered}
 use Rattle.wf_board.proofs.Planned.{known_case}

@@ -1,6 +1,6 @@
 use Rattle.std.proofs.Common.{◌≡◌, drop, length}
 use Rattle.serde_json.specs.View.{items_view}
-use Rattle.basics.specs.Reading.{each}
+use Rattle.basics.specs.Laws.Reading.{each}
 use Rattle.wf_commands.specs.Input.{listed_items}
 use Rattle.wf_commands.specs.Cases.{next_said, no_case, IsCaseSoFar}
 use Rattle.wf_commands.proofs.case.read_states.Given as goal

@@ -1,6 +1,6 @@
 use Rattle.std.proofs.Common.{◌≡◌, [], drop, length}
 use Rattle.serde_json.specs.View.{items_view}
-use Rattle.basics.specs.Reading.{each}
+use Rattle.basics.specs.Laws.Reading.{each}
 use Rattle.wf_commands.specs.Input.{next_in_plan, listed_items, AreAmong}
 use Rattle.wf_commands.proofs.input.read_users.Given as goal
 

@@ -1,6 +1,6 @@
 use Rattle.std.proofs.Common.{Some, subst}
 use Rattle.wf_names.specs.declared.limits.TheConstants.{LINE_LIMIT}
-use Rattle.wf_outside.specs.Outside.{Filed}
+use Rattle.wf_outside.specs.Laws.Outside.{Filed}
 use Rattle.run_record.specs.Fault.{fault_in}
 use Rattle.wf_commands.specs.Answer.{AnswersAs}
 use Rattle.wf_commands.proofs.Loading.{answers_file}

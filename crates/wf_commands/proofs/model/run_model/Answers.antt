@@ -1,6 +1,6 @@
 use Rattle.std.proofs.Common.{List, ℕ, Some, refl, subst, ◌∙◌}
 use Rattle.wf_names.specs.declared.limits.TheConstants.{LINE_LIMIT}
-use Rattle.wf_outside.specs.Outside.{HasPart}
+use Rattle.wf_outside.specs.Laws.Outside.{HasPart}
 use Rattle.wf_commands.proofs.Runs.{with_answer, with_part, without_answer}
 use Rattle.wf_commands.specs.CnfAnswers.{ModelAsked}
 use Rattle.wf_commands.proofs.CnfRuns.{model_stays}

@@ -1,5 +1,5 @@
 use Rattle.std.proofs.Common.{List, ℕ, refl, sym, subst, ◌∙◌}
-use Rattle.wf_outside.specs.Outside.{HasPart}
+use Rattle.wf_outside.specs.Laws.Outside.{HasPart}
 use Rattle.wf_commands.proofs.Endings.{answered_usage, unanswered_usage}
 use Rattle.wf_commands.proofs.Runs.{with_answer, with_part, without_answer}
 use Rattle.wf_commands.proofs.once.answer_once.Goals as goal

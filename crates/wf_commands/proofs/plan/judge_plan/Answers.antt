@@ -1,6 +1,6 @@
 use Rattle.std.proofs.Common.{◌≡◌, ℕ, List, Bool, Option, Err, sym, refl, subst}
 use Rattle.constraint_forms.specs.Assign.{no_steps}
-use Rattle.policy_book.specs.Plans.{IsValidPlan}
+use Rattle.policy_book.specs.Laws.Plans.{IsValidPlan}
 use Rattle.policy_book.specs.Course.{problem_in}
 use Rattle.certificate_check.specs.Plan.{plan_verdict}
 use Rattle.wf_commands.proofs.plan.judge_plan.Goals as goal

@@ -1,11 +1,11 @@
 use Rattle.std.proofs.Common.{◌≡◌, ℕ, List, Bool, Option, true, refl, inl, inr, subst}
 use Rattle.std.proofs.lemmas.Result.{on_ok_weaker}
 use Rattle.constraint_forms.specs.Assign.{no_steps}
-use Rattle.policy_book.specs.Plans.{IsValidPlan}
+use Rattle.policy_book.specs.Laws.Plans.{IsValidPlan}
 use Rattle.policy_book.specs.Course.{problem_in}
-use Rattle.policy_book.specs.Refuting.{refutes}
-use Rattle.policy_book.specs.Lean.{is_lean}
-use Rattle.refutation_tree.specs.Views.{shape_of}
+use Rattle.policy_book.specs.Laws.Refuting.{refutes}
+use Rattle.policy_book.specs.Laws.Lean.{is_lean}
+use Rattle.refutation_tree.specs.Laws.Views.{shape_of}
 use Rattle.wsp_solver.specs.Searches.{HasSolved}
 use Rattle.wsp_solver.specs.declared.search.Outcome.{Outcome}
 use Rattle.wf_commands.proofs.solve.push_solved.Goals as goal

@@ -1,5 +1,5 @@
 use Rattle.std.proofs.Common.{◌≡◌, ◌≤◌, ◌+◌, length, drop}
-use Rattle.wf_board.specs.Histories.{lane_jobs}
+use Rattle.wf_board.specs.Laws.Histories.{lane_jobs}
 use Rattle.wf_desk.proofs.docket.count_of_lane.Given as goal
 
 abbrev pub invariant-counting : goal.invariant-counting

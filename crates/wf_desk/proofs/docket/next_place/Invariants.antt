@@ -1,5 +1,5 @@
 use Rattle.std.proofs.Common.{◌≡◌, take}
-use Rattle.wf_board.specs.Histories.{lane_jobs}
+use Rattle.wf_board.specs.Laws.Histories.{lane_jobs}
 use Rattle.wf_desk.proofs.docket.next_place.Given as goal
 
 abbrev pub invariant-looking : goal.invariant-looking

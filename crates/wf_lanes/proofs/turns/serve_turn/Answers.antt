@@ -1,6 +1,6 @@
 use Rattle.std.proofs.Common.{◌≤◌, ◌+◌, sym, subst, arith}
 use Rattle.std.proofs.lemmas.Grind.{common_steps}
-use Rattle.wf_desk.specs.Commits.{HasServed}
+use Rattle.wf_desk.specs.Laws.Commits.{HasServed}
 use Rattle.wf_lanes.proofs.TurnLaws.{HasTurned, turned_none, turned_served, turned_passed, turned_done, turned_less, turned_whole}
 use Rattle.wf_lanes.proofs.turns.serve_turn.Goals.{then-serve_next, else-serve_next}
 use Rattle.wf_lanes.proofs.turns.serve_turn.Goals as goal

@@ -1,6 +1,6 @@
 use Rattle.std.proofs.Common.{◌≡◌, drop, map}
 use Rattle.wf_outside.specs.MemShelf.{file_view}
-use Rattle.wf_outside.specs.Memory.{file_of}
+use Rattle.wf_outside.specs.Laws.Memory.{file_of}
 use Rattle.wf_outside.proofs.mem_shelf.find_file.Given as goal
 
 abbrev pub invariant-finding : goal.invariant-finding

@@ -1,5 +1,5 @@
 use Rattle.std.proofs.Common.{◌≡◌, ◌-◌, ◌≤◌, length, take}
-use Rattle.wf_outside.specs.Outside.{with_bytes}
+use Rattle.wf_outside.specs.Laws.Outside.{with_bytes}
 use Rattle.wf_outside.proofs.sink.put_all.Given as goal
 
 abbrev pub invariant-putting : goal.invariant-putting

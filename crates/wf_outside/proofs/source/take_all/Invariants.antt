@@ -1,5 +1,5 @@
 use Rattle.std.proofs.Common.{◌+◌, ◌-◌, ◌≤◌, ◌≡◌, length}
-use Rattle.wf_outside.specs.Outside.{HasTaken}
+use Rattle.wf_outside.specs.Laws.Outside.{HasTaken}
 use Rattle.wf_outside.proofs.source.take_all.Given as goal
 
 abbrev pub invariant-taking : goal.invariant-taking

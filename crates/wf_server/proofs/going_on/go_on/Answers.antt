@@ -1,9 +1,9 @@
 use Rattle.std.proofs.Common.{◌<◌, refl, sym, ap, subst, ◌∙◌}
 use Rattle.line_reader.specs.BatchReader.{BatchReaderShape}
-use Rattle.line_reader.specs.Jobs.{next_input}
+use Rattle.line_reader.specs.Laws.Jobs.{next_input}
 use Rattle.run_record.specs.Fault.{status_of}
 use Rattle.run_record.specs.Report.{told_by}
-use Rattle.run_record.specs.Run.{streams_of}
+use Rattle.run_record.specs.Laws.Run.{streams_of}
 use Rattle.transcript_commands.specs.declared.start.TheConstants.{PIECE}
 use Rattle.wf_server.specs.Batches.{told_of}
 use Rattle.wf_server.proofs.ResumeLaws.{begun_lanes, begun_order, begun_told, served_begun, serving_begun, stops_begun}

@@ -1,7 +1,7 @@
 use Rattle.std.proofs.Common.{◌≡◌, Some, map, nat_lt, rules, true}
 use Rattle.std.specs.Prelude.{string_bytes}
-use Rattle.command_words.specs.Asked.{options_in}
-use Rattle.command_words.specs.Words.{command_of, resume, serve}
+use Rattle.command_words.specs.Command.{options_in}
+use Rattle.command_words.specs.Laws.Words.{command_of, resume, serve}
 use Rattle.transcript_commands.specs.Load.{FileNames}
 use Rattle.wf_server.proofs.ResumeLaws.{served_once, threaded}
 use Rattle.wf_server.proofs.runs.run.Goals as goal

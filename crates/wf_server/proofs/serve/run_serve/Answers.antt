@@ -1,10 +1,10 @@
 use Rattle.std.proofs.Common.{refl, sym, subst}
 use Rattle.run_record.specs.Report.{Told}
-use Rattle.wf_board.specs.Histories.{AreAnsweredOnce}
-use Rattle.wf_board.specs.States.{opening_state}
+use Rattle.wf_board.specs.Laws.Histories.{AreAnsweredOnce}
+use Rattle.wf_board.specs.Laws.States.{opening_state}
 use Rattle.wf_server.proofs.WayLaws.{once_legal}
 use Rattle.wf_server.proofs.ServeLaws.{is_served, loads_late, refused_run}
-use Rattle.command_words.specs.Asked.{options_in}
+use Rattle.command_words.specs.Command.{options_in}
 use Rattle.wf_server.proofs.serve.run_serve.Goals as goal
 
 pub returns-in-Ok-clause-serves : goal.returns-in-Ok-clause-serves

@@ -1,7 +1,7 @@
 use Rattle.wf_server.proofs.Fitting.{served_fits}
 use Rattle.wf_server.proofs.SessionLaws.{serves_kept, serves_late}
-use Rattle.command_words.specs.Asked.{options_in}
-use Rattle.wf_server.specs.Serving.{setting}
+use Rattle.command_words.specs.Command.{options_in}
+use Rattle.wf_server.specs.Laws.Serving.{setting}
 use Rattle.wf_server.proofs.serve.serve_policy.Goals as goal
 
 pub returns-clause-served : goal.returns-clause-served

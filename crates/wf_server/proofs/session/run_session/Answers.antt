@@ -1,13 +1,13 @@
 use Rattle.std.proofs.Common.{◌≡◌, ℕ, drop, ap, refl, sym, subst}
 use Rattle.run_record.specs.Report.{told_by}
-use Rattle.run_record.specs.Run.{streams_of}
-use Rattle.command_words.specs.Asked.{options_in}
-use Rattle.wf_board.specs.States.{opening_state}
-use Rattle.wf_board.specs.Histories.{AreAnsweredOnce, AreRightful, IsLegal}
+use Rattle.run_record.specs.Laws.Run.{streams_of}
+use Rattle.command_words.specs.Command.{options_in}
+use Rattle.wf_board.specs.Laws.States.{opening_state}
+use Rattle.wf_board.specs.Laws.Histories.{AreAnsweredOnce, AreRightful, IsLegal}
 use Rattle.wf_desk.specs.Desks.{DeskShape}
-use Rattle.wf_server.specs.Serving.{setting}
+use Rattle.wf_server.specs.Laws.Serving.{setting}
 use Rattle.line_reader.specs.BatchReader.{BatchReaderShape}
-use Rattle.line_reader.specs.Jobs.{start}
+use Rattle.line_reader.specs.Laws.Jobs.{start}
 use Rattle.wf_server.specs.Batches.{Serves}
 use Rattle.wf_server.specs.Sessions.{Setting}
 use Rattle.wf_server.specs.Ways.{setting_of}

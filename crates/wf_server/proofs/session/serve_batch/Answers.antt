@@ -1,5 +1,5 @@
 use Rattle.std.proofs.Common.{refl, sym, subst, ◌∙◌}
-use Rattle.run_record.specs.Run.{streams_of}
+use Rattle.run_record.specs.Laws.Run.{streams_of}
 use Rattle.wf_server.specs.Sessions.{handed_in}
 use Rattle.wf_server.specs.Batches.{told_of, BatchEnds}
 use Rattle.wf_server.proofs.ServedOn.{pauses_on, same_on}

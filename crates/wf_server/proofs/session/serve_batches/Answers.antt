@@ -1,6 +1,6 @@
 use Rattle.std.proofs.Common.{ℕ, ◌<◌, ◌∙◌, refl, sym, subst}
 use Rattle.run_record.specs.Report.{told_by}
-use Rattle.run_record.specs.Run.{streams_of}
+use Rattle.run_record.specs.Laws.Run.{streams_of}
 use Rattle.wf_server.specs.Sessions.{Setting}
 use Rattle.wf_server.specs.Batches.{told_of, Serves}
 use Rattle.wf_server.specs.Ways.{setting_of}

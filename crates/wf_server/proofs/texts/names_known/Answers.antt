@@ -1,6 +1,6 @@
 use Rattle.std.proofs.Common.{ap, subst, ◌∙◌}
 use Rattle.wf_board.specs.Boards.{BoardShape}
-use Rattle.wf_board.specs.States.{State}
+use Rattle.wf_board.specs.Laws.States.{State}
 use Rattle.entry_reader.specs.Named.{HasNames}
 use Rattle.wf_server.proofs.texts.names_known.Goals as goal
 

@@ -1,6 +1,6 @@
 use Rattle.std.proofs.Common.{ap, subst, ◌∙◌}
-use Rattle.rbac_state.specs.Rosters.{IsSoundRoster}
-use Rattle.policy_book.specs.Shapes.{PolicyShape}
+use Rattle.rbac_state.specs.Laws.Rosters.{IsSoundRoster}
+use Rattle.policy_book.specs.Laws.Shapes.{PolicyShape}
 use Rattle.wf_board.specs.Boards.{BoardShape, state_on}
 use Rattle.wf_server.specs.Names.{IsKeptState}
 use Rattle.wf_server.proofs.Names.{desk_texts}

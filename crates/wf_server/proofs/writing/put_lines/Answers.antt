@@ -1,7 +1,7 @@
 use Rattle.std.proofs.Common.{◌≡◌, take, refl, sym, ap, subst, ◌∙◌, arith}
 use Rattle.std.specs.List.{flat_map}
 use Rattle.std.proofs.lemmas.List.{take_all}
-use Rattle.wf_outside.specs.Outside.{HasPart, with_bytes}
+use Rattle.wf_outside.specs.Laws.Outside.{HasPart, with_bytes}
 use Rattle.wf_outside.proofs.OutsideLaws.{nothing_put, part_all}
 use Rattle.wf_server.proofs.WritingLaws.{put_more, put_part}
 use Rattle.wf_server.proofs.writing.put_lines.Goals as goal

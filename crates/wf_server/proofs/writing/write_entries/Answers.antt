@@ -1,7 +1,7 @@
 use Rattle.std.proofs.Common.{◌≡◌, arith, length, subst, sym}
 use Rattle.std.proofs.lemmas.Grind.{common_steps}
 use Rattle.std.proofs.lemmas.List.{nil_from_length}
-use Rattle.wf_outside.specs.Outside.{with_bytes}
+use Rattle.wf_outside.specs.Laws.Outside.{with_bytes}
 use Rattle.wf_outside.proofs.OutsideLaws.{nothing_put, part_none}
 use Rattle.wf_server.specs.Batches.{entries_text}
 use Rattle.wf_server.proofs.writing.write_entries.Goals as goal

@@ -1,6 +1,6 @@
 use Rattle.std.proofs.Common.{◌≡◌, take, refl, sym, ap, subst, ◌∙◌, arith}
 use Rattle.std.proofs.lemmas.List.{take_all}
-use Rattle.wf_outside.specs.Outside.{HasPart, with_bytes}
+use Rattle.wf_outside.specs.Laws.Outside.{HasPart, with_bytes}
 use Rattle.wf_outside.proofs.OutsideLaws.{nothing_put, part_all, part_none}
 use Rattle.wf_server.specs.Batches.{entries_text}
 use Rattle.wire_json.specs.Replies.{entry_text}

@@ -1,5 +1,5 @@
 use Rattle.std.proofs.Common.{◌≡◌, OnOk, subst}
-use Rattle.wf_outside.specs.Outside.{HasPart, with_bytes}
+use Rattle.wf_outside.specs.Laws.Outside.{HasPart, with_bytes}
 use Rattle.wire_json.specs.Replies.{entry_text}
 use Rattle.wf_server.proofs.WritingLaws.{texts_same}
 use Rattle.wf_server.proofs.writing.write_made.Goals as goal

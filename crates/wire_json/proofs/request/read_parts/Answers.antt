@@ -1,6 +1,6 @@
 use Rattle.std.proofs.Common.{sym, ap, subst, ◌∙◌}
 use Rattle.serde_json.specs.Data.{object}
-use Rattle.basics.specs.Reading.{◌>>=◌, or_fault}
+use Rattle.basics.specs.Laws.Reading.{◌>>=◌, or_fault}
 use Rattle.wf_talk.specs.declared.request.Bad.TheVariants.{Syntax}
 use Rattle.wire_json.specs.Requests.{asked, request_in, asked_of}
 use Rattle.serde_json.specs.Read.{read}

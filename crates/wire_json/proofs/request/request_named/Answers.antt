@@ -1,6 +1,6 @@
 use Rattle.std.proofs.Common.{◌≡◌, Result, Some, sym, subst}
 use Rattle.serde_json.specs.Data.{Data, Members}
-use Rattle.basics.specs.Reading.{Gives}
+use Rattle.basics.specs.Laws.Reading.{Gives}
 use Rattle.wf_talk.specs.declared.request.Bad.{Bad}
 use Rattle.wf_talk.specs.declared.request.Request.{Request}
 use Rattle.wire_json.specs.declared.word.Word.{Word}

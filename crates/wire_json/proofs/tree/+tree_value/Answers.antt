@@ -4,7 +4,7 @@ use Rattle.serde_json.specs.Data.{Data, array}
 use Rattle.serde_json.specs.View.{view, items_of}
 use Rattle.serde_json.proofs.Views.{view-Array}
 use Rattle.refutation_tree.specs.Tree.{Kids}
-use Rattle.refutation_tree.specs.Views.{branch_onto, kids_of_items, shape_of}
+use Rattle.refutation_tree.specs.Laws.Views.{branch_onto, kids_of_items, shape_of}
 use Rattle.refutation_tree.proofs.Depths.{branches_below}
 use Rattle.wire_json.specs.Entries.{user_data}
 use Rattle.wire_json.specs.Trees.{branches_data, node_data, tree_data}

@@ -1,7 +1,7 @@
 use Rattle.std.proofs.Common.{◌≡◌, ◌++◌, drop}
 use Rattle.std.specs.Prelude.{map}
 use Rattle.serde_json.specs.View.{view}
-use Rattle.refutation_tree.specs.Views.{kids_of_items}
+use Rattle.refutation_tree.specs.Laws.Views.{kids_of_items}
 use Rattle.wire_json.specs.Trees.{branches_data}
 use Rattle.wire_json.proofs.tree.+tree_value.Given as goal
 

@@ -1,7 +1,7 @@
 use Rattle.std.proofs.Common.{◌≡◌, ◌<◌, ◌≤◌, ℕ, false, [], sym, arith}
 use Rattle.policy_book.specs.Course.{problem_in}
-use Rattle.policy_book.specs.Plans.{Problem}
-use Rattle.policy_book.specs.Twins.{are_twins}
+use Rattle.policy_book.specs.Laws.Plans.{Problem}
+use Rattle.policy_book.specs.Laws.Twins.{are_twins}
 use Rattle.wsp_solver.specs.Crews.{IsFirstTwin}
 use Rattle.wsp_solver.proofs.Crews.{twins_own}
 use Rattle.wsp_solver.proofs.Nexts.{none_between, none_more}

@@ -1,6 +1,6 @@
 use Rattle.std.proofs.Common.{◌≡◌, ◌<◌, ◌≤◌, ◌-◌, ℕ, [], false}
 use Rattle.policy_book.specs.Course.{problem_in}
-use Rattle.policy_book.specs.Twins.{are_twins}
+use Rattle.policy_book.specs.Laws.Twins.{are_twins}
 use Rattle.wsp_solver.proofs.crew.find_twin.Given as goal
 
 abbrev pub invariant-earlier : goal.invariant-earlier

@@ -1,7 +1,7 @@
 use Rattle.std.proofs.Common.{◌≡◌, ◌≢◌, ◌<◌, ◌+◌, ◌&&◌, ℕ, true, false, length, slice_get, eqb, ◌⊎◌, inl, inr, sym, ap, ◌∙◌, arith}
 use Rattle.std.proofs.lemmas.Bool.Decides.{eqb_tells}
 use Rattle.policy_book.specs.Course.{problem_in}
-use Rattle.policy_book.specs.Refuting.{is_broken, is_rule_naming}
+use Rattle.policy_book.specs.Laws.Refuting.{is_broken, is_rule_naming}
 use Rattle.wsp_solver.proofs.Searching.{quiet_again}
 use Rattle.wsp_solver.proofs.leaf.falsified_with.Goals as goal
 

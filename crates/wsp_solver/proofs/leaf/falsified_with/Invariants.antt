@@ -1,6 +1,6 @@
 use Rattle.std.proofs.Common.{◌≡◌, ◌<◌, ℕ, ◌&&◌, false, slice_get}
 use Rattle.policy_book.specs.Course.{problem_in}
-use Rattle.policy_book.specs.Refuting.{is_broken, is_rule_naming}
+use Rattle.policy_book.specs.Laws.Refuting.{is_broken, is_rule_naming}
 use Rattle.wsp_solver.proofs.leaf.falsified_with.Given as goal
 
 abbrev pub invariant-rules : goal.invariant-rules

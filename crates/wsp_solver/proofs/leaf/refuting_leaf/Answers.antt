@@ -1,6 +1,6 @@
 use Rattle.std.proofs.Common.{sym, ap, subst, ◌∙◌}
 use Rattle.policy_book.specs.Course.{problem_in}
-use Rattle.policy_book.specs.Refuting.{refutes}
+use Rattle.policy_book.specs.Laws.Refuting.{refutes}
 use Rattle.wsp_solver.specs.Searches.{AreMentioned}
 use Rattle.wsp_solver.proofs.leaf.refuting_leaf.Goals as goal
 

@@ -4,12 +4,12 @@ use Rattle.std.proofs.lemmas.Bool.{ltb-true}
 use Rattle.basics.proofs.Booleans.{and_both, or_right}
 use Rattle.constraint_forms.specs.Assign.{user_at, is_member}
 use Rattle.refutation_tree.specs.Tree.{Shape, Kids, holder, node, no_kids, nodes_of, nodes_of_kids}
-use Rattle.refutation_tree.specs.Views.{kid_onto, kids_of_items, shape_of}
+use Rattle.refutation_tree.specs.Laws.Views.{kid_onto, kids_of_items, shape_of}
 use Rattle.refutation_tree.specs.declared.tree.Kid.{Kid}
 use Rattle.refutation_tree.specs.declared.tree.Tree.{Tree}
-use Rattle.policy_book.specs.Lean.{is_lean}
-use Rattle.policy_book.specs.Plans.{Problem, IsWithin}
-use Rattle.policy_book.specs.Refuting.{all_refute, authorised_users, have_users, is_unassigned, refutes}
+use Rattle.policy_book.specs.Laws.Lean.{is_lean}
+use Rattle.policy_book.specs.Laws.Plans.{Problem, IsWithin}
+use Rattle.policy_book.specs.Laws.Refuting.{all_refute, authorised_users, have_users, is_unassigned, refutes}
 use Rattle.certificate_check.proofs.Assigned.{not_some}
 use Rattle.certificate_check.proofs.Dropped.{unmentioned_step_drops as drops}
 use Rattle.certificate_check.proofs.Trees.{branch_user, nodes_within, within_given}

@@ -1,7 +1,7 @@
 use Rattle.std.proofs.Common.{◌≡◌, ◌+◌, ◌*◌, ℕ, true}
 use Rattle.constraint_forms.specs.Assign.{is_member}
 use Rattle.refutation_tree.specs.Tree.{nodes_of, nodes_of_kids}
-use Rattle.refutation_tree.specs.Views.{kids_of_items, shape_of}
+use Rattle.refutation_tree.specs.Laws.Views.{kids_of_items, shape_of}
 use Rattle.wsp_solver.specs.Task.{asked}
 use Rattle.wsp_solver.proofs.Trimming.{IsTrimmedFront}
 use Rattle.wsp_solver.proofs.lean.+trim.Given as goal

@@ -2,9 +2,9 @@ use Rattle.std.proofs.Common.{◌≡◌, ◌<◌, ℕ, is_some, None, true, not,
 use Rattle.std.proofs.lemmas.Bool.{and_from, ltb-true}
 use Rattle.constraint_forms.specs.Assign.{is_member, user_at}
 use Rattle.refutation_tree.specs.Tree.{joined, no_kids, tree_kid, twin_kid}
-use Rattle.refutation_tree.specs.Views.{shape_of}
-use Rattle.policy_book.specs.Plans.{Problem, AreAssigned, IsWithin, IsValidPlan}
-use Rattle.policy_book.specs.Refuting.{all_refute, authorised_users, have_users, is_unassigned, refutes}
+use Rattle.refutation_tree.specs.Laws.Views.{shape_of}
+use Rattle.policy_book.specs.Laws.Plans.{Problem, AreAssigned, IsWithin, IsValidPlan}
+use Rattle.policy_book.specs.Laws.Refuting.{all_refute, authorised_users, have_users, is_unassigned, refutes}
 use Rattle.basics.proofs.Booleans.{and_both, or_right}
 use Rattle.certificate_check.proofs.Assigned.{not_some}
 use Rattle.certificate_check.proofs.Refuted.{assigned_given}

@@ -1,6 +1,6 @@
 use Rattle.std.proofs.Common.{◌≡◌, ◌≤◌, ◌+◌, ◌-◌, ◌*◌, ℕ, [], true}
 use Rattle.constraint_forms.specs.Assign.{is_member}
-use Rattle.policy_book.specs.Refuting.{all_refute}
+use Rattle.policy_book.specs.Laws.Refuting.{all_refute}
 use Rattle.certificate_check.specs.Walks.{AreUsersBelow}
 use Rattle.wsp_solver.specs.Crews.{IsCrewOf}
 use Rattle.wsp_solver.specs.Searches.{AreOfUsersBelow, AreMentionedIn, free_count}

@@ -2,7 +2,7 @@ use Rattle.std.proofs.Common.{◌≡◌, ◌+◌, ◌||◌, [], take, sym, ap, s
 use Rattle.std.proofs.lemmas.List.{take_all}
 use Rattle.refutation_tree.specs.Tree.{Kids}
 use Rattle.policy_book.specs.Course.{problem_in}
-use Rattle.policy_book.specs.Twins.{has_twin, is_one_of}
+use Rattle.policy_book.specs.Laws.Twins.{has_twin, is_one_of}
 use Rattle.basics.proofs.Booleans.{eq_back, or_left}
 use Rattle.certificate_check.specs.Walks.{AreUsersBelow, tree_users, kid_user_onto}
 use Rattle.certificate_check.proofs.Trees.{one_of_all, one_of_more, tree_users-more, user_below}

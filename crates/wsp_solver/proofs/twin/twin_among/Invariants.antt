@@ -1,6 +1,6 @@
 use Rattle.std.proofs.Common.{◌≡◌, [], false, take}
 use Rattle.policy_book.specs.Course.{problem_in}
-use Rattle.policy_book.specs.Twins.{has_twin}
+use Rattle.policy_book.specs.Laws.Twins.{has_twin}
 use Rattle.certificate_check.specs.Walks.{tree_users}
 use Rattle.wsp_solver.proofs.twin.twin_among.Given as goal
 

@@ -1,5 +1,5 @@
 use Rattle.std.proofs.Common.{ap, ◌∙◌}
-use Rattle.policy_book.specs.Shapes.{PolicyShape}
+use Rattle.policy_book.specs.Laws.Shapes.{PolicyShape}
 use Rattle.grant_table.specs.Cases.{CasesShape}
 use Rattle.wf_board.specs.Boards.{book_of, book_on}
 use Rattle.case_views.proofs.Deciding.{nothing_decides, refused_needs_none}

@@ -3,7 +3,7 @@ use Rattle.std.specs.Prelude.{ℤ, Err}
 use Rattle.std.specs.List.{flat_map}
 use Rattle.wf_names.specs.declared.limits.TheConstants.{STEP_LIMIT}
 use Rattle.policy_book.specs.Policies.{problem_of}
-use Rattle.cnf_export.specs.Encodings.{encoding_of, group_clauses, groups, literals}
+use Rattle.cnf_export.specs.Laws.Encodings.{encoding_of, group_clauses, groups, literals}
 use Rattle.cnf_export.specs.Sizes.{empties}
 use Rattle.cnf_export.specs.Terms.{encoding_in}
 use Rattle.cnf_export.specs.declared.fault.CnfFault.TheVariants.{TooLarge}

@@ -2,8 +2,8 @@ use Rattle.std.proofs.Common.{◌∙◌, ◌<◌, ◌&&◌, ℕ, map, length, sy
 use Rattle.std.specs.List.{flat_map}
 use Rattle.constraint_forms.specs.Assign.{is_member}
 use Rattle.constraint_forms.specs.Rules.{turned}
-use Rattle.cnf_export.specs.Clauses.{yes_to}
-use Rattle.cnf_export.specs.Encodings.{has, users_who}
+use Rattle.cnf_export.specs.Laws.Clauses.{yes_to}
+use Rattle.cnf_export.specs.Laws.Encodings.{has, users_who}
 use Rattle.cnf_export.specs.Terms.{encoding_in}
 use Rattle.cnf_export.proofs.Listing.{listed_none, listed_one}
 use Rattle.cnf_export.proofs.terms.Terms.add_members.Goals as goal

@@ -2,9 +2,9 @@ use Rattle.std.proofs.Common.{◌≡◌, ◌-◌, ◌++◌, ◌&&◌, map, lengt
 use Rattle.std.specs.List.{flat_map}
 use Rattle.constraint_forms.specs.Assign.{is_member}
 use Rattle.constraint_forms.specs.Rules.{turned}
-use Rattle.policy_book.specs.Refuting.{passing}
-use Rattle.cnf_export.specs.Clauses.{yes_to}
-use Rattle.cnf_export.specs.Encodings.{has, members, users_who}
+use Rattle.policy_book.specs.Laws.Refuting.{passing}
+use Rattle.cnf_export.specs.Laws.Clauses.{yes_to}
+use Rattle.cnf_export.specs.Laws.Encodings.{has, members, users_who}
 use Rattle.cnf_export.specs.Terms.{encoding_in}
 use Rattle.cnf_export.proofs.terms.Terms.add_members.Given as goal
 

@@ -1,5 +1,5 @@
 use Rattle.std.proofs.Common.{◌∙◌, ◌++◌, sym, ap}
-use Rattle.cnf_export.specs.Encodings.{clause, some_clause}
+use Rattle.cnf_export.specs.Laws.Encodings.{clause, some_clause}
 use Rattle.cnf_export.specs.Terms.{encoding_in}
 use Rattle.cnf_export.proofs.Signs.{on_ok}
 use Rattle.cnf_export.proofs.terms.Terms.write_clause.Goals as goal

@@ -1,7 +1,7 @@
 use Rattle.std.proofs.Common.{sym, subst, length}
-use Rattle.policy_book.specs.Shapes.{PolicyShape, WorkflowShape}
+use Rattle.policy_book.specs.Laws.Shapes.{PolicyShape, WorkflowShape}
 use Rattle.std.specs.Prelude.{false}
-use Rattle.policy_book.specs.Facts.{IsSoundWorkflow}
+use Rattle.policy_book.specs.Laws.Facts.{IsSoundWorkflow}
 use Rattle.policy_book.proofs.Keeping.{stored_with_more}
 use Rattle.policy_book.proofs.Rows.{kept_with_more}
 use Rattle.policy_book.proofs.policy.Policy.add_flow.Goals as goal

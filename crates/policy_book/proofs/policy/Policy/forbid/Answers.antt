@@ -1,5 +1,5 @@
 use Rattle.std.specs.FinSet as set
-use Rattle.policy_book.specs.Shapes.{WorkflowShape}
+use Rattle.policy_book.specs.Laws.Shapes.{WorkflowShape}
 use Rattle.policy_book.proofs.Keeping.{sound_forbidden}
 use Rattle.policy_book.proofs.Rows.{forbidden_at}
 use Rattle.policy_book.proofs.Book.{book_with_permits}

@@ -1,7 +1,7 @@
 use Rattle.std.proofs.Common.{subst, length}
 use Rattle.std.specs.FinSet as set
-use Rattle.rbac_state.specs.Rosters.{IsSoundRoster}
-use Rattle.policy_book.specs.Shapes.{PolicyShape}
+use Rattle.rbac_state.specs.Laws.Rosters.{IsSoundRoster}
+use Rattle.policy_book.specs.Laws.Shapes.{PolicyShape}
 use Rattle.policy_book.specs.Policies.{flow_at}
 use Rattle.policy_book.proofs.Counting.{holder_known}
 use Rattle.policy_book.proofs.policy.Policy.kept.Goals as goal

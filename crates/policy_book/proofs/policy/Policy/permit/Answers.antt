@@ -1,6 +1,6 @@
 use Rattle.std.proofs.Common.{◌<◌, ap, length, arith}
 use Rattle.std.specs.FinSet as set
-use Rattle.policy_book.specs.Shapes.{PolicyShape, WorkflowShape}
+use Rattle.policy_book.specs.Laws.Shapes.{PolicyShape, WorkflowShape}
 use Rattle.policy_book.proofs.Keeping.{sound_permitted}
 use Rattle.policy_book.proofs.Rows.{permitted_at}
 use Rattle.policy_book.proofs.Book.{book_with_permits}

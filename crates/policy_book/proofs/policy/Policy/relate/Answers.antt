@@ -1,7 +1,7 @@
 use Rattle.std.proofs.Common.{◌<◌, ap, length, arith}
 use Rattle.std.specs.FinSet as set
-use Rattle.policy_book.specs.Shapes.{PolicyShape}
-use Rattle.user_relations.specs.Relations.{pairs_of}
+use Rattle.policy_book.specs.Laws.Shapes.{PolicyShape}
+use Rattle.user_relations.specs.Laws.Relations.{pairs_of}
 use Rattle.policy_book.proofs.Book.{book_with_pairs}
 use Rattle.policy_book.proofs.Keeping.{pairs_of_users, all_inserted}
 use Rattle.policy_book.proofs.policy.Policy.relate.Goals as goal

@@ -1,8 +1,8 @@
 use Rattle.std.proofs.Common.{◌<◌, ap, sym, subst, ◌∙◌, length, arith}
 use Rattle.std.proofs.lemmas.List.{get_or_default}
-use Rattle.policy_book.specs.Shapes.{PolicyShape, WorkflowShape}
+use Rattle.policy_book.specs.Laws.Shapes.{PolicyShape, WorkflowShape}
 use Rattle.policy_book.specs.Policies.{no_workflow}
-use Rattle.policy_book.specs.Facts.{IsSoundWorkflow}
+use Rattle.policy_book.specs.Laws.Facts.{IsSoundWorkflow}
 use Rattle.policy_book.proofs.Keeping.{sound_at, stored_with_flow}
 use Rattle.policy_book.proofs.Rows.{kept_with_same}
 use Rattle.policy_book.proofs.policy.Policy.retire.Goals as goal

@@ -1,6 +1,6 @@
 use Rattle.std.proofs.Common.{length}
 use Rattle.std.specs.FinSet as set
-use Rattle.user_relations.specs.Relations.{pairs_of}
+use Rattle.user_relations.specs.Laws.Relations.{pairs_of}
 use Rattle.policy_book.proofs.Book.{book_with_pairs}
 use Rattle.policy_book.proofs.Keeping.{pairs_of_users, all_removed}
 use Rattle.policy_book.proofs.policy.Policy.unrelate.Goals as goal

@@ -1,7 +1,7 @@
 use Rattle.std.proofs.Common.{Bor, Option, None, Some, MatchOption, IfSome, is_some, ltb, get_or, arith, ◌≡◌, ◌≤◌, ◌+◌, MatchOption, ℕ, ◌<◌, length, List, sym}
 use Rattle.std.proofs.Common.{ap, ◌∙◌}
 use Rattle.refutation_tree.specs.Tree.{Kids, kid_count, kids_from}
-use Rattle.refutation_tree.specs.Views.{branch_onto, kids_of_items}
+use Rattle.refutation_tree.specs.Laws.Views.{branch_onto, kids_of_items}
 use Rattle.refutation_tree.proofs.ShapeLaws.{kid_count-items, kids_from-items, kids_of_items-drop}
 use Rattle.std.proofs.lemmas.Bool.Decides.{nat_tests}
 use Rattle.refutation_tree.specs.declared.tree.Branch.{Branch}

@@ -1,6 +1,6 @@
 use Rattle.std.proofs.Common.{ap, ◌∙◌}
 use Rattle.refutation_tree.specs.Tree.{no_kids, joined}
-use Rattle.refutation_tree.specs.Views.{branch_onto, kids_of_items}
+use Rattle.refutation_tree.specs.Laws.Views.{branch_onto, kids_of_items}
 use Rattle.refutation_tree.proofs.ShapeLaws.{kids_of_items-push}
 use Rattle.refutation_tree.proofs.tree.Branches.push.Goals as goal
 

@@ -2,7 +2,7 @@ use Rattle.std.proofs.Common.{◌≡◌, ◌≤◌, ◌↔◌, true, sym, subst,
 use Rattle.std.proofs.lemmas.Grind.{common_steps}
 use Rattle.wf_talk.specs.declared.reply.Reply.TheVariants as reply
 use Rattle.wf_board.specs.Decisions.{decision_of, needs_verdict}
-use Rattle.wf_board.specs.States.{State}
+use Rattle.wf_board.specs.Laws.States.{State}
 use Rattle.transcript_audit.specs.Auditor.{AuditShape, ComesNext}
 use Rattle.transcript_audit.specs.Keeping.{entry_next}
 use Rattle.transcript_audit.proofs.Entering.{again_exactly}

@@ -1,5 +1,5 @@
 use Rattle.std.proofs.Common.{ap, ◌∙◌, IfOk, IfSome}
-use Rattle.entry_reader.specs.Lines.{HasReply}
+use Rattle.entry_reader.specs.Laws.Lines.{HasReply}
 use Rattle.transcript_audit.specs.Auditor.{state_now}
 use Rattle.transcript_audit.proofs.Entering.{known_now}
 use Rattle.transcript_audit.proofs.auditor.Auditor.reply_quickly.Goals as goal

@@ -1,5 +1,5 @@
 use Rattle.std.proofs.Common.{subst}
-use Rattle.wf_desk.specs.Parts.{FillsPart}
+use Rattle.wf_desk.specs.Laws.Parts.{FillsPart}
 use Rattle.transcript_audit.proofs.Parts.{fills_part}
 use Rattle.transcript_audit.proofs.record.Record.into_parts.Goals as goal
 

@@ -1,6 +1,6 @@
 use Rattle.std.proofs.Common.{◌≤◌, length, sym, subst, ◌∙◌}
 use Rattle.basics.proofs.Booleans.{eq_back}
-use Rattle.transcript_audit.specs.Outcomes.{IsWhole}
+use Rattle.transcript_audit.specs.Laws.Outcomes.{IsWhole}
 use Rattle.transcript_audit.proofs.Sound.{whole_at_end, within_jobs}
 use Rattle.transcript_audit.proofs.record.Record.is_done.Goals as goal
 

@@ -1,6 +1,6 @@
 use Rattle.std.proofs.Common.{◌+◌, sym, ap, subst, ◌∙◌}
 use Rattle.std.specs.Arc.{arc_value}
-use Rattle.policy_book.specs.Facts.{IsSoundPolicy}
+use Rattle.policy_book.specs.Laws.Facts.{IsSoundPolicy}
 use Rattle.wf_board.specs.declared.verdict.Verdict.TheVariants as verdicts
 use Rattle.wf_board.specs.declared.verdict.Answered.TheVariants.{Done}
 use Rattle.wf_talk.specs.declared.reply.Reply.TheVariants as replies

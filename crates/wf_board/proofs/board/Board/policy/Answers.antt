@@ -1,7 +1,7 @@
 use Rattle.std.proofs.Common.{subst}
-use Rattle.policy_book.specs.Facts.{IsSoundPolicy}
+use Rattle.policy_book.specs.Laws.Facts.{IsSoundPolicy}
 use Rattle.wf_board.specs.Boards.{state_on}
-use Rattle.wf_board.specs.Kept.{IsSoundState, KeepsCompletable}
+use Rattle.wf_board.specs.Laws.Kept.{IsSoundState, KeepsCompletable}
 use Rattle.wf_board.proofs.Answering.{board_completes, board_sound}
 use Rattle.wf_board.proofs.board.Board.policy.Goals as goal
 

@@ -1,6 +1,6 @@
 use Rattle.std.proofs.Common.{sym, subst}
 use Rattle.std.specs.Arc.{arc_value}
-use Rattle.wf_board.specs.Kept.{ArePlanned}
+use Rattle.wf_board.specs.Laws.Kept.{ArePlanned}
 use Rattle.wf_board.proofs.Planned.{planned_snap}
 use Rattle.wf_board.proofs.board.Board.snap.Goals as goal
 

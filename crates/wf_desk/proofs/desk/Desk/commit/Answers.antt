@@ -1,5 +1,5 @@
 use Rattle.std.proofs.Common.{sym, subst, ◌∙◌}
-use Rattle.wf_desk.specs.Commits.{IsReplyWhere, is_lost, job_of_task}
+use Rattle.wf_desk.specs.Laws.Commits.{IsReplyWhere, is_lost, job_of_task}
 use Rattle.wf_desk.specs.Desks.{HasAdded}
 use Rattle.wf_desk.proofs.Serving.{missed_committed}
 use Rattle.wf_desk.proofs.desk.Desk.commit.Goals as goal

@@ -2,7 +2,7 @@ use Rattle.std.proofs.Common.{◌≡◌, true, false, sym, subst}
 use Rattle.wf_board.specs.Boards.{state_on}
 use Rattle.wf_board.specs.Verdicts.{IsCertified}
 use Rattle.wf_board.proofs.Certificates.{certified_right}
-use Rattle.wf_desk.specs.Commits.{job_of_task}
+use Rattle.wf_desk.specs.Laws.Commits.{job_of_task}
 use Rattle.wf_desk.proofs.CommitLaws.{checked_none}
 use Rattle.wf_desk.proofs.Serving.{checked_some}
 use Rattle.wf_desk.proofs.desk.Desk.commit_checked.Goals as goal

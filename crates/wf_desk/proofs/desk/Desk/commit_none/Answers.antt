@@ -1,6 +1,6 @@
 use Rattle.std.proofs.Common.{sym, subst, ◌∙◌}
 use Rattle.wf_board.specs.declared.verdict.Verdict.TheVariants as verdicts
-use Rattle.wf_desk.specs.Commits.{IsReplyWhere, is_lost, job_of_task}
+use Rattle.wf_desk.specs.Laws.Commits.{IsReplyWhere, is_lost, job_of_task}
 use Rattle.wf_desk.specs.Desks.{HasAdded}
 use Rattle.wf_desk.proofs.desk.Desk.commit_none.Goals as goal
 

@@ -1,6 +1,6 @@
 use Rattle.std.proofs.Common.{◌≡◌, Some, ap, subst, ◌∙◌}
 use Rattle.wf_talk.specs.declared.job.Job.{Job}
-use Rattle.wf_desk.specs.Commits.{job_of_task}
+use Rattle.wf_desk.specs.Laws.Commits.{job_of_task}
 use Rattle.wf_desk.specs.Desks.{DeskShape, next_job}
 use Rattle.wf_desk.proofs.NextJobs.{one_next, stands_next}
 use Rattle.wf_desk.proofs.desk.Desk.is_next.Goals as goal

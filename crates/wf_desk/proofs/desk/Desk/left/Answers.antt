@@ -1,6 +1,6 @@
 use Rattle.std.proofs.Common.{◌<◌, ◌≤◌, ◌-◌, ap, drop, length, slice_index_or, sym, subst, take, ◌∙◌, arith}
 use Rattle.wf_names.specs.declared.limits.TheConstants.{LANE_LIMIT}
-use Rattle.wf_board.specs.Histories.{lane_jobs}
+use Rattle.wf_board.specs.Laws.Histories.{lane_jobs}
 use Rattle.wf_desk.specs.Desks.{AreOfLanes, left_of}
 use Rattle.wf_desk.proofs.DocketLaws.{left_at, left_past, rest_from}
 use Rattle.wf_desk.proofs.desk.Desk.left.Goals as goal

@@ -2,7 +2,7 @@ use Rattle.std.proofs.Common.{◌≡◌, ◌&&◌, nat_le, true, false, not, Boo
 use Rattle.wf_board.specs.declared.verdict.Verdict.TheVariants as verdicts
 use Rattle.wf_board.specs.Boards.{state_on}
 use Rattle.wf_board.specs.Decisions.{decision_of, is_view, needs_verdict}
-use Rattle.wf_desk.specs.Commits.{IsReplyWhere, floor_of, is_lost, job_of_task}
+use Rattle.wf_desk.specs.Laws.Commits.{IsReplyWhere, floor_of, is_lost, job_of_task}
 use Rattle.wf_desk.specs.Desks.{HasAdded}
 use Rattle.wf_desk.specs.Keeping.{may_lose}
 use Rattle.wf_desk.proofs.desk.Desk.miss.Goals as goal

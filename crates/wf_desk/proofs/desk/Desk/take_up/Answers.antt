@@ -4,7 +4,7 @@ use Rattle.wf_board.specs.declared.deed.Deed.{Deed}
 use Rattle.wf_board.specs.Boards.{state_on}
 use Rattle.wf_board.specs.Decisions.{decision_of, needs_verdict}
 use Rattle.wf_board.specs.Deeds.{is_harmless_deed, needs_search}
-use Rattle.wf_desk.specs.Commits.{HasTakenUp, asks_search}
+use Rattle.wf_desk.specs.Laws.Commits.{HasTakenUp, asks_search}
 use Rattle.wf_desk.specs.Desks.{DeskShape}
 use Rattle.wf_desk.specs.Keeping.{LeavesDeed}
 use Rattle.wf_desk.proofs.desk.Desk.take_up.Goals as goal

@@ -1,7 +1,7 @@
 use Rattle.std.proofs.Common.{◌≡◌, ◌≤◌, ◌+◌, ◌++◌, length, take, drop, ap, arith}
 use Rattle.std.proofs.lemmas.Grind.{common_steps}
 use Rattle.wf_outside.proofs.OutsideLaws.{front_taken}
-use Rattle.wf_outside.specs.Memory.{MemSourceShape}
+use Rattle.wf_outside.specs.Laws.Memory.{MemSourceShape}
 use Rattle.wf_outside.proofs.mem_source.MemSourceSource.take.Goals as goal
 
 pub returns-clause-taken : goal.returns-clause-taken

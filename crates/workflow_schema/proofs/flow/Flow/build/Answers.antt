@@ -1,6 +1,6 @@
 use Rattle.std.proofs.Common.{◌≡◌, length, false, ◌||◌, Err, sym, ap, subst, ◌∙◌}
 use Rattle.std.specs.FinSet as set
-use Rattle.basics.specs.Pairs.{AllPairs}
+use Rattle.basics.specs.Laws.Pairs.{AllPairs}
 use Rattle.wf_names.specs.declared.limits.TheConstants.{ROLE_LIMIT}
 use Rattle.workflow_schema.specs.Flows.{has_twice, IsLeastCycle}
 use Rattle.workflow_schema.proofs.TableSets.{permitted_by-is}

@@ -1,5 +1,5 @@
 use Rattle.std.proofs.Common.{◌∙◌, sym, ap, arith}
-use Rattle.basics.specs.Pairs.{Pairs}
+use Rattle.basics.specs.Laws.Pairs.{Pairs}
 use Rattle.basics.specs.PairLaws.{pair_cmp_total, pair_cmp-IsAntisymmetric, remove_absent}
 use Rattle.workflow_schema.specs.Tables.{permitted_by}
 use Rattle.workflow_schema.proofs.TableSets.{permitted_by-has, permitted_by-without}

@@ -1,5 +1,5 @@
 use Rattle.std.proofs.Common.{refl, Err, sym, ap, subst, ◌∙◌}
-use Rattle.basics.specs.Pairs.{AllPairs}
+use Rattle.basics.specs.Laws.Pairs.{AllPairs}
 use Rattle.basics.specs.PairLaws.{all_empty}
 use Rattle.wf_names.specs.declared.limits.TheConstants.{STEP_LIMIT}
 use Rattle.workflow_schema.proofs.TableSets.{permitted_by-none}

@@ -1,5 +1,5 @@
 use Rattle.std.proofs.Common.{length, not, ◌∙◌, sym, ap, arith}
-use Rattle.basics.specs.Pairs.{Pairs}
+use Rattle.basics.specs.Laws.Pairs.{Pairs}
 use Rattle.basics.specs.PairLaws.{pair_cmp_total, pair_cmp-IsAntisymmetric, insert_held}
 use Rattle.workflow_schema.specs.Tables.{permitted_by}
 use Rattle.workflow_schema.specs.Flows.{FlowShape}

@@ -1,5 +1,5 @@
 use Rattle.std.proofs.Common.{◌≡◌, ℕ, List, subst}
-use Rattle.basics.specs.Pairs.{Pairs}
+use Rattle.basics.specs.Laws.Pairs.{Pairs}
 use Rattle.workflow_schema.specs.Flows.{is_before}
 use Rattle.workflow_schema.specs.Tables.{table_has}
 use Rattle.workflow_schema.proofs.Built.{closed_order, least_cycle, acyclic_order}
