@@ -7,7 +7,7 @@ use Rattle.policy_book.specs.Laws.Shapes.{PolicyShape}
 use Rattle.wf_talk.specs.declared.entry.Entry.{Entry}
 use Rattle.wf_board.specs.Laws.States.{State, opening_state}
 use Rattle.wf_board.specs.Laws.Histories.{state_after}
-use Rattle.line_reader.specs.Laws.Jobs.{Cut, jobs_of_input}
+use Rattle.line_reader.specs.Jobs.{Cut, jobs_of_input}
 use Rattle.line_reader.specs.Reader.{lines_of}
 use Rattle.transcript_audit.specs.Auditor.{AuditShape, IsTranscriptPart, audit_of}
 use Rattle.transcript_audit.specs.Laws.{AreOfSession}

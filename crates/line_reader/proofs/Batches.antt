@@ -6,7 +6,7 @@ use Rattle.std.proofs.lemmas.List.{length-append, length-drop, take_all, take-ap
 use Rattle.wf_names.specs.declared.limits.TheConstants.{LINE_LIMIT, SESSION_LINE_LIMIT, BATCH_LINE_LIMIT}
 use Rattle.wf_talk.specs.declared.job.Job.{Job}
 use Rattle.line_reader.proofs.CutLaws.{if_both}
-use Rattle.line_reader.specs.Laws.Jobs.{Cut, start_from, without_cr, job_of, end_batch, end_full_batch, next_line, with_job, end_line, step, cut_all, flush}
+use Rattle.line_reader.specs.Jobs.{Cut, start_from, without_cr, job_of, end_batch, end_full_batch, next_line, with_job, end_line, step, cut_all, flush}
 use Rattle.line_reader.specs.Lines.{AreBatches, FollowOn, LeadUpTo}
 
 -- ---- lines that follow one another

@@ -8,8 +8,8 @@ use Rattle.std.proofs.Math.Seq.{take-append_seam}
 use Rattle.wf_names.specs.declared.limits.TheConstants.{LINE_LIMIT, SESSION_LINE_LIMIT, BATCH_LINE_LIMIT}
 use Rattle.wf_talk.specs.declared.job.Job.{Job}
 use Rattle.line_reader.specs.declared.stop.Stop.{Stop}
-use Rattle.line_reader.specs.Laws.Jobs.{Cut, without_cr, job_of, end_batch, end_full_batch, next_line, with_job, end_line, step, cut_all, flush, last_or}
-use Rattle.line_reader.specs.Laws.Jobs.{UpToAnEnd}
+use Rattle.line_reader.specs.Jobs.{Cut, without_cr, job_of, end_batch, end_full_batch, next_line, with_job, end_line, step, cut_all, flush, last_or}
+use Rattle.line_reader.specs.Jobs.{UpToAnEnd}
 use Rattle.line_reader.specs.Cutter.{CanCut, IsSound, IsEnded, Cuts, CutsOn, emptied, after_handing, ends_after, place}
 
 -- either case of a test

@@ -6,7 +6,7 @@ use Rattle.std.proofs.lemmas.List.{length-append, append-nil, take-append-drop, 
 use Rattle.std.proofs.Math.Seq.{take-add}
 use Rattle.wf_names.specs.declared.limits.TheConstants.{SESSION_LINE_LIMIT}
 use Rattle.wf_talk.specs.declared.job.Job.{Job}
-use Rattle.line_reader.specs.Laws.Jobs.{Cut, start, end_batch, end_full_batch, end_line, step, cut_all, flush, jobs_from, jobs_of_input, next_input}
+use Rattle.line_reader.specs.Jobs.{Cut, start, end_batch, end_full_batch, end_line, step, cut_all, flush, jobs_from, jobs_of_input, next_input}
 use Rattle.line_reader.specs.Cutter.{IsSound, IsEnded, Cuts, emptied, ends_after, after_handing}
 use Rattle.line_reader.proofs.CutLaws.{cut_all-append, handed_all, handed_finish, handed_over, stopped}
 use Rattle.line_reader.specs.Laws.{AreInOrder, AreNamedJobs}

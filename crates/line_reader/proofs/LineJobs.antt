@@ -10,7 +10,7 @@ use Rattle.line_reader.specs.Reader.{has_end, line_length, lines_of}
 use Rattle.line_reader.proofs.FirstLines.{goes_on, lines_first, open_line}
 use Rattle.line_reader.specs.declared.stop.Stop.{Stop}
 use Rattle.line_reader.specs.declared.stop.Stop.TheVariants.{LineTooLong, TooManyLines}
-use Rattle.line_reader.specs.Laws.Jobs.{Cut, start_from, without_cr, end_batch, end_full_batch, end_line, step, cut_all, flush, jobs_from}
+use Rattle.line_reader.specs.Jobs.{Cut, start_from, without_cr, end_batch, end_full_batch, end_line, step, cut_all, flush, jobs_from}
 use Rattle.line_reader.proofs.CutLaws.{stopped}
 use Rattle.line_reader.proofs.Batches.{HasRuns, batches_are, runs_all, runs_start}
 use Rattle.line_reader.specs.Lines.{AreJobsOfLines, AreWithin, IsWithinLimits, JobsAreOfLines, MeetsLimit, StopsAt, job_at, jobs_of_lines, text_of}

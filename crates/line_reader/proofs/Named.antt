@@ -20,8 +20,8 @@ use Rattle.wire_json.specs.declared.request.Asked.{Asked}
 use Rattle.wire_json.specs.Values.{value_of}
 use Rattle.wire_json.specs.Requests.{Row, Reading, rows, edits, row_of, by, the_name, text_at, lane_at, has_form, has_only, request_by, asked_by, change_by}
 use Rattle.wire_json.specs.Requests.{what_if_by, what_if_in, reading_of, request_in, asked, asked_of}
-use Rattle.line_reader.specs.Laws.Jobs.{Cut, start, without_cr, job_of, end_batch, end_full_batch, next_line, with_job, end_line, step, cut_all, flush}
-use Rattle.line_reader.specs.Laws.Jobs.{jobs_from}
+use Rattle.line_reader.specs.Jobs.{Cut, start, without_cr, job_of, end_batch, end_full_batch, next_line, with_job, end_line, step, cut_all, flush}
+use Rattle.line_reader.specs.Jobs.{jobs_from}
 use Rattle.wf_talk.specs.Jobs.{IsNamedAsk, IsNamedBad}
 use Rattle.line_reader.specs.Laws.{AddsNamed, AreNamedJobs, JobsAreNamed}
 use Rattle.line_reader.specs.Laws.Naming.{JobsStayNamed}

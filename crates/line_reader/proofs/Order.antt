@@ -8,9 +8,9 @@ use Rattle.wf_names.specs.declared.limits.TheConstants.{LINE_LIMIT, SESSION_LINE
 use Rattle.wf_talk.specs.declared.job.Job.{Job}
 use Rattle.wf_talk.specs.Jobs.{AreOfLanes}
 use Rattle.wire_json.proofs.RequestLaws.{lane_below}
-use Rattle.line_reader.specs.Laws.Jobs.{Cut, start, without_cr, job_of, end_batch, end_full_batch, next_line, with_job, end_line, step, cut_all, flush}
-use Rattle.line_reader.specs.Laws.Jobs.{jobs_from}
-use Rattle.line_reader.specs.Laws.Jobs.{last_or, next_input}
+use Rattle.line_reader.specs.Jobs.{Cut, start, without_cr, job_of, end_batch, end_full_batch, next_line, with_job, end_line, step, cut_all, flush}
+use Rattle.line_reader.specs.Jobs.{jobs_from}
+use Rattle.line_reader.specs.Jobs.{last_or, next_input}
 use Rattle.line_reader.proofs.CutLaws.{finished_stop, if_both}
 use Rattle.line_reader.specs.Laws.{AreLinesBelow, LinesAscend, LeadTo, AreInOrder, GoesOn, InputsGoOn, JobsAreInOrder}
 

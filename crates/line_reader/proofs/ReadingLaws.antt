@@ -8,7 +8,7 @@ use Rattle.wf_outside.specs.Laws.Outside.{HasTaken, IsAtEnd, bytes_before}
 use Rattle.wf_outside.proofs.OutsideLaws.{more_taken}
 use Rattle.wf_talk.specs.declared.job.Job.{Job}
 use Rattle.line_reader.specs.declared.stop.Stop.{Stop}
-use Rattle.line_reader.specs.Laws.Jobs.{Cut, cut_all, flush, end_batch, jobs_from, UpToAnEnd}
+use Rattle.line_reader.specs.Jobs.{Cut, cut_all, flush, end_batch, jobs_from, UpToAnEnd}
 use Rattle.line_reader.specs.Cutter.{Cuts, IsEnded, after_handing, ends_after, emptied}
 use Rattle.line_reader.proofs.CutLaws.{cut_all-append, handed_all, handed_finish, handed_over, closed_after, up_to_end, stopped, finished_stop}
 use Rattle.line_reader.specs.declared.batch_reader.Paused.{Paused}

@@ -4,7 +4,7 @@ use Rattle.std.specs.Prelude.{◌≡◌, ◌≢◌, ℕ, ◌+◌, ◌<◌, ◌�
 use Rattle.std.proofs.lemmas.Grind.{common_steps}
 use Rattle.std.proofs.lemmas.List.{length-take-le, get_or-take, take_more}
 use Rattle.wf_names.specs.declared.limits.TheConstants.{LINE_LIMIT, SESSION_LINE_LIMIT}
-use Rattle.line_reader.specs.Laws.Jobs.{Cut, end_line, step, cut_all}
+use Rattle.line_reader.specs.Jobs.{Cut, end_line, step, cut_all}
 use Rattle.line_reader.specs.Cutter.{CanCut, IsSound, Cuts, CutsOn}
 use Rattle.line_reader.proofs.CutLaws.{cut_all-append, byte_on, plain_all, sound_step}
 

@@ -5,7 +5,7 @@ use Rattle.std.specs.Prelude.{Option, None, Some}
 use Rattle.wf_outside.specs.Laws.Outside.{Rose, HasTaken, IsAtEnd}
 use Rattle.wf_talk.specs.declared.job.Job.{Job}
 use Rattle.line_reader.specs.declared.stop.Stop.{Stop}
-use Rattle.line_reader.specs.Laws.Jobs.{Cut, cut_all, jobs_from, last_or, UpToAnEnd}
+use Rattle.line_reader.specs.Jobs.{Cut, cut_all, jobs_from, last_or, UpToAnEnd}
 use Rattle.line_reader.specs.Cutter.{after_handing, ends_after, place, last_place}
 use Rattle.line_reader.specs.declared.batch_reader.Paused.{Paused}
 use Rattle.line_reader.specs.declared.batch_reader.Paused.TheVariants.{Batch, End, Failed, Stopped}

@@ -5,7 +5,7 @@ use Rattle.wf_names.specs.declared.limits.TheConstants.{LINE_LIMIT, SESSION_LINE
 use Rattle.wf_names.specs.declared.limits.TheConstants.{BATCH_LINE_LIMIT}
 use Rattle.wf_talk.specs.declared.job.Job.{Job}
 use Rattle.line_reader.specs.declared.stop.Stop.{Stop}
-use Rattle.line_reader.specs.Laws.Jobs.{Cut, last_or, cut_all}
+use Rattle.line_reader.specs.Jobs.{Cut, last_or, cut_all}
 
 -- what every cutter meets
 pub record IsSound (c : Cut) : Type 0 where

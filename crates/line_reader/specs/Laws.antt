@@ -1,5 +1,4 @@
 -- What the jobs of every input meet.
-pub mod Jobs
 pub mod Naming
 use Rattle.std.specs.Prelude.{◌≡◌, ℕ, ◌+◌, ◌<◌, ◌≤◌, Bool, true, List, [], ◌∷◌, length, None}
 use Rattle.std.specs.Prelude.{IsTrue}
@@ -12,8 +11,8 @@ use Rattle.wf_talk.specs.declared.request.Ask.{Ask}
 use Rattle.wf_talk.specs.declared.request.Ask.TheVariants as ask
 use Rattle.wf_talk.specs.declared.job.Job.{Job}
 use Rattle.wf_talk.specs.Jobs.{AreOfLanes, IsNamedAsk}
-use Rattle.line_reader.specs.Laws.Jobs.{Cut, jobs_from, jobs_of_input, last_or, next_input}
-use Rattle.line_reader.specs.Laws.Jobs.{start_from}
+use Rattle.line_reader.specs.Jobs.{Cut, jobs_from, jobs_of_input, last_or, next_input}
+use Rattle.line_reader.specs.Jobs.{start_from}
 use Rattle.line_reader.specs.Cutter.{after_handing}
 
 -- the lines of the jobs ascend strictly, from this number on

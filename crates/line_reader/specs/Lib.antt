@@ -7,3 +7,4 @@ pub mod Laws
 pub mod Whole
 pub mod BatchReader
 pub mod Pausing
+pub mod Jobs

@@ -6,7 +6,7 @@ use Rattle.wf_talk.specs.declared.job.Job.{Job}
 use Rattle.line_reader.specs.Reader.{lines_of, has_end, line_length}
 use Rattle.line_reader.specs.declared.stop.Stop.{Stop}
 use Rattle.line_reader.specs.declared.stop.Stop.TheVariants.{LineTooLong, TooManyLines}
-use Rattle.line_reader.specs.Laws.Jobs.{Cut, without_cr, job_of, start_from, jobs_from}
+use Rattle.line_reader.specs.Jobs.{Cut, without_cr, job_of, start_from, jobs_from}
 
 -- ---- limits
 

@@ -4,7 +4,7 @@ use Rattle.std.specs.Prelude.{length, Option, None, Some}
 use Rattle.std.proofs.Common.{◌⊎◌}
 use Rattle.wf_outside.specs.Laws.Outside.{HasTaken, IsAtEnd}
 use Rattle.line_reader.specs.Pieces.{steps_left}
-use Rattle.line_reader.specs.Laws.Jobs.{Cut, cut_all, flush, end_batch, last_or}
+use Rattle.line_reader.specs.Jobs.{Cut, cut_all, flush, end_batch, last_or}
 use Rattle.line_reader.specs.Cutter.{after_handing, IsEnded}
 use Rattle.line_reader.specs.declared.batch_reader.Paused.{Paused}
 use Rattle.line_reader.specs.declared.batch_reader.Paused.TheVariants.{Batch, End, Failed, Stopped}

@@ -1,7 +1,7 @@
 -- Inside: how a whole text is cut.
 use Rattle.std.specs.Prelude.{◌≡◌, ℕ, List, []}
 use Rattle.wf_talk.specs.declared.job.Job.{Job}
-use Rattle.line_reader.specs.Laws.Jobs.{Cut, start, cut_all}
+use Rattle.line_reader.specs.Jobs.{Cut, start, cut_all}
 use Rattle.line_reader.specs.Cutter.{IsSound, after_handing}
 
 -- these bytes are cut: some jobs with the ends of their batches are taken out, and no batch is

@@ -2,7 +2,7 @@
 ghost use Rattle.std.specs.Prelude.{◌≡◌, ◌≢◌, ◌≤◌, ◌<◌, ℕ, List, [], length, Option, None, Some};
 ghost use Rattle.std.specs.Prelude.{true, false, IfOk, OnOk, OnErr};
 ghost use Rattle.wf_names.specs.declared.limits.TheConstants.{SESSION_LINE_LIMIT};
-ghost use Rattle.line_reader.specs.Laws.Jobs.{start_from};
+ghost use Rattle.line_reader.specs.Jobs.{start_from};
 ghost use Rattle.line_reader.specs.Cutter.{CutsOn};
 ghost use Rattle.line_reader.specs.BatchReader.{BatchReaderShape, Handed, handed_more, HasRead};
 ghost use Rattle.line_reader.specs.BatchReader.{IsReadUp, ReadsBatch, CanReadOn, CountsPause};

@@ -4,7 +4,7 @@ ghost use Rattle.std.specs.Prelude.{slice_index, None, Some, IfOk, OnOk, OnErr, 
 ghost use Rattle.wf_names.specs.declared.limits.TheConstants.{LINE_LIMIT, SESSION_LINE_LIMIT};
 ghost use Rattle.wf_names.specs.declared.limits.TheConstants.{BATCH_LINE_LIMIT};
 ghost use Rattle.line_reader.specs.declared.stop.Stop.{Stop};
-ghost use Rattle.line_reader.specs.Laws.Jobs as jobs;
+ghost use Rattle.line_reader.specs.Jobs as jobs;
 ghost use Rattle.line_reader.specs.Cutter.{CanCut, Cuts, CutsOn, IsEnded, IsSound, emptied};
 
 use crate::Stop;
@@ -38,7 +38,7 @@ pub struct Cutter {
 }
 
 impl Model for Cutter {
-    ghost use Rattle.line_reader.specs.Laws.Jobs.{Cut};
+    ghost use Rattle.line_reader.specs.Jobs.{Cut};
 
     ghost Value = { Cut };
 
@@ -194,7 +194,7 @@ impl Cutter {
     }
 
     // The next byte.
-    #[tactic(auto, unfolding(crate::specs::Laws::Jobs::step))]
+    #[tactic(auto, unfolding(crate::specs::Jobs::step))]
     fn step(&mut self, byte: u8) -> Result<(), AllocError>
         requires { CanCut self.old }
         ensures fed { OnOk result (self.new ≡ jobs.step self.old byte) }
@@ -214,7 +214,7 @@ impl Cutter {
         self.line.push(byte)
     }
 
-    #[tactic(auto, unfolding(crate::specs::Laws::Jobs::end_line))]
+    #[tactic(auto, unfolding(crate::specs::Jobs::end_line))]
     fn end_line(&mut self) -> Result<(), AllocError>
         requires few { length self.old.jobs < BATCH_LINE_LIMIT }
         requires begins { self.old.from ≤ length self.old.jobs }
@@ -233,7 +233,7 @@ impl Cutter {
     }
 
     // Ends a line that was not copied: it stands in the piece, and no line is open.
-    #[tactic(auto, unfolding(crate::specs::Laws::Jobs::end_line))]
+    #[tactic(auto, unfolding(crate::specs::Jobs::end_line))]
     fn end_whole_line(&mut self, line: &[u8]) -> Result<(), AllocError>
         requires few { length self.old.jobs < BATCH_LINE_LIMIT }
         requires begins { self.old.from ≤ length self.old.jobs }
@@ -252,7 +252,7 @@ impl Cutter {
         }
     }
 
-    #[tactic(auto, unfolding(crate::specs::Laws::Jobs::end_batch))]
+    #[tactic(auto, unfolding(crate::specs::Jobs::end_batch))]
     fn end_empty_line(&mut self) -> Result<(), AllocError>
         requires few { length self.old.jobs ≤ BATCH_LINE_LIMIT }
         requires within { self.old.number < SESSION_LINE_LIMIT }
@@ -264,7 +264,7 @@ impl Cutter {
         Ok(())
     }
 
-    #[tactic(auto, unfolding(crate::specs::Laws::Jobs::end_full_batch, crate::specs::Laws::Jobs::end_batch))]
+    #[tactic(auto, unfolding(crate::specs::Jobs::end_full_batch, crate::specs::Jobs::end_batch))]
     fn end_job_line(&mut self, asked: Asked) -> Result<(), AllocError>
         requires few { length self.old.jobs < BATCH_LINE_LIMIT }
         requires begins { self.old.from ≤ length self.old.jobs }
@@ -297,7 +297,7 @@ impl Cutter {
         self.number += 1;
     }
 
-    #[tactic(auto, unfolding(crate::specs::Laws::Jobs::end_full_batch))]
+    #[tactic(auto, unfolding(crate::specs::Jobs::end_full_batch))]
     fn end_full_batch(&mut self) -> Result<(), AllocError>
         requires few { length self.old.jobs ≤ BATCH_LINE_LIMIT }
         requires begins { self.old.from ≤ length self.old.jobs }
@@ -310,7 +310,7 @@ impl Cutter {
         Ok(())
     }
 
-    #[tactic(auto, unfolding(crate::specs::Laws::Jobs::end_batch))]
+    #[tactic(auto, unfolding(crate::specs::Jobs::end_batch))]
     fn end_batch(&mut self) -> Result<(), AllocError>
         requires few { length self.old.jobs ≤ BATCH_LINE_LIMIT }
         ensures ended { OnOk result (self.new ≡ jobs.end_batch self.old) }
@@ -324,7 +324,7 @@ impl Cutter {
         Ok(())
     }
 
-    #[tactic(auto, unfolding(crate::specs::Laws::Jobs::flush))]
+    #[tactic(auto, unfolding(crate::specs::Jobs::flush))]
     fn flush(&mut self, ended: bool) -> Result<(), AllocError>
         ensures flushed { OnOk result (self.new ≡ jobs.flush ended self.old) }
         ensures one { length self.new.jobs ≤ length self.old.jobs + 1 }
@@ -372,7 +372,7 @@ impl Cutter {
 }
 
 // A line without one CR at its end.
-#[tactic(auto, unfolding(crate::specs::Laws::Jobs::without_cr))]
+#[tactic(auto, unfolding(crate::specs::Jobs::without_cr))]
 fn without_cr(line: &[u8]) -> &[u8]
     ensures { result.now ≡ jobs.without_cr line.now }
 {

@@ -5,8 +5,8 @@ use Rattle.wf_outside.specs.Laws.Outside.{Filed, told, missing, untold}
 use Rattle.policy_book.specs.Laws.Shapes.{PolicyShape}
 use Rattle.policy_reader.specs.File.{IsFilePolicy}
 use Rattle.line_reader.specs.declared.stop.Stop.{Stop}
-use Rattle.line_reader.specs.declared.whole.CutText.{CutText}
-use Rattle.line_reader.specs.Laws.Jobs.{Cut, jobs_of_input}
+use Rattle.line_reader.specs.declared.jobs.CutText.{CutText}
+use Rattle.line_reader.specs.Jobs.{Cut, jobs_of_input}
 use Rattle.line_reader.specs.Reader.{lines_of}
 use Rattle.run_record.specs.declared.fault.RunFault.{RunFault}
 use Rattle.run_record.specs.declared.fault.RunFault.TheVariants.{Load, LineTooLong}

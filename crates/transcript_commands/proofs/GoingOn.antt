@@ -5,7 +5,7 @@ use Rattle.wf_talk.specs.declared.entry.Entry.{Entry}
 use Rattle.wf_talk.specs.declared.job.Job.{Job}
 use Rattle.wf_board.specs.Boards.{BoardShape}
 use Rattle.wf_desk.specs.Desks.{DeskShape, desk_with, jobs_told, with_batch_from, with_room}
-use Rattle.line_reader.specs.declared.whole.Batch.{Batch}
+use Rattle.line_reader.specs.declared.jobs.Batch.{Batch}
 use Rattle.transcript_commands.specs.Resumed.{GoesOnAt}
 use Rattle.transcript_commands.specs.Sessions.{IsRestored, session_at}
 use Rattle.transcript_commands.specs.Unserved.{end_at, jobs_between, start_at}

@@ -5,7 +5,7 @@ use Rattle.std.proofs.lemmas.Bool.{le-ltb, lt-ltb}
 use Rattle.wf_names.specs.declared.limits.TheConstants.{POLICY_FILE_LIMIT, REQUESTS_FILE_LIMIT}
 use Rattle.wf_outside.specs.Laws.Outside.{Filed, told, missing, untold}
 use Rattle.policy_book.specs.Laws.Shapes.{PolicyShape}
-use Rattle.line_reader.specs.declared.whole.Batch.{Batch}
+use Rattle.line_reader.specs.declared.jobs.Batch.{Batch}
 use Rattle.line_reader.specs.Reader.{AreShort, lines_of}
 use Rattle.transcript_audit.specs.Auditor.{AuditShape, IsTranscript, audit_of}
 use Rattle.transcript_audit.specs.Laws.{AreOfSession}

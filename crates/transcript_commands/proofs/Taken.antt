@@ -3,8 +3,8 @@ use Rattle.std.proofs.Common.{◌≡◌, ℕ, ◌≤◌, true, List, [], None, R
 use Rattle.std.specs.Prelude.{IsErrAnd}
 use Rattle.policy_book.specs.Laws.Shapes.{PolicyShape}
 use Rattle.policy_book.specs.Laws.Facts.{IsSoundPolicy}
-use Rattle.line_reader.specs.declared.whole.CutText.{CutText}
-use Rattle.line_reader.specs.Laws.Jobs.{Cut, jobs_of_input, next_input, start_from}
+use Rattle.line_reader.specs.declared.jobs.CutText.{CutText}
+use Rattle.line_reader.specs.Jobs.{Cut, jobs_of_input, next_input, start_from}
 use Rattle.line_reader.specs.Laws.{AreInOrder, GoesOn, InputsGoOn}
 use Rattle.wf_board.specs.Laws.Histories.{batch_start}
 use Rattle.line_reader.specs.BatchReader.{BatchReaderShape}

@@ -5,7 +5,7 @@ use Rattle.std.specs.Prelude.{true}
 use Rattle.wf_names.specs.declared.limits.TheConstants.{REQUESTS_FILE_LIMIT}
 use Rattle.wf_outside.specs.Laws.Outside.{Filed, told, missing, untold, HasTaken}
 use Rattle.policy_book.specs.Laws.Shapes.{PolicyShape}
-use Rattle.line_reader.specs.Laws.Jobs.{jobs_of_input}
+use Rattle.line_reader.specs.Jobs.{jobs_of_input}
 use Rattle.transcript_audit.specs.Auditor.{AuditShape, IsTranscript, audit_of}
 use Rattle.run_record.specs.declared.fault.RunFault.{RunFault}
 use Rattle.run_record.specs.declared.fault.RunFault.TheVariants.{Policy, Load, FileTooLong}

@@ -2,8 +2,8 @@
 use Rattle.std.specs.Prelude.{◌≡◌, ℕ, ◌<◌, ◌≤◌, List, length, true, Result, Ok, Err}
 use Rattle.wf_names.specs.declared.limits.TheConstants.{REQUESTS_FILE_LIMIT}
 use Rattle.wf_outside.specs.Laws.Outside.{Filed, told, missing, untold}
-use Rattle.line_reader.specs.declared.whole.Batch.{Batch}
-use Rattle.line_reader.specs.Laws.Jobs.{jobs_of_input}
+use Rattle.line_reader.specs.declared.jobs.Batch.{Batch}
+use Rattle.line_reader.specs.Jobs.{jobs_of_input}
 use Rattle.run_record.specs.declared.fault.RunFault.{RunFault}
 use Rattle.run_record.specs.declared.fault.RunFault.TheVariants.{Load, NoMemory, FileTooLong}
 

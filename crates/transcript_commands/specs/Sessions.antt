@@ -3,7 +3,7 @@ use Rattle.std.specs.Prelude.{◌≡◌, ℕ, ◌<◌, ◌≤◌, [], length}
 use Rattle.wf_names.specs.declared.limits.TheConstants.{LANE_LIMIT, ROUND_LIMIT}
 use Rattle.policy_book.specs.Laws.Shapes.{PolicyShape}
 use Rattle.wf_desk.specs.Desks.{DeskShape, IsDone}
-use Rattle.line_reader.specs.declared.whole.Batch.{Batch}
+use Rattle.line_reader.specs.declared.jobs.Batch.{Batch}
 use Rattle.transcript_commands.specs.Resumed.{Session}
 
 -- there are some lanes, and not too many lanes and rounds

@@ -1,7 +1,7 @@
 -- Inside: the files of a session that is to be taken up.
 use Rattle.std.specs.Prelude.{◌≡◌, ◌≤◌, ℕ, None}
 use Rattle.wf_names.specs.declared.limits.TheConstants.{SESSION_LINE_LIMIT}
-use Rattle.line_reader.specs.declared.whole.CutText.{CutText}
+use Rattle.line_reader.specs.declared.jobs.CutText.{CutText}
 use Rattle.line_reader.specs.Laws.{AreInOrder, AreNamedJobs}
 use Rattle.transcript_commands.specs.declared.start.Earlier.{Earlier}
 use Rattle.transcript_commands.specs.Load.{FileNames}

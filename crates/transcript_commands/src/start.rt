@@ -1,6 +1,6 @@
 //! Where a session goes on: its files are loaded, and its transcript is taken up.
 ghost use Rattle.std.specs.Prelude.{◌≡◌, ◌≤◌, ℕ, true, List, IfOk, length, take};
-ghost use Rattle.line_reader.specs.Laws.Jobs.{jobs_of_input};
+ghost use Rattle.line_reader.specs.Jobs.{jobs_of_input};
 ghost use Rattle.run_record.specs.Fault.{how_of, refused, CountsLoads};
 ghost use Rattle.transcript_commands.specs.Sessions.{AreServedWithin};
 ghost use Rattle.transcript_commands.specs.Start.{AreWhole, names_in};

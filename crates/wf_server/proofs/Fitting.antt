@@ -6,7 +6,7 @@ use Rattle.policy_book.specs.Laws.Shapes.{PolicyShape}
 use Rattle.policy_reader.specs.File.{IsFilePolicy}
 use Rattle.wf_board.specs.Laws.States.{opening_state}
 use Rattle.wf_board.specs.Laws.Histories.{AreRightful, IsLegal, state_after}
-use Rattle.line_reader.specs.Laws.Jobs.{Cut, end_batch, flush, jobs_from, jobs_of_input, next_input, start}
+use Rattle.line_reader.specs.Jobs.{Cut, end_batch, flush, jobs_from, jobs_of_input, next_input, start}
 use Rattle.line_reader.specs.Laws.{AreNamedJobs, JobsAreInOrder}
 use Rattle.line_reader.specs.Laws.Naming.{JobsStayNamed}
 use Rattle.entry_reader.specs.Named.{HasNames}

@@ -8,7 +8,7 @@ use Rattle.wf_names.specs.declared.limits.TheConstants.{LANE_LIMIT, SESSION_LINE
 use Rattle.wf_talk.specs.declared.entry.Entry.{Entry}
 use Rattle.wf_talk.specs.declared.job.Job.{Job}
 use Rattle.wf_talk.specs.Jobs.{AreOfLanes, IsNamedAsk}
-use Rattle.line_reader.specs.Laws.Jobs.{Cut, UpToAnEnd, cut_all, end_batch, end_full_batch, end_line, flush, jobs_from, last_or, next_input, step}
+use Rattle.line_reader.specs.Jobs.{Cut, UpToAnEnd, cut_all, end_batch, end_full_batch, end_line, flush, jobs_from, last_or, next_input, step}
 use Rattle.line_reader.specs.Laws.{AddsNamed, AreLinesBelow, AreNamedJobs, GoesOn, LeadTo}
 use Rattle.line_reader.proofs.CutLaws.{cut_all-append}
 use Rattle.line_reader.proofs.Order.{lead_last}

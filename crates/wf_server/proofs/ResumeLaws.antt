@@ -11,7 +11,7 @@ use Rattle.wf_board.specs.Laws.{HistoriesAreExact, HistoriesKeepCompletable}
 use Rattle.wf_board.specs.Laws.States.{opening_state}
 use Rattle.wf_desk.specs.Desks.{AreOfLanes, DeskShape, jobs_told}
 use Rattle.line_reader.specs.Cutter.{after_handing}
-use Rattle.line_reader.specs.Laws.Jobs.{Cut, UpToAnEnd, jobs_of_input, last_or, next_input, start_from}
+use Rattle.line_reader.specs.Jobs.{Cut, UpToAnEnd, jobs_of_input, last_or, next_input, start_from}
 use Rattle.line_reader.specs.Laws.{AreInOrder, GoesOn}
 use Rattle.line_reader.specs.Laws.Naming.{JobsStayNamed}
 use Rattle.entry_reader.specs.Named.{HasNames}

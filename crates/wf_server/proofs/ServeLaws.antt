@@ -11,7 +11,7 @@ use Rattle.wf_commands.specs.Load.{GivesPolicy, IsLoadEnding, PolicyOf}
 use Rattle.wf_commands.proofs.Endings.{unloaded_ending, unloaded_reads}
 use Rattle.wf_commands.proofs.Runs.{no_writes, own_reads}
 use Rattle.wf_server.specs.declared.serve.TheConstants.{PIECE}
-use Rattle.line_reader.specs.Laws.Jobs.{start}
+use Rattle.line_reader.specs.Jobs.{start}
 use Rattle.wf_server.specs.Sessions.{Served}
 use Rattle.wf_board.specs.Laws.States.{opening_state}
 use Rattle.wf_board.specs.Laws.Histories.{AreRightful}

@@ -8,7 +8,7 @@ use Rattle.wf_outside.specs.Laws.Outside.{HasTaken, with_bytes}
 use Rattle.wf_outside.proofs.OutsideLaws.{nothing_taken, nothing_put}
 use Rattle.wf_talk.specs.declared.job.Job.{Job}
 use Rattle.line_reader.specs.declared.stop.Stop.TheVariants as stop
-use Rattle.line_reader.specs.Laws.Jobs.{Cut, start, jobs_from, last_or}
+use Rattle.line_reader.specs.Jobs.{Cut, start, jobs_from, last_or}
 use Rattle.line_reader.specs.Cutter.{after_handing, ends_after}
 use Rattle.line_reader.specs.Laws.{JobsAreInOrder, LeadTo}
 use Rattle.line_reader.specs.declared.batch_reader.Paused.{Paused}

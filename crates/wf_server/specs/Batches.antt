@@ -8,7 +8,7 @@ use Rattle.wf_outside.specs.Laws.Outside.{with_bytes}
 use Rattle.wf_talk.specs.declared.entry.Entry.{Entry}
 use Rattle.wf_talk.specs.declared.job.Job.{Job}
 use Rattle.line_reader.specs.Cutter.{ends_after}
-use Rattle.line_reader.specs.Laws.Jobs.{Cut, jobs_from}
+use Rattle.line_reader.specs.Jobs.{Cut, jobs_from}
 use Rattle.line_reader.specs.Laws.{AreInOrder}
 use Rattle.line_reader.specs.declared.stop.Stop.TheVariants as stop
 use Rattle.line_reader.specs.declared.batch_reader.Paused.{Paused}

@@ -1,6 +1,6 @@
 -- Inside: the session of a policy.
 use Rattle.policy_book.specs.Laws.Shapes.{PolicyShape}
-use Rattle.line_reader.specs.Laws.Jobs.{start}
+use Rattle.line_reader.specs.Jobs.{start}
 use Rattle.wf_board.specs.Laws.States.{opening_state}
 use Rattle.wf_board.specs.Laws.Histories.{AreRightful}
 use Rattle.entry_laws.specs.Laws.Fits.{FitLines}

@@ -5,7 +5,7 @@ use Rattle.std.proofs.Common.{◌⊎◌}
 use Rattle.wf_outside.specs.Laws.Outside.{HasPart, with_bytes}
 use Rattle.wf_talk.specs.declared.entry.Entry.{Entry}
 use Rattle.line_reader.specs.declared.stop.Stop.TheVariants as stop
-use Rattle.line_reader.specs.Laws.Jobs.{Cut, UpToAnEnd}
+use Rattle.line_reader.specs.Jobs.{Cut, UpToAnEnd}
 use Rattle.line_reader.specs.declared.batch_reader.Paused.{Paused}
 use Rattle.line_reader.specs.declared.batch_reader.Paused.TheVariants as paused
 use Rattle.line_reader.specs.BatchReader.{Handed, HasReadAll, StopsCutting, IsReadUp, ReadsBatch}

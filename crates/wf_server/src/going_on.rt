@@ -7,7 +7,7 @@ ghost use Rattle.run_record.specs.Laws.Run.{run_of, streams_of};
 ghost use Rattle.wf_board.specs.Laws.States.{opening_state};
 ghost use Rattle.wf_board.specs.Laws.Histories.{state_after};
 ghost use Rattle.entry_reader.specs.Named.{HasNames};
-ghost use Rattle.line_reader.specs.Laws.Jobs.{Cut, next_input};
+ghost use Rattle.line_reader.specs.Jobs.{Cut, next_input};
 ghost use Rattle.transcript_commands.specs.Resumed.{Session};
 ghost use Rattle.transcript_commands.specs.declared.start.TheConstants.{PIECE};
 ghost use Rattle.transcript_commands.specs.Laws.Begun.{HasBegun};

@@ -3,7 +3,7 @@ ghost use Rattle.std.specs.Prelude.{◌≡◌, ◌<◌, None};
 ghost use Rattle.wf_board.specs.Laws.States.{opening_state};
 ghost use Rattle.wf_board.specs.Laws.Histories.{AreAnsweredOnce, AreRightful, IsLegal};
 ghost use Rattle.wf_desk.specs.Desks.{IsSoundDesk};
-ghost use Rattle.line_reader.specs.Laws.Jobs.{Cut, start};
+ghost use Rattle.line_reader.specs.Jobs.{Cut, start};
 ghost use Rattle.line_reader.specs.BatchReader.{CanReadOn, GoesOnReading};
 ghost use Rattle.run_record.specs.Fault.{status_of};
 ghost use Rattle.run_record.specs.Report.{told_by};

@@ -1,6 +1,6 @@
 -- Names in the jobs behind what was cut before.
 use Rattle.std.specs.Prelude.{ℕ, Bool, List}
-use Rattle.line_reader.specs.Laws.Jobs.{Cut, jobs_from}
+use Rattle.line_reader.specs.Jobs.{Cut, jobs_from}
 use Rattle.line_reader.specs.Laws.{AreNamedJobs}
 
 -- whatever is read behind what was cut before, the jobs' names have a name's form, where those of

@@ -9,7 +9,7 @@ use Rattle.wf_board.specs.Laws.Histories.{FillsJobs, batch_start}
 use Rattle.wf_desk.specs.BatchLaws.{EndAt}
 use Rattle.wf_desk.specs.Desks.{AreOfLanes, jobs_told}
 use Rattle.line_reader.specs.Cutter.{ends_after}
-use Rattle.line_reader.specs.Laws.Jobs.{Cut, next_input, start_from}
+use Rattle.line_reader.specs.Jobs.{Cut, next_input, start_from}
 use Rattle.line_reader.specs.Laws.{AreInOrder, GoesOn}
 use Rattle.run_record.specs.declared.fault.RunFault.{RunFault}
 use Rattle.run_record.specs.declared.fault.RunFault.TheVariants.{Nothing, NoMemory}

@@ -7,7 +7,7 @@ use Rattle.wf_board.specs.Laws.States.{opening_state}
 use Rattle.wf_board.specs.Laws.Histories.{AreAnsweredOnce, AreRightful, state_after}
 use Rattle.entry_laws.specs.Laws.Fits.{FitLines}
 use Rattle.entry_laws.specs.Laws.Transcripts.{texts_of}
-use Rattle.line_reader.specs.Laws.Jobs.{Cut, next_input}
+use Rattle.line_reader.specs.Jobs.{Cut, next_input}
 use Rattle.run_record.specs.declared.fault.RunFault.{RunFault}
 use Rattle.run_record.specs.declared.fault.RunFault.TheVariants.{Found, Write, NoMemory}
 use Rattle.run_record.specs.Fault.{CountsWrites}

@@ -9,7 +9,7 @@ use Rattle.run_record.specs.declared.fault.RunFault.{RunFault}
 use Rattle.run_record.specs.declared.fault.RunFault.TheVariants.{Policy, Load, NoMemory}
 use Rattle.run_record.specs.declared.fault.RunFault.TheVariants.{FileTooLong}
 use Rattle.run_record.specs.Laws.Run.{Run, IsUntouched, IsOrderly, OverFile}
-use Rattle.line_reader.specs.Laws.Jobs.{start}
+use Rattle.line_reader.specs.Jobs.{start}
 use Rattle.wf_server.specs.declared.serve.TheConstants.{PIECE}
 use Rattle.wf_board.specs.Laws.States.{opening_state}
 use Rattle.wf_board.specs.Laws.Histories.{AreRightful}

@@ -1,5 +1,5 @@
 use Rattle.std.proofs.Common.{Result, Err, true, refl}
-use Rattle.line_reader.specs.Laws.Jobs.{jobs_of_input}
+use Rattle.line_reader.specs.Jobs.{jobs_of_input}
 use Rattle.run_record.specs.declared.fault.RunFault.TheVariants.{LineTooLong}
 use Rattle.transcript_commands.specs.declared.start.Beginning.{Beginning}
 use Rattle.transcript_commands.specs.declared.refusal.Refusal.{Refusal}

@@ -1,5 +1,5 @@
 use Rattle.std.proofs.Common.{true, subst}
-use Rattle.line_reader.specs.Laws.Jobs.{jobs_of_input}
+use Rattle.line_reader.specs.Jobs.{jobs_of_input}
 use Rattle.transcript_commands.specs.declared.start.TheConstants.{TRANSCRIPT_FILE_LIMIT}
 use Rattle.transcript_commands.specs.Laws.Begun.{BeginsBy, StopsBy, session_of}
 use Rattle.transcript_commands.specs.Load.{OverTranscript}

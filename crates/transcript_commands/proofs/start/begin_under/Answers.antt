@@ -4,7 +4,7 @@ use Rattle.run_record.specs.declared.fault.RunFault.{RunFault}
 use Rattle.transcript_commands.specs.declared.start.Beginning.{Beginning}
 use Rattle.transcript_commands.specs.declared.refusal.Refusal.{Refusal}
 use Rattle.transcript_commands.specs.declared.refusal.Refusal.TheVariants.{Ends}
-use Rattle.line_reader.specs.Laws.Jobs.{Cut, jobs_of_input}
+use Rattle.line_reader.specs.Jobs.{Cut, jobs_of_input}
 use Rattle.transcript_commands.specs.Laws.Begun.{BeginsBy, StopsBy, session_of}
 use Rattle.transcript_commands.specs.Load.{OverTranscriptFile}
 use Rattle.transcript_commands.proofs.Files.{limit_kept, limit_met, loads_refused, requests_fail, requests_there}

@@ -1,6 +1,6 @@
 use Rattle.std.proofs.Common.{◌<◌, refl, sym, ap, subst, ◌∙◌}
 use Rattle.line_reader.specs.BatchReader.{BatchReaderShape}
-use Rattle.line_reader.specs.Laws.Jobs.{next_input}
+use Rattle.line_reader.specs.Jobs.{next_input}
 use Rattle.run_record.specs.Fault.{status_of}
 use Rattle.run_record.specs.Report.{told_by}
 use Rattle.run_record.specs.Laws.Run.{streams_of}

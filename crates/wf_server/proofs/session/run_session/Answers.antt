@@ -7,7 +7,7 @@ use Rattle.wf_board.specs.Laws.Histories.{AreAnsweredOnce, AreRightful, IsLegal}
 use Rattle.wf_desk.specs.Desks.{DeskShape}
 use Rattle.wf_server.specs.Laws.Serving.{setting}
 use Rattle.line_reader.specs.BatchReader.{BatchReaderShape}
-use Rattle.line_reader.specs.Laws.Jobs.{start}
+use Rattle.line_reader.specs.Jobs.{start}
 use Rattle.wf_server.specs.Batches.{Serves}
 use Rattle.wf_server.specs.Sessions.{Setting}
 use Rattle.wf_server.specs.Ways.{setting_of}

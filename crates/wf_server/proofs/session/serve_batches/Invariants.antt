@@ -1,5 +1,5 @@
 use Rattle.std.proofs.Common.{◌≡◌}
-use Rattle.line_reader.specs.Laws.Jobs.{Cut}
+use Rattle.line_reader.specs.Jobs.{Cut}
 use Rattle.line_reader.specs.BatchReader.{CanReadOn, left_to_read}
 use Rattle.run_record.specs.Laws.Run.{Streams, streams_of}
 use Rattle.wf_server.specs.Batch.{IsServedOn}

@@ -1,7 +1,7 @@
 use Rattle.std.proofs.Common.{◌++◌, List, ℕ, take, sym, ap, subst, ◌∙◌}
 use Rattle.std.proofs.lemmas.List.{take-append-drop}
 use Rattle.line_reader.specs.Pieces.{PiecesShape}
-use Rattle.line_reader.specs.Laws.Jobs.{Cut}
+use Rattle.line_reader.specs.Jobs.{Cut}
 use Rattle.line_reader.specs.Cutter.{Cuts}
 use Rattle.line_reader.specs.BatchReader.{BatchReaderShape}
 use Rattle.line_reader.proofs.ReadingLaws.{cut_more}

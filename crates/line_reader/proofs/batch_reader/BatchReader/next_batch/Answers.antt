@@ -1,5 +1,5 @@
 use Rattle.std.proofs.Common.{◌∙◌, ap}
-use Rattle.line_reader.specs.Laws.Jobs.{Cut}
+use Rattle.line_reader.specs.Jobs.{Cut}
 use Rattle.line_reader.specs.Cutter.{emptied}
 use Rattle.line_reader.specs.BatchReader.{BatchReaderShape}
 use Rattle.line_reader.proofs.ReadingLaws.{closed_at, closed_on, closed_none, closed_batch, up_before, closed_counts}

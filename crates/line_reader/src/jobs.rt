@@ -2,7 +2,7 @@
 ghost use Rattle.std.specs.Prelude.{◌≡◌, ◌<◌, ◌≤◌, ◌+◌, ℕ, List, true, [], ◌++◌, length, take};
 ghost use Rattle.std.specs.Prelude.{None, IfOk, OnOk};
 ghost use Rattle.wf_names.specs.declared.limits.TheConstants.{SESSION_LINE_LIMIT};
-ghost use Rattle.line_reader.specs.Laws.Jobs.{jobs_of_input, next_input};
+ghost use Rattle.line_reader.specs.Jobs.{jobs_of_input, next_input};
 ghost use Rattle.line_reader.specs.Cutter.{ends_after};
 ghost use Rattle.line_reader.specs.Laws.{AreInOrder, AreNamedJobs};
 ghost use Rattle.line_reader.specs.Whole.{HasCutUp};

@@ -2,7 +2,7 @@ use Rattle.std.proofs.Common.{take, arith}
 use Rattle.std.proofs.lemmas.List.{length-take-le}
 use Rattle.std.proofs.lemmas.Grind.{common_steps}
 use Rattle.line_reader.proofs.CutUp.{cut_stopped, cut_rest, cut_to_end}
-use Rattle.line_reader.proofs.whole.cut_bytes.Goals as goal
+use Rattle.line_reader.proofs.jobs.cut_bytes.Goals as goal
 
 pub returns-then-is_some : goal.returns-then-is_some
 returns-then-is_some c lanes before =

@@ -1,7 +1,7 @@
 use Rattle.std.proofs.Common.{◌≤◌, ◌∙◌, subst, sym}
 use Rattle.wf_names.specs.declared.limits.TheConstants.{SESSION_LINE_LIMIT}
 use Rattle.line_reader.proofs.CutUp.{cut_none, few_lines, few_whole, whole_jobs, whole_ends, whole_lines, whole_stop, in_order, named}
-use Rattle.line_reader.proofs.whole.cut_text.Goals as goal
+use Rattle.line_reader.proofs.jobs.cut_text.Goals as goal
 
 pub cut_bytes-requires : goal.cut_bytes-requires
 cut_bytes-requires c = (

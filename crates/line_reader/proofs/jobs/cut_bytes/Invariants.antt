@@ -1,6 +1,6 @@
 use Rattle.std.proofs.Common.{ℕ, [], ◌≤◌, ◌-◌, length, take}
 use Rattle.line_reader.specs.Whole.{HasCutUp}
-use Rattle.line_reader.proofs.whole.cut_bytes.Given as goal
+use Rattle.line_reader.proofs.jobs.cut_bytes.Given as goal
 
 abbrev pub invariant-cutting : goal.invariant-cutting
 invariant-cutting l =

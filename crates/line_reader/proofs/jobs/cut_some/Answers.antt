@@ -1,6 +1,6 @@
 use Rattle.std.proofs.Common.{take, ◌++◌}
 use Rattle.line_reader.proofs.CutUp.{cut_more, cut_further, cut_batch, few_cut}
-use Rattle.line_reader.proofs.whole.cut_some.Goals as goal
+use Rattle.line_reader.proofs.jobs.cut_some.Goals as goal
 
 pub add_batch-requires : goal.add_batch-requires
 add_batch-requires c =
