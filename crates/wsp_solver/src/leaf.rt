@@ -7,7 +7,7 @@ ghost use Rattle.refutation_tree.specs.Tree.{holder, rule};
 ghost use Rattle.refutation_tree.specs.Laws.Views.{shape_of};
 ghost use Rattle.policy_book.specs.Laws.Plans.{IsWellFormed, IsWithin};
 ghost use Rattle.policy_book.specs.Course.{problem_in};
-ghost use Rattle.policy_book.specs.Laws.Refuting.{is_rule_naming, refutes};
+ghost use Rattle.policy_book.specs.Laws.Refuting.{is_broken, is_rule_naming, refutes};
 ghost use Rattle.policy_book.specs.Laws.Lean.{is_lean};
 ghost use Rattle.wsp_solver.specs.Crews.{IsCrewOf};
 ghost use Rattle.wsp_solver.specs.Searches.{AreMentioned, NamesSteps, IsRefutation, NoLeafRefutes};
@@ -16,6 +16,7 @@ ghost use Rattle.wsp_solver.specs.Searches.{NoLeafRefutesWithout};
 use crate::crew::Crew;
 use crate::steps::{steps_named, with_if};
 use certificate_check::check_tree;
+use constraint_forms::falsified;
 use policy_book::{Assign, Course, StepSet};
 use refutation_tree::Tree;
 use wf_names::{STEP_LIMIT, StepId};
@@ -39,7 +40,7 @@ pub(crate) fn refuting_leaf(course: &Course, a: &Assign, done: &StepSet) -> Opti
     if let Some(s) = first_misheld(course, a, done) {
         return Some(held_wrongly(s));
     }
-    match first_falsified(course, a, done) {
+    match first_falsified(course, a) {
         Some(k) => Some(falsified_rule(course, k)),
         None => None,
     }
@@ -120,19 +121,31 @@ fn first_misheld(course: &Course, a: &Assign, done: &StepSet) -> Option<StepId>
 }
 
 /// A rule that is falsified.
-fn first_falsified(course: &Course, a: &Assign, done: &StepSet) -> Option<u8>
-    requires within { IsWithin (problem_in course.now) a.now }
+fn first_falsified(course: &Course, a: &Assign) -> Option<u8>
     ensures formed { IsWellFormed (problem_in course.now) }
     ensures falsified { MatchOption result
-        ((k : ℕ) → refutes (problem_in course.now) a.now done.now (rule k) ≡ false)
-        (λ k. IsTrue (refutes (problem_in course.now) a.now done.now (rule k))) }
+        ((k : ℕ) → is_broken (problem_in course.now) a.now
+            (slice_get (problem_in course.now).rules k) ≡ false)
+        (λ k. IsTrue (is_broken (problem_in course.now) a.now
+            (slice_get (problem_in course.now).rules k))) }
 {
     'rules: for k in 0..course.rules().len() {
-        if check_tree(course.policy, course.number, a, done, &Tree::Rule(k as u8)) {
+        if is_falsified(course, a, k as u8) {
             return Some(k as u8);
         }
     }
     None
+}
+
+// Whether there is a rule of a number, and it is falsified.
+fn is_falsified(course: &Course, a: &Assign, k: u8) -> bool
+    ensures { result ≡ is_broken (problem_in course.now) a.now
+        (slice_get (problem_in course.now).rules k) }
+{
+    match course.rules().as_slice().get(k as usize) {
+        Some(rule) => falsified(rule, course.policy, a),
+        None => false,
+    }
 }
 
 /// The leaf of a rule that is falsified, if there is one, where only rules that name a step can be.
@@ -146,7 +159,6 @@ pub(crate) fn broken_rule(
     crew: &Crew,
 ) -> Option<Refutation>
     requires crew { IsCrewOf (problem_in course.now) crew.now }
-    requires within { IsWithin (problem_in course.now) a.now }
     requires others { NoLeafRefutesWithout (problem_in course.now) a.now done.now s }
     ensures { MatchOption result (NoLeafRefutes (problem_in course.now) a.now done.now)
         (IsRefutation (problem_in course.now) a.now done.now) }
@@ -159,16 +171,16 @@ pub(crate) fn broken_rule(
 
 // A rule that is falsified, where only rules that name a step can be. One is looked at first.
 fn falsified_with(course: &Course, a: &Assign, done: &StepSet, s: StepId, first: u8) -> Option<u8>
-    requires within { IsWithin (problem_in course.now) a.now }
-    requires others { NoLeafRefutesWithout (problem_in course.now) a.now done.now s }
+    requires { NoLeafRefutesWithout (problem_in course.now) a.now done.now s }
     ensures { MatchOption result (NoLeafRefutes (problem_in course.now) a.now done.now)
         (λ k. IsTrue (refutes (problem_in course.now) a.now done.now (rule k))) }
 {
-    if check_tree(course.policy, course.number, a, done, &Tree::Rule(first)) {
+    let _ = done;
+    if is_falsified(course, a, first) {
         return Some(first);
     }
     'rules: for k in 0..course.rules().len() {
-        if is_falsified_with(course, a, done, k as u8, s) {
+        if is_falsified_with(course, a, k as u8, s) {
             return Some(k as u8);
         }
     }
@@ -176,19 +188,12 @@ fn falsified_with(course: &Course, a: &Assign, done: &StepSet, s: StepId, first:
 }
 
 // Whether a rule names a step and is falsified.
-fn is_falsified_with(course: &Course, a: &Assign, done: &StepSet, k: u8, s: StepId) -> bool
-    requires within { IsWithin (problem_in course.now) a.now }
-    ensures { result ≡ (is_rule_naming s (slice_get (problem_in course.now).rules k) && refutes
-        (problem_in course.now) a.now done.now (rule k)) }
-{
-    names_step(course, k, s) && check_tree(course.policy, course.number, a, done, &Tree::Rule(k))
-}
-
-fn names_step(course: &Course, k: u8, s: StepId) -> bool
-    ensures { result ≡ is_rule_naming s (slice_get (problem_in course.now).rules k) }
+fn is_falsified_with(course: &Course, a: &Assign, k: u8, s: StepId) -> bool
+    ensures { result ≡ (is_rule_naming s (slice_get (problem_in course.now).rules k)
+        && is_broken (problem_in course.now) a.now (slice_get (problem_in course.now).rules k)) }
 {
     match course.rules().as_slice().get(k as usize) {
-        Some(rule) => rule.names(s),
+        Some(rule) => rule.names(s) && falsified(rule, course.policy, a),
         None => false,
     }
 }

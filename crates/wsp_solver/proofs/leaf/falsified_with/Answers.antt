@@ -18,5 +18,5 @@ rules-preserved c = λ j below. at j below (eqb_tells j c.rules.k)
 pub returns : goal.returns
 returns c =
     let known = c.len-k-end.ensures ∙ ap length c.rules-2.ensures.rules in
-    quiet_again (problem_in c.args.course.now) c.args.a.now c.args.done.now c.args.s c.requires.others
+    quiet_again (problem_in c.args.course.now) c.args.a.now c.args.done.now c.args.s c.requires
     (λ k below. c.rules.invariant k (omega (arith, below, known, c.rules-test.false)))
