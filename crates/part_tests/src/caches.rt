@@ -1,9 +1,9 @@
 //! What a caching decider leaves to the decider below it, and what it answers by itself, with ample
 //! memory.
 
-use crate::fixture::PAY;
 use case_views::{CachingDecider, PlainDecider, VerdictCache};
 use constraint_forms::Plan;
+use fixtures::PAY;
 use grant_table::Cases;
 use policy_book::Policy;
 use refutation_tree::Tree;

@@ -1,4 +1,4 @@
-//! Policies that several tests share, and the one place where a test reads a policy.
+//! The trio of clerks that several tests share, and the one place where a test reads a policy.
 
 use crate::{lines, rules, searches, trees, uncalled};
 use policy_book::Policy;
@@ -8,29 +8,6 @@ use wf_names::FlowId;
 
 /// The first workflow of a policy.
 pub(crate) const FLOW: FlowId = FlowId(0);
-
-/// A policy of four users, with one workflow of three steps, each by another user.
-pub(crate) const PAY: &str = r#"
-format = 1
-admin = "chief"
-roles = ["boss", "chief", "clerk"]
-
-[users]
-ann = ["clerk"]
-bob = ["clerk", "boss"]
-cyd = ["boss"]
-eve = ["chief"]
-
-[flows.pay]
-steps = ["prepare", "approve", "pay"]
-order = [["prepare", "approve"], ["approve", "pay"]]
-permit = { prepare = ["clerk"], approve = ["boss"], pay = ["clerk"] }
-rules = [
-  { form = "pair", relation = "other", first = "prepare", second = "approve" },
-  { form = "pair", relation = "other", first = "approve", second = "pay" },
-  { form = "pair", relation = "other", first = "prepare", second = "pay" },
-]
-"#;
 
 // Three clerks for three steps, of whom kim alone is mentor of somebody, of lee. Rules follow.
 const TRIO: &str = r#"

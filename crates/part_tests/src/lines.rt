@@ -1,8 +1,9 @@
 //! The lines of a transcript that are read fastest, of which no clause says that they are.
 ghost use Rattle.std.specs.Prelude.{Some};
 
-use crate::fixture::{Look, PAY, is_right};
+use crate::fixture::{Look, is_right};
 use entry_reader::{Place, TextFault, guess_place, read_plain, read_reply};
+use fixtures::PAY;
 use policy_book::Policy;
 use std::alloc::{AllocError, Global};
 use std::test::Fail;

@@ -1,10 +1,11 @@
 //! Calls that the program makes nowhere: that they succeed while there is memory.
 
-use crate::fixture::{FLOW, Look, PAY, is_right};
+use crate::fixture::{FLOW, Look, is_right};
 use admin_edits::{EditFault, apply, edit_cause};
 use basics::Log;
 use cnf_export::{Reading, model_of, plan_of};
 use constraint_forms::{Assign, Plan, StepSet};
+use fixtures::PAY;
 use policy_book::Policy;
 use std::alloc::{AllocError, Global};
 use std::test::Fail;

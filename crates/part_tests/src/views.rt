@@ -1,9 +1,10 @@
 //! The decisions over many open cases, by both deciders, of which one spreads the cases over
 //! threads, with ample memory.
 
-use crate::fixture::{FLOW, PAY};
+use crate::fixture::FLOW;
 use admin_edits::edit_cause;
 use case_views::{PlainDecider, SpreadDecider, what_if, worklist};
+use fixtures::PAY;
 use std::alloc::{AllocError, Global};
 use std::test::Fail;
 use std::thread::Threads;

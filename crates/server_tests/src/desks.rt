@@ -3,9 +3,9 @@ ghost use Rattle.std.specs.Prelude.{◌≡◌, [], IfOk, IsTrue};
 ghost use Rattle.wf_desk.specs.Desks.{AreOfLanes, IsDone};
 ghost use Rattle.wf_desk.specs.Schedules.{AreEventsOf};
 
-use crate::policies::{PAY, STAFFED};
 use crate::schedules::{ALL, CLAIMS, Kind, S0, S1, Schedule};
 use case_views::PlainDecider;
+use fixtures::{PAY, STAFFED};
 use line_reader::jobs_of;
 use std::alloc::{AllocError, Global};
 use std::test::Fail;

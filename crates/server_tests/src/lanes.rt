@@ -2,8 +2,7 @@
 //! other lanes, that what comes too late is answered again, that every line is answered, and that
 //! lines which threads make are those of one thread.
 
-use crate::outsides::{shelf_of, sink_of, source_of, words_of};
-use crate::policies::{PAY, STAFFED};
+use fixtures::{PAY, STAFFED, shelf_of, sink_of, source_of, words_of};
 use std::alloc::{AllocError, Global};
 use std::sync::Wait;
 use std::sync::atomic::{AtomicU64, Ordering};
@@ -435,6 +434,6 @@ fn report_over<R: Threads + Wait + Sync>(
     shelf: &mut MemShelf,
     sink: &mut MemSink,
 ) -> Result<Report, AllocError> {
-    let mut source = source_of(alloc, input)?;
+    let mut source = source_of(alloc, input.as_bytes())?;
     Ok(run(rt, alloc, words, gate, shelf, &mut source, sink))
 }

@@ -5,8 +5,6 @@
 mod desks;
 mod endings;
 mod lanes;
-mod outsides;
-mod policies;
 mod schedules;
 mod sessions;
 mod system;

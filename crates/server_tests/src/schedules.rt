@@ -1,6 +1,6 @@
 //! Turns of two lanes over the policy for payments, in a given order, and what comes of them.
 
-use crate::policies::{PAY, STAFFED};
+use fixtures::{PAY, STAFFED};
 use wf_desk::{Event, Mark};
 
 /// In lane 0 ann prepares a payment, which bob then claims to approve, twice; in lane 1 cyd takes

@@ -1,7 +1,7 @@
 //! Sessions up to the most cases that there may be, and up to the most that may be open: no job is
 //! answered with want of memory.
 
-use crate::outsides::{shelf_of, sink_of, source_of, words_of};
+use fixtures::{shelf_of, sink_of, source_of, words_of};
 use std::alloc::{AllocError, Global};
 use wf_outside::{MemShelf, MemSink, MemSource};
 use wf_server::{Report, run_alone};
@@ -96,7 +96,7 @@ fn is_served_from(
     shelf: &mut MemShelf,
     told: &Told,
 ) -> Result<bool, AllocError> {
-    let mut source = source_of(alloc, input)?;
+    let mut source = source_of(alloc, input.as_bytes())?;
     is_served_over(alloc, shelf, &mut source, told)
 }
 

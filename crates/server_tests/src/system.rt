@@ -1,7 +1,7 @@
 //! Runs over a reader and a writer in memory that move one byte at a time and fail: nothing is lost
 //! or added between them and the server.
 
-use crate::outsides::{shelf_of, words_of};
+use fixtures::{shelf_of, words_of};
 use std::alloc::{AllocError, Global};
 use std::io;
 use std::io::{BufWriter, ErrorKind, Read, Write};

@@ -159,12 +159,6 @@ fn size_of(row: &Value, key: &str) -> usize {
     number(of_outside(row, key)).unwrap_or(PIECE) as usize
 }
 
-/// A source of these bytes, which never fails.
-pub fn whole_source(alloc: Global, bytes: &[u8]) -> Result<MemSource, AllocError> {
-    let bytes = bytes.to_vec(alloc)?;
-    Ok(MemSource::new(bytes, PIECE as usize, Vec::new(alloc)))
-}
-
 /// The row's input.
 pub fn source_of(alloc: Global, row: &Value) -> Result<MemSource, AllocError> {
     let input = with_pieces(alloc, text(row.get("input")), list(row.get("more_input")))?;

@@ -1,8 +1,9 @@
 //! Serves whole sessions, and audits what was written.
 
-use crate::outside::{put_text, sink_of, whole_source, words_of};
+use crate::outside::{put_text, sink_of, words_of};
 use crate::row::{list, number, text};
 use crate::told::are_told;
+use fixtures::source_of;
 use std::alloc::{AllocError, Global};
 use toml::Value;
 use wf_outside::{MemShelf, MemSink, MemSource};
@@ -19,7 +20,7 @@ pub fn is_legal(alloc: Global, session: &Value) -> Result<bool, AllocError> {
 }
 
 fn is_served(alloc: Global, session: &Value, transcript: &mut MemSink) -> Result<bool, AllocError> {
-    let mut source = whole_source(alloc, text(session.get("requests")).as_bytes())?;
+    let mut source = source_of(alloc, text(session.get("requests")).as_bytes())?;
     let entries = entries_of(alloc, session, "serve", &mut source, transcript)?;
     Ok(entries.is_some() && entries == number(session.get("entries")))
 }
@@ -40,7 +41,7 @@ fn is_audited(
     transcript: &MemSink,
     said: &mut MemSink,
 ) -> Result<bool, AllocError> {
-    let mut source = whole_source(alloc, transcript.bytes())?;
+    let mut source = source_of(alloc, transcript.bytes())?;
     Ok(entries_of(alloc, session, "audit", &mut source, said)?.is_some())
 }
 

@@ -1,7 +1,8 @@
 //! What the program that tells in words says.
 
-use crate::outside::{whole_source, words_of};
+use crate::outside::words_of;
 use crate::row::{list, number, text};
+use fixtures::source_of;
 use std::alloc::{AllocError, Global};
 use tell_run::run_alone;
 use toml::Value;
@@ -77,7 +78,7 @@ fn tells(
     status: u64,
     wanted: Wanted<'_>,
 ) -> Result<bool, AllocError> {
-    let mut source = whole_source(alloc, &[])?;
+    let mut source = source_of(alloc, &[])?;
     tells_over(alloc, words, shelf, &mut source, status, wanted)
 }
 
