@@ -21,7 +21,8 @@ use Rattle.wf_board.specs.Laws.Found.{IsAllowed}
 use Rattle.wf_board.specs.Laws.Kept.{IsSoundState, KeepsCompletable}
 use Rattle.wf_board.proofs.Exact.{stranded_not}
 use Rattle.entry_laws.specs.Laws.{HasFewSteps, flows_of}
-use Rattle.entry_laws.proofs.Trees.{FitsTree, IsProblemOf, tree_fits}
+use Rattle.entry_reader.specs.Laws.Within.{IsTree}
+use Rattle.entry_laws.proofs.Trees.{FitsTree, IsProblemOf, tree_fits, tree_stands}
 use Rattle.entry_laws.proofs.Parts.{assigned_long, case_few, problem_fits}
 use Rattle.entry_laws.proofs.Numbers.{AreSerial, EachOf, IsOpenIn, open_found}
 
@@ -88,6 +89,17 @@ amended_problem p a f found sound known same =
     let names = changes_keep_names p a found in
     let of = problem_fits (amended p a) f sound (subst (λ n. f < n) (sym names.flows) known) in
     record { steps = ap length (names.steps f); users = ap length same; rules = of.rules }
+
+-- the tree of the case that an edit strands stands for something
+pub stranded_tree : (s : State) (a : Amendment) (n f : ℕ) (tree : Tree) → IsSoundState s → KeepsCompletable s → AreSerial s.book →
+    IsAllowed s.book.policy a → IsFirstStranded (amended s.book.policy a) (open_cases s.book.cases) n f tree → IsTree s.book.policy f (shape_of tree)
+stranded_tree s a n f tree sound kept are allowed is =
+    let p = s.book.policy in
+    let after = changes_keep_policies_sound p a sound.policy allowed.found allowed.allowed in
+    let it = find_stranded (amended p a) s.book.cases (open_cases s.book.cases) n f tree (open_found s.book are) is in
+    let pr = amended_problem p a it.case.flow allowed.found after (sound.cases n it.case it.found).flow (users_stay s a n f tree kept are after is) in
+    subst (λ g. IsTree p g (shape_of tree)) it.flow
+    (tree_stands p it.case.flow (problem_of (amended p a) it.case.flow) (assigned_of it.case) (finished_of it.case) (shape_of tree) pr it.refuted)
 
 pub stranded_fits : (s : State) (a : Amendment) (n f : ℕ) (tree : Tree) → IsSoundState s → KeepsCompletable s → HasFewSteps s.book.policy →
     AreSerial s.book → IsAllowed s.book.policy a

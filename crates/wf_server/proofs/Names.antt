@@ -1,34 +1,27 @@
 -- The entries of a legal history are written with the names of the policy after them all.
-use Rattle.std.proofs.Common.{◌≡◌, ℕ, ◌⊎◌, inl, inr, List, [], ◌∷◌, ◌++◌, length, refl, sym, ap, subst, ◌∙◌, append_assoc}
+use Rattle.std.proofs.Common.{◌≡◌, ℕ, ◌⊎◌, inl, inr, List, [], ◌∷◌, ◌++◌, refl, sym, ap, subst, ◌∙◌, append_assoc, arith}
 use Rattle.policy_book.specs.Laws.Shapes.{PolicyShape}
 use Rattle.wf_talk.specs.declared.entry.Entry.{Entry}
 use Rattle.wf_talk.specs.declared.request.Ask.{Ask}
 use Rattle.wf_talk.specs.declared.reply.Reply.{Reply}
 use Rattle.wf_talk.specs.declared.reply.Reply.TheVariants as reply
-use Rattle.admin_edits.specs.Laws.Keeping.{ChangesKeepNames, KeepsNames}
+use Rattle.admin_edits.specs.Laws.Keeping.{KeepsNames}
 use Rattle.wf_board.specs.Boards.{state_on}
 use Rattle.wf_board.specs.Laws.States.{State, opening_state}
-use Rattle.wf_board.specs.Decisions.{decision_of}
 use Rattle.wf_board.specs.Laws.Steps.{IsStep, state_after_step}
 use Rattle.wf_board.specs.Laws.Histories.{EachAfter, IsRightAfter, state_after}
 use Rattle.wf_board.proofs.HistoryLaws.{after_all, after_more, again_stays, each_later}
 use Rattle.wf_board.specs.Laws.Kept.{IsSoundState, KeepsCompletable}
-use Rattle.wf_board.specs.Laws.{StepsKeepCompletable}
+use Rattle.wf_board.proofs.Keeping.{step_keeps}
 use Rattle.wire_json.specs.Replies.{entry_text, reply_data}
 use Rattle.wire_json.proofs.Lines.{text_same}
 use Rattle.wf_desk.specs.Desks.{DeskShape, IsSoundDesk}
 use Rattle.entry_laws.specs.Laws.Transcripts.{transcript_text}
+use Rattle.entry_laws.proofs.Numbers.{AreSerial, step_serial}
 use Rattle.wf_server.specs.Batches.{entries_text}
-use Rattle.wf_server.specs.Names.{IsKeptState, KeepsTexts, TextsStay}
+use Rattle.wf_server.specs.Names.{KeepsTexts}
 use Rattle.wf_server.proofs.NamesKept.{keeps_same, keeps_then}
-use Rattle.wf_server.proofs.NamesTold.{IsToldAlike, decision_fares}
-use Rattle.wf_server.proofs.NamesStep.{AreMembersBelow, decided_members, decided_names, decided_text}
-
--- a state as the law goes over it
-record IsNamed (s : State) : Type 0 where
-  sound : IsSoundState s
-  kept : KeepsCompletable s
-  members : AreMembersBelow (length s.book.policy.roster.users) s.book.policy.roster.members
+use Rattle.wf_server.proofs.NamesStep.{IsNamed, step_names, step_text}
 
 -- a reply is a step, or it is answered again
 abbrev IsStepOrAgain : State → Ask → Reply → Type 0
@@ -57,21 +50,15 @@ record IsGoneOn (s : State) (what : Ask) (given : Reply) : Type 0 where
   names : KeepsNames s.book.policy (state_after_step s what given).book.policy
   text : (q : PolicyShape) → KeepsNames s.book.policy q → reply_data q given ≡ reply_data s.book.policy given
 
-goes_on : (s : State) (what : Ask) (given : Reply) → StepsKeepCompletable → ChangesKeepNames → IsNamed s → IsStepOrAgain s what given → IsGoneOn s what given
-goes_on s what given steps names is (inl step) =
-    let p = s.book.policy in
-    let fares = decision_fares s p what is.sound (keeps_same p p refl) in
-    let kept = steps s what given is.sound is.kept step in
+goes_on : (s : State) (what : Ask) (given : Reply) → IsNamed s → IsStepOrAgain s what given → IsGoneOn s what given
+goes_on s what given is (inl step) =
+    let kept = step_keeps s what given (is.sound, is.kept) step in
     record {
-      next = record {
-        sound = kept.0;
-        kept = kept.1;
-        members = decided_members s (decision_of s.book what) given (IsToldAlike p p) names fares is.members;
-      };
-      names = decided_names s (decision_of s.book what) given (IsToldAlike p p) names fares;
-      text = λ q keeps. decided_text s q (decision_of s.book what) given keeps is.members (decision_fares s q what is.sound keeps) step;
+      next = record { sound = kept.0; kept = kept.1; serial = step_serial s what given is.serial };
+      names = step_names s what given is.sound;
+      text = λ q keeps. step_text s q what given keeps is step;
     }
-goes_on s what given steps names is (inr again) =
+goes_on s what given is (inr again) =
     let same = again_stays s what given again.0 again.1.0 again.1.1 in
     record {
       next = subst IsNamed (sym same) is;
@@ -79,14 +66,14 @@ goes_on s what given steps names is (inr again) =
       text = λ q keeps. subst (λ x. reply_data q x ≡ reply_data s.book.policy x) (sym again.1.1) refl;
     }
 
-texts : (s : State) (es : List Entry) → StepsKeepCompletable → ChangesKeepNames → IsNamed s → AreSteps s es
+texts : (s : State) (es : List Entry) → IsNamed s → AreSteps s es
     → KeepsNames s.book.policy (state_after s es).book.policy × (transcript_text s es ≡ entries_text (state_after s es).book.policy es)
-texts s [] steps names is all = (keeps_same s.book.policy s.book.policy refl, refl)
-texts s (e ∷ es) steps names is all =
+texts s [] is all = (keeps_same s.book.policy s.book.policy refl, refl)
+texts s (e ∷ es) is all =
     let t = state_after_step s e.ask e.reply in
     let q = (state_after t es).book.policy in
-    let gone = goes_on s e.ask e.reply steps names is all.0 in
-    let rest = texts t es steps names gone.next all.1 in
+    let gone = goes_on s e.ask e.reply is all.0 in
+    let rest = texts t es gone.next all.1 in
     let keeps = keeps_then s.book.policy t.book.policy q gone.names rest.0 in
     let here : entry_text t.book.policy e ≡ entry_text q e =
     sym (text_same t.book.policy q e (gone.text q keeps ∙ sym (gone.text t.book.policy gone.names))) in (
@@ -94,21 +81,22 @@ texts s (e ∷ es) steps names is all =
       ap (λ x. x ++ transcript_text t es) here ∙ ap (λ x. entry_text q e ++ x) rest.1,
     )
 
-pub texts_stay : StepsKeepCompletable → ChangesKeepNames → TextsStay
-texts_stay steps names start rounds earlier more kept legal =
-    let s = state_after start earlier in
-    let is : IsNamed s = record {
-      sound = kept.sound;
-      kept = kept.kept;
-      members = record { each = λ u r has. (kept.roster.members.each u r has).0 };
-    } in
-    let all = all_steps start rounds earlier more (each_later (IsRightAfter start rounds) [] earlier more legal) in
-    (texts s more steps names is all).1 ∙ ap (λ (t : State). entries_text t.book.policy more) (sym (after_all start earlier more))
+serial_after : (s : State) (es : List Entry) → AreSerial s.book → AreSerial (state_after s es).book
+serial_after s [] are = are
+serial_after s (e ∷ es) are = serial_after (state_after_step s e.ask e.reply) es (step_serial s e.ask e.reply are)
 
--- so are those behind the entries of a desk
-pub desk_texts : (d : DeskShape) → StepsKeepCompletable → ChangesKeepNames → IsSoundDesk d → IsKeptState (state_on d.board) → KeepsTexts d
-desk_texts d steps names sound kept more legal =
-    texts_stay steps names (opening_state d.opening) d.rounds d.entries more (subst IsKeptState sound.state kept) legal
+-- of those behind the entries of a desk
+pub desk_texts : (d : DeskShape) → IsSoundDesk d → IsSoundState (state_on d.board) → KeepsCompletable (state_on d.board) → KeepsTexts d
+desk_texts d sound state kept more legal =
+    let start = opening_state d.opening in
+    let s = state_after start d.entries in
+    let all = all_steps start d.rounds d.entries more (each_later (IsRightAfter start d.rounds) [] d.entries more legal) in
+    (texts s more (record {
+      sound = subst IsSoundState sound.state state;
+      kept = subst KeepsCompletable sound.state kept;
+      serial = serial_after start d.entries (record { numbers = tt; ever = refl; within = omega arith });
+    }) all).1
+    ∙ ap (λ (t : State). entries_text t.book.policy more) (sym (after_all start d.entries more))
 
 -- ---- parts
 

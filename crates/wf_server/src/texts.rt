@@ -4,9 +4,7 @@ ghost use Rattle.wf_board.specs.Laws.Histories.{state_after};
 ghost use Rattle.entry_reader.specs.Named.{HasNames};
 ghost use Rattle.wf_server.specs.Names.{KeepsTexts};
 
-use admin_edits::laws::changes_keep_names;
 use entry_reader::know_names;
-use wf_board::laws::steps_keep_completable;
 use wf_desk::Desk;
 
 /// The entries of a batch, each written with the names of the policy after it, are written as with
@@ -14,9 +12,7 @@ use wf_desk::Desk;
 pub(crate) fn texts_stay(desk: &Desk)
     ensures { KeepsTexts desk.now }
 {
-    steps_keep_completable();
-    changes_keep_names();
-    let _users = desk.board().policy().roster().users();
+    let _ = desk.board().policy();
 }
 
 /// The names of the policy at a desk have a name's form. Does nothing.
