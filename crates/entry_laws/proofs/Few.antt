@@ -26,11 +26,12 @@ use Rattle.wf_board.specs.Laws.Steps.{Answers, IsReplyTo, IsStep, state_after_de
 use Rattle.wf_board.specs.Views.{AreStranded, AreThose, IsWorkOf, item_of, steps_from, steps_of}
 use Rattle.wf_board.proofs.Faring.{Fares}
 use Rattle.wf_board.proofs.Told.{HoldsOf}
+use Rattle.entry_laws.specs.Laws.{flows_of}
 use Rattle.entry_laws.proofs.Numbers.{EachOf, HasRoom, IsOpenIn, decided_room, open_found}
 use Rattle.entry_laws.proofs.Parts.{case_few}
 use Rattle.entry_laws.proofs.Replies.{IsReached}
-use Rattle.entry_laws.proofs.Roles.{decision_decides}
-use Rattle.entry_laws.proofs.Short.{HasFewRoles, ListsFew}
+use Rattle.entry_laws.proofs.Told.{FitsDenial, IsDeedFor, concern, decision_fares}
+use Rattle.entry_laws.proofs.Short.{ListsFew}
 
 -- no more cases are open than the limit
 abbrev pub HasFewOpen : State → Type 0
@@ -159,12 +160,12 @@ deed_few s (deed.WhatIf a) (reply.WhatIf numbers) reached few is = stranded_few 
 deed_few s (deed.TurnAway b) (reply.Bad given) reached few is = tt
 deed_few s given answer reached few is = absurd is
 
-decided_few : (s : State) (r : Result Deed Denial) (answer : Reply) → IsReached s → HasFewOpen s → Fares (λ _. Unit {0}) HasFewRoles r →
-    Answers s r answer → ListsFew answer
-decided_few s (Ok given) answer reached few fares is = deed_few s given answer reached few is
-decided_few s (Err d) answer reached few fares (inl denied) = subst ListsFew (sym denied) fares
-decided_few s (Err d) answer reached few fares (inr short) = subst ListsFew (sym short) tt
+decided_few : (s : State) (what : Ask) (r : Result Deed Denial) (answer : Reply) → IsReached s → HasFewOpen s →
+    Fares (IsDeedFor s what) (FitsDenial s.book.policy (flows_of s) (concern s what)) r → Answers s r answer → ListsFew answer
+decided_few s what (Ok given) answer reached few fares is = deed_few s given answer reached few is
+decided_few s what (Err d) answer reached few fares (inl denied) = subst ListsFew (sym denied) fares.2
+decided_few s what (Err d) answer reached few fares (inr short) = subst ListsFew (sym short) tt
 
 -- the reply of a step lists few
 pub step_few : (s : State) (what : Ask) (answer : Reply) → IsReached s → HasFewOpen s → IsStep s what answer → ListsFew answer
-step_few s what answer reached few step = decided_few s (decision_of s.book what) answer reached few (decision_decides s.book what reached.sound.policy) step
+step_few s what answer reached few step = decided_few s what (decision_of s.book what) answer reached few (decision_fares s what reached.sound) step

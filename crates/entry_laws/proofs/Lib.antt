@@ -10,6 +10,5 @@ pub mod Listed
 pub mod Long
 pub mod Names
 pub mod Short
-pub mod Roles
 pub mod Few
 pub mod Fitting

@@ -6,7 +6,7 @@ use Rattle.std.specs.FinSet as set
 use Rattle.std.proofs.lemmas.List.{length-append, length-map, length-replicate, length-set}
 use Rattle.serde_json.specs.Data.{depth, items_depth}
 use Rattle.serde_json.specs.View.{items_of}
-use Rattle.wf_names.specs.declared.limits.TheConstants.{STEP_LIMIT}
+use Rattle.wf_names.specs.declared.limits.TheConstants.{ROLE_LIMIT, STEP_LIMIT}
 use Rattle.wf_names.specs.Padded.{padded}
 use Rattle.wf_names.specs.States.{user_of}
 use Rattle.wf_names.specs.declared.states.StepState.{StepState}
@@ -21,6 +21,7 @@ use Rattle.policy_book.specs.Laws.Shapes.{PolicyShape}
 use Rattle.policy_book.specs.Laws.Facts.{IsSoundPolicy}
 use Rattle.policy_book.specs.Policies.{flow_at, problem_of}
 use Rattle.policy_book.specs.Laws.Plans.{IsValidPlan, Problem}
+use Rattle.policy_book.specs.Laws.Refuting.{passing}
 use Rattle.certificate_check.proofs.Assigned.{none_not_some, same_some}
 use Rattle.case_record.specs.Cases.{CaseShape, assigned_of, state_at}
 use Rattle.case_record.specs.Steps.{all_steps}
@@ -28,11 +29,12 @@ use Rattle.case_record.specs.Order.{first_missing_from}
 use Rattle.admin_edits.specs.ClaimCauses.{assigned_with, first_falsified, permitted_roles}
 use Rattle.wf_talk.specs.declared.request.Bad.{Bad}
 use Rattle.wf_talk.specs.declared.request.Bad.TheVariants as bad
+use Rattle.wf_talk.specs.Jobs.{IsNamedBad}
 use Rattle.wf_board.specs.Laws.Kept.{IsOfPolicy}
 use Rattle.wf_board.proofs.Below.{AllBelow, passing_all, planned_below}
 use Rattle.wf_board.proofs.Within.{user_known}
 use Rattle.wire_json.specs.Entries.{bad_data, phase_data, seen_data, state_data}
-use Rattle.entry_reader.specs.Laws.Within.{IsPlan, IsRole, IsState}
+use Rattle.entry_reader.specs.Laws.Within.{IsBad, IsPlan, IsRole, IsState}
 use Rattle.entry_laws.specs.Laws.{HasFewSteps}
 use Rattle.entry_laws.proofs.Trees.{IsProblemOf}
 
@@ -122,6 +124,14 @@ phase_flat Live = refl
 phase_flat Done = refl
 phase_flat Withdrawn = refl
 
+pub bad_stands : (b : Bad) → IsNamedBad b → IsBad b
+bad_stands bad.Syntax named = tt
+bad_stands bad.Object named = tt
+bad_stands bad.Do named = tt
+bad_stands bad.Lane named = tt
+bad_stands (bad.Key key) named = named
+bad_stands bad.Extra named = tt
+
 pub bad_nests : (b : Bad) → depth (bad_data b) ≤ 1
 bad_nests bad.Syntax = omega arith
 bad_nests bad.Object = omega arith
@@ -136,6 +146,18 @@ pub roles_stand : (p : PolicyShape) (f s : ℕ) → All (IsRole p) (permitted_ro
 roles_stand p f s =
     all_from (length p.roster.roles) (permitted_roles p f s)
     (passing_all (length p.roster.roles) (λ r. set.contains (flow_at p f).flow.permits (r, s)) 0 (length p.roster.roles) (omega arith))
+
+passing_few : (test : ℕ → Bool) (k count : ℕ) → length (passing test k count) ≤ count
+passing_few test k zero = omega arith
+passing_few test k (suc count) = by_test (test k) (passing_few test (k + 1) count)
+  where
+    by_test : (b : Bool) → length (passing test (k + 1) count) ≤ count →
+        length (if b then k ∷ passing test (k + 1) count else passing test (k + 1) count) ≤ suc count
+    by_test true rest = omega (arith, rest)
+    by_test false rest = omega (arith, rest)
+
+pub roles_few : (p : PolicyShape) (f t : ℕ) → IsSoundPolicy p → length (permitted_roles p f t) ≤ ROLE_LIMIT
+roles_few p f t sound = let all = sound.roles in omega (arith, all, passing_few (λ r. set.contains (flow_at p f).flow.permits (r, t)) 0 (length p.roster.roles))
 
 -- a first number: this one, or one of a rest
 first_below : (b : Bool) (k n v : ℕ) (o : Option ℕ) → k < n → (o ≡ Some v → v < n) → (if b then Some k else o) ≡ Some v → v < n

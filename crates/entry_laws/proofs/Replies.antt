@@ -42,7 +42,7 @@ use Rattle.entry_laws.proofs.Parts.{bad_nests, case_few, case_stands, given_long
 use Rattle.entry_laws.proofs.Listed.{numbers_flat, stranded_stand, work_nests, work_stands}
 use Rattle.entry_laws.proofs.Numbers.{AreSerial}
 use Rattle.entry_laws.proofs.Stranded.{stranded_fits}
-use Rattle.entry_laws.proofs.Told.{FitsDenial, IsDeedFor, IsOn, decision_fares}
+use Rattle.entry_laws.proofs.Told.{FitsDenial, IsDeedFor, IsOn, concern, decision_fares}
 
 -- what is known of a state that a session reaches
 pub record IsReached (s : State) : Type 0 where
@@ -140,43 +140,49 @@ what_if_fits s o pol numbers reached is =
 bad_fits : (s : State) (o : Option ℕ) (b : Bad) → IsBad b → FitsReply s.book.policy (flows_of s) o (reply.Bad b)
 bad_fits s o b is = (is, let nests = bad_nests b in omega (arith, nests))
 
-deed_fits : (s : State) (o : Option ℕ) (given : Deed) (answer : Reply) → s.edits + 1 < 2 ^ 32 → IsReached s → IsTold s.book given → IsDeedFor s o given →
-    IsReplyTo s given answer
-    → FitsReply s.book.policy (flows_of s) o answer
-deed_fits s o given reply.NoMemory edits reached known of is = (tt, omega arith)
-deed_fits s o (deed.Open f) (reply.Opened n plan) edits reached known of is = opened_fits s o f n plan reached of.1 is.0 is.1
-deed_fits s o (deed.Open f) (reply.Denied (denial.Unsatisfiable g tree)) edits reached known of is =
-    subst (λ x. FitsReply s.book.policy (flows_of s) o (reply.Denied (denial.Unsatisfiable x tree))) (sym is.0) (unsatisfiable_fits s o f tree reached of is.1)
-deed_fits s o (deed.Claim n c t u) (reply.Granted plan) edits reached known of is = granted_fits s o c (assigned_with c t u) (finished_of c) plan reached of is
-deed_fits s o (deed.Claim n c t u) (reply.Denied (denial.Stranded g tree)) edits reached known of is =
-    subst (λ x. FitsReply s.book.policy (flows_of s) o (reply.Denied (denial.Stranded x tree))) (sym is.0) (stranding_fits s o c t u tree reached of is.1)
-deed_fits s o (deed.Finish n c t u) (reply.Finished done) edits reached known of is = (tt, omega arith)
-deed_fits s o (deed.GiveBack n c t u) reply.Returned edits reached known of is = (tt, omega arith)
-deed_fits s o (deed.Release n c t) reply.Released edits reached known of is = (tt, omega arith)
-deed_fits s o (deed.Withdraw n) reply.Withdrawn edits reached known of is = (tt, omega arith)
-deed_fits s o (deed.Change a) (reply.Edited n) edits reached known of is = let next = is.0 in (omega (arith, next, edits), omega arith)
-deed_fits s o (deed.Change a) (reply.Denied (denial.Strands n f tree)) edits reached known of is =
-    edit_fits s o a n f tree reached (known.0 reached.sound.policy) is
-deed_fits s o (deed.Show c) (reply.Shown face) edits reached known of is =
-    subst (λ (x : Face). FitsReply s.book.policy (flows_of s) o (reply.Shown x)) (sym is) (face_fits s o c reached of)
-deed_fits s o (deed.Work u) (reply.Work items) edits reached known of is = work_fits s o u items reached is
-deed_fits s o (deed.WhatIf a) (reply.WhatIf numbers) edits reached known of is = what_if_fits s o (amended s.book.policy a) numbers reached is
-deed_fits s o (deed.TurnAway b) (reply.Bad given) edits reached known of is =
-    subst (λ (x : Bad). FitsReply s.book.policy (flows_of s) o (reply.Bad x)) (sym is) (bad_fits s o b of)
-deed_fits s o given answer edits reached known of is = absurd is
+deed_fits : (s : State) (what : Ask) (given : Deed) (answer : Reply) → s.edits + 1 < 2 ^ 32 → IsReached s → IsTold s.book given → IsNamedAsk what →
+    IsDeedFor s what given → IsReplyTo s given answer → FitsReply s.book.policy (flows_of s) (concern s what) answer
+deed_fits s what given reply.NoMemory edits reached known named of is = (tt, omega arith)
+deed_fits s what (deed.Open f) (reply.Opened n plan) edits reached known named of is = opened_fits s (concern s what) f n plan reached of.1 is.0 is.1
+deed_fits s what (deed.Open f) (reply.Denied (denial.Unsatisfiable g tree)) edits reached known named of is =
+    subst (λ x. FitsReply s.book.policy (flows_of s) (concern s what) (reply.Denied (denial.Unsatisfiable x tree))) (sym is.0)
+    (unsatisfiable_fits s (concern s what) f tree reached of is.1)
+deed_fits s what (deed.Claim n c t u) (reply.Granted plan) edits reached known named of is =
+    granted_fits s (concern s what) c (assigned_with c t u) (finished_of c) plan reached of is
+deed_fits s what (deed.Claim n c t u) (reply.Denied (denial.Stranded g tree)) edits reached known named of is =
+    subst (λ x. FitsReply s.book.policy (flows_of s) (concern s what) (reply.Denied (denial.Stranded x tree))) (sym is.0)
+    (stranding_fits s (concern s what) c t u tree reached of is.1)
+deed_fits s what (deed.Finish n c t u) (reply.Finished done) edits reached known named of is = (tt, omega arith)
+deed_fits s what (deed.GiveBack n c t u) reply.Returned edits reached known named of is = (tt, omega arith)
+deed_fits s what (deed.Release n c t) reply.Released edits reached known named of is = (tt, omega arith)
+deed_fits s what (deed.Withdraw n) reply.Withdrawn edits reached known named of is = (tt, omega arith)
+deed_fits s what (deed.Change a) (reply.Edited n) edits reached known named of is = let next = is.0 in (omega (arith, next, edits), omega arith)
+deed_fits s what (deed.Change a) (reply.Denied (denial.Strands n f tree)) edits reached known named of is =
+    edit_fits s (concern s what) a n f tree reached (known.0 reached.sound.policy) is
+deed_fits s what (deed.Show c) (reply.Shown face) edits reached known named of is =
+    subst (λ (x : Face). FitsReply s.book.policy (flows_of s) (concern s what) (reply.Shown x)) (sym is) (face_fits s (concern s what) c reached of)
+deed_fits s what (deed.Work u) (reply.Work items) edits reached known named of is = work_fits s (concern s what) u items reached is
+deed_fits s what (deed.WhatIf a) (reply.WhatIf numbers) edits reached known named of is =
+    what_if_fits s (concern s what) (amended s.book.policy a) numbers reached is
+deed_fits s what (deed.TurnAway b) (reply.Bad given) edits reached known named of is =
+    subst (λ (x : Bad). FitsReply s.book.policy (flows_of s) (concern s what) (reply.Bad x)) (sym is)
+    (bad_fits s (concern s what) b (bad_stands b (subst IsNamedAsk of named)))
+deed_fits s what given answer edits reached known named of is = absurd is
 
 denied_fits : (s : State) (o : Option ℕ) (d : Denial) → FitsDenial s.book.policy (flows_of s) o d → FitsReply s.book.policy (flows_of s) o (reply.Denied d)
 denied_fits s o d of = (of.0, let nests = of.1 in omega (arith, nests))
 
-decided_fits : (s : State) (o : Option ℕ) (r : Result Deed Denial) (answer : Reply) → s.edits + 1 < 2 ^ 32 → IsReached s → HoldsOf (IsTold s.book) r
-    → Fares (IsDeedFor s o) (FitsDenial s.book.policy (flows_of s) o) r → Answers s r answer → FitsReply s.book.policy (flows_of s) o answer
-decided_fits s o (Ok given) answer edits reached known of is = deed_fits s o given answer edits reached known of is
-decided_fits s o (Err d) answer edits reached known of (inl denied) = subst (FitsReply s.book.policy (flows_of s) o) (sym denied) (denied_fits s o d of)
-decided_fits s o (Err d) answer edits reached known of (inr short) = subst (FitsReply s.book.policy (flows_of s) o) (sym short) (tt, omega arith)
+decided_fits : (s : State) (what : Ask) (r : Result Deed Denial) (answer : Reply) → s.edits + 1 < 2 ^ 32 → IsReached s → HoldsOf (IsTold s.book) r
+    → IsNamedAsk what → Fares (IsDeedFor s what) (FitsDenial s.book.policy (flows_of s) (concern s what)) r → Answers s r answer →
+    FitsReply s.book.policy (flows_of s) (concern s what) answer
+decided_fits s what (Ok given) answer edits reached known named of is = deed_fits s what given answer edits reached known named of is
+decided_fits s what (Err d) answer edits reached known named of (inl denied) =
+    subst (FitsReply s.book.policy (flows_of s) (concern s what)) (sym denied) (denied_fits s (concern s what) d of)
+decided_fits s what (Err d) answer edits reached known named of (inr short) =
+    subst (FitsReply s.book.policy (flows_of s) (concern s what)) (sym short) (tt, omega arith)
 
 -- the reply of a step fits
 pub step_fits : (s : State) (what : Ask) (answer : Reply) → s.edits + 1 < 2 ^ 32 → IsReached s → IsNamedAsk what → IsStep s what answer
-    → FitsReply s.book.policy (flows_of s) (concerned s.book.policy (flows_of s) what) answer
+    → FitsReply s.book.policy (flows_of s) (concern s what) answer
 step_fits s what answer edits reached named step =
-    decided_fits s (concerned s.book.policy (flows_of s) what) (decision_of s.book what) answer edits reached (told s.book what)
-    (decision_fares s what reached.sound named) step
+    decided_fits s what (decision_of s.book what) answer edits reached (told s.book what) named (decision_fares s what reached.sound) step

@@ -1,4 +1,4 @@
--- What is decided on in a state: a deed of what is asked, or a denial that stands for something and nests little.
+-- What is decided on in a state: a deed of what is asked, or a denial that stands for something, nests little and lists few roles.
 use Rattle.std.proofs.Common.{◌≡◌, ℕ, ◌<◌, ◌≤◌, List, length, Option, None, Some, Result, Ok, Err, sym, ap, subst, arith}
 use Rattle.std.specs.Option.{option_map}
 use Rattle.serde_json.specs.Data.{depth}
@@ -14,11 +14,8 @@ use Rattle.wf_talk.specs.declared.edit.Missing.TheVariants as missing
 use Rattle.wf_talk.specs.declared.request.Request.TheVariants as request
 use Rattle.wf_talk.specs.declared.request.Ask.{Ask}
 use Rattle.wf_talk.specs.declared.request.Ask.TheVariants as ask
-use Rattle.wf_talk.specs.declared.request.Bad.{Bad}
-use Rattle.wf_talk.specs.declared.request.Bad.TheVariants as bad
 use Rattle.wf_talk.specs.declared.reply.Denial.{Denial}
 use Rattle.wf_talk.specs.declared.reply.Denial.TheVariants as denial
-use Rattle.wf_talk.specs.Jobs.{IsNamedAsk, IsNamedBad}
 use Rattle.admin_edits.specs.ClaimCauses.{assigned_with, first_cause, first_falsified, permitted_roles}
 use Rattle.admin_edits.specs.declared.amendment.Amendment.{Amendment}
 use Rattle.admin_edits.specs.declared.fault.EditCause.{EditCause}
@@ -34,35 +31,37 @@ use Rattle.wf_board.proofs.Told.{place_within}
 use Rattle.wf_board.proofs.Faring.{Fares, IsCauseSo, check_fares, four_so, map_so, or_fares, then_fares, unless_fares, unless_so}
 use Rattle.wf_board.proofs.Within.{user_known}
 use Rattle.wire_json.specs.Replies.{denial_data}
-use Rattle.entry_reader.specs.Laws.Within.{IsBad, IsDenial}
+use Rattle.entry_reader.specs.Laws.Within.{IsDenial}
 use Rattle.entry_reader.specs.Laws.Lines.{concerned}
 use Rattle.entry_reader.proofs.PlainLines.{names_flat}
 use Rattle.entry_laws.specs.Laws.{flows_of}
-use Rattle.entry_laws.proofs.Parts.{falsified_there, missing_there, roles_stand, state_nests, step_stands}
+use Rattle.entry_laws.proofs.Parts.{falsified_there, missing_there, roles_few, roles_stand, state_nests, step_stands}
+use Rattle.entry_laws.proofs.Short.{HasFewRoles}
 
 -- ---- what is known
 
--- a denial stands for something, and nests little
+-- a denial stands for something, nests little, and lists no more roles than there can be
 abbrev pub FitsDenial : PolicyShape → (ℕ → Option ℕ) → Option ℕ → Denial → Type 0
-FitsDenial p flows o d = IsDenial p flows o d × (depth (denial_data p d) ≤ 80)
+FitsDenial p flows o d = IsDenial p flows o d × (depth (denial_data p d) ≤ 80) × HasFewRoles d
 
 -- a case of the policy, whose workflow is concerned
 abbrev pub IsOn : State → Option ℕ → CaseShape → Type 0
 IsOn s o c = (o ≡ Some c.flow) × IsOfPolicy s.book.policy c
 
+-- the workflow that is concerned
+abbrev pub concern : State → Ask → Option ℕ
+concern s what = concerned s.book.policy (flows_of s) what
+
 -- what a deed names is of what is concerned
-abbrev pub IsDeedFor : State → Option ℕ → Deed → Type 0
-IsDeedFor s o (deed.Open f) = (o ≡ Some f) × (f < length s.book.policy.flow_names)
-IsDeedFor s o (deed.Claim n c t u) = IsOn s o c
-IsDeedFor s o (deed.Finish n c t u) = IsOn s o c
-IsDeedFor s o (deed.GiveBack n c t u) = IsOn s o c
-IsDeedFor s o (deed.Release n c t) = IsOn s o c
-IsDeedFor s o (deed.Withdraw n) = Unit {0}
-IsDeedFor s o (deed.Change a) = Unit {0}
-IsDeedFor s o (deed.Show c) = IsOfPolicy s.book.policy c
-IsDeedFor s o (deed.Work u) = Unit {0}
-IsDeedFor s o (deed.WhatIf a) = Unit {0}
-IsDeedFor s o (deed.TurnAway b) = IsBad b
+abbrev pub IsDeedFor : State → Ask → Deed → Type 0
+IsDeedFor s what (deed.Open f) = (concern s what ≡ Some f) × (f < length s.book.policy.flow_names)
+IsDeedFor s what (deed.Claim n c t u) = IsOn s (concern s what) c
+IsDeedFor s what (deed.Finish n c t u) = IsOn s (concern s what) c
+IsDeedFor s what (deed.GiveBack n c t u) = IsOn s (concern s what) c
+IsDeedFor s what (deed.Release n c t) = IsOn s (concern s what) c
+IsDeedFor s what (deed.Show c) = IsOfPolicy s.book.policy c
+IsDeedFor s what (deed.TurnAway b) = what ≡ ask.Bad b
+IsDeedFor s what given = Unit {0}
 
 -- a denial of what concerns this workflow
 abbrev Fits : State → Option ℕ → Denial → Type 0
@@ -76,18 +75,18 @@ unknown_nests p missing.User = omega arith
 unknown_nests p missing.Role = omega arith
 
 fault_fits : (p : PolicyShape) (flows : ℕ → Option ℕ) (o : Option ℕ) (why : EditCause) → FitsDenial p flows o (edit_denial why)
-fault_fits p flows o fault.NotAdmin = (tt, omega arith)
-fault_fits p flows o (fault.Unknown what) = (tt, unknown_nests p what)
-fault_fits p flows o fault.Fixed = (tt, omega arith)
-fault_fits p flows o fault.Already = (tt, omega arith)
-fault_fits p flows o fault.Absent = (tt, omega arith)
-fault_fits p flows o fault.Full = (tt, omega arith)
-fault_fits p flows o fault.LastAdmin = (tt, omega arith)
+fault_fits p flows o fault.NotAdmin = (tt, omega arith, tt)
+fault_fits p flows o (fault.Unknown what) = (tt, unknown_nests p what, tt)
+fault_fits p flows o fault.Fixed = (tt, omega arith, tt)
+fault_fits p flows o fault.Already = (tt, omega arith, tt)
+fault_fits p flows o fault.Absent = (tt, omega arith, tt)
+fault_fits p flows o fault.Full = (tt, omega arith, tt)
+fault_fits p flows o fault.LastAdmin = (tt, omega arith, tt)
 
-edit_fares : (s : State) (o : Option ℕ) (make : Amendment → Deed) (r : Result Amendment EditCause) → ((a : Amendment) → IsDeedFor s o (make a))
-    → Fares (IsDeedFor s o) (Fits s o) (on_edit make r)
-edit_fares s o make (Ok a) made = made a
-edit_fares s o make (Err why) made = fault_fits s.book.policy (flows_of s) o why
+edit_fares : (s : State) (what : Ask) (make : Amendment → Deed) (r : Result Amendment EditCause) → ((a : Amendment) → IsDeedFor s what (make a))
+    → Fares (IsDeedFor s what) (Fits s (concern s what)) (on_edit make r)
+edit_fares s what make (Ok a) made = made a
+edit_fares s what make (Err why) made = fault_fits s.book.policy (flows_of s) (concern s what) why
 
 -- ---- what a line asks
 
@@ -95,82 +94,78 @@ case_fares : (s : State) (n : ℕ) → IsSoundState s → Fares (IsOn s (flows_o
 case_fares s n sound =
     let Q = Fits s (flows_of s n) in
     then_fares (λ c. numbered_case s.book.cases n ≡ Some c) (IsOn s (flows_of s n)) Q (or_fault (numbered_case s.book.cases n) denial.NoCase) _
-    (or_fares Q (numbered_case s.book.cases n) denial.NoCase (tt, omega arith))
+    (or_fares Q (numbered_case s.book.cases n) denial.NoCase (tt, omega arith, tt))
     (λ c is. then_fares (λ _. Unit {0}) (IsOn s (flows_of s n)) Q (check (is_open c) denial.Closed) _
-    (check_fares Q (is_open c) denial.Closed (tt, omega arith))
+    (check_fares Q (is_open c) denial.Closed (tt, omega arith, tt))
     (λ _ _. (ap (option_map (λ (x : CaseShape). x.flow)) is, sound.cases n c is)))
 
-step_fares : (s : State) (make : ℕ → CaseShape → ℕ → ℕ → Deed) (n : ℕ) (step user : List ℕ) → IsSoundState s
-    → ((c : CaseShape) (t u : ℕ) → IsOn s (flows_of s n) c → IsDeedFor s (flows_of s n) (make n c t u))
-    → Fares (IsDeedFor s (flows_of s n)) (Fits s (flows_of s n)) (on_step make s.book n step user)
-step_fares s make n step user sound made =
-    let P = IsDeedFor s (flows_of s n) in
+step_fares : (s : State) (what : Ask) (make : ℕ → CaseShape → ℕ → ℕ → Deed) (n : ℕ) (step user : List ℕ) → IsSoundState s
+    → ((c : CaseShape) (t u : ℕ) → IsOn s (flows_of s n) c → IsDeedFor s what (make n c t u))
+    → Fares (IsDeedFor s what) (Fits s (flows_of s n)) (on_step make s.book n step user)
+step_fares s what make n step user sound made =
+    let P = IsDeedFor s what in
     let Q = Fits s (flows_of s n) in
     then_fares (IsOn s (flows_of s n)) P Q (open_case_at s.book n) _ (case_fares s n sound)
     (λ c of. then_fares (λ t. step_named s.book c.flow step ≡ Some t) P Q (or_fault (step_named s.book c.flow step) denial.NoStep) _
-    (or_fares Q (step_named s.book c.flow step) denial.NoStep (tt, omega arith))
+    (or_fares Q (step_named s.book c.flow step) denial.NoStep (tt, omega arith, tt))
     (λ t _. then_fares (λ u. user_named s.book user ≡ Some u) P Q (or_fault (user_named s.book user) denial.NoUser) _
-    (or_fares Q (user_named s.book user) denial.NoUser (tt, omega arith))
+    (or_fares Q (user_named s.book user) denial.NoUser (tt, omega arith, tt))
     (λ u _. made c t u of)))
 
-bad_stands : (b : Bad) → IsNamedBad b → IsBad b
-bad_stands bad.Syntax named = tt
-bad_stands bad.Object named = tt
-bad_stands bad.Do named = tt
-bad_stands bad.Lane named = tt
-bad_stands (bad.Key key) named = named
-bad_stands bad.Extra named = tt
-
-resolve_fares : (s : State) (what : Ask) → IsSoundState s → IsNamedAsk what
-    → Fares (IsDeedFor s (concerned s.book.policy (flows_of s) what)) (Fits s (concerned s.book.policy (flows_of s) what)) (resolve s.book what)
-resolve_fares s (ask.Request (request.OpenCase flow)) sound named =
+resolve_fares : (s : State) (what : Ask) → IsSoundState s → Fares (IsDeedFor s what) (Fits s (concern s what)) (resolve s.book what)
+resolve_fares s (ask.Request (request.OpenCase flow)) sound =
     let o = flow_named s.book flow in
-    then_fares (λ f. flow_named s.book flow ≡ Some f) (IsDeedFor s o) (Fits s o) (or_fault (flow_named s.book flow) denial.NoFlow) _
-    (or_fares (Fits s o) (flow_named s.book flow) denial.NoFlow (tt, omega arith)) (λ f is. (is, place_within s.book.policy.flow_names flow f is))
-resolve_fares s (ask.Request (request.Claim n step user)) sound named = step_fares s deed.Claim n step user sound (λ c t u of. of)
-resolve_fares s (ask.Request (request.Finish n step user)) sound named = step_fares s deed.Finish n step user sound (λ c t u of. of)
-resolve_fares s (ask.Request (request.GiveBack n step user)) sound named = step_fares s deed.GiveBack n step user sound (λ c t u of. of)
-resolve_fares s (ask.Request (request.Release by n step)) sound named =
-    let P = IsDeedFor s (flows_of s n) in
+    then_fares (λ f. flow_named s.book flow ≡ Some f) (IsDeedFor s (ask.Request (request.OpenCase flow))) (Fits s o)
+    (or_fault (flow_named s.book flow) denial.NoFlow) _
+    (or_fares (Fits s o) (flow_named s.book flow) denial.NoFlow (tt, omega arith, tt)) (λ f is. (is, place_within s.book.policy.flow_names flow f is))
+resolve_fares s (ask.Request (request.Claim n step user)) sound = step_fares s (ask.Request (request.Claim n step user)) deed.Claim n step user sound (λ c t u of. of)
+resolve_fares s (ask.Request (request.Finish n step user)) sound = step_fares s (ask.Request (request.Finish n step user)) deed.Finish n step user sound (λ c t u of. of)
+resolve_fares s (ask.Request (request.GiveBack n step user)) sound = step_fares s (ask.Request (request.GiveBack n step user)) deed.GiveBack n step user sound (λ c t u of. of)
+resolve_fares s (ask.Request (request.Release by n step)) sound =
+    let P = IsDeedFor s (ask.Request (request.Release by n step)) in
     let Q = Fits s (flows_of s n) in
     then_fares (λ _. Unit {0}) P Q (check (is_admin s.book.policy by) denial.NotAdmin) _
-    (check_fares Q (is_admin s.book.policy by) denial.NotAdmin (tt, omega arith))
+    (check_fares Q (is_admin s.book.policy by) denial.NotAdmin (tt, omega arith, tt))
     (λ _ _. then_fares (IsOn s (flows_of s n)) P Q (open_case_at s.book n) _ (case_fares s n sound)
     (λ c of. then_fares (λ t. step_named s.book c.flow step ≡ Some t) P Q (or_fault (step_named s.book c.flow step) denial.NoStep) _
-    (or_fares Q (step_named s.book c.flow step) denial.NoStep (tt, omega arith)) (λ t _. of)))
-resolve_fares s (ask.Request (request.Withdraw by n)) sound named =
-    let P = IsDeedFor s (flows_of s n) in
+    (or_fares Q (step_named s.book c.flow step) denial.NoStep (tt, omega arith, tt)) (λ t _. of)))
+resolve_fares s (ask.Request (request.Withdraw by n)) sound =
+    let P = IsDeedFor s (ask.Request (request.Withdraw by n)) in
     let Q = Fits s (flows_of s n) in
     then_fares (λ _. Unit {0}) P Q (check (is_admin s.book.policy by) denial.NotAdmin) _
-    (check_fares Q (is_admin s.book.policy by) denial.NotAdmin (tt, omega arith))
+    (check_fares Q (is_admin s.book.policy by) denial.NotAdmin (tt, omega arith, tt))
     (λ _ _. then_fares (IsOn s (flows_of s n)) P Q (open_case_at s.book n) _ (case_fares s n sound) (λ c of. tt))
-resolve_fares s (ask.Request (request.Change by e)) sound named = edit_fares s None deed.Change (amendment_of s.book.policy by e) (λ a. tt)
-resolve_fares s (ask.Request (request.Show n)) sound named =
+resolve_fares s (ask.Request (request.Change by e)) sound = edit_fares s (ask.Request (request.Change by e)) deed.Change (amendment_of s.book.policy by e) (λ a. tt)
+resolve_fares s (ask.Request (request.Show n)) sound =
     let Q = Fits s (flows_of s n) in
-    then_fares (λ c. numbered_case s.book.cases n ≡ Some c) (IsDeedFor s (flows_of s n)) Q (or_fault (numbered_case s.book.cases n) denial.NoCase) _
-    (or_fares Q (numbered_case s.book.cases n) denial.NoCase (tt, omega arith)) (λ c is. sound.cases n c is)
-resolve_fares s (ask.Request (request.Worklist user)) sound named =
-    let P = IsDeedFor s None in
+    then_fares (λ c. numbered_case s.book.cases n ≡ Some c) (IsDeedFor s (ask.Request (request.Show n))) Q (or_fault (numbered_case s.book.cases n) denial.NoCase) _
+    (or_fares Q (numbered_case s.book.cases n) denial.NoCase (tt, omega arith, tt)) (λ c is. sound.cases n c is)
+resolve_fares s (ask.Request (request.Worklist user)) sound =
+    let P = IsDeedFor s (ask.Request (request.Worklist user)) in
     let Q = Fits s None in
     then_fares (λ u. user_named s.book user ≡ Some u) P Q (or_fault (user_named s.book user) denial.NoUser) _
-    (or_fares Q (user_named s.book user) denial.NoUser (tt, omega arith)) (λ u _. tt)
-resolve_fares s (ask.Request (request.WhatIf by e)) sound named = edit_fares s None deed.WhatIf (amendment_of s.book.policy by e) (λ a. tt)
-resolve_fares s (ask.Bad b) sound named = bad_stands b named
+    (or_fares Q (user_named s.book user) denial.NoUser (tt, omega arith, tt)) (λ u _. tt)
+resolve_fares s (ask.Request (request.WhatIf by e)) sound = edit_fares s (ask.Request (request.WhatIf by e)) deed.WhatIf (amendment_of s.book.policy by e) (λ a. tt)
+resolve_fares s (ask.Bad b) sound = refl
 
 -- ---- causes
 
 held_so : (s : State) (o : Option ℕ) (c : CaseShape) (t : ℕ) → IsOn s o c → Fits s o (denial.NotHeld (state_at c t))
-held_so s o c t of = (step_stands s.book.policy c t of.1, let nests = state_nests s.book.policy (state_at c t) in omega (arith, nests))
+held_so s o c t of = (step_stands s.book.policy c t of.1, (let nests = state_nests s.book.policy (state_at c t) in omega (arith, nests)), tt)
 
 order_so : (s : State) (o : Option ℕ) (c : CaseShape) (t v : ℕ) → IsSoundState s → IsOn s o c →
     first_missing c (flow_at s.book.policy c.flow).flow.order t ≡ Some v
     → Fits s o (denial.Order c.flow v)
 order_so s o c t v sound of is =
     let there = missing_there (flow_at s.book.policy c.flow).flow.order t 0 c.states v is in
-    (((of.0, subst (λ n. c.flow < n) (sym sound.policy.named) of.1.flow), subst (λ n. v < n) of.1.steps (omega (arith, there))), omega arith)
+    (((of.0, subst (λ n. c.flow < n) (sym sound.policy.named) of.1.flow), subst (λ n. v < n) of.1.steps (omega (arith, there))), omega arith, tt)
 
-roles_so : (s : State) (o : Option ℕ) (f t : ℕ) → Fits s o (denial.Role (permitted_roles s.book.policy f t))
-roles_so s o f t = (roles_stand s.book.policy f t, let flat = names_flat s.book.policy.roster.roles (permitted_roles s.book.policy f t) in omega (arith, flat))
+roles_so : (s : State) (o : Option ℕ) (f t : ℕ) → IsSoundState s → Fits s o (denial.Role (permitted_roles s.book.policy f t))
+roles_so s o f t sound = (
+  roles_stand s.book.policy f t,
+  (let flat = names_flat s.book.policy.roster.roles (permitted_roles s.book.policy f t) in omega (arith, flat)),
+  roles_few s.book.policy f t sound.policy,
+)
 
 rule_so : (s : State) (o : Option ℕ) (c : CaseShape) (t u v : ℕ) → IsSoundState s → IsOn s o c
     → first_falsified (problem_of s.book.policy c.flow).related (user_at (assigned_with c t u)) 0 (flow_at s.book.policy c.flow).rules ≡ Some v →
@@ -178,51 +173,35 @@ rule_so : (s : State) (o : Option ℕ) (c : CaseShape) (t u v : ℕ) → IsSound
 rule_so s o c t u v sound of is =
     let below = falsified_there (problem_of s.book.policy c.flow).related (user_at (assigned_with c t u)) 0 (flow_at s.book.policy c.flow).rules v is in
     let few = (sound.policy.flows c.flow of.1.flow).few in
-    (omega (arith, below, few), omega arith)
+    (omega (arith, below, few), omega arith, tt)
 
 claim_so : (s : State) (o : Option ℕ) (c : CaseShape) (t u : ℕ) → IsSoundState s → IsOn s o c → IsCauseSo (Fits s o) (first_cause s.book.policy c t u)
 claim_so s o c t u sound of =
     let Q = Fits s o in
     four_so Q _ _ _ _
-    (map_so Q denial.Taken (user_of (state_at c t)) (λ v is. (user_known s.book.policy c t v of.1 is, omega arith)))
+    (map_so Q denial.Taken (user_of (state_at c t)) (λ v is. (user_known s.book.policy c t v of.1 is, omega arith, tt)))
     (map_so Q (denial.Order c.flow) _ (λ v is. order_so s o c t v sound of is))
-    (unless_so Q _ (denial.Role _) (roles_so s o c.flow t))
+    (unless_so Q _ (denial.Role _) (roles_so s o c.flow t sound))
     (map_so Q denial.Rule _ (λ v is. rule_so s o c t u v sound of is))
 
-cause_so : (s : State) (o : Option ℕ) (given : Deed) → IsSoundState s → IsDeedFor s o given → IsCauseSo (Fits s o) (cause_aside s.book given)
-cause_so s o (deed.Open f) sound of = unless_so (Fits s o) _ denial.Retired (tt, omega arith)
-cause_so s o (deed.Claim n c t u) sound of = claim_so s o c t u sound of
-cause_so s o (deed.Finish n c t u) sound of = unless_so (Fits s o) _ (denial.NotHeld (state_at c t)) (held_so s o c t of)
-cause_so s o (deed.GiveBack n c t u) sound of = unless_so (Fits s o) _ (denial.NotHeld (state_at c t)) (held_so s o c t of)
-cause_so s o (deed.Release n c t) sound of = unless_so (Fits s o) _ (denial.NotHeld (state_at c t)) (held_so s o c t of)
-cause_so s o (deed.Withdraw n) sound of = tt
-cause_so s o (deed.Change a) sound of = tt
-cause_so s o (deed.Show c) sound of = tt
-cause_so s o (deed.Work u) sound of = tt
-cause_so s o (deed.WhatIf a) sound of = tt
-cause_so s o (deed.TurnAway b) sound of = tt
+cause_so : (s : State) (what : Ask) (given : Deed) → IsSoundState s → IsDeedFor s what given → IsCauseSo (Fits s (concern s what)) (cause_aside s.book given)
+cause_so s what (deed.Open f) sound of = unless_so (Fits s (concern s what)) _ denial.Retired (tt, omega arith, tt)
+cause_so s what (deed.Claim n c t u) sound of = claim_so s (concern s what) c t u sound of
+cause_so s what (deed.Finish n c t u) sound of = unless_so (Fits s (concern s what)) _ (denial.NotHeld (state_at c t)) (held_so s (concern s what) c t of)
+cause_so s what (deed.GiveBack n c t u) sound of = unless_so (Fits s (concern s what)) _ (denial.NotHeld (state_at c t)) (held_so s (concern s what) c t of)
+cause_so s what (deed.Release n c t) sound of = unless_so (Fits s (concern s what)) _ (denial.NotHeld (state_at c t)) (held_so s (concern s what) c t of)
+cause_so s what given sound of = tt
 
 full_so : (s : State) (o : Option ℕ) (given : Deed) → IsCauseSo (Fits s o) (cause_full s.book given)
-full_so s o (deed.Open f) = unless_so (Fits s o) _ denial.Full (tt, omega arith)
-full_so s o (deed.Claim n c t u) = tt
-full_so s o (deed.Finish n c t u) = tt
-full_so s o (deed.GiveBack n c t u) = tt
-full_so s o (deed.Release n c t) = tt
-full_so s o (deed.Withdraw n) = tt
-full_so s o (deed.Change a) = tt
-full_so s o (deed.Show c) = tt
-full_so s o (deed.Work u) = tt
-full_so s o (deed.WhatIf a) = tt
-full_so s o (deed.TurnAway b) = tt
+full_so s o (deed.Open f) = unless_so (Fits s o) _ denial.Full (tt, omega arith, tt)
+full_so s o given = tt
 
 -- what is decided is a deed of what is asked, or a denial that fits
-pub decision_fares : (s : State) (what : Ask) → IsSoundState s → IsNamedAsk what
-    → Fares (IsDeedFor s (concerned s.book.policy (flows_of s) what)) (Fits s (concerned s.book.policy (flows_of s) what)) (decision_of s.book what)
-decision_fares s what sound named =
-    let o = concerned s.book.policy (flows_of s) what in
-    let P = IsDeedFor s o in
-    let Q = Fits s o in
+pub decision_fares : (s : State) (what : Ask) → IsSoundState s → Fares (IsDeedFor s what) (Fits s (concern s what)) (decision_of s.book what)
+decision_fares s what sound =
+    let P = IsDeedFor s what in
+    let Q = Fits s (concern s what) in
     then_fares P P Q (decision_aside s.book what) _
-    (then_fares P P Q (resolve s.book what) _ (resolve_fares s what sound named)
-    (λ given of. unless_fares P Q given (cause_aside s.book given) of (cause_so s o given sound of)))
-    (λ given of. unless_fares P Q given (cause_full s.book given) of (full_so s o given))
+    (then_fares P P Q (resolve s.book what) _ (resolve_fares s what sound)
+    (λ given of. unless_fares P Q given (cause_aside s.book given) of (cause_so s what given sound of)))
+    (λ given of. unless_fares P Q given (cause_full s.book given) of (full_so s (concern s what) given))

@@ -8,7 +8,6 @@ use Rattle.policy_book.specs.Laws.Shapes.{PolicyShape}
 use Rattle.policy_book.specs.Policies.{problem_of}
 use Rattle.policy_book.specs.Laws.Refuting.{refutes}
 use Rattle.wf_talk.specs.declared.request.Ask.{Ask}
-use Rattle.wf_talk.specs.declared.request.Ask.TheVariants as ask
 use Rattle.wf_talk.specs.declared.reply.Face.{Face}
 use Rattle.wf_talk.specs.declared.reply.Denial.{Denial}
 use Rattle.wf_talk.specs.declared.reply.Denial.TheVariants as denial
@@ -27,12 +26,11 @@ use Rattle.wf_board.proofs.Told.{HoldsOf, IsTold, told}
 use Rattle.wire_json.specs.Entries.{single}
 use Rattle.wire_json.specs.Trees.{tree_data}
 use Rattle.wire_json.specs.Replies.{reply_data, strands_data}
-use Rattle.entry_reader.specs.Laws.Lines.{concerned}
 use Rattle.entry_laws.specs.Laws.{flows_of}
 use Rattle.entry_laws.proofs.Numbers.{AreSerial}
 use Rattle.entry_laws.proofs.Parts.{case_stands, problem_fits}
 use Rattle.entry_laws.proofs.Stranded.{stranded_tree}
-use Rattle.entry_laws.proofs.Told.{FitsDenial, IsDeedFor, decision_fares}
+use Rattle.entry_laws.proofs.Told.{FitsDenial, IsDeedFor, concern, decision_fares}
 use Rattle.entry_laws.proofs.Trees.{tree_stands}
 use Rattle.wf_server.proofs.NamesKept.{denial_same, face_same, keeps_same, plan_same, tree_same, work_same}
 
@@ -75,52 +73,48 @@ refuting_same s q f g a finished tree keeps sound known same is =
     (tree_same p q f (shape_of tree) keeps (tree_stands p f (problem_of p f) a finished (shape_of tree) (problem_fits p f sound.policy known) is))
 
 -- the reply to a deed
-deed_text : (s : State) (q : PolicyShape) (o : Option ℕ) (given : Deed) (answer : Reply) → KeepsNames s.book.policy q → IsNamed s → IsTold s.book given →
-    IsDeedFor s o given → IsReplyTo s given answer → reply_data q answer ≡ reply_data s.book.policy answer
-deed_text s q o given reply.NoMemory keeps state known of is = refl
-deed_text s q o (deed.Open f) (reply.Opened n plan) keeps state known of is =
+deed_text : (s : State) (q : PolicyShape) (what : Ask) (given : Deed) (answer : Reply) → KeepsNames s.book.policy q → IsNamed s → IsTold s.book given →
+    IsDeedFor s what given → IsReplyTo s given answer → reply_data q answer ≡ reply_data s.book.policy answer
+deed_text s q what given reply.NoMemory keeps state known of is = refl
+deed_text s q what (deed.Open f) (reply.Opened n plan) keeps state known of is =
     ap (λ d. single (codes "opened") (object (member (codes "case") (number (unsigned n)) (member (codes "plan") d no_members))))
     (plan_same s.book.policy q (problem_of s.book.policy f) _ _ plan keeps refl is.1)
-deed_text s q o (deed.Open f) (reply.Denied (denial.Unsatisfiable g tree)) keeps state known of is =
+deed_text s q what (deed.Open f) (reply.Denied (denial.Unsatisfiable g tree)) keeps state known of is =
     ap (λ d. single (codes "denied") (single (codes "unsatisfiable") d))
     (refuting_same s q f g _ _ tree keeps state.sound (subst (λ m. f < m) state.sound.policy.named of.1) is.0 is.1)
-deed_text s q o (deed.Claim n c t u) (reply.Granted plan) keeps state known of is =
+deed_text s q what (deed.Claim n c t u) (reply.Granted plan) keeps state known of is =
     ap (λ d. single (codes "granted") (single (codes "plan") d)) (plan_same s.book.policy q (problem_of s.book.policy c.flow) _ _ plan keeps refl is)
-deed_text s q o (deed.Claim n c t u) (reply.Denied (denial.Stranded g tree)) keeps state known of is =
+deed_text s q what (deed.Claim n c t u) (reply.Denied (denial.Stranded g tree)) keeps state known of is =
     ap (λ d. single (codes "denied") (single (codes "stranded") d)) (refuting_same s q c.flow g _ _ tree keeps state.sound of.1.flow is.0 is.1)
-deed_text s q o (deed.Finish n c t u) (reply.Finished done) keeps state known of is = refl
-deed_text s q o (deed.GiveBack n c t u) reply.Returned keeps state known of is = refl
-deed_text s q o (deed.Release n c t) reply.Released keeps state known of is = refl
-deed_text s q o (deed.Withdraw n) reply.Withdrawn keeps state known of is = refl
-deed_text s q o (deed.Change a) (reply.Edited n) keeps state known of is = refl
-deed_text s q o (deed.Change a) (reply.Denied (denial.Strands n f tree)) keeps state known of is =
+deed_text s q what (deed.Finish n c t u) (reply.Finished done) keeps state known of is = refl
+deed_text s q what (deed.GiveBack n c t u) reply.Returned keeps state known of is = refl
+deed_text s q what (deed.Release n c t) reply.Released keeps state known of is = refl
+deed_text s q what (deed.Withdraw n) reply.Withdrawn keeps state known of is = refl
+deed_text s q what (deed.Change a) (reply.Edited n) keeps state known of is = refl
+deed_text s q what (deed.Change a) (reply.Denied (denial.Strands n f tree)) keeps state known of is =
     ap (λ d. single (codes "denied") (single (codes "strands") (strands_data n d)))
     (tree_same s.book.policy q f (shape_of tree) keeps
     (stranded_tree s a n f tree state.sound state.kept state.serial (known.0 state.sound.policy) is))
-deed_text s q o (deed.Show c) (reply.Shown face) keeps state known of is =
+deed_text s q what (deed.Show c) (reply.Shown face) keeps state known of is =
     subst (λ (x : Face). reply_data q (reply.Shown x) ≡ reply_data s.book.policy (reply.Shown x)) (sym is)
     (ap (single (codes "view")) (face_same s.book.policy q _ keeps (case_stands s.book.policy c of)))
-deed_text s q o (deed.Work u) (reply.Work items) keeps state known of is =
+deed_text s q what (deed.Work u) (reply.Work items) keeps state known of is =
     ap (λ ds. single (codes "worklist") (array (items_of ds))) (work_same s.book.policy q items keeps)
-deed_text s q o (deed.WhatIf a) (reply.WhatIf numbers) keeps state known of is = refl
-deed_text s q o (deed.TurnAway bad) (reply.Bad b) keeps state known of is = refl
-deed_text s q o given answer keeps state known of is = absurd is
+deed_text s q what (deed.WhatIf a) (reply.WhatIf numbers) keeps state known of is = refl
+deed_text s q what (deed.TurnAway bad) (reply.Bad b) keeps state known of is = refl
+deed_text s q what given answer keeps state known of is = absurd is
 
 -- and to whatever is decided
-decided_text : (s : State) (q : PolicyShape) (o : Option ℕ) (r : Result Deed Denial) (answer : Reply) → KeepsNames s.book.policy q → IsNamed s →
-    HoldsOf (IsTold s.book) r → Fares (IsDeedFor s o) (FitsDenial s.book.policy (flows_of s) o) r → Answers s r answer
+decided_text : (s : State) (q : PolicyShape) (what : Ask) (r : Result Deed Denial) (answer : Reply) → KeepsNames s.book.policy q → IsNamed s →
+    HoldsOf (IsTold s.book) r → Fares (IsDeedFor s what) (FitsDenial s.book.policy (flows_of s) (concern s what)) r → Answers s r answer
     → reply_data q answer ≡ reply_data s.book.policy answer
-decided_text s q o (Ok given) answer keeps state known of is = deed_text s q o given answer keeps state known of is
-decided_text s q o (Err d) answer keeps state known of (inl denied) =
+decided_text s q what (Ok given) answer keeps state known of is = deed_text s q what given answer keeps state known of is
+decided_text s q what (Err d) answer keeps state known of (inl denied) =
     subst (λ x. reply_data q x ≡ reply_data s.book.policy x) (sym denied)
-    (ap (single (codes "denied")) (denial_same s.book.policy q (flows_of s) o d keeps of.0))
-decided_text s q o (Err d) answer keeps state known of (inr short) = subst (λ x. reply_data q x ≡ reply_data s.book.policy x) (sym short) refl
+    (ap (single (codes "denied")) (denial_same s.book.policy q (flows_of s) (concern s what) d keeps of.0))
+decided_text s q what (Err d) answer keeps state known of (inr short) = subst (λ x. reply_data q x ≡ reply_data s.book.policy x) (sym short) refl
 
 pub step_text : (s : State) (q : PolicyShape) (what : Ask) (answer : Reply) → KeepsNames s.book.policy q → IsNamed s → IsStep s what answer
     → reply_data q answer ≡ reply_data s.book.policy answer
-step_text s q (ask.Request r) answer keeps state step =
-    decided_text s q (concerned s.book.policy (flows_of s) (ask.Request r)) (decision_of s.book (ask.Request r)) answer keeps state
-    (told s.book (ask.Request r)) (decision_fares s (ask.Request r) state.sound tt) step
-step_text s q (ask.Bad b) reply.NoMemory keeps state step = refl
-step_text s q (ask.Bad b) (reply.Bad given) keeps state step = refl
-step_text s q (ask.Bad b) answer keeps state step = absurd step
+step_text s q what answer keeps state step =
+    decided_text s q what (decision_of s.book what) answer keeps state (told s.book what) (decision_fares s what state.sound) step
