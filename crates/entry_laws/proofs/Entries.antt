@@ -1,5 +1,5 @@
 -- The text of each entry of a legal history is a line of it.
-use Rattle.std.proofs.Common.{◌≡◌, ℕ, ◌+◌, ◌<◌, ◌≤◌, ◌^◌, ◌⊎◌, inl, inr, false, List, [], ◌∷◌, ◌++◌, length, Option, Result, Ok, Err, refl, sym, ap, subst, ◌∙◌}
+use Rattle.std.proofs.Common.{◌≡◌, ℕ, ◌+◌, ◌<◌, ◌≤◌, ◌^◌, ◌⊎◌, inl, inr, false, List, [], ◌∷◌, ◌++◌, length, Option, refl, sym, ap, subst, ◌∙◌}
 use Rattle.std.proofs.Common.{arith, append_assoc, append-nil}
 use Rattle.serde_json.specs.Data.{depth}
 use Rattle.policy_book.specs.Laws.Shapes.{PolicyShape}
@@ -9,46 +9,26 @@ use Rattle.wf_talk.specs.declared.entry.Entry.{Entry}
 use Rattle.wf_talk.specs.declared.request.Ask.{Ask}
 use Rattle.wf_talk.specs.declared.reply.Reply.{Reply}
 use Rattle.wf_talk.specs.declared.reply.Reply.TheVariants as reply
-use Rattle.wf_talk.specs.declared.reply.Denial.{Denial}
-use Rattle.admin_edits.proofs.Keeping.{changes_keep_names}
-use Rattle.wf_board.specs.declared.deed.Deed.{Deed}
-use Rattle.wf_board.specs.declared.deed.Deed.TheVariants as deed
 use Rattle.wf_board.specs.Laws.States.{State, opening_state}
+use Rattle.admin_edits.specs.Laws.Keeping.{KeepsNames}
 use Rattle.wf_board.specs.Counting.{counts_for, is_edited}
-use Rattle.wf_board.specs.Decisions.{decision_of}
-use Rattle.wf_board.specs.Laws.Steps.{IsStep, state_after_decision, state_after_deed, state_after_step}
+use Rattle.wf_board.specs.Laws.Steps.{IsStep, state_after_step}
 use Rattle.wf_board.specs.Laws.Histories.{EachAfter, IsRetry, IsRightAfter, state_after}
 use Rattle.wf_board.proofs.HistoryLaws.{after_more, again_stays, edits_within, policy_stays}
 use Rattle.wf_board.proofs.Counted.{end_within}
 use Rattle.wf_board.proofs.Keeping.{step_keeps}
-use Rattle.wf_board.proofs.Told.{HoldsOf, IsTold, told}
 use Rattle.wire_json.specs.Replies.{entry_text, reply_data}
 use Rattle.wire_json.proofs.Lines.{text_same}
 use Rattle.entry_reader.specs.Laws.Lines.{IsEntry, concerned}
 use Rattle.entry_laws.specs.Laws.{EntriesAreLines, HasFewSteps, IsLastOf, flows_of}
+use Rattle.entry_laws.proofs.Names.{step_keeps_names}
 use Rattle.entry_laws.proofs.Numbers.{step_serial}
 use Rattle.entry_laws.proofs.Replies.{FitsReply, IsReached, step_fits}
 
 -- ---- what each step keeps
 
-deed_few : (s : State) (given : Deed) (answer : Reply) → IsSoundPolicy s.book.policy → IsTold s.book given → HasFewSteps s.book.policy
-    → HasFewSteps (state_after_deed s given answer).book.policy
-deed_few s (deed.Open f) (reply.Opened n plan) sound known few = few
-deed_few s (deed.Claim n c t u) (reply.Granted plan) sound known few = few
-deed_few s (deed.Finish n c t u) (reply.Finished done) sound known few = few
-deed_few s (deed.GiveBack n c t u) reply.Returned sound known few = few
-deed_few s (deed.Release n c t) reply.Released sound known few = few
-deed_few s (deed.Withdraw n) reply.Withdrawn sound known few = few
-deed_few s (deed.Change a) (reply.Edited n) sound known few =
-    let names = changes_keep_names s.book.policy a (known.0 sound).found in
-    λ f below. subst (λ (m : ℕ). m ≤ STEP_LIMIT) (sym (ap length (names.steps f))) (few f (subst (λ m. f < m) names.flows below))
-deed_few s given answer sound known few = few
-
-decision_few : (s : State) (decision : Result Deed Denial) (answer : Reply) → IsSoundPolicy s.book.policy → HoldsOf (IsTold s.book) decision →
-    HasFewSteps s.book.policy
-    → HasFewSteps (state_after_decision s decision answer).book.policy
-decision_few s (Ok given) answer sound known few = deed_few s given answer sound known few
-decision_few s (Err d) answer sound known few = few
+few_kept : (p q : PolicyShape) → KeepsNames p q → HasFewSteps p → HasFewSteps q
+few_kept p q keeps few f below = subst (λ (m : ℕ). m ≤ STEP_LIMIT) (sym (ap length (keeps.steps f))) (few f (subst (λ m. f < m) keeps.flows below))
 
 step_reached : (s : State) (what : Ask) (answer : Reply) → IsReached s → IsStep s what answer → IsReached (state_after_step s what answer)
 step_reached s what answer is step =
@@ -56,7 +36,7 @@ step_reached s what answer is step =
     record {
       sound = keeps.0;
       kept = keeps.1;
-      few = decision_few s (decision_of s.book what) answer is.sound.policy (told s.book what) is.few;
+      few = few_kept s.book.policy (state_after_step s what answer).book.policy (step_keeps_names s what answer is.sound) is.few;
       serial = step_serial s what answer is.serial;
     }
 

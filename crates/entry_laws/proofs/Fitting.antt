@@ -118,7 +118,7 @@ fit_from p rounds earlier (e ∷ es) session known short names lines rightful ea
       named = lines.0.named;
     } in
     let after = after_more (opening_state p) earlier e in
-    let named = step_names s e.ask e.reply known.reached.sound.policy lines.0.adds names in (
+    let named = step_names s e.ask e.reply known.reached.sound lines.0.adds names in (
       next_fits p rounds earlier e last names (right_few p rounds earlier e known each.0) rightful.0.1,
       subst (λ (t : State). FitLines (texts_of t es)) after
           (fit_from p rounds (earlier ++ e ∷ []) es session more (omega (arith, short, length-append earlier (e ∷ [])))

@@ -1,5 +1,5 @@
 -- The names of a policy stay names along a session.
-use Rattle.std.proofs.Common.{◌≡◌, ℕ, zero, suc, ◌⊎◌, inl, inr, Bool, true, false, not, nat_eq, List, [], ◌∷◌, ◌++◌, length, slice_get, Option, None, Some}
+use Rattle.std.proofs.Common.{◌≡◌, ℕ, zero, suc, ◌⊎◌, inl, inr, Bool, true, false, not, nat_eq, List, [], ◌∷◌, ◌++◌, length, slice_get, ap, ◌∙◌, append-nil, append_assoc, Some}
 use Rattle.std.proofs.Common.{is_some, Result, Ok, Err, IsTrue, refl, sym, subst, arith}
 use Rattle.std.specs.List.{position}
 use Rattle.std.specs.Cmp.Lexicographic.{pointwise, nat_list_eq_equiv}
@@ -12,20 +12,15 @@ use Rattle.wf_names.specs.Names.{is_name}
 use Rattle.wf_names.specs.Table.{place_of, AreNames}
 use Rattle.policy_book.specs.Laws.Shapes.{PolicyShape}
 use Rattle.policy_book.specs.Policies.{flow_at}
-use Rattle.policy_book.specs.Laws.Facts.{IsSoundPolicy}
 use Rattle.wf_talk.specs.declared.edit.Edit.{Edit}
 use Rattle.wf_talk.specs.declared.edit.Edit.TheVariants as edit
-use Rattle.wf_talk.specs.declared.request.Request.TheVariants as request
 use Rattle.wf_talk.specs.declared.request.Ask.{Ask}
-use Rattle.wf_talk.specs.declared.request.Ask.TheVariants as ask
 use Rattle.wf_talk.specs.declared.reply.Reply.{Reply}
 use Rattle.wf_talk.specs.declared.reply.Reply.TheVariants as reply
 use Rattle.wf_talk.specs.declared.reply.Denial.{Denial}
-use Rattle.wf_talk.specs.declared.reply.Denial.TheVariants as denial
 use Rattle.wf_talk.specs.declared.edit.Missing.{Missing}
 use Rattle.wf_talk.specs.declared.edit.Missing.TheVariants as missing
 use Rattle.user_relations.specs.Laws.Relations.{known_names}
-use Rattle.case_record.specs.Cases.{CaseShape}
 use Rattle.admin_edits.specs.declared.amendment.Amendment.{Amendment}
 use Rattle.admin_edits.specs.declared.amendment.Amendment.TheVariants as amend
 use Rattle.admin_edits.specs.declared.fault.EditCause.{EditCause}
@@ -35,13 +30,59 @@ use Rattle.admin_edits.specs.Laws.Keeping.{KeepsNames}
 use Rattle.admin_edits.proofs.Keeping.{changes_keep_names}
 use Rattle.wf_board.specs.declared.deed.Deed.{Deed}
 use Rattle.wf_board.specs.declared.deed.Deed.TheVariants as deed
-use Rattle.wf_board.specs.Laws.States.{Book, State, flow_named, numbered_case, step_named, user_named}
-use Rattle.wf_board.specs.Resolve.{on_edit, on_step, open_case_at, resolve}
-use Rattle.wf_board.specs.Decisions.{cause_aside, cause_full, decision_aside, decision_of, unless_denied}
+use Rattle.wf_board.specs.Laws.Kept.{IsSoundState}
+use Rattle.wf_board.specs.Laws.States.{State}
+use Rattle.wf_board.specs.Decisions.{decision_of}
 use Rattle.wf_board.specs.Laws.Steps.{state_after_decision, state_after_deed, state_after_step}
+use Rattle.wf_board.proofs.Faring.{Fares}
 use Rattle.wf_board.proofs.Told.{HoldsOf, IsTold, then_holds, told}
 use Rattle.entry_reader.specs.Named.{HasNames}
 use Rattle.line_reader.specs.Laws.{AddsNamed, IsNamedEdit}
+use Rattle.entry_laws.specs.Laws.{flows_of}
+use Rattle.entry_laws.proofs.Told.{FitsDenial, IsChangeFor, IsDeedFor, concern, decision_fares}
+
+-- ---- policies that keep names
+
+pub keeps_same : (p q : PolicyShape) → q ≡ p → KeepsNames p q
+keeps_same p q same = record {
+  more = [];
+  users = ap (λ (x : PolicyShape). x.roster.users) same ∙ sym (append-nil p.roster.users);
+  roles = ap (λ (x : PolicyShape). x.roster.roles) same;
+  flow_names = ap (λ (x : PolicyShape). x.flow_names) same;
+  flows = ap (λ (x : PolicyShape). length x.flows) same;
+  steps = λ f. ap (λ (x : PolicyShape). (flow_at x f).flow.steps) same;
+}
+
+pub keeps_then : (p q r : PolicyShape) → KeepsNames p q → KeepsNames q r → KeepsNames p r
+keeps_then p q r first later = record {
+  more = first.more ++ later.more;
+  users = later.users ∙ ap (λ us. us ++ later.more) first.users ∙ append_assoc p.roster.users first.more later.more;
+  roles = later.roles ∙ first.roles;
+  flow_names = later.flow_names ∙ first.flow_names;
+  flows = later.flows ∙ first.flows;
+  steps = λ f. later.steps f ∙ first.steps f;
+}
+
+-- ---- a step keeps names
+
+deed_keeps_names : (s : State) (given : Deed) (answer : Reply) → IsSoundState s → IsTold s.book given → KeepsNames s.book.policy
+    (state_after_deed s given answer).book.policy
+deed_keeps_names s (deed.Change a) (reply.Edited n) sound known = changes_keep_names s.book.policy a (known.0 sound.policy).found
+deed_keeps_names s (deed.Open f) (reply.Opened n plan) sound known = keeps_same s.book.policy s.book.policy refl
+deed_keeps_names s (deed.Claim n c t u) (reply.Granted plan) sound known = keeps_same s.book.policy s.book.policy refl
+deed_keeps_names s (deed.Finish n c t u) (reply.Finished done) sound known = keeps_same s.book.policy s.book.policy refl
+deed_keeps_names s (deed.GiveBack n c t u) reply.Returned sound known = keeps_same s.book.policy s.book.policy refl
+deed_keeps_names s (deed.Release n c t) reply.Released sound known = keeps_same s.book.policy s.book.policy refl
+deed_keeps_names s (deed.Withdraw n) reply.Withdrawn sound known = keeps_same s.book.policy s.book.policy refl
+deed_keeps_names s given answer sound known = keeps_same s.book.policy s.book.policy refl
+
+decision_keeps_names : (s : State) (r : Result Deed Denial) (answer : Reply) → IsSoundState s → HoldsOf (IsTold s.book) r → KeepsNames s.book.policy
+    (state_after_decision s r answer).book.policy
+decision_keeps_names s (Ok given) answer sound known = deed_keeps_names s given answer sound known
+decision_keeps_names s (Err d) answer sound known = keeps_same s.book.policy s.book.policy refl
+
+pub step_keeps_names : (s : State) (what : Ask) (answer : Reply) → IsSoundState s → KeepsNames s.book.policy (state_after_step s what answer).book.policy
+step_keeps_names s what answer sound = decision_keeps_names s (decision_of s.book what) answer sound (told s.book what)
 
 -- ---- one more name
 
@@ -112,11 +153,7 @@ amended_users p (amend.Permit f r s) names form ok = names.users
 amended_users p (amend.Forbid f r s) names form ok = names.users
 amended_users p (amend.Retire f) names form ok = names.users
 
--- ---- decisions
-
-abbrev IsNamedDeed : Deed → Type 0
-IsNamedDeed (deed.Change a) = IsNamedChange a
-IsNamedDeed given = Unit {0}
+-- ---- edits
 
 -- whatever comes of what was read before
 then_any : {A B F : Type 0} (P : B → Type 0) (r : Result A F) (next : A → Result B F) → ((x : A) → HoldsOf P (next x)) → HoldsOf P (r >>= next)
@@ -167,76 +204,34 @@ amendment_named p by e form =
     (λ _. then_holds IsNamedChange IsNamedChange (found p e) (λ a. allowed p a >>= (λ _. Ok a)) (found_named p e form)
     (λ a is. then_same IsNamedChange a (allowed p a) is))
 
-on_edit_named : (r : Result Amendment EditCause) → HoldsOf IsNamedChange r → HoldsOf IsNamedDeed (on_edit deed.Change r)
-on_edit_named (Ok a) is = is
-on_edit_named (Err fault) is = tt
-
-on_what_if_named : (r : Result Amendment EditCause) → HoldsOf IsNamedDeed (on_edit deed.WhatIf r)
-on_what_if_named (Ok a) = tt
-on_what_if_named (Err fault) = tt
-
-on_step_named : (make : ℕ → CaseShape → ℕ → ℕ → Deed) (b : Book) (n : ℕ) (step user : List ℕ) → ((c : CaseShape) (t u : ℕ) → IsNamedDeed (make n c t u)) →
-    HoldsOf IsNamedDeed (on_step make b n step user)
-on_step_named make b n step user made =
-    then_any IsNamedDeed (open_case_at b n)
-    (λ c. or_fault (step_named b c.flow step) denial.NoStep >>= (λ t. or_fault (user_named b user) denial.NoUser >>= (λ u. Ok (make n c t u))))
-    (λ c. then_any IsNamedDeed (or_fault (step_named b c.flow step) denial.NoStep)
-    (λ t. or_fault (user_named b user) denial.NoUser >>= (λ u. Ok (make n c t u)))
-    (λ t. then_any IsNamedDeed (or_fault (user_named b user) denial.NoUser) (λ u. Ok (make n c t u)) (λ u. made c t u)))
-
-resolve_named : (b : Book) (what : Ask) → AddsNamed what → HoldsOf IsNamedDeed (resolve b what)
-resolve_named b (ask.Bad bad) form = tt
-resolve_named b (ask.Request (request.OpenCase flow)) form = then_any IsNamedDeed (or_fault (flow_named b flow) denial.NoFlow) (λ f. Ok (deed.Open f)) (λ f. tt)
-resolve_named b (ask.Request (request.Claim n step user)) form = on_step_named deed.Claim b n step user (λ c t u. tt)
-resolve_named b (ask.Request (request.Finish n step user)) form = on_step_named deed.Finish b n step user (λ c t u. tt)
-resolve_named b (ask.Request (request.GiveBack n step user)) form = on_step_named deed.GiveBack b n step user (λ c t u. tt)
-resolve_named b (ask.Request (request.Release by n step)) form =
-    then_any IsNamedDeed (check (is_admin b.policy by) denial.NotAdmin)
-    (λ _. open_case_at b n >>= (λ c. or_fault (step_named b c.flow step) denial.NoStep >>= (λ s. Ok (deed.Release n c s))))
-    (λ _. then_any IsNamedDeed (open_case_at b n) (λ c. or_fault (step_named b c.flow step) denial.NoStep >>= (λ s. Ok (deed.Release n c s)))
-    (λ c. then_any IsNamedDeed (or_fault (step_named b c.flow step) denial.NoStep) (λ s. Ok (deed.Release n c s)) (λ s. tt)))
-resolve_named b (ask.Request (request.Withdraw by n)) form =
-    then_any IsNamedDeed (check (is_admin b.policy by) denial.NotAdmin) (λ _. open_case_at b n >>= (λ c. Ok (deed.Withdraw n)))
-    (λ _. then_any IsNamedDeed (open_case_at b n) (λ c. Ok (deed.Withdraw n)) (λ c. tt))
-resolve_named b (ask.Request (request.Change by e)) form = on_edit_named (amendment_of b.policy by e) (amendment_named b.policy by e form)
-resolve_named b (ask.Request (request.Show n)) form = then_any IsNamedDeed (or_fault (numbered_case b.cases n) denial.NoCase) (λ c. Ok (deed.Show c)) (λ c. tt)
-resolve_named b (ask.Request (request.Worklist user)) form = then_any IsNamedDeed (or_fault (user_named b user) denial.NoUser) (λ u. Ok (deed.Work u)) (λ u. tt)
-resolve_named b (ask.Request (request.WhatIf by e)) form = on_what_if_named (amendment_of b.policy by e)
-
-unless_named : (given : Deed) (o : Option Denial) → IsNamedDeed given → HoldsOf IsNamedDeed (unless_denied given o)
-unless_named given None is = is
-unless_named given (Some d) is = tt
-
-decision_named : (b : Book) (what : Ask) → AddsNamed what → HoldsOf IsNamedDeed (decision_of b what)
-decision_named b what form =
-    then_holds IsNamedDeed IsNamedDeed (decision_aside b what) (λ given. unless_denied given (cause_full b given))
-    (then_holds IsNamedDeed IsNamedDeed (resolve b what) (λ given. unless_denied given (cause_aside b given)) (resolve_named b what form)
-    (λ given is. unless_named given (cause_aside b given) is))
-    (λ given is. unless_named given (cause_full b given) is)
+-- the change that is asked adds a user with such a name
+change_named : (p : PolicyShape) (what : Ask) (a : Amendment) → IsChangeFor p what a → AddsNamed what → IsNamedChange a
+change_named p what a is form =
+    subst (HoldsOf IsNamedChange) is.found (amendment_named p is.by is.edit (subst AddsNamed is.asked form))
 
 -- ---- steps
 
-deed_names : (s : State) (given : Deed) (answer : Reply) → IsSoundPolicy s.book.policy → IsTold s.book given → IsNamedDeed given → HasNames s.book.policy
-    → HasNames (state_after_deed s given answer).book.policy
-deed_names s (deed.Open f) (reply.Opened n plan) sound known form names = names
-deed_names s (deed.Claim n c t u) (reply.Granted plan) sound known form names = names
-deed_names s (deed.Finish n c t u) (reply.Finished done) sound known form names = names
-deed_names s (deed.GiveBack n c t u) reply.Returned sound known form names = names
-deed_names s (deed.Release n c t) reply.Released sound known form names = names
-deed_names s (deed.Withdraw n) reply.Withdrawn sound known form names = names
-deed_names s (deed.Change a) (reply.Edited n) sound known form names =
-    let its = known.0 sound in
+deed_names : (s : State) (what : Ask) (given : Deed) (answer : Reply) → IsSoundState s → IsTold s.book given → AddsNamed what →
+    IsDeedFor s what given → HasNames s.book.policy → HasNames (state_after_deed s given answer).book.policy
+deed_names s what (deed.Open f) (reply.Opened n plan) sound known form of names = names
+deed_names s what (deed.Claim n c t u) (reply.Granted plan) sound known form of names = names
+deed_names s what (deed.Finish n c t u) (reply.Finished done) sound known form of names = names
+deed_names s what (deed.GiveBack n c t u) reply.Returned sound known form of names = names
+deed_names s what (deed.Release n c t) reply.Released sound known form of names = names
+deed_names s what (deed.Withdraw n) reply.Withdrawn sound known form of names = names
+deed_names s what (deed.Change a) (reply.Edited n) sound known form of names =
+    let its = known.0 sound.policy in
     names_kept s.book.policy (amended s.book.policy a) (changes_keep_names s.book.policy a its.found) names
-    (amended_users s.book.policy a names form its.allowed)
-deed_names s given answer sound known form names = names
+    (amended_users s.book.policy a names (change_named s.book.policy what a of form) its.allowed)
+deed_names s what given answer sound known form of names = names
 
-decision_names : (s : State) (r : Result Deed Denial) (answer : Reply) → IsSoundPolicy s.book.policy → HoldsOf (IsTold s.book) r → HoldsOf IsNamedDeed r →
-    HasNames s.book.policy
+decision_names : (s : State) (what : Ask) (r : Result Deed Denial) (answer : Reply) → IsSoundState s → HoldsOf (IsTold s.book) r → AddsNamed what →
+    Fares (IsDeedFor s what) (FitsDenial s.book.policy (flows_of s) (concern s what)) r → HasNames s.book.policy
     → HasNames (state_after_decision s r answer).book.policy
-decision_names s (Ok given) answer sound known form names = deed_names s given answer sound known form names
-decision_names s (Err d) answer sound known form names = names
+decision_names s what (Ok given) answer sound known form of names = deed_names s what given answer sound known form of names
+decision_names s what (Err d) answer sound known form of names = names
 
-pub step_names : (s : State) (what : Ask) (answer : Reply) → IsSoundPolicy s.book.policy → AddsNamed what → HasNames s.book.policy →
+pub step_names : (s : State) (what : Ask) (answer : Reply) → IsSoundState s → AddsNamed what → HasNames s.book.policy →
     HasNames (state_after_step s what answer).book.policy
 step_names s what answer sound form names =
-    decision_names s (decision_of s.book what) answer sound (told s.book what) (decision_named s.book what form) names
+    decision_names s what (decision_of s.book what) answer sound (told s.book what) form (decision_fares s what sound) names

@@ -1,5 +1,5 @@
 -- What is decided on in a state: a deed of what is asked, or a denial that stands for something, nests little and lists few roles.
-use Rattle.std.proofs.Common.{◌≡◌, ℕ, ◌<◌, ◌≤◌, List, length, Option, None, Some, Result, Ok, Err, sym, ap, subst, arith}
+use Rattle.std.proofs.Common.{◌≡◌, ℕ, ◌<◌, ◌≤◌, List, length, Option, None, Some, Result, Ok, Err, refl, sym, ap, subst, arith}
 use Rattle.std.specs.Option.{option_map}
 use Rattle.serde_json.specs.Data.{depth}
 use Rattle.basics.specs.Laws.Reading.{check, or_fault}
@@ -9,6 +9,7 @@ use Rattle.policy_book.specs.Laws.Shapes.{PolicyShape}
 use Rattle.policy_book.specs.Policies.{flow_at, problem_of}
 use Rattle.case_record.specs.Cases.{CaseShape, is_open, state_at}
 use Rattle.case_record.specs.Order.{first_missing}
+use Rattle.wf_talk.specs.declared.edit.Edit.{Edit}
 use Rattle.wf_talk.specs.declared.edit.Missing.{Missing}
 use Rattle.wf_talk.specs.declared.edit.Missing.TheVariants as missing
 use Rattle.wf_talk.specs.declared.request.Request.TheVariants as request
@@ -48,6 +49,13 @@ FitsDenial p flows o d = IsDenial p flows o d × (depth (denial_data p d) ≤ 80
 abbrev pub IsOn : State → Option ℕ → CaseShape → Type 0
 IsOn s o c = (o ≡ Some c.flow) × IsOfPolicy s.book.policy c
 
+-- a change is what is asked
+pub record IsChangeFor (p : PolicyShape) (what : Ask) (a : Amendment) : Type 0 where
+  pub by : List ℕ
+  pub edit : Edit
+  pub asked : what ≡ ask.Request (request.Change by edit)
+  pub found : amendment_of p by edit ≡ Ok a
+
 -- the workflow that is concerned
 abbrev pub concern : State → Ask → Option ℕ
 concern s what = concerned s.book.policy (flows_of s) what
@@ -59,6 +67,7 @@ IsDeedFor s what (deed.Claim n c t u) = IsOn s (concern s what) c
 IsDeedFor s what (deed.Finish n c t u) = IsOn s (concern s what) c
 IsDeedFor s what (deed.GiveBack n c t u) = IsOn s (concern s what) c
 IsDeedFor s what (deed.Release n c t) = IsOn s (concern s what) c
+IsDeedFor s what (deed.Change a) = IsChangeFor s.book.policy what a
 IsDeedFor s what (deed.Show c) = IsOfPolicy s.book.policy c
 IsDeedFor s what (deed.TurnAway b) = what ≡ ask.Bad b
 IsDeedFor s what given = Unit {0}
@@ -83,9 +92,9 @@ fault_fits p flows o fault.Absent = (tt, omega arith, tt)
 fault_fits p flows o fault.Full = (tt, omega arith, tt)
 fault_fits p flows o fault.LastAdmin = (tt, omega arith, tt)
 
-edit_fares : (s : State) (what : Ask) (make : Amendment → Deed) (r : Result Amendment EditCause) → ((a : Amendment) → IsDeedFor s what (make a))
+edit_fares : (s : State) (what : Ask) (make : Amendment → Deed) (r : Result Amendment EditCause) → ((a : Amendment) → r ≡ Ok a → IsDeedFor s what (make a))
     → Fares (IsDeedFor s what) (Fits s (concern s what)) (on_edit make r)
-edit_fares s what make (Ok a) made = made a
+edit_fares s what make (Ok a) made = made a refl
 edit_fares s what make (Err why) made = fault_fits s.book.policy (flows_of s) (concern s what) why
 
 -- ---- what a line asks
@@ -135,7 +144,8 @@ resolve_fares s (ask.Request (request.Withdraw by n)) sound =
     then_fares (λ _. Unit {0}) P Q (check (is_admin s.book.policy by) denial.NotAdmin) _
     (check_fares Q (is_admin s.book.policy by) denial.NotAdmin (tt, omega arith, tt))
     (λ _ _. then_fares (IsOn s (flows_of s n)) P Q (open_case_at s.book n) _ (case_fares s n sound) (λ c of. tt))
-resolve_fares s (ask.Request (request.Change by e)) sound = edit_fares s (ask.Request (request.Change by e)) deed.Change (amendment_of s.book.policy by e) (λ a. tt)
+resolve_fares s (ask.Request (request.Change by e)) sound = edit_fares s (ask.Request (request.Change by e)) deed.Change (amendment_of s.book.policy by e)
+    (λ a is. record { by = by; edit = e; asked = refl; found = is })
 resolve_fares s (ask.Request (request.Show n)) sound =
     let Q = Fits s (flows_of s n) in
     then_fares (λ c. numbered_case s.book.cases n ≡ Some c) (IsDeedFor s (ask.Request (request.Show n))) Q (or_fault (numbered_case s.book.cases n) denial.NoCase) _
@@ -145,7 +155,7 @@ resolve_fares s (ask.Request (request.Worklist user)) sound =
     let Q = Fits s None in
     then_fares (λ u. user_named s.book user ≡ Some u) P Q (or_fault (user_named s.book user) denial.NoUser) _
     (or_fares Q (user_named s.book user) denial.NoUser (tt, omega arith, tt)) (λ u _. tt)
-resolve_fares s (ask.Request (request.WhatIf by e)) sound = edit_fares s (ask.Request (request.WhatIf by e)) deed.WhatIf (amendment_of s.book.policy by e) (λ a. tt)
+resolve_fares s (ask.Request (request.WhatIf by e)) sound = edit_fares s (ask.Request (request.WhatIf by e)) deed.WhatIf (amendment_of s.book.policy by e) (λ a is. tt)
 resolve_fares s (ask.Bad b) sound = refl
 
 -- ---- causes

@@ -15,6 +15,7 @@ use Rattle.wf_board.proofs.Keeping.{histories_stay_sound}
 use Rattle.wf_board.specs.Laws.Histories.{IsRightAfter, job_of_entry, lane_jobs, state_after}
 use Rattle.wf_board.proofs.HistoryLaws.{each_more}
 use Rattle.wf_board.specs.Laws.States.{State, opening_state}
+use Rattle.wf_board.specs.Laws.Kept.{IsSoundState}
 use Rattle.line_reader.specs.Laws.{AddsNamed, AreLinesBelow, AreNamedJobs}
 use Rattle.wf_desk.specs.Desks.{served_jobs}
 use Rattle.entry_reader.specs.declared.place.Place.{Place}
@@ -101,11 +102,11 @@ record IsOfSession (a : AuditShape) (k : ℕ) : Type 0 where
   pub sound : IsSoundAudit a k
   pub names : HasNames (state_now a).book.policy
 
--- the policy after the entries of a session is sound
-policy_sound : (a : AuditShape) (k : ℕ) → IsSoundPolicy a.opening → IsSoundAudit a k → IsSoundPolicy (state_now a).book.policy
-policy_sound a k opening sound =
-    subst (λ es. IsSoundPolicy (state_after (opening_state a.opening) es).book.policy) (take-length a.entries)
-    (histories_stay_sound a.opening a.rounds a.entries opening sound.legal (length a.entries)).policy
+-- the state after the entries of a session is sound
+state_sound : (a : AuditShape) (k : ℕ) → IsSoundPolicy a.opening → IsSoundAudit a k → IsSoundState (state_now a)
+state_sound a k opening sound =
+    subst (λ es. IsSoundState (state_after (opening_state a.opening) es)) (take-length a.entries)
+    (histories_stay_sound a.opening a.rounds a.entries opening sound.legal (length a.entries))
 
 -- and its names are names
 names_all : (a : AuditShape) (k : ℕ) (lines : List (List ℕ)) (es : List Entry) → AreOfSession a.opening a.rounds a.jobs a.batch_ends → IsSoundAudit a k →
@@ -115,7 +116,7 @@ names_all a k (line ∷ lines) (e ∷ es) session sound names next =
     let more = sound_more a k e sound next.0.next in
     let adds = each_next (λ j. AddsNamed j.ask) a e.lane (job_of_entry e) (adds_each a.jobs session.named) next.0.next.answers in
     let after : HasNames (state_now (with_entry a e)).book.policy = subst (λ (s : State). HasNames s.book.policy) (sym (state_more a e))
-    (step_names (state_now a) e.ask e.reply (policy_sound a k session.policy sound) adds names) in
+    (step_names (state_now a) e.ask e.reply (state_sound a k session.policy sound) adds names) in
     subst (λ xs. HasNames (state_now (record a { entries = xs })).book.policy) (append_assoc a.entries (e ∷ []) es)
     (names_all (with_entry a e) more.0 lines es session more.1 after next.1)
 names_all a k [] (e ∷ es) session sound names next = absurd next

@@ -17,11 +17,11 @@ use Rattle.wire_json.specs.Replies.{entry_text, reply_data}
 use Rattle.wire_json.proofs.Lines.{text_same}
 use Rattle.wf_desk.specs.Desks.{DeskShape, IsSoundDesk}
 use Rattle.entry_laws.specs.Laws.Transcripts.{transcript_text}
+use Rattle.entry_laws.proofs.Names.{keeps_same, keeps_then, step_keeps_names}
 use Rattle.entry_laws.proofs.Numbers.{AreSerial, step_serial}
 use Rattle.wf_server.specs.Batches.{entries_text}
 use Rattle.wf_server.specs.Names.{KeepsTexts}
-use Rattle.wf_server.proofs.NamesKept.{keeps_same, keeps_then}
-use Rattle.wf_server.proofs.NamesStep.{IsNamed, step_names, step_text}
+use Rattle.wf_server.proofs.NamesStep.{IsNamed, step_text}
 
 -- a reply is a step, or it is answered again
 abbrev IsStepOrAgain : State → Ask → Reply → Type 0
@@ -55,7 +55,7 @@ goes_on s what given is (inl step) =
     let kept = step_keeps s what given (is.sound, is.kept) step in
     record {
       next = record { sound = kept.0; kept = kept.1; serial = step_serial s what given is.serial };
-      names = step_names s what given is.sound;
+      names = step_keeps_names s what given is.sound;
       text = λ q keeps. step_text s q what given keeps is step;
     }
 goes_on s what given is (inr again) =

@@ -1,5 +1,5 @@
 -- What is written of what a policy has is the same with the names of a later policy that keeps those of the other.
-use Rattle.std.proofs.Common.{◌≡◌, ℕ, ◌<◌, List, [], ◌∷◌, ◌++◌, length, map, Bool, Option, refl, sym, ap, subst, ◌∙◌, append-nil, append_assoc, codes}
+use Rattle.std.proofs.Common.{◌≡◌, ℕ, ◌<◌, List, [], ◌∷◌, length, map, Bool, Option, refl, ap, subst, ◌∙◌, codes}
 use Rattle.std.specs.List.{All}
 use Rattle.std.proofs.lemmas.List.{get_or_append_left}
 use Rattle.serde_json.specs.Data.{string, array, object, no_members, member, number, unsigned}
@@ -10,7 +10,6 @@ use Rattle.constraint_forms.specs.Assign.{planned}
 use Rattle.refutation_tree.specs.Tree.{Shape, Kids, holder, rule, node, no_kids, tree_kid, twin_kid}
 use Rattle.refutation_tree.specs.Laws.Views.{shape_of}
 use Rattle.policy_book.specs.Laws.Shapes.{PolicyShape}
-use Rattle.policy_book.specs.Policies.{flow_at}
 use Rattle.policy_book.specs.Laws.Plans.{Problem, IsValidPlan}
 use Rattle.wf_talk.specs.declared.reply.Face.{Face}
 use Rattle.wf_talk.specs.declared.reply.Denial.{Denial}
@@ -23,28 +22,6 @@ use Rattle.wire_json.specs.Trees.{branches_data, node_data, tree_data}
 use Rattle.wire_json.specs.Replies.{denial_data, face_data, strands_data, work_data}
 use Rattle.entry_reader.specs.Laws.Within.{AreKids, IsDenial, IsState, IsTree, IsUser}
 use Rattle.entry_reader.proofs.PlainReplies.{all_first, all_more}
-
--- ---- policies that keep names
-
-pub keeps_same : (p q : PolicyShape) → q ≡ p → KeepsNames p q
-keeps_same p q same = record {
-  more = [];
-  users = ap (λ (x : PolicyShape). x.roster.users) same ∙ sym (append-nil p.roster.users);
-  roles = ap (λ (x : PolicyShape). x.roster.roles) same;
-  flow_names = ap (λ (x : PolicyShape). x.flow_names) same;
-  flows = ap (λ (x : PolicyShape). length x.flows) same;
-  steps = λ f. ap (λ (x : PolicyShape). (flow_at x f).flow.steps) same;
-}
-
-pub keeps_then : (p q r : PolicyShape) → KeepsNames p q → KeepsNames q r → KeepsNames p r
-keeps_then p q r first later = record {
-  more = first.more ++ later.more;
-  users = later.users ∙ ap (λ us. us ++ later.more) first.users ∙ append_assoc p.roster.users first.more later.more;
-  roles = later.roles ∙ first.roles;
-  flow_names = later.flow_names ∙ first.flow_names;
-  flows = later.flows ∙ first.flows;
-  steps = λ f. later.steps f ∙ first.steps f;
-}
 
 -- ---- users
 

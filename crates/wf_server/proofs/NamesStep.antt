@@ -1,4 +1,4 @@
--- A step keeps all names, and what it answers is written alike with the names of a later policy.
+-- What a step answers is written alike with the names of a later policy.
 use Rattle.std.proofs.Common.{◌≡◌, ℕ, ◌<◌, inl, inr, Option, Result, Ok, Err, refl, sym, ap, subst, codes}
 use Rattle.serde_json.specs.Data.{array, number, object, member, no_members, unsigned}
 use Rattle.serde_json.specs.View.{items_of}
@@ -14,11 +14,10 @@ use Rattle.wf_talk.specs.declared.reply.Denial.TheVariants as denial
 use Rattle.wf_talk.specs.declared.reply.Reply.{Reply}
 use Rattle.wf_talk.specs.declared.reply.Reply.TheVariants as reply
 use Rattle.admin_edits.specs.Laws.Keeping.{KeepsNames}
-use Rattle.admin_edits.proofs.Keeping.{changes_keep_names}
 use Rattle.wf_board.specs.declared.deed.Deed.{Deed}
 use Rattle.wf_board.specs.declared.deed.Deed.TheVariants as deed
 use Rattle.wf_board.specs.Laws.States.{State}
-use Rattle.wf_board.specs.Laws.Steps.{Answers, IsReplyTo, IsStep, state_after_decision, state_after_deed, state_after_step}
+use Rattle.wf_board.specs.Laws.Steps.{Answers, IsReplyTo, IsStep}
 use Rattle.wf_board.specs.Decisions.{decision_of}
 use Rattle.wf_board.specs.Laws.Kept.{IsSoundState, KeepsCompletable}
 use Rattle.wf_board.proofs.Faring.{Fares}
@@ -32,36 +31,13 @@ use Rattle.entry_laws.proofs.Parts.{case_stands, problem_fits}
 use Rattle.entry_laws.proofs.Stranded.{stranded_tree}
 use Rattle.entry_laws.proofs.Told.{FitsDenial, IsDeedFor, concern, decision_fares}
 use Rattle.entry_laws.proofs.Trees.{tree_stands}
-use Rattle.wf_server.proofs.NamesKept.{denial_same, face_same, keeps_same, plan_same, tree_same, work_same}
+use Rattle.wf_server.proofs.NamesKept.{denial_same, face_same, plan_same, tree_same, work_same}
 
 -- a state as the law goes over it
 pub record IsNamed (s : State) : Type 0 where
   pub sound : IsSoundState s
   pub kept : KeepsCompletable s
   pub serial : AreSerial s.book
-
--- ---- names
-
-deed_names : (s : State) (given : Deed) (answer : Reply) → IsSoundState s → IsTold s.book given → KeepsNames s.book.policy
-    (state_after_deed s given answer).book.policy
-deed_names s (deed.Change a) (reply.Edited n) sound known = changes_keep_names s.book.policy a (known.0 sound.policy).found
-deed_names s (deed.Open f) (reply.Opened n plan) sound known = keeps_same s.book.policy s.book.policy refl
-deed_names s (deed.Claim n c t u) (reply.Granted plan) sound known = keeps_same s.book.policy s.book.policy refl
-deed_names s (deed.Finish n c t u) (reply.Finished done) sound known = keeps_same s.book.policy s.book.policy refl
-deed_names s (deed.GiveBack n c t u) reply.Returned sound known = keeps_same s.book.policy s.book.policy refl
-deed_names s (deed.Release n c t) reply.Released sound known = keeps_same s.book.policy s.book.policy refl
-deed_names s (deed.Withdraw n) reply.Withdrawn sound known = keeps_same s.book.policy s.book.policy refl
-deed_names s given answer sound known = keeps_same s.book.policy s.book.policy refl
-
-decision_names : (s : State) (r : Result Deed Denial) (answer : Reply) → IsSoundState s → HoldsOf (IsTold s.book) r → KeepsNames s.book.policy
-    (state_after_decision s r answer).book.policy
-decision_names s (Ok given) answer sound known = deed_names s given answer sound known
-decision_names s (Err d) answer sound known = keeps_same s.book.policy s.book.policy refl
-
-pub step_names : (s : State) (what : Ask) (answer : Reply) → IsSoundState s → KeepsNames s.book.policy (state_after_step s what answer).book.policy
-step_names s what answer sound = decision_names s (decision_of s.book what) answer sound (told s.book what)
-
--- ---- replies
 
 -- a tree that refutes a workflow of the policy
 refuting_same : (s : State) (q : PolicyShape) (f g : ℕ) (a : List (Option ℕ)) (finished : List Bool) (tree : Tree) → KeepsNames s.book.policy q →
