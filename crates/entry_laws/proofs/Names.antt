@@ -1,6 +1,6 @@
 -- The names of a policy stay names along a session.
-use Rattle.std.proofs.Common.{◌≡◌, ℕ, zero, suc, ◌⊎◌, inl, inr, Bool, true, false, not, nat_eq, List, [], ◌∷◌, ◌++◌, length, slice_get, ap, ◌∙◌, append-nil, append_assoc, Some}
-use Rattle.std.proofs.Common.{is_some, Result, Ok, Err, IsTrue, refl, sym, subst, arith}
+use Rattle.std.proofs.Common.{◌≡◌, ℕ, zero, suc, ◌⊎◌, inl, inr, Bool, true, false, not, nat_eq, List, [], ◌∷◌, ◌++◌, length, slice_get, ap, ◌∙◌, append-nil}
+use Rattle.std.proofs.Common.{append_assoc, Some, is_some, Result, Ok, Err, IsTrue, refl, sym, subst, arith}
 use Rattle.std.specs.List.{position}
 use Rattle.std.specs.Cmp.Lexicographic.{pointwise, nat_list_eq_equiv}
 use Rattle.std.proofs.lemmas.Grind.{common_steps}

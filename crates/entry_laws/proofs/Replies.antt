@@ -38,7 +38,7 @@ use Rattle.entry_reader.specs.Laws.Lines.{concerned}
 use Rattle.entry_reader.proofs.PlainLines.{names_flat}
 use Rattle.entry_laws.specs.Laws.{HasFewSteps, flows_of}
 use Rattle.entry_laws.proofs.Trees.{tree_fits}
-use Rattle.entry_laws.proofs.Parts.{bad_nests, case_few, case_stands, given_long, no_users_long, phase_flat, plan_fits, problem_fits, states_nest}
+use Rattle.entry_laws.proofs.Parts.{bad_nests, bad_stands, case_few, case_stands, given_long, no_users_long, phase_flat, plan_fits, problem_fits, states_nest}
 use Rattle.entry_laws.proofs.Listed.{numbers_flat, stranded_stand, work_nests, work_stands}
 use Rattle.entry_laws.proofs.Numbers.{AreSerial}
 use Rattle.entry_laws.proofs.Stranded.{stranded_fits}

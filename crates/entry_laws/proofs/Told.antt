@@ -127,9 +127,12 @@ resolve_fares s (ask.Request (request.OpenCase flow)) sound =
     then_fares (λ f. flow_named s.book flow ≡ Some f) (IsDeedFor s (ask.Request (request.OpenCase flow))) (Fits s o)
     (or_fault (flow_named s.book flow) denial.NoFlow) _
     (or_fares (Fits s o) (flow_named s.book flow) denial.NoFlow (tt, omega arith, tt)) (λ f is. (is, place_within s.book.policy.flow_names flow f is))
-resolve_fares s (ask.Request (request.Claim n step user)) sound = step_fares s (ask.Request (request.Claim n step user)) deed.Claim n step user sound (λ c t u of. of)
-resolve_fares s (ask.Request (request.Finish n step user)) sound = step_fares s (ask.Request (request.Finish n step user)) deed.Finish n step user sound (λ c t u of. of)
-resolve_fares s (ask.Request (request.GiveBack n step user)) sound = step_fares s (ask.Request (request.GiveBack n step user)) deed.GiveBack n step user sound (λ c t u of. of)
+resolve_fares s (ask.Request (request.Claim n step user)) sound =
+    step_fares s (ask.Request (request.Claim n step user)) deed.Claim n step user sound (λ c t u of. of)
+resolve_fares s (ask.Request (request.Finish n step user)) sound =
+    step_fares s (ask.Request (request.Finish n step user)) deed.Finish n step user sound (λ c t u of. of)
+resolve_fares s (ask.Request (request.GiveBack n step user)) sound =
+    step_fares s (ask.Request (request.GiveBack n step user)) deed.GiveBack n step user sound (λ c t u of. of)
 resolve_fares s (ask.Request (request.Release by n step)) sound =
     let P = IsDeedFor s (ask.Request (request.Release by n step)) in
     let Q = Fits s (flows_of s n) in
@@ -148,14 +151,16 @@ resolve_fares s (ask.Request (request.Change by e)) sound = edit_fares s (ask.Re
     (λ a is. record { by = by; edit = e; asked = refl; found = is })
 resolve_fares s (ask.Request (request.Show n)) sound =
     let Q = Fits s (flows_of s n) in
-    then_fares (λ c. numbered_case s.book.cases n ≡ Some c) (IsDeedFor s (ask.Request (request.Show n))) Q (or_fault (numbered_case s.book.cases n) denial.NoCase) _
+    then_fares (λ c. numbered_case s.book.cases n ≡ Some c) (IsDeedFor s (ask.Request (request.Show n))) Q
+    (or_fault (numbered_case s.book.cases n) denial.NoCase) _
     (or_fares Q (numbered_case s.book.cases n) denial.NoCase (tt, omega arith, tt)) (λ c is. sound.cases n c is)
 resolve_fares s (ask.Request (request.Worklist user)) sound =
     let P = IsDeedFor s (ask.Request (request.Worklist user)) in
     let Q = Fits s None in
     then_fares (λ u. user_named s.book user ≡ Some u) P Q (or_fault (user_named s.book user) denial.NoUser) _
     (or_fares Q (user_named s.book user) denial.NoUser (tt, omega arith, tt)) (λ u _. tt)
-resolve_fares s (ask.Request (request.WhatIf by e)) sound = edit_fares s (ask.Request (request.WhatIf by e)) deed.WhatIf (amendment_of s.book.policy by e) (λ a is. tt)
+resolve_fares s (ask.Request (request.WhatIf by e)) sound =
+    edit_fares s (ask.Request (request.WhatIf by e)) deed.WhatIf (amendment_of s.book.policy by e) (λ a is. tt)
 resolve_fares s (ask.Bad b) sound = refl
 
 -- ---- causes
