@@ -73,20 +73,12 @@ last_known start rounds earlier (x ∷ xs) e is each =
 -- ---- the text
 
 reply_same : (p q : PolicyShape) (r : Reply) → (is_edited r ≡ false → q ≡ p) → reply_data q r ≡ reply_data p r
-reply_same p q (reply.Edited n) same = refl
 reply_same p q (reply.Granted plan) same = ap (λ x. reply_data x (reply.Granted plan)) (same refl)
-reply_same p q (reply.Finished done) same = refl
-reply_same p q reply.Returned same = refl
-reply_same p q reply.Released same = refl
 reply_same p q (reply.Opened c plan) same = ap (λ x. reply_data x (reply.Opened c plan)) (same refl)
-reply_same p q reply.Withdrawn same = refl
 reply_same p q (reply.Shown face) same = ap (λ x. reply_data x (reply.Shown face)) (same refl)
 reply_same p q (reply.Work items) same = ap (λ x. reply_data x (reply.Work items)) (same refl)
-reply_same p q (reply.WhatIf cases) same = refl
 reply_same p q (reply.Denied d) same = ap (λ x. reply_data x (reply.Denied d)) (same refl)
-reply_same p q (reply.Again n place) same = refl
-reply_same p q reply.NoMemory same = refl
-reply_same p q (reply.Bad b) same = refl
+reply_same p q answer same = refl
 
 -- the text of an entry is the same with the names of the policy after it
 pub text_stays : (start : State) (entries : List Entry) (e : Entry)

@@ -143,22 +143,12 @@ stranded_few s p numbers few is = omega (arith, few, those_few _ _ (λ e. e.numb
 -- ---- replies
 
 deed_few : (s : State) (given : Deed) (answer : Reply) → IsReached s → HasFewOpen s → IsReplyTo s given answer → ListsFew answer
-deed_few s given reply.NoMemory reached few is = tt
-deed_few s (deed.Open f) (reply.Opened n plan) reached few is = tt
-deed_few s (deed.Open f) (reply.Denied (denial.Unsatisfiable g tree)) reached few is = tt
-deed_few s (deed.Claim n c t u) (reply.Granted plan) reached few is = tt
-deed_few s (deed.Claim n c t u) (reply.Denied (denial.Stranded g tree)) reached few is = tt
-deed_few s (deed.Finish n c t u) (reply.Finished done) reached few is = tt
-deed_few s (deed.GiveBack n c t u) reply.Returned reached few is = tt
-deed_few s (deed.Release n c t) reply.Released reached few is = tt
-deed_few s (deed.Withdraw n) reply.Withdrawn reached few is = tt
-deed_few s (deed.Change a) (reply.Edited number) reached few is = tt
-deed_few s (deed.Change a) (reply.Denied (denial.Strands n f tree)) reached few is = tt
-deed_few s (deed.Show c) (reply.Shown face) reached few is = tt
 deed_few s (deed.Work u) (reply.Work items) reached few is = work_few s u items reached few is
 deed_few s (deed.WhatIf a) (reply.WhatIf numbers) reached few is = stranded_few s (amended s.book.policy a) numbers few is
-deed_few s (deed.TurnAway b) (reply.Bad given) reached few is = tt
-deed_few s given answer reached few is = absurd is
+deed_few s given (reply.Work items) reached few is = absurd is
+deed_few s given (reply.WhatIf numbers) reached few is = absurd is
+deed_few s given (reply.Denied (denial.Role roles)) reached few is = absurd is
+deed_few s given answer reached few is = tt
 
 decided_few : (s : State) (what : Ask) (r : Result Deed Denial) (answer : Reply) → IsReached s → HasFewOpen s →
     Fares (IsDeedFor s what) (FitsDenial s.book.policy (flows_of s) (concern s what)) r → Answers s r answer → ListsFew answer

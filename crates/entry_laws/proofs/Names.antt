@@ -68,12 +68,7 @@ keeps_then p q r first later = record {
 deed_keeps_names : (s : State) (given : Deed) (answer : Reply) → IsSoundState s → IsTold s.book given → KeepsNames s.book.policy
     (state_after_deed s given answer).book.policy
 deed_keeps_names s (deed.Change a) (reply.Edited n) sound known = changes_keep_names s.book.policy a (known.0 sound.policy).found
-deed_keeps_names s (deed.Open f) (reply.Opened n plan) sound known = keeps_same s.book.policy s.book.policy refl
-deed_keeps_names s (deed.Claim n c t u) (reply.Granted plan) sound known = keeps_same s.book.policy s.book.policy refl
-deed_keeps_names s (deed.Finish n c t u) (reply.Finished done) sound known = keeps_same s.book.policy s.book.policy refl
-deed_keeps_names s (deed.GiveBack n c t u) reply.Returned sound known = keeps_same s.book.policy s.book.policy refl
-deed_keeps_names s (deed.Release n c t) reply.Released sound known = keeps_same s.book.policy s.book.policy refl
-deed_keeps_names s (deed.Withdraw n) reply.Withdrawn sound known = keeps_same s.book.policy s.book.policy refl
+deed_keeps_names s given reply.Returned sound known = keeps_same s.book.policy s.book.policy refl
 deed_keeps_names s given answer sound known = keeps_same s.book.policy s.book.policy refl
 
 decision_keeps_names : (s : State) (r : Result Deed Denial) (answer : Reply) → IsSoundState s → HoldsOf (IsTold s.book) r → KeepsNames s.book.policy
@@ -145,13 +140,7 @@ amended_users : (p : PolicyShape) (a : Amendment) → HasNames p → IsNamedChan
 amended_users p (amend.AddUser name) names form ok =
     names_pushed p.roster.users name names.users form (first_passed (is_some (place_of p.roster.users name)) _ _ ok)
 amended_users p (amend.Leave u) names form ok = names.users
-amended_users p (amend.Enrol u r) names form ok = names.users
-amended_users p (amend.Dismiss u r) names form ok = names.users
-amended_users p (amend.Relate rho u v) names form ok = names.users
-amended_users p (amend.Unrelate rho u v) names form ok = names.users
-amended_users p (amend.Permit f r s) names form ok = names.users
-amended_users p (amend.Forbid f r s) names form ok = names.users
-amended_users p (amend.Retire f) names form ok = names.users
+amended_users p a names form ok = names.users
 
 -- ---- edits
 
@@ -213,16 +202,11 @@ change_named p what a is form =
 
 deed_names : (s : State) (what : Ask) (given : Deed) (answer : Reply) → IsSoundState s → IsTold s.book given → AddsNamed what →
     IsDeedFor s what given → HasNames s.book.policy → HasNames (state_after_deed s given answer).book.policy
-deed_names s what (deed.Open f) (reply.Opened n plan) sound known form of names = names
-deed_names s what (deed.Claim n c t u) (reply.Granted plan) sound known form of names = names
-deed_names s what (deed.Finish n c t u) (reply.Finished done) sound known form of names = names
-deed_names s what (deed.GiveBack n c t u) reply.Returned sound known form of names = names
-deed_names s what (deed.Release n c t) reply.Released sound known form of names = names
-deed_names s what (deed.Withdraw n) reply.Withdrawn sound known form of names = names
 deed_names s what (deed.Change a) (reply.Edited n) sound known form of names =
     let its = known.0 sound.policy in
     names_kept s.book.policy (amended s.book.policy a) (changes_keep_names s.book.policy a its.found) names
     (amended_users s.book.policy a names (change_named s.book.policy what a of form) its.allowed)
+deed_names s what given reply.Returned sound known form of names = names
 deed_names s what given answer sound known form of names = names
 
 decision_names : (s : State) (what : Ask) (r : Result Deed Denial) (answer : Reply) → IsSoundState s → HoldsOf (IsTold s.book) r → AddsNamed what →

@@ -125,20 +125,12 @@ phase_flat Done = refl
 phase_flat Withdrawn = refl
 
 pub bad_stands : (b : Bad) → IsNamedBad b → IsBad b
-bad_stands bad.Syntax named = tt
-bad_stands bad.Object named = tt
-bad_stands bad.Do named = tt
-bad_stands bad.Lane named = tt
 bad_stands (bad.Key key) named = named
-bad_stands bad.Extra named = tt
+bad_stands b named = tt
 
 pub bad_nests : (b : Bad) → depth (bad_data b) ≤ 1
 bad_nests bad.Syntax = omega arith
-bad_nests bad.Object = omega arith
-bad_nests bad.Do = omega arith
-bad_nests bad.Lane = omega arith
-bad_nests (bad.Key key) = omega arith
-bad_nests bad.Extra = omega arith
+bad_nests b = omega arith
 
 -- ---- causes
 

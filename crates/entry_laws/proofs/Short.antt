@@ -165,10 +165,7 @@ face_short p face names is =
 missing_short : (what : Missing) → length (compact_text (missing_data what)) ≤ 20
 unfolding escape_byte
 missing_short missing.Flow = omega arith
-missing_short missing.Step = omega arith
-missing_short missing.Relation = omega arith
-missing_short missing.User = omega arith
-missing_short missing.Role = omega arith
+missing_short what = omega arith
 
 -- a denial by no tree
 abbrev pub has_tree : Denial → Bool
@@ -180,14 +177,7 @@ has_tree d = false
 denial_short : (p : PolicyShape) (flows : ℕ → Option ℕ) (o : Option ℕ) (d : Denial) → HasNames p → IsDenial p flows o d → HasFewRoles d → has_tree d ≡ false →
     length (compact_text (denial_data p d)) ≤ 2900
 unfolding escape_byte
-denial_short p flows o denial.NoFlow names is few none = omega arith
-denial_short p flows o denial.Retired names is few none = omega arith
-denial_short p flows o denial.Full names is few none = omega arith
 denial_short p flows o (denial.Unsatisfiable f tree) names is few none = cc
-denial_short p flows o denial.NoCase names is few none = omega arith
-denial_short p flows o denial.Closed names is few none = omega arith
-denial_short p flows o denial.NoStep names is few none = omega arith
-denial_short p flows o denial.NoUser names is few none = omega arith
 denial_short p flows o (denial.Taken u) names is few none = omega (arith, single_long (codes "taken") (user_data p u), user_short p u names)
 denial_short p flows o (denial.Order f s) names is few none =
     omega (arith, single_long (codes "order") (step_data p f s), named_short (flow_at p f).flow.steps s (names.steps f))
@@ -197,22 +187,14 @@ denial_short p flows o (denial.Rule k) names is few none =
     omega (arith, single_long (codes "rule") (number (unsigned k)), number_short k (omega (arith, is)))
 denial_short p flows o (denial.Stranded f tree) names is few none = cc
 denial_short p flows o (denial.NotHeld state) names is few none = omega (arith, single_long (codes "not_held") (state_data p state), state_short p state names)
-denial_short p flows o denial.NotAdmin names is few none = omega arith
 denial_short p flows o (denial.Unknown what) names is few none = omega (arith, single_long (codes "unknown") (missing_data what), missing_short what)
-denial_short p flows o denial.Fixed names is few none = omega arith
-denial_short p flows o denial.Already names is few none = omega arith
-denial_short p flows o denial.Absent names is few none = omega arith
-denial_short p flows o denial.LastAdmin names is few none = omega arith
 denial_short p flows o (denial.Strands n f tree) names is few none = cc
+denial_short p flows o d names is few none = omega arith
 
 bad_short : (b : Bad) → IsBad b → length (compact_text (bad_data b)) ≤ 60
 unfolding escape_byte
-bad_short bad.Syntax is = omega arith
-bad_short bad.Object is = omega arith
-bad_short bad.Do is = omega arith
-bad_short bad.Lane is = omega arith
 bad_short (bad.Key key) is = omega (arith, single_long (codes "key") (string key), quoted_short key is)
-bad_short bad.Extra is = omega arith
+bad_short b is = omega arith
 
 -- ---- replies
 
@@ -261,13 +243,8 @@ reply_short p flows o (reply.Granted plan) names is few none =
       single_long (codes "plan") users,
       list_short p.roster.users plan names.users,
     )
-reply_short p flows o (reply.Finished true) names is few none = omega arith
-reply_short p flows o (reply.Finished false) names is few none = omega arith
-reply_short p flows o reply.Returned names is few none = omega arith
-reply_short p flows o reply.Released names is few none = omega arith
 reply_short p flows o (reply.Opened n plan) names is few none =
     omega (arith, single_long (codes "opened") (opened_data p n plan), opened_short p n plan names is.0 is.1.0)
-reply_short p flows o reply.Withdrawn names is few none = omega arith
 reply_short p flows o (reply.Edited n) names is few none =
     let inner = single (codes "number") (number (unsigned n)) in
     omega (arith, single_long (codes "edited") inner, single_long (codes "number") (number (unsigned n)), number_short n is)
@@ -279,5 +256,7 @@ reply_short p flows o (reply.Denied d) names is few none =
     omega (arith, single_long (codes "denied") (denial_data p d), denial_short p flows o d names is few none)
 reply_short p flows o (reply.Again rounds at) names is few none =
     omega (arith, single_long (codes "again") (again_data rounds at), again_short rounds at is.0 is.1)
-reply_short p flows o reply.NoMemory names is few none = omega arith
+reply_short p flows o (reply.Finished true) names is few none = omega arith
+reply_short p flows o (reply.Finished false) names is few none = omega arith
 reply_short p flows o (reply.Bad b) names is few none = omega (arith, single_long (codes "bad") (bad_data b), bad_short b is)
+reply_short p flows o answer names is few none = omega arith

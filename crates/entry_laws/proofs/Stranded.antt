@@ -65,13 +65,7 @@ users_stay s (amend.AddUser name) n f tree kept are sound is =
     absurd (stranded_not (amended s.book.policy (amend.AddUser name)) (open_cases s.book.cases) n f tree sound is
     (still_complete s name (open_cases s.book.cases) kept (open_found s.book are)))
 users_stay s (amend.Leave u) n f tree kept are sound is = refl
-users_stay s (amend.Enrol u r) n f tree kept are sound is = refl
-users_stay s (amend.Dismiss u r) n f tree kept are sound is = refl
-users_stay s (amend.Relate rho u v) n f tree kept are sound is = refl
-users_stay s (amend.Unrelate rho u v) n f tree kept are sound is = refl
-users_stay s (amend.Permit g r t) n f tree kept are sound is = refl
-users_stay s (amend.Forbid g r t) n f tree kept are sound is = refl
-users_stay s (amend.Retire g) n f tree kept are sound is = refl
+users_stay s a n f tree kept are sound is = refl
 
 -- ---- together
 

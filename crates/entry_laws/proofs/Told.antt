@@ -78,19 +78,11 @@ Fits s o d = FitsDenial s.book.policy (flows_of s) o d
 
 unknown_nests : (p : PolicyShape) (what : Missing) → depth (denial_data p (denial.Unknown what)) ≤ 80
 unknown_nests p missing.Flow = omega arith
-unknown_nests p missing.Step = omega arith
-unknown_nests p missing.Relation = omega arith
-unknown_nests p missing.User = omega arith
-unknown_nests p missing.Role = omega arith
+unknown_nests p what = omega arith
 
 fault_fits : (p : PolicyShape) (flows : ℕ → Option ℕ) (o : Option ℕ) (why : EditCause) → FitsDenial p flows o (edit_denial why)
-fault_fits p flows o fault.NotAdmin = (tt, omega arith, tt)
 fault_fits p flows o (fault.Unknown what) = (tt, unknown_nests p what, tt)
-fault_fits p flows o fault.Fixed = (tt, omega arith, tt)
-fault_fits p flows o fault.Already = (tt, omega arith, tt)
-fault_fits p flows o fault.Absent = (tt, omega arith, tt)
-fault_fits p flows o fault.Full = (tt, omega arith, tt)
-fault_fits p flows o fault.LastAdmin = (tt, omega arith, tt)
+fault_fits p flows o why = (tt, omega arith, tt)
 
 edit_fares : (s : State) (what : Ask) (make : Amendment → Deed) (r : Result Amendment EditCause) → ((a : Amendment) → r ≡ Ok a → IsDeedFor s what (make a))
     → Fares (IsDeedFor s what) (Fits s (concern s what)) (on_edit make r)

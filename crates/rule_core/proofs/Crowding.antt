@@ -8,7 +8,7 @@ use Rattle.basics.proofs.Booleans.{and_both, eq_same, not_true, or_cases, or_lef
 use Rattle.certificate_check.proofs.Assigned.{same_some}
 use Rattle.certificate_check.proofs.Below.{each_passes}
 use Rattle.constraint_forms.specs.declared.rule.Rule.{Rule}
-use Rattle.constraint_forms.specs.declared.rule.Rule.TheVariants.{Pair, SomeOf, AllOf, SomeTo, AllTo, AtMost, AtLeast}
+use Rattle.constraint_forms.specs.declared.rule.Rule.TheVariants.{Pair, AllOf, AllTo}
 use Rattle.constraint_forms.specs.Assign.{user_at, planned, is_member}
 use Rattle.constraint_forms.specs.Rules.{all_from, any_read, is_satisfied, relation_of, said_of}
 use Rattle.policy_book.specs.Laws.Plans.{AreAssigned, IsValidPlan, Problem}
@@ -109,7 +109,6 @@ related_by p (Pair rho first second) g s t holds are =
       refl,
       inl (ap (λ x. p.related rho (g x) (g t)) (eqb-true s first both.0) ∙ ap (λ x. p.related rho (g first) (g x)) (eqb-true t second both.1) ∙ holds),
     )
-related_by p (SomeOf rho group step) g s t holds are = absurd (false≢true are)
 related_by p (AllOf rho group step) g s t holds are =
     let both = and_both (is_member group s) (t == step) are in
     let same : 0 + s ≡ s = omega arith in (
@@ -118,7 +117,6 @@ related_by p (AllOf rho group step) g s t holds are =
       inl (ap (λ x. p.related rho (g s) (g x)) (eqb-true t step both.1) ∙ sym (ap (λ x. p.related rho (g x) (g step)) same) ∙
           member_related (λ x. p.related rho (g x) (g step)) 0 group s holds both.0),
     )
-related_by p (SomeTo rho step group) g s t holds are = absurd (false≢true are)
 related_by p (AllTo rho step group) g s t holds are =
     let both = and_both (is_member group s) (t == step) are in
     let same : 0 + s ≡ s = omega arith in (
@@ -127,8 +125,7 @@ related_by p (AllTo rho step group) g s t holds are =
       inr (ap (λ x. p.related rho (g x) (g s)) (eqb-true t step both.1) ∙ sym (ap (λ x. p.related rho (g step) (g x)) same) ∙
           member_related (λ x. p.related rho (g step) (g x)) 0 group s holds both.0),
     )
-related_by p (AtMost limit group) g s t holds are = absurd (false≢true are)
-related_by p (AtLeast limit group) g s t holds are = absurd (false≢true are)
+related_by p x g s t holds are = absurd (false≢true are)
 
 nobody_to_self : (p : Problem) (rho u : ℕ) → is_strict p rho ≡ true → u < p.users → p.related rho u u ≡ true → ⊥
 nobody_to_self p rho u strict known holds = false≢true (sym (ap not holds) ∙ each_passes p.users (λ v. not (p.related rho v v)) strict u known)
