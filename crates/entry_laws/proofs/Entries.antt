@@ -34,9 +34,9 @@ use Rattle.entry_laws.proofs.Replies.{FitsReply, IsReached, step_fits}
 deed_few : (s : State) (given : Deed) (answer : Reply) → IsSoundPolicy s.book.policy → IsTold s.book given → HasFewSteps s.book.policy
     → HasFewSteps (state_after_deed s given answer).book.policy
 deed_few s (deed.Open f) (reply.Opened n plan) sound known few = few
-deed_few s (deed.Claim n c t u) (reply.Granted plan) sound known few = few
-deed_few s (deed.Finish n c t u) (reply.Finished done) sound known few = few
-deed_few s (deed.GiveBack n c t u) reply.Returned sound known few = few
+deed_few s (deed.Claim d) (reply.Granted plan) sound known few = few
+deed_few s (deed.Finish d) (reply.Finished done) sound known few = few
+deed_few s (deed.GiveBack d) reply.Returned sound known few = few
 deed_few s (deed.Release n c t) reply.Released sound known few = few
 deed_few s (deed.Withdraw n) reply.Withdrawn sound known few = few
 deed_few s (deed.Change a) (reply.Edited n) sound known few =

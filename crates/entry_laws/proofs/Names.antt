@@ -34,6 +34,7 @@ use Rattle.admin_edits.specs.Laws.Edits.{allowed, amended, amendment_of, found, 
 use Rattle.admin_edits.specs.Laws.Keeping.{KeepsNames}
 use Rattle.admin_edits.proofs.Keeping.{changes_keep_names}
 use Rattle.wf_board.specs.declared.deed.Deed.{Deed}
+use Rattle.wf_board.specs.declared.deed.Duty.{Duty}
 use Rattle.wf_board.specs.declared.deed.Deed.TheVariants as deed
 use Rattle.wf_board.specs.Laws.States.{Book, State, flow_named, numbered_case, step_named, user_named}
 use Rattle.wf_board.specs.Resolve.{on_edit, on_step, open_case_at, resolve}
@@ -175,21 +176,22 @@ on_what_if_named : (r : Result Amendment EditCause) → HoldsOf IsNamedDeed (on_
 on_what_if_named (Ok a) = tt
 on_what_if_named (Err fault) = tt
 
-on_step_named : (make : ℕ → CaseShape → ℕ → ℕ → Deed) (b : Book) (n : ℕ) (step user : List ℕ) → ((c : CaseShape) (t u : ℕ) → IsNamedDeed (make n c t u)) →
+on_step_named : (make : Duty → Deed) (b : Book) (n : ℕ) (step user : List ℕ) → ((d : Duty) → IsNamedDeed (make d)) →
     HoldsOf IsNamedDeed (on_step make b n step user)
 on_step_named make b n step user made =
     then_any IsNamedDeed (open_case_at b n)
-    (λ c. or_fault (step_named b c.flow step) denial.NoStep >>= (λ t. or_fault (user_named b user) denial.NoUser >>= (λ u. Ok (make n c t u))))
+    (λ c. or_fault (step_named b c.flow step) denial.NoStep >>= (λ t. or_fault (user_named b user) denial.NoUser >>=
+    (λ u. Ok (make record { number = n; case = c; step = t; user = u }))))
     (λ c. then_any IsNamedDeed (or_fault (step_named b c.flow step) denial.NoStep)
-    (λ t. or_fault (user_named b user) denial.NoUser >>= (λ u. Ok (make n c t u)))
-    (λ t. then_any IsNamedDeed (or_fault (user_named b user) denial.NoUser) (λ u. Ok (make n c t u)) (λ u. made c t u)))
+    (λ t. or_fault (user_named b user) denial.NoUser >>= (λ u. Ok (make record { number = n; case = c; step = t; user = u })))
+    (λ t. then_any IsNamedDeed (or_fault (user_named b user) denial.NoUser) _ (λ u. made record { number = n; case = c; step = t; user = u })))
 
 resolve_named : (b : Book) (what : Ask) → AddsNamed what → HoldsOf IsNamedDeed (resolve b what)
 resolve_named b (ask.Bad bad) form = tt
 resolve_named b (ask.Request (request.OpenCase flow)) form = then_any IsNamedDeed (or_fault (flow_named b flow) denial.NoFlow) (λ f. Ok (deed.Open f)) (λ f. tt)
-resolve_named b (ask.Request (request.Claim n step user)) form = on_step_named deed.Claim b n step user (λ c t u. tt)
-resolve_named b (ask.Request (request.Finish n step user)) form = on_step_named deed.Finish b n step user (λ c t u. tt)
-resolve_named b (ask.Request (request.GiveBack n step user)) form = on_step_named deed.GiveBack b n step user (λ c t u. tt)
+resolve_named b (ask.Request (request.Claim n step user)) form = on_step_named deed.Claim b n step user (λ d. tt)
+resolve_named b (ask.Request (request.Finish n step user)) form = on_step_named deed.Finish b n step user (λ d. tt)
+resolve_named b (ask.Request (request.GiveBack n step user)) form = on_step_named deed.GiveBack b n step user (λ d. tt)
 resolve_named b (ask.Request (request.Release by n step)) form =
     then_any IsNamedDeed (check (is_admin b.policy by) denial.NotAdmin)
     (λ _. open_case_at b n >>= (λ c. or_fault (step_named b c.flow step) denial.NoStep >>= (λ s. Ok (deed.Release n c s))))
@@ -219,9 +221,9 @@ decision_named b what form =
 deed_names : (s : State) (given : Deed) (answer : Reply) → IsSoundPolicy s.book.policy → IsTold s.book given → IsNamedDeed given → HasNames s.book.policy
     → HasNames (state_after_deed s given answer).book.policy
 deed_names s (deed.Open f) (reply.Opened n plan) sound known form names = names
-deed_names s (deed.Claim n c t u) (reply.Granted plan) sound known form names = names
-deed_names s (deed.Finish n c t u) (reply.Finished done) sound known form names = names
-deed_names s (deed.GiveBack n c t u) reply.Returned sound known form names = names
+deed_names s (deed.Claim d) (reply.Granted plan) sound known form names = names
+deed_names s (deed.Finish d) (reply.Finished done) sound known form names = names
+deed_names s (deed.GiveBack d) reply.Returned sound known form names = names
 deed_names s (deed.Release n c t) reply.Released sound known form names = names
 deed_names s (deed.Withdraw n) reply.Withdrawn sound known form names = names
 deed_names s (deed.Change a) (reply.Edited n) sound known form names =

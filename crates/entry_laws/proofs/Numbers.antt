@@ -45,9 +45,9 @@ room_left b free =
 
 room_of : (b : Book) (given : Deed) → cause_full b given ≡ None → HasRoom b given
 room_of b (deed.Open f) none = room_left b (not_yes (is_full b) (unless_tells (not (is_full b)) denial.Full none))
-room_of b (deed.Claim n c t u) none = tt
-room_of b (deed.Finish n c t u) none = tt
-room_of b (deed.GiveBack n c t u) none = tt
+room_of b (deed.Claim d) none = tt
+room_of b (deed.Finish d) none = tt
+room_of b (deed.GiveBack d) none = tt
 room_of b (deed.Release n c t) none = tt
 room_of b (deed.Withdraw n) none = tt
 room_of b (deed.Change a) none = tt
@@ -64,9 +64,9 @@ decided_room b what =
 deed_within : (s : State) (given : Deed) (answer : Reply) → s.book.ever ≤ CASE_LIMIT → HasRoom s.book given →
     (state_after_deed s given answer).book.ever ≤ CASE_LIMIT
 deed_within s (deed.Open f) (reply.Opened n plan) few room = omega (arith, room.1)
-deed_within s (deed.Claim n c t u) (reply.Granted plan) few room = few
-deed_within s (deed.Finish n c t u) (reply.Finished done) few room = few
-deed_within s (deed.GiveBack n c t u) reply.Returned few room = few
+deed_within s (deed.Claim d) (reply.Granted plan) few room = few
+deed_within s (deed.Finish d) (reply.Finished done) few room = few
+deed_within s (deed.GiveBack d) reply.Returned few room = few
 deed_within s (deed.Release n c t) reply.Released few room = few
 deed_within s (deed.Withdraw n) reply.Withdrawn few room = few
 deed_within s (deed.Change a) (reply.Edited number) few room = few

@@ -147,11 +147,13 @@ deed_fits s o given reply.NoMemory edits reached known of is = (tt, omega arith)
 deed_fits s o (deed.Open f) (reply.Opened n plan) edits reached known of is = opened_fits s o f n plan reached of.1 is.0 is.1
 deed_fits s o (deed.Open f) (reply.Denied (denial.Unsatisfiable g tree)) edits reached known of is =
     subst (λ x. FitsReply s.book.policy (flows_of s) o (reply.Denied (denial.Unsatisfiable x tree))) (sym is.0) (unsatisfiable_fits s o f tree reached of is.1)
-deed_fits s o (deed.Claim n c t u) (reply.Granted plan) edits reached known of is = granted_fits s o c (assigned_with c t u) (finished_of c) plan reached of is
-deed_fits s o (deed.Claim n c t u) (reply.Denied (denial.Stranded g tree)) edits reached known of is =
-    subst (λ x. FitsReply s.book.policy (flows_of s) o (reply.Denied (denial.Stranded x tree))) (sym is.0) (stranding_fits s o c t u tree reached of is.1)
-deed_fits s o (deed.Finish n c t u) (reply.Finished done) edits reached known of is = (tt, omega arith)
-deed_fits s o (deed.GiveBack n c t u) reply.Returned edits reached known of is = (tt, omega arith)
+deed_fits s o (deed.Claim d) (reply.Granted plan) edits reached known of is =
+    granted_fits s o d.case (assigned_with d.case d.step d.user) (finished_of d.case) plan reached of is
+deed_fits s o (deed.Claim d) (reply.Denied (denial.Stranded g tree)) edits reached known of is =
+    subst (λ x. FitsReply s.book.policy (flows_of s) o (reply.Denied (denial.Stranded x tree))) (sym is.0)
+    (stranding_fits s o d.case d.step d.user tree reached of is.1)
+deed_fits s o (deed.Finish d) (reply.Finished done) edits reached known of is = (tt, omega arith)
+deed_fits s o (deed.GiveBack d) reply.Returned edits reached known of is = (tt, omega arith)
 deed_fits s o (deed.Release n c t) reply.Released edits reached known of is = (tt, omega arith)
 deed_fits s o (deed.Withdraw n) reply.Withdrawn edits reached known of is = (tt, omega arith)
 deed_fits s o (deed.Change a) (reply.Edited n) edits reached known of is = let next = is.0 in (omega (arith, next, edits), omega arith)

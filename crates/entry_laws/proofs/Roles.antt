@@ -22,6 +22,7 @@ use Rattle.admin_edits.specs.declared.fault.EditCause.{EditCause}
 use Rattle.admin_edits.specs.declared.fault.EditCause.TheVariants as fault
 use Rattle.admin_edits.specs.Laws.Edits.{amendment_of, is_admin}
 use Rattle.wf_board.specs.declared.deed.Deed.{Deed}
+use Rattle.wf_board.specs.declared.deed.Duty.{Duty}
 use Rattle.wf_board.specs.declared.deed.Deed.TheVariants as deed
 use Rattle.wf_board.specs.Laws.States.{Book, flow_named, numbered_case, step_named, user_named}
 use Rattle.wf_board.specs.Resolve.{edit_denial, on_edit, on_step, open_case_at, resolve}
@@ -77,7 +78,7 @@ open_decides b n =
     decides_then (or_fault (numbered_case b.cases n) denial.NoCase) _ (decides_or (numbered_case b.cases n) denial.NoCase tt)
     (λ c. decides_then (check (is_open c) denial.Closed) _ (decides_check (is_open c) denial.Closed tt) (λ _. tt))
 
-step_decides : (make : ℕ → CaseShape → ℕ → ℕ → Deed) (b : Book) (n : ℕ) (step user : List ℕ) → Decides (on_step make b n step user)
+step_decides : (make : Duty → Deed) (b : Book) (n : ℕ) (step user : List ℕ) → Decides (on_step make b n step user)
 step_decides make b n step user =
     decides_then (open_case_at b n) _ (open_decides b n)
     (λ c. decides_then (or_fault (step_named b c.flow step) denial.NoStep) _ (decides_or (step_named b c.flow step) denial.NoStep tt)
@@ -115,9 +116,9 @@ claim_few p c t u sound =
 
 cause_few : (b : Book) (given : Deed) → IsSoundPolicy b.policy → IsCauseSo HasFewRoles (cause_aside b given)
 cause_few b (deed.Open f) sound = unless_so HasFewRoles _ denial.Retired tt
-cause_few b (deed.Claim n c t u) sound = claim_few b.policy c t u sound
-cause_few b (deed.Finish n c t u) sound = unless_so HasFewRoles _ (denial.NotHeld _) tt
-cause_few b (deed.GiveBack n c t u) sound = unless_so HasFewRoles _ (denial.NotHeld _) tt
+cause_few b (deed.Claim d) sound = claim_few b.policy d.case d.step d.user sound
+cause_few b (deed.Finish d) sound = unless_so HasFewRoles _ (denial.NotHeld _) tt
+cause_few b (deed.GiveBack d) sound = unless_so HasFewRoles _ (denial.NotHeld _) tt
 cause_few b (deed.Release n c t) sound = unless_so HasFewRoles _ (denial.NotHeld _) tt
 cause_few b (deed.Withdraw n) sound = tt
 cause_few b (deed.Change a) sound = tt
@@ -128,9 +129,9 @@ cause_few b (deed.TurnAway bad) sound = tt
 
 full_few : (b : Book) (given : Deed) → IsCauseSo HasFewRoles (cause_full b given)
 full_few b (deed.Open f) = unless_so HasFewRoles _ denial.Full tt
-full_few b (deed.Claim n c t u) = tt
-full_few b (deed.Finish n c t u) = tt
-full_few b (deed.GiveBack n c t u) = tt
+full_few b (deed.Claim d) = tt
+full_few b (deed.Finish d) = tt
+full_few b (deed.GiveBack d) = tt
 full_few b (deed.Release n c t) = tt
 full_few b (deed.Withdraw n) = tt
 full_few b (deed.Change a) = tt

@@ -25,6 +25,7 @@ use Rattle.admin_edits.specs.declared.fault.EditCause.{EditCause}
 use Rattle.admin_edits.specs.declared.fault.EditCause.TheVariants as fault
 use Rattle.admin_edits.specs.Laws.Edits.{amendment_of, is_admin}
 use Rattle.wf_board.specs.declared.deed.Deed.{Deed}
+use Rattle.wf_board.specs.declared.deed.Duty.{Duty}
 use Rattle.wf_board.specs.declared.deed.Deed.TheVariants as deed
 use Rattle.wf_board.specs.Laws.States.{State, numbered_case, flow_named, step_named, user_named}
 use Rattle.wf_board.specs.Resolve.{edit_denial, on_edit, on_step, open_case_at, resolve}
@@ -53,9 +54,9 @@ IsOn s o c = (o ≡ Some c.flow) × IsOfPolicy s.book.policy c
 -- what a deed names is of what is concerned
 abbrev pub IsDeedFor : State → Option ℕ → Deed → Type 0
 IsDeedFor s o (deed.Open f) = (o ≡ Some f) × (f < length s.book.policy.flow_names)
-IsDeedFor s o (deed.Claim n c t u) = IsOn s o c
-IsDeedFor s o (deed.Finish n c t u) = IsOn s o c
-IsDeedFor s o (deed.GiveBack n c t u) = IsOn s o c
+IsDeedFor s o (deed.Claim d) = IsOn s o d.case
+IsDeedFor s o (deed.Finish d) = IsOn s o d.case
+IsDeedFor s o (deed.GiveBack d) = IsOn s o d.case
 IsDeedFor s o (deed.Release n c t) = IsOn s o c
 IsDeedFor s o (deed.Withdraw n) = Unit {0}
 IsDeedFor s o (deed.Change a) = Unit {0}
@@ -100,8 +101,8 @@ case_fares s n sound =
     (check_fares Q (is_open c) denial.Closed (tt, omega arith))
     (λ _ _. (ap (option_map (λ (x : CaseShape). x.flow)) is, sound.cases n c is)))
 
-step_fares : (s : State) (make : ℕ → CaseShape → ℕ → ℕ → Deed) (n : ℕ) (step user : List ℕ) → IsSoundState s
-    → ((c : CaseShape) (t u : ℕ) → IsOn s (flows_of s n) c → IsDeedFor s (flows_of s n) (make n c t u))
+step_fares : (s : State) (make : Duty → Deed) (n : ℕ) (step user : List ℕ) → IsSoundState s
+    → ((d : Duty) → IsOn s (flows_of s n) d.case → IsDeedFor s (flows_of s n) (make d))
     → Fares (IsDeedFor s (flows_of s n)) (Fits s (flows_of s n)) (on_step make s.book n step user)
 step_fares s make n step user sound made =
     let P = IsDeedFor s (flows_of s n) in
@@ -111,7 +112,7 @@ step_fares s make n step user sound made =
     (or_fares Q (step_named s.book c.flow step) denial.NoStep (tt, omega arith))
     (λ t _. then_fares (λ u. user_named s.book user ≡ Some u) P Q (or_fault (user_named s.book user) denial.NoUser) _
     (or_fares Q (user_named s.book user) denial.NoUser (tt, omega arith))
-    (λ u _. made c t u of)))
+    (λ u _. made record { number = n; case = c; step = t; user = u } of)))
 
 bad_stands : (b : Bad) → IsNamedBad b → IsBad b
 bad_stands bad.Syntax named = tt
@@ -127,9 +128,9 @@ resolve_fares s (ask.Request (request.OpenCase flow)) sound named =
     let o = flow_named s.book flow in
     then_fares (λ f. flow_named s.book flow ≡ Some f) (IsDeedFor s o) (Fits s o) (or_fault (flow_named s.book flow) denial.NoFlow) _
     (or_fares (Fits s o) (flow_named s.book flow) denial.NoFlow (tt, omega arith)) (λ f is. (is, place_within s.book.policy.flow_names flow f is))
-resolve_fares s (ask.Request (request.Claim n step user)) sound named = step_fares s deed.Claim n step user sound (λ c t u of. of)
-resolve_fares s (ask.Request (request.Finish n step user)) sound named = step_fares s deed.Finish n step user sound (λ c t u of. of)
-resolve_fares s (ask.Request (request.GiveBack n step user)) sound named = step_fares s deed.GiveBack n step user sound (λ c t u of. of)
+resolve_fares s (ask.Request (request.Claim n step user)) sound named = step_fares s deed.Claim n step user sound (λ d of. of)
+resolve_fares s (ask.Request (request.Finish n step user)) sound named = step_fares s deed.Finish n step user sound (λ d of. of)
+resolve_fares s (ask.Request (request.GiveBack n step user)) sound named = step_fares s deed.GiveBack n step user sound (λ d of. of)
 resolve_fares s (ask.Request (request.Release by n step)) sound named =
     let P = IsDeedFor s (flows_of s n) in
     let Q = Fits s (flows_of s n) in
@@ -191,9 +192,9 @@ claim_so s o c t u sound of =
 
 cause_so : (s : State) (o : Option ℕ) (given : Deed) → IsSoundState s → IsDeedFor s o given → IsCauseSo (Fits s o) (cause_aside s.book given)
 cause_so s o (deed.Open f) sound of = unless_so (Fits s o) _ denial.Retired (tt, omega arith)
-cause_so s o (deed.Claim n c t u) sound of = claim_so s o c t u sound of
-cause_so s o (deed.Finish n c t u) sound of = unless_so (Fits s o) _ (denial.NotHeld (state_at c t)) (held_so s o c t of)
-cause_so s o (deed.GiveBack n c t u) sound of = unless_so (Fits s o) _ (denial.NotHeld (state_at c t)) (held_so s o c t of)
+cause_so s o (deed.Claim d) sound of = claim_so s o d.case d.step d.user sound of
+cause_so s o (deed.Finish d) sound of = unless_so (Fits s o) _ (denial.NotHeld (state_at d.case d.step)) (held_so s o d.case d.step of)
+cause_so s o (deed.GiveBack d) sound of = unless_so (Fits s o) _ (denial.NotHeld (state_at d.case d.step)) (held_so s o d.case d.step of)
 cause_so s o (deed.Release n c t) sound of = unless_so (Fits s o) _ (denial.NotHeld (state_at c t)) (held_so s o c t of)
 cause_so s o (deed.Withdraw n) sound of = tt
 cause_so s o (deed.Change a) sound of = tt
@@ -204,9 +205,9 @@ cause_so s o (deed.TurnAway b) sound of = tt
 
 full_so : (s : State) (o : Option ℕ) (given : Deed) → IsCauseSo (Fits s o) (cause_full s.book given)
 full_so s o (deed.Open f) = unless_so (Fits s o) _ denial.Full (tt, omega arith)
-full_so s o (deed.Claim n c t u) = tt
-full_so s o (deed.Finish n c t u) = tt
-full_so s o (deed.GiveBack n c t u) = tt
+full_so s o (deed.Claim d) = tt
+full_so s o (deed.Finish d) = tt
+full_so s o (deed.GiveBack d) = tt
 full_so s o (deed.Release n c t) = tt
 full_so s o (deed.Withdraw n) = tt
 full_so s o (deed.Change a) = tt

@@ -79,9 +79,9 @@ pub deed_names : (s : State) (given : Deed) (answer : Reply) → ChangesKeepName
     KeepsNames s.book.policy (state_after_deed s given answer).book.policy
 deed_names s (deed.Change a) (reply.Edited n) names of = names s.book.policy a of
 deed_names s (deed.Open f) (reply.Opened n plan) names of = keeps_same s.book.policy s.book.policy refl
-deed_names s (deed.Claim n c t u) (reply.Granted plan) names of = keeps_same s.book.policy s.book.policy refl
-deed_names s (deed.Finish n c t u) (reply.Finished done) names of = keeps_same s.book.policy s.book.policy refl
-deed_names s (deed.GiveBack n c t u) reply.Returned names of = keeps_same s.book.policy s.book.policy refl
+deed_names s (deed.Claim d) (reply.Granted plan) names of = keeps_same s.book.policy s.book.policy refl
+deed_names s (deed.Finish d) (reply.Finished done) names of = keeps_same s.book.policy s.book.policy refl
+deed_names s (deed.GiveBack d) reply.Returned names of = keeps_same s.book.policy s.book.policy refl
 deed_names s (deed.Release n c t) reply.Released names of = keeps_same s.book.policy s.book.policy refl
 deed_names s (deed.Withdraw n) reply.Withdrawn names of = keeps_same s.book.policy s.book.policy refl
 deed_names s given answer names of = keeps_same s.book.policy s.book.policy refl
@@ -94,9 +94,9 @@ deed_members s (deed.Change a) (reply.Edited n) names of below =
     let longer = ap length keeps.users ∙ length-append s.book.policy.roster.users keeps.more in
     more_below (length s.book.policy.roster.users) _ _ (omega (arith, longer)) (amended_below s.book.policy a of below)
 deed_members s (deed.Open f) (reply.Opened n plan) names of below = below
-deed_members s (deed.Claim n c t u) (reply.Granted plan) names of below = below
-deed_members s (deed.Finish n c t u) (reply.Finished done) names of below = below
-deed_members s (deed.GiveBack n c t u) reply.Returned names of below = below
+deed_members s (deed.Claim d) (reply.Granted plan) names of below = below
+deed_members s (deed.Finish d) (reply.Finished done) names of below = below
+deed_members s (deed.GiveBack d) reply.Returned names of below = below
 deed_members s (deed.Release n c t) reply.Released names of below = below
 deed_members s (deed.Withdraw n) reply.Withdrawn names of below = below
 deed_members s given answer names of below = below
@@ -148,13 +148,13 @@ deed_text s q (deed.Open f) (reply.Opened n plan) keeps members of is =
 deed_text s q (deed.Open f) (reply.Denied (denial.Unsatisfiable g tree)) keeps members of is =
     ap (λ d. single (codes "denied") (single (codes "unsatisfiable") d))
     (tree_same s.book.policy q g (problem_of s.book.policy f) _ _ (shape_of tree) keeps (known_below _ s.book.policy f members) is.1)
-deed_text s q (deed.Claim n c t u) (reply.Granted plan) keeps members of is =
-    ap (λ d. single (codes "granted") (single (codes "plan") d)) (plan_same s.book.policy q (problem_of s.book.policy c.flow) _ _ plan keeps refl is)
-deed_text s q (deed.Claim n c t u) (reply.Denied (denial.Stranded g tree)) keeps members of is =
+deed_text s q (deed.Claim duty) (reply.Granted plan) keeps members of is =
+    ap (λ d. single (codes "granted") (single (codes "plan") d)) (plan_same s.book.policy q (problem_of s.book.policy duty.case.flow) _ _ plan keeps refl is)
+deed_text s q (deed.Claim duty) (reply.Denied (denial.Stranded g tree)) keeps members of is =
     ap (λ d. single (codes "denied") (single (codes "stranded") d))
-    (tree_same s.book.policy q g (problem_of s.book.policy c.flow) _ _ (shape_of tree) keeps (known_below _ s.book.policy c.flow members) is.1)
-deed_text s q (deed.Finish n c t u) (reply.Finished done) keeps members of is = refl
-deed_text s q (deed.GiveBack n c t u) reply.Returned keeps members of is = refl
+    (tree_same s.book.policy q g (problem_of s.book.policy duty.case.flow) _ _ (shape_of tree) keeps (known_below _ s.book.policy duty.case.flow members) is.1)
+deed_text s q (deed.Finish d) (reply.Finished done) keeps members of is = refl
+deed_text s q (deed.GiveBack d) reply.Returned keeps members of is = refl
 deed_text s q (deed.Release n c t) reply.Released keeps members of is = refl
 deed_text s q (deed.Withdraw n) reply.Withdrawn keeps members of is = refl
 deed_text s q (deed.Change a) (reply.Edited n) keeps members of is = refl

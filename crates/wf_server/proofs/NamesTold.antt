@@ -20,6 +20,7 @@ use Rattle.admin_edits.specs.Amendment as edits
 use Rattle.admin_edits.specs.Laws.Keeping.{KeepsNames}
 use Rattle.admin_edits.proofs.Keeping.{amendment_found}
 use Rattle.wf_board.specs.declared.deed.Deed.{Deed}
+use Rattle.wf_board.specs.declared.deed.Duty.{Duty}
 use Rattle.wf_board.specs.declared.deed.Deed.TheVariants as deed
 use Rattle.wf_board.specs.Laws.States.{State, numbered_case, flow_named, step_named, user_named}
 use Rattle.wf_board.specs.Resolve.{edit_denial, on_edit, on_step, open_case_at, resolve}
@@ -34,9 +35,9 @@ use Rattle.wf_server.proofs.NamesKept.{roles_same, state_same, step_same, user_s
 -- what a deed names is of a policy
 abbrev pub IsDeedOf : PolicyShape → Deed → Type 0
 IsDeedOf p (deed.Open f) = Unit {0}
-IsDeedOf p (deed.Claim n c t u) = IsOfPolicy p c
-IsDeedOf p (deed.Finish n c t u) = IsOfPolicy p c
-IsDeedOf p (deed.GiveBack n c t u) = IsOfPolicy p c
+IsDeedOf p (deed.Claim d) = IsOfPolicy p d.case
+IsDeedOf p (deed.Finish d) = IsOfPolicy p d.case
+IsDeedOf p (deed.GiveBack d) = IsOfPolicy p d.case
 IsDeedOf p (deed.Release n c t) = IsOfPolicy p c
 IsDeedOf p (deed.Withdraw n) = Unit {0}
 IsDeedOf p (deed.Change a) = edits.IsKnownChange p a
@@ -74,8 +75,8 @@ case_fares s q n sound =
     (λ c is. then_fares (λ _. Unit {0}) (IsOfPolicy s.book.policy) Q (check (is_open c) denial.Closed) _ (check_fares Q (is_open c) denial.Closed refl)
     (λ _ _. sound.cases n c is))
 
-step_fares : (s : State) (q : PolicyShape) (make : ℕ → CaseShape → ℕ → ℕ → Deed) (n : ℕ) (step user : List ℕ) → IsSoundState s
-    → ((c : CaseShape) (t u : ℕ) → IsOfPolicy s.book.policy c → IsDeedOf s.book.policy (make n c t u))
+step_fares : (s : State) (q : PolicyShape) (make : Duty → Deed) (n : ℕ) (step user : List ℕ) → IsSoundState s
+    → ((d : Duty) → IsOfPolicy s.book.policy d.case → IsDeedOf s.book.policy (make d))
     → Fares (IsDeedOf s.book.policy) (IsToldAlike s.book.policy q) (on_step make s.book n step user)
 step_fares s q make n step user sound made =
     let P = IsDeedOf s.book.policy in
@@ -85,16 +86,16 @@ step_fares s q make n step user sound made =
     (or_fares Q (step_named s.book c.flow step) denial.NoStep refl)
     (λ t _. then_fares (λ u. user_named s.book user ≡ Some u) P Q (or_fault (user_named s.book user) denial.NoUser) _
     (or_fares Q (user_named s.book user) denial.NoUser refl)
-    (λ u _. made c t u of)))
+    (λ u _. made record { number = n; case = c; step = t; user = u } of)))
 
 resolve_fares : (s : State) (q : PolicyShape) (what : Ask) → IsSoundState s → Fares (IsDeedOf s.book.policy) (IsToldAlike s.book.policy q) (resolve s.book what)
 resolve_fares s q (ask.Request (request.OpenCase flow)) sound =
     let Q = IsToldAlike s.book.policy q in
     then_fares (λ f. flow_named s.book flow ≡ Some f) (IsDeedOf s.book.policy) Q (or_fault (flow_named s.book flow) denial.NoFlow) _
     (or_fares Q (flow_named s.book flow) denial.NoFlow refl) (λ f _. tt)
-resolve_fares s q (ask.Request (request.Claim n step user)) sound = step_fares s q deed.Claim n step user sound (λ c t u of. of)
-resolve_fares s q (ask.Request (request.Finish n step user)) sound = step_fares s q deed.Finish n step user sound (λ c t u of. of)
-resolve_fares s q (ask.Request (request.GiveBack n step user)) sound = step_fares s q deed.GiveBack n step user sound (λ c t u of. of)
+resolve_fares s q (ask.Request (request.Claim n step user)) sound = step_fares s q deed.Claim n step user sound (λ d of. of)
+resolve_fares s q (ask.Request (request.Finish n step user)) sound = step_fares s q deed.Finish n step user sound (λ d of. of)
+resolve_fares s q (ask.Request (request.GiveBack n step user)) sound = step_fares s q deed.GiveBack n step user sound (λ d of. of)
 resolve_fares s q (ask.Request (request.Release by n step)) sound =
     let P = IsDeedOf s.book.policy in
     let Q = IsToldAlike s.book.policy q in
@@ -138,9 +139,11 @@ claim_so p q c t u keeps of =
 cause_so : (s : State) (q : PolicyShape) (given : Deed) → KeepsNames s.book.policy q → IsDeedOf s.book.policy given →
     IsCauseSo (IsToldAlike s.book.policy q) (cause_aside s.book given)
 cause_so s q (deed.Open f) keeps of = unless_so (IsToldAlike s.book.policy q) _ denial.Retired refl
-cause_so s q (deed.Claim n c t u) keeps of = claim_so s.book.policy q c t u keeps of
-cause_so s q (deed.Finish n c t u) keeps of = unless_so (IsToldAlike s.book.policy q) _ (denial.NotHeld (state_at c t)) (held_so s.book.policy q c t keeps of)
-cause_so s q (deed.GiveBack n c t u) keeps of = unless_so (IsToldAlike s.book.policy q) _ (denial.NotHeld (state_at c t)) (held_so s.book.policy q c t keeps of)
+cause_so s q (deed.Claim d) keeps of = claim_so s.book.policy q d.case d.step d.user keeps of
+cause_so s q (deed.Finish d) keeps of =
+    unless_so (IsToldAlike s.book.policy q) _ (denial.NotHeld (state_at d.case d.step)) (held_so s.book.policy q d.case d.step keeps of)
+cause_so s q (deed.GiveBack d) keeps of =
+    unless_so (IsToldAlike s.book.policy q) _ (denial.NotHeld (state_at d.case d.step)) (held_so s.book.policy q d.case d.step keeps of)
 cause_so s q (deed.Release n c t) keeps of = unless_so (IsToldAlike s.book.policy q) _ (denial.NotHeld (state_at c t)) (held_so s.book.policy q c t keeps of)
 cause_so s q given keeps of = tt
 
