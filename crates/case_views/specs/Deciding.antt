@@ -17,7 +17,7 @@ use Rattle.wf_board.specs.declared.verdict.Verdict.TheVariants as verdict
 use Rattle.wf_board.specs.Laws.States.{Book, Numbered, open_cases}
 use Rattle.wf_board.specs.Boards.{numbered}
 use Rattle.wf_board.specs.Edition.{ArePlansOf, IsFirstStranded, IsTreeOf}
-use Rattle.wf_board.specs.Verdicts.{IsEditionFor, IsStrandingFor, IsViewFor}
+use Rattle.wf_board.specs.Verdicts.{IsEditionFor, IsStrandingFor}
 use Rattle.case_views.specs.declared.edit_decider.Left.{Left}
 use Rattle.case_views.specs.declared.edit_decider.Left.TheVariants as left
 use Rattle.wsp_solver.specs.declared.search.Unsolved.{Unsolved}
@@ -45,20 +45,6 @@ DecidesChange b a verdict.OverBudget = Unit {0}
 DecidesChange b a (verdict.Edited edition) = IsEditionFor b (Ok (deed.Change a)) edition
 DecidesChange b a (verdict.Strands n tree) = IsStrandingFor b (Ok (deed.Change a)) n tree
 DecidesChange b a v = ⊥
-
--- the work of a user, unless it was not found out
-abbrev pub DecidesWork : Book → ℕ → Verdict → Type 0
-DecidesWork b u verdict.NoMemory = Unit {0}
-DecidesWork b u verdict.OverBudget = Unit {0}
-DecidesWork b u (verdict.View v) = IsViewFor b (Ok (deed.Work u)) v
-DecidesWork b u v = ⊥
-
--- the open cases that a change would strand, unless it was not found out
-abbrev pub DecidesWhatIf : Book → Amendment → Verdict → Type 0
-DecidesWhatIf b a verdict.NoMemory = Unit {0}
-DecidesWhatIf b a verdict.OverBudget = Unit {0}
-DecidesWhatIf b a (verdict.View v) = IsViewFor b (Ok (deed.WhatIf a)) v
-DecidesWhatIf b a v = ⊥
 
 -- what a search found, as a verdict; or there was no memory to hand its tree on
 abbrev pub IsVerdictOf : Outcome → Verdict → Type 0

@@ -6,16 +6,14 @@ ghost use Rattle.wf_board.specs.Laws.Found.{IsFound};
 ghost use Rattle.wf_board.specs.Laws.Kept.{ArePlanned};
 ghost use Rattle.wf_board.specs.Verdicts.{IsPlanFor};
 
-use crate::decider::no_verdict;
 use crate::verdict_cache::{Found, Subject, VerdictCache};
 use constraint_forms::{Assign, Plan, StepSet};
 use grant_table::Cases;
 use policy_book::Policy;
 use refutation_tree::Tree;
 use std::alloc::Global;
-use wf_board::{Decider, Deed, Snap, Verdict, decides, decision_aside};
+use wf_board::{Decider, Deed, Verdict, decides};
 use wf_names::STEP_LIMIT;
-use wf_talk::Ask;
 
 /// Finds the verdicts of another decider, and keeps the plans and trees that it finds for claims
 /// and openings in a cache. A plan that is kept and valid is at hand, as one that the other finds
@@ -46,13 +44,6 @@ impl<V> Drop for CachingDecider<'_, V> {
 
 impl<V: Decider> Decider for CachingDecider<'_, V> {
     ghost ready = { λ d. V.ready d.decider.now };
-
-    fn decide(&self, alloc: Global, snap: &Snap, ask: &Ask) -> Verdict {
-        match decision_aside(alloc, snap.policy(), snap.cases(), ask) {
-            Ok(deed) => self.decide_deed(alloc, snap.policy(), snap.cases(), &deed),
-            Err(refused) => no_verdict(refused),
-        }
-    }
 
     fn decide_deed(&self, alloc: Global, p: &Policy, cases: &Cases, deed: &Deed) -> Verdict {
         if let Some(plan) = self.decide_near(p, cases, deed) {
@@ -128,15 +119,10 @@ fn subject_of(deed: &Deed) -> Option<Subject> {
             assigned: Assign::empty(),
             finished: StepSet::empty(),
         }),
-        Deed::Claim {
-            case,
-            step,
-            user,
-            ..
-        } if (step.0 as usize) < STEP_LIMIT => Some(Subject {
-            flow: case.flow(),
-            assigned: case.assigned().with(*step, *user),
-            finished: case.finished(),
+        Deed::Claim(duty) if (duty.step.0 as usize) < STEP_LIMIT => Some(Subject {
+            flow: duty.case.flow(),
+            assigned: duty.case.assigned().with(duty.step, duty.user),
+            finished: duty.case.finished(),
         }),
         _ => None,
     }

@@ -4,24 +4,19 @@ ghost use Rattle.policy_book.specs.Course.{problem_in};
 ghost use Rattle.policy_book.specs.Policies.{problem_of};
 ghost use Rattle.policy_book.specs.Laws.Plans.{AreAssigned, IsValidPlan, IsWithin};
 ghost use Rattle.case_record.specs.Cases.{assigned_of, finished_of};
-ghost use Rattle.admin_edits.specs.Laws.Edits.{amended};
 ghost use Rattle.wsp_solver.specs.Searches.{HasSolved};
-ghost use Rattle.wf_board.specs.Boards.{book_of};
 ghost use Rattle.wf_board.specs.Edition.{IsPlanOf};
-ghost use Rattle.wf_board.specs.Laws.Found.{IsAllowed};
 ghost use Rattle.wf_board.specs.Laws.Kept.{ArePlanned, IsOfPolicy, IsPlanned};
-ghost use Rattle.case_views.specs.Deciding.{DecidesChange, AddsPlanOfRow, AddsPlan, IsLeft};
+ghost use Rattle.case_views.specs.Deciding.{AddsPlanOfRow, AddsPlan, IsLeft};
 ghost use Rattle.case_views.specs.Deciding.{IsPartAdded};
 ghost use Rattle.case_views.specs.Deciding.{IsVerdictOn};
 ghost use Rattle.case_views.specs.Listing.{IsKeptRow, IsLeftAt, open_in};
 
-use crate::decider::verdict_without;
 use crate::found::outcome_near;
-use admin_edits::{Amendment, amended};
 use basics::{List, Shared};
 use case_record::Case;
 use constraint_forms::{Assign, Plan, StepSet};
-use grant_table::{Cases, Row};
+use grant_table::Row;
 use policy_book::{Course, Policy};
 use refutation_tree::Tree;
 use std::alloc::{AllocError, Global};
@@ -39,34 +34,6 @@ pub(crate) enum Left {
     Stranded(CaseId, Shared<Tree>),
 }
 
-/// The verdict on a change. The plan that a case has is kept where it stays valid, and a search is
-/// made for the others, up to the first case that is left without one.
-pub(crate) fn edit_verdict(alloc: Global, p: &Policy, cases: &Cases, a: &Amendment) -> Verdict
-    requires kept { ArePlanned p.now cases.now.rows }
-    requires allowed { IsAllowed p.now a.now }
-    ensures { DecidesChange (book_of p.now cases.now) a.now result }
-{
-    match edited(alloc, p, cases, a) {
-        Ok(verdict) => verdict,
-        Err(unfound) => verdict_without(unfound),
-    }
-}
-
-fn edited(alloc: Global, p: &Policy, cases: &Cases, a: &Amendment) -> Result<Verdict, Unsolved>
-    requires kept { ArePlanned p.now cases.now.rows }
-    requires allowed { IsAllowed p.now a.now }
-    ensures { IfOk result (DecidesChange (book_of p.now cases.now) a.now) }
-{
-    let after = amended(p, *a)?;
-    let revision = Revision {
-        before: p,
-        amendment: a,
-        after: &after,
-    };
-    let left = left_open(alloc, &revision, cases.rows())?;
-    Ok(edition_of(alloc, after, left)?)
-}
-
 /// What a change leaves the open cases, as a verdict.
 pub(crate) fn edition_of(alloc: Global, after: Policy, left: Left) -> Result<Verdict, AllocError>
     ensures { IfOk result (IsVerdictOn after left) }
@@ -77,8 +44,9 @@ pub(crate) fn edition_of(alloc: Global, after: Policy, left: Left) -> Result<Ver
     }
 }
 
-// What the changed policy leaves the open cases among these rows.
-fn left_open(alloc: Global, revision: &Revision, rows: &[Row]) -> Result<Left, Unsolved>
+/// What the changed policy leaves the open cases of rows. The plan that a case has is kept where it
+/// stays valid, and a search is made for the others, up to the first case that is left without one.
+pub(crate) fn left_open(alloc: Global, revision: &Revision, rows: &[Row]) -> Result<Left, Unsolved>
     requires { ArePlanned revision.now.before.now rows.now }
     ensures { IfOk result (IsLeft revision.now.after.now (open_in rows.now)) }
 {

@@ -8,8 +8,7 @@ ghost use Rattle.wf_names.specs.declared.limits.TheConstants.{STEP_LIMIT};
 ghost use Rattle.case_record.specs.Cases.{assigned_of, finished_of};
 ghost use Rattle.admin_edits.specs.ClaimCauses.{assigned_with};
 ghost use Rattle.wsp_solver.specs.Searches.{HasSolved};
-ghost use Rattle.wf_board.specs.Edition.{IsPlanOf};
-ghost use Rattle.wf_board.specs.Laws.Kept.{IsOfPolicy};
+ghost use Rattle.case_views.specs.Found.{IsOffer};
 
 use case_record::Case;
 use certificate_check::moved_plan;
@@ -30,10 +29,7 @@ pub(crate) fn outcome_with(
     step: StepId,
     user: UserId,
 ) -> Result<Outcome, Unsolved>
-    requires known { IsOfPolicy p.now case.now }
-    requires valid { IsPlanOf p.now case.now kept.now }
-    requires step { step < length case.now.states }
-    requires user { user < length p.now.roster.users }
+    requires { IsOffer p.now case.now kept.now step user }
     ensures { IfOk result (HasSolved (problem_of p.now case.now.flow)
         (assigned_with case.now step user)
         (finished_of case.now)) }
@@ -63,10 +59,7 @@ pub(crate) fn plan_with(
     step: StepId,
     user: UserId,
 ) -> Option<Plan>
-    requires known { IsOfPolicy p.now case.now }
-    requires valid { IsPlanOf p.now case.now kept.now }
-    requires step { step < length case.now.states }
-    requires user { user < length p.now.roster.users }
+    requires { IsOffer p.now case.now kept.now step user }
     ensures { IfSome result (IsValidPlan (problem_of p.now case.now.flow)
         (assigned_with case.now step user)
         (finished_of case.now)) }

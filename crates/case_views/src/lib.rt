@@ -7,10 +7,12 @@ mod decider;
 mod edit_decider;
 mod found;
 mod granted;
+mod lister;
 mod seen;
 mod spread;
 mod spread_parts;
 mod stranded;
+mod survey;
 mod verdict_cache;
 mod work_lists;
 

@@ -4,23 +4,24 @@ ghost use Rattle.policy_book.specs.Laws.Shapes.{PolicyShape};
 ghost use Rattle.policy_book.specs.Policies.{problem_of};
 ghost use Rattle.policy_book.specs.Laws.Plans.{IsWithin};
 ghost use Rattle.case_record.specs.Cases.{assigned_of, is_open};
-ghost use Rattle.admin_edits.specs.Laws.Edits.{amended, edit_cause, edited_policy};
-ghost use Rattle.wf_board.specs.Boards.{book_of, book_on};
+ghost use Rattle.admin_edits.specs.Laws.Edits.{edit_cause, edited_policy};
+ghost use Rattle.wf_board.specs.Boards.{book_on};
 ghost use Rattle.wf_board.specs.Edition.{IsPlanOf};
-ghost use Rattle.wf_board.specs.Laws.Found.{IsAllowed};
 ghost use Rattle.wf_board.specs.Laws.Kept.{ArePlanned, IsOfPolicy, IsPlanned};
 ghost use Rattle.wf_board.specs.Laws.States.{open_cases};
 ghost use Rattle.wf_board.specs.Views.{AreStranded};
 ghost use Rattle.case_views.specs.Listing.{AreStrandedIn, IsKeptRow, list_of};
 ghost use Rattle.case_views.specs.Seeing.{IsTold, TellsRight};
 
+use crate::PlainDecider;
 use crate::edit_decider::outcome_of;
 use crate::seen::Seen;
+use crate::survey::Survey;
 use crate::work_lists::is_plan;
-use admin_edits::{Amendment, amended, amendment_of};
+use admin_edits::amendment_of;
 use case_record::Case;
 use constraint_forms::Plan;
-use grant_table::{Cases, Row};
+use grant_table::Row;
 use policy_book::Policy;
 use std::alloc::{AllocError, Global};
 use wf_board::{Revision, Snap, may_break};
@@ -37,34 +38,25 @@ pub fn what_if(alloc: Global, snap: &Snap, by: &Name, e: &Edit) -> Result<CaseLi
         (open_cases (book_on snap.now).cases)) }
 {
     match amendment_of(snap.policy(), by, e) {
-        Ok(a) => stranded_by(alloc, snap.policy(), snap.cases(), &a),
+        Ok(a) => {
+            let survey = Survey {
+                lister: &PlainDecider,
+                alloc,
+                policy: snap.policy(),
+                cases: snap.cases(),
+            };
+            survey.stranded(&a)
+        }
         Err(_) => unreachable!(),
     }
 }
 
-/// The open cases that a change would strand.
-pub(crate) fn stranded_by(
+/// The open cases of rows that a change would strand.
+pub(crate) fn stranded_in(
     alloc: Global,
-    p: &Policy,
-    cases: &Cases,
-    a: &Amendment,
+    revision: &Revision,
+    rows: &[Row],
 ) -> Result<CaseList, Unsolved>
-    requires kept { ArePlanned p.now cases.now.rows }
-    requires allowed { IsAllowed p.now a.now }
-    ensures { IfOk result (AreStranded (amended p.now a.now)
-        (open_cases (book_of p.now cases.now).cases)) }
-{
-    let after = amended(p, *a)?;
-    let revision = Revision {
-        before: p,
-        amendment: a,
-        after: &after,
-    };
-    stranded_in(alloc, &revision, cases.rows())
-}
-
-// Those among the cases of rows.
-fn stranded_in(alloc: Global, revision: &Revision, rows: &[Row]) -> Result<CaseList, Unsolved>
     requires { ArePlanned revision.now.before.now rows.now }
     ensures { IfOk result (AreStrandedIn revision.now.after.now rows.now) }
 {

@@ -4,7 +4,7 @@ ghost use Rattle.std.specs.Prelude.{MatchBool, OnOk};
 ghost use Rattle.wf_names.specs.declared.limits.TheConstants.{STEP_LIMIT};
 ghost use Rattle.constraint_forms.specs.Assign.{is_member};
 ghost use Rattle.policy_book.specs.Laws.Shapes.{PolicyShape};
-ghost use Rattle.wf_board.specs.Boards.{book_of, book_on, numbered};
+ghost use Rattle.wf_board.specs.Boards.{book_on, numbered};
 ghost use Rattle.wf_board.specs.Edition.{IsPlanOf};
 ghost use Rattle.wf_board.specs.Laws.Kept.{ArePlanned, IsOfPolicy, IsPlanned};
 ghost use Rattle.wf_board.specs.Views.{IsGrantable, IsWorkOf, item_of, steps_from};
@@ -17,7 +17,7 @@ use crate::granted::Work;
 use admin_edits::has_cause;
 use case_record::Case;
 use constraint_forms::{Plan, StepSet};
-use grant_table::{Cases, Row};
+use grant_table::Row;
 use policy_book::Policy;
 use std::alloc::{AllocError, Global};
 use wf_board::Snap;
@@ -33,25 +33,16 @@ pub fn worklist(alloc: Global, snap: &Snap, u: UserId) -> Result<WorkList, Unsol
     requires { u < length snap.now.policy.roster.users }
     ensures { IfOk result (IsWorkOf (book_on snap.now) u) }
 {
-    work_of(alloc, snap.policy(), snap.cases(), u)
+    work_in(alloc, snap.policy(), u, snap.cases().rows())
 }
 
-/// The work of a user in the cases of a table.
-pub(crate) fn work_of(
+/// The work of a user in the cases of rows.
+pub(crate) fn work_in(
     alloc: Global,
     p: &Policy,
-    cases: &Cases,
     u: UserId,
+    rows: &[Row],
 ) -> Result<WorkList, Unsolved>
-    requires kept { ArePlanned p.now cases.now.rows }
-    requires user { u < length p.now.roster.users }
-    ensures { IfOk result (IsWorkOf (book_of p.now cases.now) u) }
-{
-    work_in(alloc, p, u, cases.rows())
-}
-
-// The work of a user in the cases of rows.
-fn work_in(alloc: Global, p: &Policy, u: UserId, rows: &[Row]) -> Result<WorkList, Unsolved>
     requires kept { ArePlanned p.now rows.now }
     requires user { u < length p.now.roster.users }
     ensures { IfOk result (IsWorkIn p.now u rows.now) }

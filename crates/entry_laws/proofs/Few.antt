@@ -89,9 +89,9 @@ no_more s n change opens few = omega (arith, few, changed_no_more n change s.boo
 
 deed_open : (s : State) (given : Deed) (answer : Reply) → HasFewOpen s → HasRoom s.book given → HasFewOpen (state_after_deed s given answer)
 deed_open s (deed.Open f) (reply.Opened n plan) few room = one_more s.book.cases _ room.0
-deed_open s (deed.Claim n c t u) (reply.Granted plan) few room = no_more s n (λ x. with_state x t (Held u)) (λ x is. is) few
-deed_open s (deed.Finish n c t u) (reply.Finished done) few room = no_more s n (λ x. finished_case x t) (finished_opens t) few
-deed_open s (deed.GiveBack n c t u) reply.Returned few room = no_more s n (λ x. with_state x t Free) (λ x is. is) few
+deed_open s (deed.Claim d) (reply.Granted plan) few room = no_more s d.number (λ x. with_state x d.step (Held d.user)) (λ x is. is) few
+deed_open s (deed.Finish d) (reply.Finished done) few room = no_more s d.number (λ x. finished_case x d.step) (finished_opens d.step) few
+deed_open s (deed.GiveBack d) reply.Returned few room = no_more s d.number (λ x. with_state x d.step Free) (λ x is. is) few
 deed_open s (deed.Release n c t) reply.Released few room = no_more s n (λ x. with_state x t Free) (λ x is. is) few
 deed_open s (deed.Withdraw n) reply.Withdrawn few room = no_more s n (λ x. with_phase x Withdrawn) (λ x is. cc) few
 deed_open s (deed.Change a) (reply.Edited number) few room = few

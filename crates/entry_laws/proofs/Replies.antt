@@ -147,13 +147,13 @@ deed_fits s what (deed.Open f) (reply.Opened n plan) edits reached known named o
 deed_fits s what (deed.Open f) (reply.Denied (denial.Unsatisfiable g tree)) edits reached known named of is =
     subst (λ x. FitsReply s.book.policy (flows_of s) (concern s what) (reply.Denied (denial.Unsatisfiable x tree))) (sym is.0)
     (unsatisfiable_fits s (concern s what) f tree reached of is.1)
-deed_fits s what (deed.Claim n c t u) (reply.Granted plan) edits reached known named of is =
-    granted_fits s (concern s what) c (assigned_with c t u) (finished_of c) plan reached of is
-deed_fits s what (deed.Claim n c t u) (reply.Denied (denial.Stranded g tree)) edits reached known named of is =
+deed_fits s what (deed.Claim d) (reply.Granted plan) edits reached known named of is =
+    granted_fits s (concern s what) d.case (assigned_with d.case d.step d.user) (finished_of d.case) plan reached of is
+deed_fits s what (deed.Claim d) (reply.Denied (denial.Stranded g tree)) edits reached known named of is =
     subst (λ x. FitsReply s.book.policy (flows_of s) (concern s what) (reply.Denied (denial.Stranded x tree))) (sym is.0)
-    (stranding_fits s (concern s what) c t u tree reached of is.1)
-deed_fits s what (deed.Finish n c t u) (reply.Finished done) edits reached known named of is = (tt, omega arith)
-deed_fits s what (deed.GiveBack n c t u) reply.Returned edits reached known named of is = (tt, omega arith)
+    (stranding_fits s (concern s what) d.case d.step d.user tree reached of is.1)
+deed_fits s what (deed.Finish d) (reply.Finished done) edits reached known named of is = (tt, omega arith)
+deed_fits s what (deed.GiveBack d) reply.Returned edits reached known named of is = (tt, omega arith)
 deed_fits s what (deed.Release n c t) reply.Released edits reached known named of is = (tt, omega arith)
 deed_fits s what (deed.Withdraw n) reply.Withdrawn edits reached known named of is = (tt, omega arith)
 deed_fits s what (deed.Change a) (reply.Edited n) edits reached known named of is = let next = is.0 in (omega (arith, next, edits), omega arith)

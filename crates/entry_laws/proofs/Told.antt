@@ -23,6 +23,7 @@ use Rattle.admin_edits.specs.declared.fault.EditCause.{EditCause}
 use Rattle.admin_edits.specs.declared.fault.EditCause.TheVariants as fault
 use Rattle.admin_edits.specs.Laws.Edits.{amendment_of, is_admin}
 use Rattle.wf_board.specs.declared.deed.Deed.{Deed}
+use Rattle.wf_board.specs.declared.deed.Duty.{Duty}
 use Rattle.wf_board.specs.declared.deed.Deed.TheVariants as deed
 use Rattle.wf_board.specs.Laws.States.{State, numbered_case, flow_named, step_named, user_named}
 use Rattle.wf_board.specs.Resolve.{edit_denial, on_edit, on_step, open_case_at, resolve}
@@ -63,9 +64,9 @@ concern s what = concerned s.book.policy (flows_of s) what
 -- what a deed names is of what is concerned
 abbrev pub IsDeedFor : State → Ask → Deed → Type 0
 IsDeedFor s what (deed.Open f) = (concern s what ≡ Some f) × (f < length s.book.policy.flow_names)
-IsDeedFor s what (deed.Claim n c t u) = IsOn s (concern s what) c
-IsDeedFor s what (deed.Finish n c t u) = IsOn s (concern s what) c
-IsDeedFor s what (deed.GiveBack n c t u) = IsOn s (concern s what) c
+IsDeedFor s what (deed.Claim d) = IsOn s (concern s what) d.case
+IsDeedFor s what (deed.Finish d) = IsOn s (concern s what) d.case
+IsDeedFor s what (deed.GiveBack d) = IsOn s (concern s what) d.case
 IsDeedFor s what (deed.Release n c t) = IsOn s (concern s what) c
 IsDeedFor s what (deed.Change a) = IsChangeFor s.book.policy what a
 IsDeedFor s what (deed.Show c) = IsOfPolicy s.book.policy c
@@ -100,8 +101,8 @@ case_fares s n sound =
     (check_fares Q (is_open c) denial.Closed (tt, omega arith, tt))
     (λ _ _. (ap (option_map (λ (x : CaseShape). x.flow)) is, sound.cases n c is)))
 
-step_fares : (s : State) (what : Ask) (make : ℕ → CaseShape → ℕ → ℕ → Deed) (n : ℕ) (step user : List ℕ) → IsSoundState s
-    → ((c : CaseShape) (t u : ℕ) → IsOn s (flows_of s n) c → IsDeedFor s what (make n c t u))
+step_fares : (s : State) (what : Ask) (make : Duty → Deed) (n : ℕ) (step user : List ℕ) → IsSoundState s
+    → ((d : Duty) → IsOn s (flows_of s n) d.case → IsDeedFor s what (make d))
     → Fares (IsDeedFor s what) (Fits s (flows_of s n)) (on_step make s.book n step user)
 step_fares s what make n step user sound made =
     let P = IsDeedFor s what in
@@ -111,7 +112,7 @@ step_fares s what make n step user sound made =
     (or_fares Q (step_named s.book c.flow step) denial.NoStep (tt, omega arith, tt))
     (λ t _. then_fares (λ u. user_named s.book user ≡ Some u) P Q (or_fault (user_named s.book user) denial.NoUser) _
     (or_fares Q (user_named s.book user) denial.NoUser (tt, omega arith, tt))
-    (λ u _. made c t u of)))
+    (λ u _. made record { number = n; case = c; step = t; user = u } of)))
 
 resolve_fares : (s : State) (what : Ask) → IsSoundState s → Fares (IsDeedFor s what) (Fits s (concern s what)) (resolve s.book what)
 resolve_fares s (ask.Request (request.OpenCase flow)) sound =
@@ -120,11 +121,11 @@ resolve_fares s (ask.Request (request.OpenCase flow)) sound =
     (or_fault (flow_named s.book flow) denial.NoFlow) _
     (or_fares (Fits s o) (flow_named s.book flow) denial.NoFlow (tt, omega arith, tt)) (λ f is. (is, place_within s.book.policy.flow_names flow f is))
 resolve_fares s (ask.Request (request.Claim n step user)) sound =
-    step_fares s (ask.Request (request.Claim n step user)) deed.Claim n step user sound (λ c t u of. of)
+    step_fares s (ask.Request (request.Claim n step user)) deed.Claim n step user sound (λ d of. of)
 resolve_fares s (ask.Request (request.Finish n step user)) sound =
-    step_fares s (ask.Request (request.Finish n step user)) deed.Finish n step user sound (λ c t u of. of)
+    step_fares s (ask.Request (request.Finish n step user)) deed.Finish n step user sound (λ d of. of)
 resolve_fares s (ask.Request (request.GiveBack n step user)) sound =
-    step_fares s (ask.Request (request.GiveBack n step user)) deed.GiveBack n step user sound (λ c t u of. of)
+    step_fares s (ask.Request (request.GiveBack n step user)) deed.GiveBack n step user sound (λ d of. of)
 resolve_fares s (ask.Request (request.Release by n step)) sound =
     let P = IsDeedFor s (ask.Request (request.Release by n step)) in
     let Q = Fits s (flows_of s n) in
@@ -193,9 +194,11 @@ claim_so s o c t u sound of =
 
 cause_so : (s : State) (what : Ask) (given : Deed) → IsSoundState s → IsDeedFor s what given → IsCauseSo (Fits s (concern s what)) (cause_aside s.book given)
 cause_so s what (deed.Open f) sound of = unless_so (Fits s (concern s what)) _ denial.Retired (tt, omega arith, tt)
-cause_so s what (deed.Claim n c t u) sound of = claim_so s (concern s what) c t u sound of
-cause_so s what (deed.Finish n c t u) sound of = unless_so (Fits s (concern s what)) _ (denial.NotHeld (state_at c t)) (held_so s (concern s what) c t of)
-cause_so s what (deed.GiveBack n c t u) sound of = unless_so (Fits s (concern s what)) _ (denial.NotHeld (state_at c t)) (held_so s (concern s what) c t of)
+cause_so s what (deed.Claim d) sound of = claim_so s (concern s what) d.case d.step d.user sound of
+cause_so s what (deed.Finish d) sound of =
+    unless_so (Fits s (concern s what)) _ (denial.NotHeld (state_at d.case d.step)) (held_so s (concern s what) d.case d.step of)
+cause_so s what (deed.GiveBack d) sound of =
+    unless_so (Fits s (concern s what)) _ (denial.NotHeld (state_at d.case d.step)) (held_so s (concern s what) d.case d.step of)
 cause_so s what (deed.Release n c t) sound of = unless_so (Fits s (concern s what)) _ (denial.NotHeld (state_at c t)) (held_so s (concern s what) c t of)
 cause_so s what given sound of = tt
 

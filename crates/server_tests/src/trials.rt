@@ -1,31 +1,21 @@
 //! What no clause shows: that a trial is served while there is memory.
-ghost use Rattle.std.specs.Prelude.{◌≡◌};
-
 use constraint_forms::Plan;
 use grant_table::Cases;
 use policy_book::Policy;
 use run_record::Report;
 use std::alloc::{AllocError, Global};
 use trial_command::run_trial;
-use wf_board::{Decider, Deed, Refused, Snap, Verdict, decision_aside};
+use wf_board::{Decider, Deed, Verdict};
 use wf_outside::MemSink;
-use wf_talk::Ask;
 
 // Finds no verdict for want of memory.
 struct Idle;
 
 impl Decider for Idle {
-    fn decide(&self, alloc: Global, snap: &Snap, ask: &Ask) -> Verdict {
-        match decision_aside(alloc, snap.policy(), snap.cases(), ask) {
-            Ok(deed) => self.decide_deed(alloc, snap.policy(), snap.cases(), &deed),
-            Err(refused) => no_verdict(refused),
-        }
-    }
-
     fn decide_deed(&self, _alloc: Global, _p: &Policy, _cases: &Cases, deed: &Deed) -> Verdict {
         match deed {
             Deed::Open { .. }
-            | Deed::Claim { .. }
+            | Deed::Claim(_)
             | Deed::Change { .. }
             | Deed::Work { .. }
             | Deed::WhatIf { .. } => Verdict::NoMemory,
@@ -36,13 +26,6 @@ impl Decider for Idle {
     fn decide_near(&self, _p: &Policy, _cases: &Cases, _deed: &Deed) -> Option<Plan> {
         None
     }
-}
-
-// None is needed where there is a cause against what is asked.
-fn no_verdict(_: Refused) -> Verdict
-    ensures { result ≡ Verdict.Nothing }
-{
-    Verdict::Nothing
 }
 
 /// Whether a trial is served. No case is opened, so no step is granted or finished.

@@ -246,7 +246,7 @@ impl Auditor {
         read_plain(alloc, self.board.policy(), &flows, ask, place, line)
     }
 
-    // Takes a reply to a lane's next job.
+    // Takes a reply to a lane's next job, if it is one: `again`, or a step.
     fn enter<V: Decider>(
         &mut self,
         alloc: Global,
@@ -260,7 +260,17 @@ impl Auditor {
     {
         match again_in(&reply) {
             Some((rounds, at)) => self.enter_again(job, rounds, at),
-            None => self.enter_step(alloc, decider, job, reply),
+            None => {
+                let _few = self.record.number();
+                let verdict = verdict_for(&self.board, alloc, decider, &job.ask, &reply);
+                if verdict.is_want() {
+                    return Err(Flaw::NoMemory);
+                }
+                self.record.reserve()?;
+                self.board.admit(alloc, &job.ask, &reply, verdict)?;
+                self.record.add(job, reply);
+                Ok(())
+            }
         }
     }
 
@@ -296,30 +306,6 @@ impl Auditor {
             return false;
         }
         self.record.rests(job.lane, &job.ask, rounds, at)
-    }
-
-    // Takes a reply that is a step, if it is one.
-    fn enter_step<V: Decider>(
-        &mut self,
-        alloc: Global,
-        decider: &V,
-        job: &Job,
-        reply: Reply,
-    ) -> Result<(), Flaw>
-        requires ready { V.ready decider.now }
-        requires next { next_job self.old job.now.lane ≡ Some job.now }
-        requires once { again_in reply ≡ None }
-        ensures { HasEntered self.old self.new job.now reply result }
-    {
-        let _few = self.record.number();
-        let verdict = verdict_for(&self.board, alloc, decider, &job.ask, &reply);
-        if verdict.is_want() {
-            return Err(Flaw::NoMemory);
-        }
-        self.record.reserve()?;
-        self.board.admit(alloc, &job.ask, &reply, verdict)?;
-        self.record.add(job, reply);
-        Ok(())
     }
 }
 

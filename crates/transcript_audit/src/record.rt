@@ -41,6 +41,7 @@ impl Model for Record {
     ghost use Rattle.std.specs.Coded.{codes};
     ghost use Rattle.policy_book.specs.Laws.Shapes.{policy_code};
     ghost use Rattle.refutation_tree.specs.Codes.{kids_code};
+    ghost use Rattle.transcript_audit.specs.Auditor.{audit_of};
     ghost use Rattle.transcript_audit.specs.Keeping.{IsRecord, RecordShape};
 
     ghost Value = { RecordShape };
@@ -48,26 +49,15 @@ impl Model for Record {
     ghost coded = { Prim.hlevel (codes, policy_code, kids_code) };
 
     ghost view = { λ r. record {
-      audit =
-          record {
-            opening = arc_value r.opening;
-            rounds = r.rounds;
-            jobs = r.jobs;
-            batch_ends =
-                r.ends;
-            entries = r.journal.entries;
-            fault = r.fault;
-          };
+      audit = record (audit_of (arc_value r.opening) r.rounds r.jobs r.ends) {
+        entries = r.journal.entries;
+        fault = r.fault;
+      };
       spare = r.journal.spare;
     } };
 
     ghost invariant = { λ r. IsRecord
-        (record {
-          opening = arc_value r.opening;
-          rounds = r.rounds;
-          jobs = r.jobs;
-          batch_ends =
-              r.ends;
+        (record (audit_of (arc_value r.opening) r.rounds r.jobs r.ends) {
           entries = r.journal.entries;
           fault = r.fault;
         }) r.cursor };

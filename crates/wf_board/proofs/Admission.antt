@@ -30,6 +30,7 @@ use Rattle.wf_talk.specs.declared.reply.Denial.{Denial}
 use Rattle.wf_talk.specs.declared.reply.Denial.TheVariants as denial
 use Rattle.wf_board.specs.declared.admit.AdmitFault.{AdmitFault}
 use Rattle.wf_board.specs.declared.deed.Deed.{Deed}
+use Rattle.wf_board.specs.declared.deed.Duty.{Duty}
 use Rattle.wf_board.specs.declared.deed.Deed.TheVariants as deed
 use Rattle.wf_board.specs.declared.verdict.Verdict.{Verdict}
 use Rattle.wf_board.specs.declared.verdict.Verdict.TheVariants as verdict
@@ -84,7 +85,7 @@ bare_open b n =
     then_fault IsBare (or_fault (numbered_case b.cases n) denial.NoCase) _ (there_fault IsBare (numbered_case b.cases n) denial.NoCase refl)
     (λ c. then_fault IsBare (check (is_open c) denial.Closed) _ (check_fault IsBare (is_open c) denial.Closed refl) (λ _. tt))
 
-bare_step : (b : Book) (make : ℕ → CaseShape → ℕ → ℕ → Deed) (n : ℕ) (step user : List ℕ) → FaultOf IsBare (on_step make b n step user)
+bare_step : (b : Book) (make : Duty → Deed) (n : ℕ) (step user : List ℕ) → FaultOf IsBare (on_step make b n step user)
 bare_step b make n step user =
     then_fault IsBare (open_case_at b n) _ (bare_open b n)
     (λ c. then_fault IsBare (or_fault (step_named b c.flow step) denial.NoStep) _ (there_fault IsBare (step_named b c.flow step) denial.NoStep refl)
@@ -158,9 +159,9 @@ bare_claim p c s u =
 
 bare_aside : (b : Book) (d : Deed) → IsBareCause (cause_aside b d)
 bare_aside b (deed.Open f) = bare_unless (not (flow_at b.policy f).retired) denial.Retired refl
-bare_aside b (deed.Claim n c s u) = bare_claim b.policy c s u
-bare_aside b (deed.Finish n c s u) = bare_unless (is_held_by u (state_at c s)) (denial.NotHeld (state_at c s)) refl
-bare_aside b (deed.GiveBack n c s u) = bare_unless (is_held_by u (state_at c s)) (denial.NotHeld (state_at c s)) refl
+bare_aside b (deed.Claim d) = bare_claim b.policy d.case d.step d.user
+bare_aside b (deed.Finish d) = bare_unless (is_held_by d.user (state_at d.case d.step)) (denial.NotHeld (state_at d.case d.step)) refl
+bare_aside b (deed.GiveBack d) = bare_unless (is_held_by d.user (state_at d.case d.step)) (denial.NotHeld (state_at d.case d.step)) refl
 bare_aside b (deed.Release n c s) = bare_unless (is_held (state_at c s)) (denial.NotHeld (state_at c s)) refl
 bare_aside b d = tt
 
@@ -185,9 +186,9 @@ cause_bare b what d is = subst (FaultOf IsBare) is (bare_decision b what)
 
 pub want_stays : (s : State) (r : Result Deed Denial) → state_after_decision s r reply.NoMemory ≡ s
 want_stays s (Ok (deed.Open f)) = refl
-want_stays s (Ok (deed.Claim n c t u)) = refl
-want_stays s (Ok (deed.Finish n c t u)) = refl
-want_stays s (Ok (deed.GiveBack n c t u)) = refl
+want_stays s (Ok (deed.Claim d)) = refl
+want_stays s (Ok (deed.Finish d)) = refl
+want_stays s (Ok (deed.GiveBack d)) = refl
 want_stays s (Ok (deed.Release n c t)) = refl
 want_stays s (Ok (deed.Withdraw n)) = refl
 want_stays s (Ok (deed.Change a)) = refl
@@ -293,11 +294,11 @@ opened_same p before after f n plan (reply.Opened m q) taken made memory is =
     (subst (λ x. HasTakenStep p before after (Ok (deed.Open f)) (reply.Opened m x)) made taken)
 opened_same p before after f n plan done taken made memory is = absurd made
 
-pub finished_same : (p : PolicyShape) (before after : CasesShape) (n : ℕ) (c : CaseShape) (s u : ℕ) (told done : Bool) →
-    HasTakenStep p before after (Ok (deed.Finish n c s u)) (reply.Finished done) →
-    told ≡ is_done (finished_case c s).phase → HasTakenStep p before after (Ok (deed.Finish n c s u)) (reply.Finished told)
-finished_same p before after n c s u told done taken is =
-    subst (λ b. HasTakenStep p before after (Ok (deed.Finish n c s u)) (reply.Finished b)) (taken.step 0 ∙ sym is) taken
+pub finished_same : (p : PolicyShape) (before after : CasesShape) (d : Duty) (told done : Bool) →
+    HasTakenStep p before after (Ok (deed.Finish d)) (reply.Finished done) →
+    told ≡ is_done (finished_case d.case d.step).phase → HasTakenStep p before after (Ok (deed.Finish d)) (reply.Finished told)
+finished_same p before after d told done taken is =
+    subst (λ b. HasTakenStep p before after (Ok (deed.Finish d)) (reply.Finished b)) (taken.step 0 ∙ sym is) taken
 
 -- ---- edits
 

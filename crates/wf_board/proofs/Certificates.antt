@@ -11,6 +11,7 @@ use Rattle.admin_edits.specs.ClaimCauses.{assigned_with}
 use Rattle.wf_talk.specs.declared.request.Ask.{Ask}
 use Rattle.wf_talk.specs.declared.reply.Denial.{Denial}
 use Rattle.wf_board.specs.declared.deed.Deed.{Deed}
+use Rattle.wf_board.specs.declared.deed.Duty.{Duty}
 use Rattle.wf_board.specs.declared.deed.Deed.TheVariants as deed
 use Rattle.wf_board.specs.declared.verdict.Verdict.{Verdict}
 use Rattle.wf_board.specs.declared.verdict.Verdict.TheVariants as verdict
@@ -22,9 +23,9 @@ use Rattle.wf_board.specs.Verdicts.{IsCertificate, IsCertified, IsPlanFor, IsRig
 use Rattle.wf_board.proofs.Within.{claimed_within}
 
 -- what is assigned in a case with a claim's step given to its user is within its workflow and policy
-pub claim_within : (p : PolicyShape) (rows : List Row) (n : ℕ) (c : CaseShape) (t u : ℕ) → AreFound p rows n c t u → IsWithin
-    (problem_of p c.flow) (assigned_with c t u)
-claim_within p rows n c t u found = claimed_within p c t u found.case.known found.step found.user found.case.known.users
+pub claim_within : (p : PolicyShape) (rows : List Row) (d : Duty) → AreFound p rows d → IsWithin (problem_of p d.case.flow)
+    (assigned_with d.case d.step d.user)
+claim_within p rows d found = claimed_within p d.case d.step d.user found.case.known found.step found.user found.case.known.users
 
 -- a plan or a tree that decides what is asked is right
 pub certified_right : (b : Book) (what : Ask) (v : Verdict) → IsCertified b what v → IsRight b what v
@@ -73,20 +74,20 @@ open_certificate b f (verdict.Strands m tree) result is = is
 open_certificate b f (verdict.View v) result is = is
 open_certificate b f (verdict.Refuted tree) result is = is
 
-pub claim_certificate : (b : Book) (n : ℕ) (c : CaseShape) (t u : ℕ) (v : Verdict) (result : Bool) →
-    result ≡ true ↔ IsCertificateOf (problem_of b.policy c.flow) (assigned_with c t u) (finished_of c) v → result ≡ true ↔
-    IsCertificate b (Ok (deed.Claim n c t u)) v
-claim_certificate b n c t u verdict.Nothing result is = is
-claim_certificate b n c t u verdict.NoMemory result is = is
-claim_certificate b n c t u verdict.OverBudget result is = is
-claim_certificate b n c t u (verdict.Plan plan) result is = is
-claim_certificate b n c t u (verdict.Edited edition) result is = is
-claim_certificate b n c t u (verdict.Strands m tree) result is = is
-claim_certificate b n c t u (verdict.View v) result is = is
-claim_certificate b n c t u (verdict.Refuted tree) result is = is
+pub claim_certificate : (b : Book) (d : Duty) (v : Verdict) (result : Bool) →
+    result ≡ true ↔ IsCertificateOf (problem_of b.policy d.case.flow) (assigned_with d.case d.step d.user) (finished_of d.case) v → result ≡ true ↔
+    IsCertificate b (Ok (deed.Claim d)) v
+claim_certificate b d verdict.Nothing result is = is
+claim_certificate b d verdict.NoMemory result is = is
+claim_certificate b d verdict.OverBudget result is = is
+claim_certificate b d (verdict.Plan plan) result is = is
+claim_certificate b d (verdict.Edited edition) result is = is
+claim_certificate b d (verdict.Strands m tree) result is = is
+claim_certificate b d (verdict.View v) result is = is
+claim_certificate b d (verdict.Refuted tree) result is = is
 
 -- a claim is left to decide where there is no cause against it
-pub claim_needs : (b : Book) (n : ℕ) (c : CaseShape) (t u : ℕ) (cause : Option Denial) →
-    not (is_some cause) ≡ needs_verdict (unless_denied (deed.Claim n c t u) cause >>= full_or b)
-claim_needs b n c t u None = refl
-claim_needs b n c t u (Some d) = refl
+pub claim_needs : (b : Book) (d : Duty) (cause : Option Denial) →
+    not (is_some cause) ≡ needs_verdict (unless_denied (deed.Claim d) cause >>= full_or b)
+claim_needs b d None = refl
+claim_needs b d (Some cause) = refl

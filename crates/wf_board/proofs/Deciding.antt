@@ -172,11 +172,11 @@ denied_by_tree s (deed.Open f) (denial.Unsatisfiable g tree) known its is = (
         none_assigned is.1;
   },
 )
-denied_by_tree s (deed.Claim n c t u) (denial.Stranded g tree) known its is = (
+denied_by_tree s (deed.Claim d) (denial.Stranded g tree) known its is = (
   is.0,
   record {
     refutes = is.1;
-    incomplete = refuted_claim s n c t u tree known.sound its (refl, is.1);
+    incomplete = refuted_claim s d tree known.sound its (refl, is.1);
   },
 )
 denied_by_tree s (deed.Change a) (denial.Strands n f tree) known its is = least_stranded s a n f tree (sound_after s a known.sound its) known.numbers is

@@ -1,13 +1,22 @@
 -- Verdicts on deeds that go over the open cases.
-use Rattle.std.proofs.Common.{◌≡◌, ℕ, true, List, map, Ok, inr}
+use Rattle.std.proofs.Common.{◌≡◌, ℕ, true, false, List, map, Result, Ok, Err, inr, refl, sym, ap, ◌∙◌}
+use Rattle.std.proofs.lemmas.Bool.{false≢true}
+use Rattle.basics.specs.Laws.Reading.{Gives}
 use Rattle.policy_book.specs.Laws.Shapes.{PolicyShape}
 use Rattle.grant_table.specs.declared.rows.Row.{Row}
 use Rattle.grant_table.specs.Cases.{open_rows}
+use Rattle.wf_talk.specs.declared.request.Ask.{Ask}
+use Rattle.wf_talk.specs.declared.reply.Denial.{Denial}
+use Rattle.wf_board.specs.declared.decision.Refused.{Refused}
+use Rattle.wf_board.specs.declared.decision.Refused.TheVariants as refused
 use Rattle.wf_board.specs.declared.deed.Deed.{Deed}
 use Rattle.wf_board.specs.declared.deed.Deed.TheVariants as deed
 use Rattle.wf_board.specs.declared.verdict.Verdict.{Verdict}
 use Rattle.wf_board.specs.declared.verdict.Verdict.TheVariants as verdict
 use Rattle.wf_board.specs.Boards.{numbered}
+use Rattle.wf_board.specs.Laws.States.{Book}
+use Rattle.wf_board.specs.Decisions.{decision_aside, denial_in, needs_verdict, takes_memory}
+use Rattle.wf_board.specs.Verdicts.{Decides}
 use Rattle.wf_board.specs.Deeds.{FitsDeed, is_over_open}
 use Rattle.wf_board.proofs.Snaps.{edition_same, stranding_same, view_same, with_cases, open_alone}
 
@@ -31,3 +40,23 @@ fits_open p rows ever d (verdict.Strands n tree) over is =
     stranding_same p (map numbered (open_rows rows)) (map numbered rows) ever ever (Ok d) n tree (inr (open_alone rows)) is
 fits_open p rows ever d (verdict.View v) over is =
     view_same p (map numbered (open_rows rows)) (map numbered rows) ever ever (Ok d) v (inr (open_alone rows)) is
+
+-- ---- what is asked
+
+listed_needs_none : (reading : Result Deed Denial) → takes_memory reading ≡ true → needs_verdict reading ≡ false
+listed_needs_none (Ok given) h = cc
+listed_needs_none (Err d) h = refl
+
+-- where there is no deed, no verdict is needed
+pub refused_needs_none : (reading : Result Deed Denial) (e : Refused) → Gives {X = Deed} denial_in (λ d. d) (Err e) reading →
+    (e ≡ refused.NoMemory → takes_memory reading ≡ true) → needs_verdict reading ≡ false
+refused_needs_none reading (refused.Denied d) gives memory = ap needs_verdict gives
+refused_needs_none reading refused.NoMemory gives memory = listed_needs_none reading (memory refl)
+
+-- and nothing is right
+pub nothing_decides : (b c : Book) (what : Ask) → c ≡ b → needs_verdict (decision_aside c what) ≡ false → Decides b what verdict.Nothing
+nothing_decides b c what same none = record {
+  right = tt;
+  nothing = λ e. refl;
+  something = λ needs other. absurd (false≢true (sym none ∙ ap (λ x. needs_verdict (decision_aside x what)) same ∙ needs));
+}

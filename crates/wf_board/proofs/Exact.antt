@@ -20,6 +20,7 @@ use Rattle.wf_talk.specs.declared.reply.Reply.TheVariants as reply
 use Rattle.wf_talk.specs.declared.reply.Denial.TheVariants as denial
 use Rattle.admin_edits.specs.ClaimCauses.{assigned_with}
 use Rattle.wf_board.specs.declared.deed.Deed.TheVariants as deed
+use Rattle.wf_board.specs.declared.deed.Duty.{Duty}
 use Rattle.wf_board.specs.Laws.States.{Numbered, State, open_cases}
 use Rattle.wf_board.specs.Laws.Steps.{Answers, IsReplyTo}
 use Rattle.wf_board.specs.Laws.Kept.{IsSoundState}
@@ -59,27 +60,28 @@ well_formed_any p f sound = at_number (leb_tells (length p.flows) f)
     at_number (inr known) = well_formed p f sound known.1
 
 -- the case of a refuted claim cannot be completed
-pub refuted_claim : (s : State) (n : ℕ) (c : CaseShape) (t u : ℕ) (tree : Tree) → IsSoundState s → IsTold s.book (deed.Claim n c t u) →
-    IsReplyTo s (deed.Claim n c t u) (reply.Denied (denial.Stranded c.flow tree)) →
-    ¬ IsCompletable (problem_of s.book.policy c.flow) (assigned_with c t u) (finished_of c)
-refuted_claim s n c t u tree sound known is =
-    refutes_soundly (problem_of s.book.policy c.flow) (assigned_with c t u) (finished_of c) (shape_of tree)
-    (well_formed s.book.policy c.flow sound.policy (sound.cases n c known.0.there.case.found).flow)
-    (claimed_assigned c t u (claim_free s.book n c t u known.1))
+pub refuted_claim : (s : State) (d : Duty) (tree : Tree) → IsSoundState s → IsTold s.book (deed.Claim d) →
+    IsReplyTo s (deed.Claim d) (reply.Denied (denial.Stranded d.case.flow tree)) →
+    ¬ IsCompletable (problem_of s.book.policy d.case.flow) (assigned_with d.case d.step d.user) (finished_of d.case)
+refuted_claim s d tree sound known is =
+    refutes_soundly (problem_of s.book.policy d.case.flow) (assigned_with d.case d.step d.user) (finished_of d.case) (shape_of tree)
+    (well_formed s.book.policy d.case.flow sound.policy (sound.cases d.number d.case known.0.there.case.found).flow)
+    (claimed_assigned d.case d.step d.user (claim_free s.book d known.1))
     is.1
 
-claim_exact : (s : State) (n : ℕ) (c : CaseShape) (t u : ℕ) (given : Reply) → IsSoundState s → IsTold s.book (deed.Claim n c t u) →
-    IsReplyTo s (deed.Claim n c t u) given → ¬ (given ≡ reply.NoMemory) →
-    ((plan : List ℕ) × (given ≡ reply.Granted plan)) ↔ IsCompletable (problem_of s.book.policy c.flow) (assigned_with c t u) (finished_of c)
-claim_exact s n c t u reply.NoMemory sound known is memory = absurd (memory refl)
-claim_exact s n c t u (reply.Granted plan) sound known is memory = (λ granted. (plan, is), λ complete. (plan, refl))
-claim_exact s n c t u (reply.Denied (denial.Stranded g tree)) sound known is memory =
-    (λ granted. cc granted.1, λ complete. absurd (refuted_claim s n c t u tree sound known (refl, is.1) complete))
-claim_exact s n c t u given sound known is memory = absurd is
+claim_exact : (s : State) (d : Duty) (given : Reply) → IsSoundState s → IsTold s.book (deed.Claim d) → IsReplyTo s (deed.Claim d) given →
+    ¬ (given ≡ reply.NoMemory) →
+    ((plan : List ℕ) × (given ≡ reply.Granted plan)) ↔
+    IsCompletable (problem_of s.book.policy d.case.flow) (assigned_with d.case d.step d.user) (finished_of d.case)
+claim_exact s d reply.NoMemory sound known is memory = absurd (memory refl)
+claim_exact s d (reply.Granted plan) sound known is memory = (λ granted. (plan, is), λ complete. (plan, refl))
+claim_exact s d (reply.Denied (denial.Stranded g tree)) sound known is memory =
+    (λ granted. cc granted.1, λ complete. absurd (refuted_claim s d tree sound known (refl, is.1) complete))
+claim_exact s d given sound known is memory = absurd is
 
 pub claims_are_exact : ClaimsAreExact
-claims_are_exact s what given n c t u sound decided step memory =
-    claim_exact s n c t u given sound (subst (HoldsOf (IsTold s.book)) decided (told s.book what)) (subst (λ r. Answers s r given) decided step) memory
+claims_are_exact s what given d sound decided step memory =
+    claim_exact s d given sound (subst (HoldsOf (IsTold s.book)) decided (told s.book what)) (subst (λ r. Answers s r given) decided step) memory
 
 -- ---- edits
 

@@ -20,6 +20,7 @@ use Rattle.wf_talk.specs.declared.reply.Reply.TheVariants as reply
 use Rattle.wf_talk.specs.declared.reply.Denial.{Denial}
 use Rattle.wf_talk.specs.declared.reply.Denial.TheVariants as denial
 use Rattle.wf_board.specs.declared.deed.Deed.{Deed}
+use Rattle.wf_board.specs.declared.deed.Duty.{Duty}
 use Rattle.wf_board.specs.declared.deed.Deed.TheVariants as deed
 use Rattle.wf_board.specs.Laws.States.{Numbered, State, open_cases}
 use Rattle.wf_board.specs.Decisions.{decision_of}
@@ -75,30 +76,30 @@ fixed_opening s f one other sound a b m memory = absurd a
 
 -- ---- claims
 
-fixed_granted : (s : State) (n : ℕ) (c : CaseShape) (t u : ℕ) (plan : List ℕ) (other : Reply) → IsSoundState s → IsTold s.book (deed.Claim n c t u) →
-    IsReplyTo s (deed.Claim n c t u) (reply.Granted plan) → IsReplyTo s (deed.Claim n c t u) other → ¬ (other ≡ reply.NoMemory) →
-    HasSame s (Ok (deed.Claim n c t u)) (reply.Granted plan) other
-fixed_granted s n c t u plan reply.NoMemory sound known a b memory = absurd (memory refl)
-fixed_granted s n c t u plan (reply.Granted q) sound known a b memory = (refl, refl)
-fixed_granted s n c t u plan (reply.Denied (denial.Stranded g x)) sound known a b memory = absurd (refuted_claim s n c t u x sound known (refl, b.1) (plan, a))
-fixed_granted s n c t u plan other sound known a b memory = absurd b
+fixed_granted : (s : State) (d : Duty) (plan : List ℕ) (other : Reply) → IsSoundState s → IsTold s.book (deed.Claim d) →
+    IsReplyTo s (deed.Claim d) (reply.Granted plan) → IsReplyTo s (deed.Claim d) other → ¬ (other ≡ reply.NoMemory) →
+    HasSame s (Ok (deed.Claim d)) (reply.Granted plan) other
+fixed_granted s d plan reply.NoMemory sound known a b memory = absurd (memory refl)
+fixed_granted s d plan (reply.Granted q) sound known a b memory = (refl, refl)
+fixed_granted s d plan (reply.Denied (denial.Stranded g x)) sound known a b memory = absurd (refuted_claim s d x sound known (refl, b.1) (plan, a))
+fixed_granted s d plan other sound known a b memory = absurd b
 
-fixed_stranded : (s : State) (n : ℕ) (c : CaseShape) (t u g : ℕ) (x : Tree) (other : Reply) → IsSoundState s → IsTold s.book (deed.Claim n c t u) →
-    IsReplyTo s (deed.Claim n c t u) (reply.Denied (denial.Stranded g x)) → IsReplyTo s (deed.Claim n c t u) other → ¬ (other ≡ reply.NoMemory) →
-    HasSame s (Ok (deed.Claim n c t u)) (reply.Denied (denial.Stranded g x)) other
-fixed_stranded s n c t u g x reply.NoMemory sound known a b memory = absurd (memory refl)
-fixed_stranded s n c t u g x (reply.Granted q) sound known a b memory = absurd (refuted_claim s n c t u x sound known (refl, a.1) (q, b))
-fixed_stranded s n c t u g x (reply.Denied (denial.Stranded h y)) sound known a b memory =
+fixed_stranded : (s : State) (d : Duty) (g : ℕ) (x : Tree) (other : Reply) → IsSoundState s → IsTold s.book (deed.Claim d) →
+    IsReplyTo s (deed.Claim d) (reply.Denied (denial.Stranded g x)) → IsReplyTo s (deed.Claim d) other → ¬ (other ≡ reply.NoMemory) →
+    HasSame s (Ok (deed.Claim d)) (reply.Denied (denial.Stranded g x)) other
+fixed_stranded s d g x reply.NoMemory sound known a b memory = absurd (memory refl)
+fixed_stranded s d g x (reply.Granted q) sound known a b memory = absurd (refuted_claim s d x sound known (refl, a.1) (q, b))
+fixed_stranded s d g x (reply.Denied (denial.Stranded h y)) sound known a b memory =
     (ap (λ k. reply.Denied (denial.Stranded k (tree.Holder 0))) (a.0 ∙ sym b.0), refl)
-fixed_stranded s n c t u g x other sound known a b memory = absurd b
+fixed_stranded s d g x other sound known a b memory = absurd b
 
-fixed_claim : (s : State) (n : ℕ) (c : CaseShape) (t u : ℕ) (one other : Reply) → IsSoundState s → IsTold s.book (deed.Claim n c t u) →
-    IsReplyTo s (deed.Claim n c t u) one →
-    IsReplyTo s (deed.Claim n c t u) other → ¬ (one ≡ reply.NoMemory) → ¬ (other ≡ reply.NoMemory) → HasSame s (Ok (deed.Claim n c t u)) one other
-fixed_claim s n c t u reply.NoMemory other sound known a b m memory = absurd (m refl)
-fixed_claim s n c t u (reply.Granted plan) other sound known a b m memory = fixed_granted s n c t u plan other sound known a b memory
-fixed_claim s n c t u (reply.Denied (denial.Stranded g x)) other sound known a b m memory = fixed_stranded s n c t u g x other sound known a b memory
-fixed_claim s n c t u one other sound known a b m memory = absurd a
+fixed_claim : (s : State) (d : Duty) (one other : Reply) → IsSoundState s → IsTold s.book (deed.Claim d) →
+    IsReplyTo s (deed.Claim d) one →
+    IsReplyTo s (deed.Claim d) other → ¬ (one ≡ reply.NoMemory) → ¬ (other ≡ reply.NoMemory) → HasSame s (Ok (deed.Claim d)) one other
+fixed_claim s d reply.NoMemory other sound known a b m memory = absurd (m refl)
+fixed_claim s d (reply.Granted plan) other sound known a b m memory = fixed_granted s d plan other sound known a b memory
+fixed_claim s d (reply.Denied (denial.Stranded g x)) other sound known a b m memory = fixed_stranded s d g x other sound known a b memory
+fixed_claim s d one other sound known a b m memory = absurd a
 
 -- ---- edits
 
@@ -156,15 +157,15 @@ same_this s d this one other is a b m memory =
     let same = is one a m ∙ sym (is other b memory) in
     (ap bare same, ap (λ r. state_after_decision s (Ok d) r) same)
 
-finish_this : (s : State) (n : ℕ) (c : CaseShape) (t u : ℕ) → IsThis s (deed.Finish n c t u) (reply.Finished (is_done (finished_case c t).phase))
-finish_this s n c t u reply.NoMemory is memory = absurd (memory refl)
-finish_this s n c t u (reply.Finished done) is memory = ap reply.Finished is
-finish_this s n c t u given is memory = absurd is
+finish_this : (s : State) (d : Duty) → IsThis s (deed.Finish d) (reply.Finished (is_done (finished_case d.case d.step).phase))
+finish_this s d reply.NoMemory is memory = absurd (memory refl)
+finish_this s d (reply.Finished done) is memory = ap reply.Finished is
+finish_this s d given is memory = absurd is
 
-return_this : (s : State) (n : ℕ) (c : CaseShape) (t u : ℕ) → IsThis s (deed.GiveBack n c t u) reply.Returned
-return_this s n c t u reply.NoMemory is memory = absurd (memory refl)
-return_this s n c t u reply.Returned is memory = refl
-return_this s n c t u given is memory = absurd is
+return_this : (s : State) (d : Duty) → IsThis s (deed.GiveBack d) reply.Returned
+return_this s d reply.NoMemory is memory = absurd (memory refl)
+return_this s d reply.Returned is memory = refl
+return_this s d given is memory = absurd is
 
 release_this : (s : State) (n : ℕ) (c : CaseShape) (t : ℕ) → IsThis s (deed.Release n c t) reply.Released
 release_this s n c t reply.NoMemory is memory = absurd (memory refl)
@@ -213,11 +214,11 @@ what_if_fixed s a one other x y m memory = absurd x
 fixed_deed : (s : State) (d : Deed) (one other : Reply) → IsSoundState s → IsTold s.book d → IsReplyTo s d one → IsReplyTo s d other →
     ¬ (one ≡ reply.NoMemory) → ¬ (other ≡ reply.NoMemory) → HasSame s (Ok d) one other
 fixed_deed s (deed.Open f) one other sound known a b m memory = fixed_opening s f one other sound a b m memory
-fixed_deed s (deed.Claim n c t u) one other sound known a b m memory = fixed_claim s n c t u one other sound known a b m memory
-fixed_deed s (deed.Finish n c t u) one other sound known a b m memory =
-    same_this s (deed.Finish n c t u) (reply.Finished (is_done (finished_case c t).phase)) one other (finish_this s n c t u) a b m memory
-fixed_deed s (deed.GiveBack n c t u) one other sound known a b m memory =
-    same_this s (deed.GiveBack n c t u) reply.Returned one other (return_this s n c t u) a b m memory
+fixed_deed s (deed.Claim d) one other sound known a b m memory = fixed_claim s d one other sound known a b m memory
+fixed_deed s (deed.Finish d) one other sound known a b m memory =
+    same_this s (deed.Finish d) (reply.Finished (is_done (finished_case d.case d.step).phase)) one other (finish_this s d) a b m memory
+fixed_deed s (deed.GiveBack d) one other sound known a b m memory =
+    same_this s (deed.GiveBack d) reply.Returned one other (return_this s d) a b m memory
 fixed_deed s (deed.Release n c t) one other sound known a b m memory =
     same_this s (deed.Release n c t) reply.Released one other (release_this s n c t) a b m memory
 fixed_deed s (deed.Withdraw n) one other sound known a b m memory = same_this s (deed.Withdraw n) reply.Withdrawn one other (withdrawal_this s n) a b m memory

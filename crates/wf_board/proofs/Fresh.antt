@@ -16,6 +16,7 @@ use Rattle.wf_talk.specs.declared.reply.Reply.TheVariants as reply
 use Rattle.wf_talk.specs.declared.reply.Denial.{Denial}
 use Rattle.wf_talk.specs.declared.reply.Denial.TheVariants.{NoCase, NoFlow, NoStep, NoUser, NotAdmin}
 use Rattle.wf_board.specs.declared.deed.Deed.{Deed}
+use Rattle.wf_board.specs.declared.deed.Duty.{Duty}
 use Rattle.wf_board.specs.declared.deed.Deed.TheVariants as deed
 use Rattle.wf_board.specs.declared.verdict.Verdict.{Verdict}
 use Rattle.wf_board.specs.Laws.States.{Book, Numbered, State, numbered_case, flow_named, step_named, user_named, with_case_changed}
@@ -91,9 +92,9 @@ other_added m (x ∷ xs) new other = at_first (nat_eq x.number m) (other_added m
 -- a deed changes the case that the line names
 abbrev IsNamed : Ask → Deed → Type 0
 IsNamed what (deed.Open f) = Unit {0}
-IsNamed what (deed.Claim n c t u) = case_of_ask what ≡ Some n
-IsNamed what (deed.Finish n c t u) = case_of_ask what ≡ Some n
-IsNamed what (deed.GiveBack n c t u) = case_of_ask what ≡ Some n
+IsNamed what (deed.Claim d) = case_of_ask what ≡ Some d.number
+IsNamed what (deed.Finish d) = case_of_ask what ≡ Some d.number
+IsNamed what (deed.GiveBack d) = case_of_ask what ≡ Some d.number
 IsNamed what (deed.Release n c t) = case_of_ask what ≡ Some n
 IsNamed what (deed.Withdraw n) = case_of_ask what ≡ Some n
 IsNamed what (deed.Change a) = Unit {0}
@@ -102,8 +103,8 @@ IsNamed what (deed.Work u) = Unit {0}
 IsNamed what (deed.WhatIf a) = Unit {0}
 IsNamed what (deed.TurnAway bad) = Unit {0}
 
-named_step : (what : Ask) (b : Book) (make : ℕ → CaseShape → ℕ → ℕ → Deed) (n : ℕ) (step user : List ℕ) →
-    ((c : CaseShape) (t u : ℕ) → IsNamed what (make n c t u)) → HoldsOf (IsNamed what) (on_step make b n step user)
+named_step : (what : Ask) (b : Book) (make : Duty → Deed) (n : ℕ) (step user : List ℕ) →
+    ((c : CaseShape) (t u : ℕ) → IsNamed what (make record { number = n; case = c; step = t; user = u })) → HoldsOf (IsNamed what) (on_step make b n step user)
 named_step what b make n step user named =
     then_holds (λ _. Unit {0}) (IsNamed what) (open_case_at b n) _ (always (open_case_at b n))
     (λ c _. then_holds (λ _. Unit {0}) (IsNamed what) (or_fault (step_named b c.flow step) NoStep) _ (always (or_fault (step_named b c.flow step) NoStep))
@@ -165,11 +166,12 @@ deed_case : (s : State) (what : Ask) (given : Deed) (answer : Reply) (m : ℕ) �
     numbered_case s.book.cases m ≡ numbered_case (state_after_deed s given answer).book.cases m
 deed_case s what (deed.Open f) (reply.Opened n plan) m named is other =
     sym (other_added m s.book.cases _ (subst (λ k. nat_eq k m ≡ false) is.0 other))
-deed_case s what (deed.Claim n c t u) (reply.Granted plan) m named is other =
-    sym (other_changed m n _ s.book.cases (not_this m n (case_of_ask what) named other))
-deed_case s what (deed.Finish n c t u) (reply.Finished done) m named is other =
-    sym (other_changed m n _ s.book.cases (not_this m n (case_of_ask what) named other))
-deed_case s what (deed.GiveBack n c t u) reply.Returned m named is other = sym (other_changed m n _ s.book.cases (not_this m n (case_of_ask what) named other))
+deed_case s what (deed.Claim d) (reply.Granted plan) m named is other =
+    sym (other_changed m d.number _ s.book.cases (not_this m d.number (case_of_ask what) named other))
+deed_case s what (deed.Finish d) (reply.Finished done) m named is other =
+    sym (other_changed m d.number _ s.book.cases (not_this m d.number (case_of_ask what) named other))
+deed_case s what (deed.GiveBack d) reply.Returned m named is other =
+    sym (other_changed m d.number _ s.book.cases (not_this m d.number (case_of_ask what) named other))
 deed_case s what (deed.Release n c t) reply.Released m named is other = sym (other_changed m n _ s.book.cases (not_this m n (case_of_ask what) named other))
 deed_case s what (deed.Withdraw n) reply.Withdrawn m named is other = sym (other_changed m n _ s.book.cases (not_this m n (case_of_ask what) named other))
 deed_case s what (deed.Change a) (reply.Edited number) m named is other = refl
@@ -186,9 +188,9 @@ deed_book : (s : State) (what : Ask) (given : Deed) (answer : Reply) → IsNamed
     is_some (changed_case what answer) ≡ false →
     s.book ≡ (state_after_deed s given answer).book
 deed_book s what (deed.Open f) (reply.Opened n plan) named edited other = cc
-deed_book s what (deed.Claim n c t u) (reply.Granted plan) named edited other = no_case (case_of_ask what) n named other
-deed_book s what (deed.Finish n c t u) (reply.Finished done) named edited other = no_case (case_of_ask what) n named other
-deed_book s what (deed.GiveBack n c t u) reply.Returned named edited other = no_case (case_of_ask what) n named other
+deed_book s what (deed.Claim d) (reply.Granted plan) named edited other = no_case (case_of_ask what) d.number named other
+deed_book s what (deed.Finish d) (reply.Finished done) named edited other = no_case (case_of_ask what) d.number named other
+deed_book s what (deed.GiveBack d) reply.Returned named edited other = no_case (case_of_ask what) d.number named other
 deed_book s what (deed.Release n c t) reply.Released named edited other = no_case (case_of_ask what) n named other
 deed_book s what (deed.Withdraw n) reply.Withdrawn named edited other = no_case (case_of_ask what) n named other
 deed_book s what (deed.Change a) (reply.Edited number) named edited other = cc

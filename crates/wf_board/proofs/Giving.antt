@@ -12,6 +12,7 @@ use Rattle.case_record.proofs.Laws.{finished_of-at}
 use Rattle.grant_table.specs.declared.rows.Row.{Row}
 use Rattle.grant_table.specs.Cases.{case_in, plan_of, row_at}
 use Rattle.admin_edits.specs.ClaimCauses.{assigned_with}
+use Rattle.wf_board.specs.declared.deed.Duty.{Duty}
 use Rattle.wf_board.specs.Edition.{IsPlanOf}
 use Rattle.wf_board.specs.Laws.Found.{AreFound}
 use Rattle.wf_board.specs.Laws.Kept.{ArePlanned, IsPlanned}
@@ -42,10 +43,10 @@ valid_with p c t u plan gives valid = record {
 }
 
 -- a user to whom a valid plan gives a free step is authorised for it
-pub may_planned : (p : PolicyShape) (rows : List Row) (n : ℕ) (c : CaseShape) (t u : ℕ) (plan : List ℕ) → AreFound p rows n c t u → state_at c t ≡ Free →
-    planned plan t ≡ u → IsPlanOf p c plan → is_authorised p c.flow t u ≡ true
-may_planned p rows n c t u plan found free gives valid =
+pub may_planned : (p : PolicyShape) (rows : List Row) (d : Duty) (plan : List ℕ) → AreFound p rows d → state_at d.case d.step ≡ Free →
+    planned plan d.step ≡ d.user → IsPlanOf p d.case plan → is_authorised p d.case.flow d.step d.user ≡ true
+may_planned p rows d plan found free gives valid =
     let step = found.step in
     let steps = found.case.known.steps in
-    let unfinished : is_member (finished_of c) t ≡ false = finished_of-at c t ∙ ap is_finished free in
-    ap (is_authorised p c.flow t) (sym gives) ∙ valid.allowed t (omega (arith, step, steps)) unfinished
+    let unfinished : is_member (finished_of d.case) d.step ≡ false = finished_of-at d.case d.step ∙ ap is_finished free in
+    ap (is_authorised p d.case.flow d.step) (sym gives) ∙ valid.allowed d.step (omega (arith, step, steps)) unfinished

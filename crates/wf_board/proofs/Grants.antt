@@ -33,6 +33,8 @@ use Rattle.wf_talk.specs.declared.reply.Reply.TheVariants as reply
 use Rattle.wf_talk.specs.declared.reply.Denial.{Denial}
 use Rattle.wf_talk.specs.declared.reply.Denial.TheVariants as denial
 use Rattle.admin_edits.specs.ClaimCauses.{assigned_with, first_cause, first_falsified, first_of, permitted_roles, unless}
+use Rattle.wf_board.specs.declared.deed.Deed.{Deed}
+use Rattle.wf_board.specs.declared.deed.Duty.{Duty}
 use Rattle.wf_board.specs.declared.deed.Deed.TheVariants as deed
 use Rattle.wf_board.specs.Laws.States.{Book, State}
 use Rattle.wf_board.specs.Decisions.{cause_full, decision_of, unless_denied}
@@ -138,13 +140,17 @@ no_rule_falsified p c t u sound known free complete = none_falsified p c (assign
 
 -- ---- the decision
 
+-- a claim of a step of a case
+abbrev claim_of : ℕ → CaseShape → ℕ → ℕ → Deed
+claim_of n c t u = deed.Claim record { number = n; case = c; step = t; user = u }
+
 -- what a claim is decided as, once its case, step and user are found
 decided_claim : (b : Book) (n : ℕ) (step user : List ℕ) (c : CaseShape) (t u : ℕ) → AreNamed b n step user c t u →
-    decision_of b (ask.Request (request.Claim n step user)) ≡ unless_denied (deed.Claim n c t u) (first_cause b.policy c t u)
+    decision_of b (ask.Request (request.Claim n step user)) ≡ unless_denied (claim_of n c t u) (first_cause b.policy c t u)
 decided_claim b n step user c t u named = rw (named.its_case, named.live, named.its_step, named.its_user) (unless_full (first_cause b.policy c t u))
   where
     unless_full : (o : Option Denial) →
-        (unless_denied (deed.Claim n c t u) o >>= (λ given. unless_denied given (cause_full b given))) ≡ unless_denied (deed.Claim n c t u) o
+        (unless_denied (claim_of n c t u) o >>= (λ given. unless_denied given (cause_full b given))) ≡ unless_denied (claim_of n c t u) o
     unless_full None = refl
     unless_full (Some d) = refl
 
@@ -212,18 +218,21 @@ clear_none p c t u sound known complete ready may quiet =
     (ap (option_map denial.Rule) (still_none (problem_of p c.flow).related c t u 0 (flow_at p c.flow).rules quiet before))
 
 -- no cause is against the claim of a ready step that the kept plan gives to the user
-pub planned_none : (p : PolicyShape) (rows : List Row) (n : ℕ) (c : CaseShape) (t u : ℕ) (plan : List ℕ) → IsSoundPolicy p → ArePlanned p rows
-    → AreFound p rows n c t u → is_ready c (flow_at p c.flow).flow.order t ≡ true → plan_of (row_at n rows) ≡ Some plan → planned plan t ≡ u →
-    first_cause p c t u ≡ None
-planned_none p rows n c t u plan sound are found ready kept gives =
+pub planned_none : (p : PolicyShape) (rows : List Row) (d : Duty) (plan : List ℕ) → IsSoundPolicy p → ArePlanned p rows → AreFound p rows d →
+    is_ready d.case (flow_at p d.case.flow).flow.order d.step ≡ true → plan_of (row_at d.number rows) ≡ Some plan → planned plan d.step ≡ d.user →
+    first_cause p d.case d.step d.user ≡ None
+planned_none p rows d plan sound are found ready kept gives =
+    let c = d.case in
+    let t = d.step in
+    let u = d.user in
     let tests = and_both (nat_lt t (length c.states) && is_free (state_at c t)) (is_none (first_missing c (flow_at p c.flow).flow.order t)) ready in
     let free = (and_both (nat_lt t (length c.states)) (is_free (state_at c t)) tests.0).1 in
-    let valid = kept_valid p rows n c plan are found.case.found kept in
+    let valid = kept_valid p rows d.number c plan are found.case.found kept in
     none_all _ _ _ _
     (users_of_free (state_at c t) denial.Taken free)
     (made_of_nothing (first_missing c (flow_at p c.flow).flow.order t) (denial.Order c.flow) tests.1)
     (passed (is_authorised p c.flow t u) (denial.Role (permitted_roles p c.flow t))
-    (may_planned p rows n c t u plan found (free_is (state_at c t) free) gives valid))
+    (may_planned p rows d plan found (free_is (state_at c t) free) gives valid))
     (made_of_nothing (first_falsified (problem_of p c.flow).related (user_at (assigned_with c t u)) 0 (flow_at p c.flow).rules) denial.Rule
     (no_rule_falsified p c t u sound found.case.known.flow (free_is (state_at c t) free)
     (plan, valid_with (problem_of p c.flow) c t u plan gives valid)))
@@ -255,7 +264,7 @@ no_grant d given plan (inr is) granted = cc
 pub grants_are_exact : GrantsAreExact
 grants_are_exact s n step user c t u given sound named is_step memory = by_cause (first_cause s.book.policy c t u) refl
   where
-    decided : decision_of s.book (ask.Request (request.Claim n step user)) ≡ unless_denied (deed.Claim n c t u) (first_cause s.book.policy c t u)
+    decided : decision_of s.book (ask.Request (request.Claim n step user)) ≡ unless_denied (claim_of n c t u) (first_cause s.book.policy c t u)
     decided = decided_claim s.book n step user c t u named
 
     known : c.flow < length s.book.policy.flows
@@ -266,11 +275,11 @@ grants_are_exact s n step user c t u given sound named is_step memory = by_cause
 
     by_cause : (o : Option Denial) → first_cause s.book.policy c t u ≡ o → ((plan : List ℕ) × (given ≡ reply.Granted plan)) ↔ MayBeGranted s.book.policy c t u
     by_cause None none =
-        let exact = claims_are_exact s (ask.Request (request.Claim n step user)) given n c t u sound
-        (decided ∙ ap (unless_denied (deed.Claim n c t u)) none) is_step memory in
+        let exact = claims_are_exact s (ask.Request (request.Claim n step user)) given record { number = n; case = c; step = t; user = u } sound
+        (decided ∙ ap (unless_denied (claim_of n c t u)) none) is_step memory in
         (λ granted. none_granted s c t u below none (exact.0 granted), λ may. exact.1 may.completable)
     by_cause (Some d) cause =
-        let denied = subst (λ r. Answers s r given) (decided ∙ ap (unless_denied (deed.Claim n c t u)) cause) is_step in (
+        let denied = subst (λ r. Answers s r given) (decided ∙ ap (unless_denied (claim_of n c t u)) cause) is_step in (
           λ granted. absurd (no_grant d given granted.0 denied granted.1),
           λ may. absurd (none_apart d (sym (granted_none s.book.policy c t u sound.policy known may) ∙ cause)),
         )

@@ -29,9 +29,9 @@ after_all s (x ∷ xs) more = after_all (state_after_step s x.ask x.reply) xs mo
 
 again_same : (s : State) (decision : Result Deed Denial) (n place : ℕ) → state_after_decision s decision (reply.Again n place) ≡ s
 again_same s (Ok (deed.Open f)) n place = refl
-again_same s (Ok (deed.Claim m c t u)) n place = refl
-again_same s (Ok (deed.Finish m c t u)) n place = refl
-again_same s (Ok (deed.GiveBack m c t u)) n place = refl
+again_same s (Ok (deed.Claim d)) n place = refl
+again_same s (Ok (deed.Finish d)) n place = refl
+again_same s (Ok (deed.GiveBack d)) n place = refl
 again_same s (Ok (deed.Release m c t)) n place = refl
 again_same s (Ok (deed.Withdraw m)) n place = refl
 again_same s (Ok (deed.Change a)) n place = refl
@@ -79,9 +79,9 @@ rests_more start entries e within each last =
 
 no_again : (s : State) (given : Deed) (n place : ℕ) → IsReplyTo s given (reply.Again n place) → ⊥
 no_again s (deed.Open f) n place is = is
-no_again s (deed.Claim m c t u) n place is = is
-no_again s (deed.Finish m c t u) n place is = is
-no_again s (deed.GiveBack m c t u) n place is = is
+no_again s (deed.Claim d) n place is = is
+no_again s (deed.Finish d) n place is = is
+no_again s (deed.GiveBack d) n place is = is
 no_again s (deed.Release m c t) n place is = is
 no_again s (deed.Withdraw m) n place is = is
 no_again s (deed.Change a) n place is = is
@@ -124,9 +124,9 @@ once_all (x ∷ xs) more once later = (once.0, once_all xs more once.1 later)
 
 deed_policy : (s : State) (given : Deed) (answer : Reply) → is_edited answer ≡ false → (state_after_deed s given answer).book.policy ≡ s.book.policy
 deed_policy s (deed.Open f) (reply.Opened n plan) other = refl
-deed_policy s (deed.Claim n c t u) (reply.Granted plan) other = refl
-deed_policy s (deed.Finish n c t u) (reply.Finished done) other = refl
-deed_policy s (deed.GiveBack n c t u) reply.Returned other = refl
+deed_policy s (deed.Claim d) (reply.Granted plan) other = refl
+deed_policy s (deed.Finish d) (reply.Finished done) other = refl
+deed_policy s (deed.GiveBack d) reply.Returned other = refl
 deed_policy s (deed.Release n c t) reply.Released other = refl
 deed_policy s (deed.Withdraw n) reply.Withdrawn other = refl
 deed_policy s (deed.Change a) (reply.Edited number) other = cc
@@ -143,9 +143,9 @@ policy_stays s what given other = decision_policy s (decision_of s.book what) gi
 
 deed_counts : (s : State) (given : Deed) (answer : Reply) → (state_after_deed s given answer).edits ≤ s.edits + 1
 deed_counts s (deed.Open f) (reply.Opened n plan) = omega arith
-deed_counts s (deed.Claim n c t u) (reply.Granted plan) = omega arith
-deed_counts s (deed.Finish n c t u) (reply.Finished done) = omega arith
-deed_counts s (deed.GiveBack n c t u) reply.Returned = omega arith
+deed_counts s (deed.Claim d) (reply.Granted plan) = omega arith
+deed_counts s (deed.Finish d) (reply.Finished done) = omega arith
+deed_counts s (deed.GiveBack d) reply.Returned = omega arith
 deed_counts s (deed.Release n c t) reply.Released = omega arith
 deed_counts s (deed.Withdraw n) reply.Withdrawn = omega arith
 deed_counts s (deed.Change a) (reply.Edited number) = omega arith

@@ -18,6 +18,7 @@ use Rattle.wf_talk.specs.declared.reply.Reply.{Reply}
 use Rattle.wf_talk.specs.declared.reply.Reply.TheVariants as reply
 use Rattle.wf_talk.specs.declared.reply.Denial.{Denial}
 use Rattle.wf_board.specs.declared.deed.Deed.{Deed}
+use Rattle.wf_board.specs.declared.deed.Duty.{Duty}
 use Rattle.wf_board.specs.declared.deed.Deed.TheVariants as deed
 use Rattle.admin_edits.specs.declared.amendment.Amendment.{Amendment}
 use Rattle.admin_edits.specs.Laws.Edits.{amended}
@@ -141,13 +142,13 @@ opened_keeps s f plan keeps known valid =
     ) in
     (record { policy = keeps.0.policy; cases = λ m c found. (all m c found).0 }, λ m c found. (all m c found).1)
 
-claimed_keeps : (s : State) (n : ℕ) (c : CaseShape) (t u : ℕ) (plan : List ℕ) → Keeps s → IsTold s.book (deed.Claim n c t u) →
-    IsReplyTo s (deed.Claim n c t u) (reply.Granted plan) →
-    Keeps (with_changed s n (λ d. with_state d t (Held u)))
-claimed_keeps s n c t u plan keeps known valid = named_keeps s n c t (λ d. with_state d t (Held u)) keeps known.0.there (λ of_policy below complete. (
-  of_policy_claimed s.book.policy c t u below known.0.user of_policy,
-  λ live. (plan, valid_claimed (problem_of s.book.policy c.flow) c t u plan below (claim_free s.book n c t u known.1) valid),
-))
+claimed_keeps : (s : State) (d : Duty) (plan : List ℕ) → Keeps s → IsTold s.book (deed.Claim d) → IsReplyTo s (deed.Claim d) (reply.Granted plan) →
+    Keeps (with_changed s d.number (λ c. with_state c d.step (Held d.user)))
+claimed_keeps s d plan keeps known valid =
+    named_keeps s d.number d.case d.step (λ c. with_state c d.step (Held d.user)) keeps known.0.there (λ of_policy below complete. (
+      of_policy_claimed s.book.policy d.case d.step d.user below known.0.user of_policy,
+      λ live. (plan, valid_claimed (problem_of s.book.policy d.case.flow) d.case d.step d.user plan below (claim_free s.book d known.1) valid),
+    ))
 
 finished_keeps : (s : State) (n : ℕ) (c : CaseShape) (t : ℕ) → Keeps s → HasStep s.book n c t → is_held (state_at c t) ≡ true →
     Keeps (with_changed s n (λ d. finished_case d t))
@@ -181,9 +182,11 @@ edited_keeps s a keeps known all =
 
 deed_keeps : (s : State) (given : Deed) (answer : Reply) → Keeps s → IsTold s.book given → IsReplyTo s given answer → Keeps (state_after_deed s given answer)
 deed_keeps s (deed.Open f) (reply.Opened n plan) keeps known is = opened_keeps s f plan keeps known.0 is.1
-deed_keeps s (deed.Claim n c t u) (reply.Granted plan) keeps known is = claimed_keeps s n c t u plan keeps known is
-deed_keeps s (deed.Finish n c t u) (reply.Finished done) keeps known is = finished_keeps s n c t keeps known.0 (held_by u (state_at c t) known.1)
-deed_keeps s (deed.GiveBack n c t u) reply.Returned keeps known is = freed_keeps s n c t keeps known.0 (held_by u (state_at c t) known.1)
+deed_keeps s (deed.Claim d) (reply.Granted plan) keeps known is = claimed_keeps s d plan keeps known is
+deed_keeps s (deed.Finish d) (reply.Finished done) keeps known is =
+    finished_keeps s d.number d.case d.step keeps known.0 (held_by d.user (state_at d.case d.step) known.1)
+deed_keeps s (deed.GiveBack d) reply.Returned keeps known is =
+    freed_keeps s d.number d.case d.step keeps known.0 (held_by d.user (state_at d.case d.step) known.1)
 deed_keeps s (deed.Release n c t) reply.Released keeps known is = freed_keeps s n c t keeps known.0 known.1
 deed_keeps s (deed.Withdraw n) reply.Withdrawn keeps known is = withdrawn_keeps s n keeps
 deed_keeps s (deed.Change a) (reply.Edited number) keeps known is = edited_keeps s a keeps known is.1

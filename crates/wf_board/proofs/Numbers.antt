@@ -61,9 +61,9 @@ opened_numbered s f is =
 
 deed_numbered : (s : State) (given : Deed) (answer : Reply) → AreCasesNumbered s → AreCasesNumbered (state_after_deed s given answer)
 deed_numbered s (deed.Open f) (reply.Opened n plan) is = opened_numbered s f is
-deed_numbered s (deed.Claim n c t u) (reply.Granted plan) is = changed_numbered s n _ is
-deed_numbered s (deed.Finish n c t u) (reply.Finished done) is = changed_numbered s n _ is
-deed_numbered s (deed.GiveBack n c t u) reply.Returned is = changed_numbered s n _ is
+deed_numbered s (deed.Claim d) (reply.Granted plan) is = changed_numbered s d.number _ is
+deed_numbered s (deed.Finish d) (reply.Finished done) is = changed_numbered s d.number _ is
+deed_numbered s (deed.GiveBack d) reply.Returned is = changed_numbered s d.number _ is
 deed_numbered s (deed.Release n c t) reply.Released is = changed_numbered s n _ is
 deed_numbered s (deed.Withdraw n) reply.Withdrawn is = changed_numbered s n _ is
 deed_numbered s (deed.Change a) (reply.Edited number) is = record { order = is.order; next = is.next }

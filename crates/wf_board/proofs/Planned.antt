@@ -15,6 +15,7 @@ use Rattle.grant_table.specs.declared.rows.Row.{Row}
 use Rattle.grant_table.specs.Cases.{CasesShape, case_in, only, change_row, finished_row, freed_row, held_row, open_rows, plan_while, row_at, with_case}
 use Rattle.grant_table.specs.Cases.{with_row, withdrawn_row}
 use Rattle.admin_edits.specs.ClaimCauses.{assigned_with}
+use Rattle.wf_board.specs.declared.deed.Duty.{Duty}
 use Rattle.wf_board.specs.Boards.{state_on}
 use Rattle.wf_board.specs.Laws.Found.{AreFound, IsOpenAt}
 use Rattle.wf_board.specs.Laws.Kept.{ArePlanned, IsOfPolicy, IsPlanned}
@@ -76,17 +77,16 @@ changed_state : (p : PolicyShape) (t : CasesShape) (n : ℕ) (f : Row → Row) (
 changed_state p t n f g same changes edits =
     λ i. record { book = record { policy = p; cases = numbered_changed n f g t.rows same changes i; ever = t.ever }; edits = edits }
 
-pub held_keeps : (p : PolicyShape) (t : CasesShape) (n : ℕ) (c : CaseShape) (s u : ℕ) (plan : List ℕ) → IsKept p t → AreFound p t.rows n c s u →
-    state_at c s ≡ Free →
-    IsValidPlan (problem_of p c.flow) (assigned_with c s u) (finished_of c) plan →
-    HasChanged p t (with_row t n (held_row s u plan)) n (held_row s u plan) (λ d. with_state d s (Held u))
-held_keeps p t n c s u plan kept found free valid = record {
-  kept = changed_keeps p t n c (held_row s u plan) kept found.case.found (λ r. refl)
-      (λ r is known before. subst (λ d. IsKeptRow p (with_state d s (Held u)) (Some plan)) (sym is) (
-        of_policy_claimed p c s u found.step found.user known,
-        valid_claimed (problem_of p c.flow) c s u plan found.step free valid,
+pub held_keeps : (p : PolicyShape) (t : CasesShape) (d : Duty) (plan : List ℕ) → IsKept p t → AreFound p t.rows d → state_at d.case d.step ≡ Free →
+    IsValidPlan (problem_of p d.case.flow) (assigned_with d.case d.step d.user) (finished_of d.case) plan →
+    HasChanged p t (with_row t d.number (held_row d.step d.user plan)) d.number (held_row d.step d.user plan) (λ c. with_state c d.step (Held d.user))
+held_keeps p t d plan kept found free valid = record {
+  kept = changed_keeps p t d.number d.case (held_row d.step d.user plan) kept found.case.found (λ r. refl)
+      (λ r is known before. subst (λ c. IsKeptRow p (with_state c d.step (Held d.user)) (Some plan)) (sym is) (
+        of_policy_claimed p d.case d.step d.user found.step found.user known,
+        valid_claimed (problem_of p d.case.flow) d.case d.step d.user plan found.step free valid,
       ));
-  next = changed_state p t n (held_row s u plan) (λ d. with_state d s (Held u)) (λ r. refl) (λ r. refl);
+  next = changed_state p t d.number (held_row d.step d.user plan) (λ c. with_state c d.step (Held d.user)) (λ r. refl) (λ r. refl);
   rows = refl;
   spare = refl;
 }

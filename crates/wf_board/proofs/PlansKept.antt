@@ -30,9 +30,9 @@ use Rattle.wf_board.proofs.Amended.{edition_change, with_plans}
 
 pub want_rows : (p : PolicyShape) (t : CasesShape) (r : Result Deed Denial) → rows_after p t r reply.NoMemory ≡ t.rows
 want_rows p t (Ok (deed.Open f)) = refl
-want_rows p t (Ok (deed.Claim n c s u)) = refl
-want_rows p t (Ok (deed.Finish n c s u)) = refl
-want_rows p t (Ok (deed.GiveBack n c s u)) = refl
+want_rows p t (Ok (deed.Claim d)) = refl
+want_rows p t (Ok (deed.Finish d)) = refl
+want_rows p t (Ok (deed.GiveBack d)) = refl
 want_rows p t (Ok (deed.Release n c s)) = refl
 want_rows p t (Ok (deed.Withdraw n)) = refl
 want_rows p t (Ok (deed.Change a)) = refl

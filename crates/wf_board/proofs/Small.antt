@@ -52,12 +52,12 @@ bare_small d bare = refl
 deed_small : (s : State) (d : Deed) (given : Reply) → IsReplyTo s d given → needs_plan d ≡ false → shows_large given ≡ false
 deed_small s d reply.NoMemory is none = refl
 deed_small s (deed.Open f) given is none = let apart : true ≡ false = none in cc
-deed_small s (deed.Claim n c t u) given is none = let apart : true ≡ false = none in cc
+deed_small s (deed.Claim d) given is none = let apart : true ≡ false = none in cc
 deed_small s (deed.Change a) given is none = let apart : true ≡ false = none in cc
 deed_small s (deed.Work u) given is none = let apart : true ≡ false = none in cc
 deed_small s (deed.WhatIf a) given is none = let apart : true ≡ false = none in cc
-deed_small s (deed.Finish n c t u) (reply.Finished done) is none = refl
-deed_small s (deed.GiveBack n c t u) reply.Returned is none = refl
+deed_small s (deed.Finish d) (reply.Finished done) is none = refl
+deed_small s (deed.GiveBack d) reply.Returned is none = refl
 deed_small s (deed.Release n c t) reply.Released is none = refl
 deed_small s (deed.Withdraw n) reply.Withdrawn is none = refl
 deed_small s (deed.Show c) (reply.Shown face) is none = refl

@@ -16,6 +16,7 @@ use Rattle.wf_talk.specs.declared.request.Ask.TheVariants as ask
 use Rattle.wf_talk.specs.declared.reply.Denial.{Denial}
 use Rattle.wf_talk.specs.declared.reply.Denial.TheVariants.{NoCase, NoFlow, NoStep, NoUser, NotAdmin}
 use Rattle.wf_board.specs.declared.deed.Deed.{Deed}
+use Rattle.wf_board.specs.declared.deed.Duty.{Duty}
 use Rattle.wf_board.specs.declared.deed.Deed.TheVariants as deed
 use Rattle.wf_board.specs.declared.verdict.Verdict.{Verdict}
 use Rattle.wf_board.specs.declared.verdict.Verdict.TheVariants as verdict
@@ -66,9 +67,9 @@ with_cases p cases ever = record { policy = p; cases = cases; ever = ever }
 same_cause : (p : PolicyShape) (xs ys : List Numbered) (m k : ℕ) (given : Deed) →
     unless_denied given (cause_aside (with_cases p xs m) given) ≡ unless_denied given (cause_aside (with_cases p ys k) given)
 same_cause p xs ys m k (deed.Open f) = refl
-same_cause p xs ys m k (deed.Claim n c s u) = refl
-same_cause p xs ys m k (deed.Finish n c s u) = refl
-same_cause p xs ys m k (deed.GiveBack n c s u) = refl
+same_cause p xs ys m k (deed.Claim d) = refl
+same_cause p xs ys m k (deed.Finish d) = refl
+same_cause p xs ys m k (deed.GiveBack d) = refl
 same_cause p xs ys m k (deed.Release n c s) = refl
 same_cause p xs ys m k (deed.Withdraw n) = refl
 same_cause p xs ys m k (deed.Change a) = refl
@@ -139,21 +140,22 @@ plain_aside : (b : Book) (r : Result Deed Denial) → IsPlain r → IsPlain (r >
 plain_aside b (Ok given) plain = denied_plain given (cause_aside b given) plain
 plain_aside b (Err d) plain = tt
 
-plain_step : (b : Book) (make : ℕ → CaseShape → ℕ → ℕ → Deed) (n : ℕ) (step user : List ℕ) →
-    ((c : CaseShape) (s u : ℕ) → needs_plan (make n c s u) ≡ false) → IsPlain (on_step make b n step user)
+plain_step : (b : Book) (make : Duty → Deed) (n : ℕ) (step user : List ℕ) →
+    ((d : Duty) → needs_plan (make d) ≡ false) → IsPlain (on_step make b n step user)
 plain_step b make n step user plain =
     then_plain (open_case_at b n) _
-    (λ c. then_plain (or_fault (step_named b c.flow step) NoStep) _ (λ s. then_plain (or_fault (user_named b user) NoUser) _ (λ u. plain c s u)))
+    (λ c. then_plain (or_fault (step_named b c.flow step) NoStep) _
+    (λ t. then_plain (or_fault (user_named b user) NoUser) _ (λ u. plain record { number = n; case = c; step = t; user = u })))
 
 -- what rests on no plan
 abbrev pub IsAside : Book → Ask → Type 0
 IsAside b what = IsPlain (decision_aside b what)
 
 pub finish_plain : (n : ℕ) (step user : List ℕ) (b : Book) → IsAside b (ask.Request (request.Finish n step user))
-finish_plain n step user b = plain_aside b (on_step deed.Finish b n step user) (plain_step b deed.Finish n step user (λ c s u. refl))
+finish_plain n step user b = plain_aside b (on_step deed.Finish b n step user) (plain_step b deed.Finish n step user (λ d. refl))
 
 pub return_plain : (n : ℕ) (step user : List ℕ) (b : Book) → IsAside b (ask.Request (request.GiveBack n step user))
-return_plain n step user b = plain_aside b (on_step deed.GiveBack b n step user) (plain_step b deed.GiveBack n step user (λ c s u. refl))
+return_plain n step user b = plain_aside b (on_step deed.GiveBack b n step user) (plain_step b deed.GiveBack n step user (λ d. refl))
 
 pub release_plain : (by : List ℕ) (n : ℕ) (step : List ℕ) (b : Book) → IsAside b (ask.Request (request.Release by n step))
 release_plain by n step b =
@@ -220,12 +222,12 @@ snap_needs b what spare needs = needs_same b what spare ∙ needs_aside (state_o
 
 no_plan : (b : Book) (r : Result Deed Denial) (plan : List ℕ) {X : Type 0} → IsPlain r → IsPlanFor b r plan → X
 no_plan b (Ok (deed.Open f)) plan plain is = cc
-no_plan b (Ok (deed.Claim n c t u)) plan plain is = cc
+no_plan b (Ok (deed.Claim d)) plan plain is = cc
 no_plan b r plan plain is = absurd is
 
 no_tree : (b : Book) (r : Result Deed Denial) (tree : Tree) {X : Type 0} → IsPlain r → IsTreeFor b r tree → X
 no_tree b (Ok (deed.Open f)) tree plain is = cc
-no_tree b (Ok (deed.Claim n c t u)) tree plain is = cc
+no_tree b (Ok (deed.Claim d)) tree plain is = cc
 no_tree b r tree plain is = absurd is
 
 no_edition : (b : Book) (r : Result Deed Denial) (edition : EditionShape) {X : Type 0} → IsPlain r → IsEditionFor b r edition → X
@@ -286,13 +288,13 @@ claim_no_change b n step user =
 plan_same : (p : PolicyShape) (xs ys : List Numbered) (m k : ℕ) (r : Result Deed Denial) (plan : List ℕ) → IsPlanFor (with_cases p xs m) r plan →
     IsPlanFor (with_cases p ys k) r plan
 plan_same p xs ys m k (Ok (deed.Open f)) plan is = is
-plan_same p xs ys m k (Ok (deed.Claim n c t u)) plan is = is
+plan_same p xs ys m k (Ok (deed.Claim d)) plan is = is
 plan_same p xs ys m k r plan is = absurd is
 
 tree_same : (p : PolicyShape) (xs ys : List Numbered) (m k : ℕ) (r : Result Deed Denial) (tree : Tree) → IsTreeFor (with_cases p xs m) r tree →
     IsTreeFor (with_cases p ys k) r tree
 tree_same p xs ys m k (Ok (deed.Open f)) tree is = is
-tree_same p xs ys m k (Ok (deed.Claim n c t u)) tree is = is
+tree_same p xs ys m k (Ok (deed.Claim d)) tree is = is
 tree_same p xs ys m k r tree is = absurd is
 
 -- also of an edit and a view, where the open cases are the same

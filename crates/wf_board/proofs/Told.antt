@@ -22,6 +22,7 @@ use Rattle.admin_edits.specs.declared.amendment.Amendment.{Amendment}
 use Rattle.admin_edits.specs.declared.fault.EditCause.{EditCause}
 use Rattle.admin_edits.specs.ClaimCauses.{first_cause, first_of, unless}
 use Rattle.wf_board.specs.declared.deed.Deed.{Deed}
+use Rattle.wf_board.specs.declared.deed.Duty.{Duty}
 use Rattle.wf_board.specs.declared.deed.Deed.TheVariants as deed
 use Rattle.wf_board.specs.Laws.States.{Book, numbered_case, flow_named, step_named, user_named}
 use Rattle.wf_board.specs.Resolve.{on_edit, on_step, open_case_at, resolve}
@@ -53,16 +54,16 @@ pub record HasStep (b : Book) (n : ℕ) (c : CaseShape) (t : ℕ) : Type 0 where
   pub step : t < length (flow_at b.policy c.flow).flow.steps
 
 -- and the user of a claim is there
-pub record IsClaim (b : Book) (n : ℕ) (c : CaseShape) (t u : ℕ) : Type 0 where
-  pub there : HasStep b n c t
-  pub user : u < length b.policy.roster.users
+pub record IsClaim (b : Book) (d : Duty) : Type 0 where
+  pub there : HasStep b d.number d.case d.step
+  pub user : d.user < length b.policy.roster.users
 
 -- what a deed names is there
 abbrev pub IsThere : Book → Deed → Type 0
 IsThere b (deed.Open f) = f < length b.policy.flow_names
-IsThere b (deed.Claim n c t u) = IsClaim b n c t u
-IsThere b (deed.Finish n c t u) = HasStep b n c t
-IsThere b (deed.GiveBack n c t u) = HasStep b n c t
+IsThere b (deed.Claim d) = IsClaim b d
+IsThere b (deed.Finish d) = HasStep b d.number d.case d.step
+IsThere b (deed.GiveBack d) = HasStep b d.number d.case d.step
 IsThere b (deed.Release n c t) = HasStep b n c t
 IsThere b (deed.Change a) = IsSoundPolicy b.policy → found.IsAllowed b.policy a
 IsThere b (deed.Work u) = u < length b.policy.roster.users
@@ -76,14 +77,14 @@ open_there b n =
     (λ c found. then_holds (λ _. is_open c ≡ true) (IsOpenCase b n) (check (is_open c) Closed) _ (passed_holds (is_open c) Closed)
     (λ _ live. record { found = found; live = live }))
 
-step_there : (b : Book) (make : ℕ → CaseShape → ℕ → ℕ → Deed) (n : ℕ) (step user : List ℕ) →
-    ((c : CaseShape) (t u : ℕ) → IsClaim b n c t u → IsThere b (make n c t u)) → HoldsOf (IsThere b) (on_step make b n step user)
+step_there : (b : Book) (make : Duty → Deed) (n : ℕ) (step user : List ℕ) →
+    ((d : Duty) → IsClaim b d → IsThere b (make d)) → HoldsOf (IsThere b) (on_step make b n step user)
 step_there b make n step user made =
     then_holds (IsOpenCase b n) (IsThere b) (open_case_at b n) _ (open_there b n)
     (λ c there. then_holds (λ t. step_named b c.flow step ≡ Some t) (IsThere b) (or_fault (step_named b c.flow step) NoStep) _
     (there_holds (step_named b c.flow step) NoStep)
     (λ t named. then_holds (λ u. user_named b user ≡ Some u) (IsThere b) (or_fault (user_named b user) NoUser) _ (there_holds (user_named b user) NoUser)
-    (λ u known. made c t u record {
+    (λ u known. made record { number = n; case = c; step = t; user = u } record {
       there = record { case = there; step = place_within (flow_at b.policy c.flow).flow.steps step t named };
       user = place_within b.policy.roster.users user u known;
     })))
@@ -107,9 +108,9 @@ resolve_there : (b : Book) (what : Ask) → HoldsOf (IsThere b) (resolve b what)
 resolve_there b (ask.Request (request.OpenCase flow)) =
     then_holds (λ f. flow_named b flow ≡ Some f) (IsThere b) (or_fault (flow_named b flow) NoFlow) _ (there_holds (flow_named b flow) NoFlow)
     (λ f named. place_within b.policy.flow_names flow f named)
-resolve_there b (ask.Request (request.Claim n step user)) = step_there b deed.Claim n step user (λ c t u is. is)
-resolve_there b (ask.Request (request.Finish n step user)) = step_there b deed.Finish n step user (λ c t u is. is.there)
-resolve_there b (ask.Request (request.GiveBack n step user)) = step_there b deed.GiveBack n step user (λ c t u is. is.there)
+resolve_there b (ask.Request (request.Claim n step user)) = step_there b deed.Claim n step user (λ d is. is)
+resolve_there b (ask.Request (request.Finish n step user)) = step_there b deed.Finish n step user (λ d is. is.there)
+resolve_there b (ask.Request (request.GiveBack n step user)) = step_there b deed.GiveBack n step user (λ d is. is.there)
 resolve_there b (ask.Request (request.Release by n step)) =
     then_holds (λ _. is_admin b.policy by ≡ true) (IsThere b) (check (is_admin b.policy by) NotAdmin) _ (passed_holds (is_admin b.policy by) NotAdmin)
     (λ _ may. then_holds (IsOpenCase b n) (IsThere b) (open_case_at b n) _ (open_there b n)
@@ -131,9 +132,9 @@ resolve_there b (ask.Bad bad) = tt
 
 -- no cause is against a deed
 abbrev pub IsAllowed : Book → Deed → Type 0
-IsAllowed b (deed.Claim n c t u) = first_cause b.policy c t u ≡ None
-IsAllowed b (deed.Finish n c t u) = is_held_by u (state_at c t) ≡ true
-IsAllowed b (deed.GiveBack n c t u) = is_held_by u (state_at c t) ≡ true
+IsAllowed b (deed.Claim d) = first_cause b.policy d.case d.step d.user ≡ None
+IsAllowed b (deed.Finish d) = is_held_by d.user (state_at d.case d.step) ≡ true
+IsAllowed b (deed.GiveBack d) = is_held_by d.user (state_at d.case d.step) ≡ true
 IsAllowed b (deed.Release n c t) = is_held (state_at c t) ≡ true
 IsAllowed b given = Unit {0}
 
@@ -151,11 +152,11 @@ unless_holds P given (Some d) allowed = tt
 
 allowed_told : (b : Book) (given : Deed) → IsThere b given → HoldsOf (IsTold b) (unless_denied given (cause_aside b given))
 allowed_told b (deed.Open f) there = unless_holds (IsTold b) (deed.Open f) (cause_aside b (deed.Open f)) (λ none. (there, tt))
-allowed_told b (deed.Claim n c t u) there = unless_holds (IsTold b) (deed.Claim n c t u) (cause_aside b (deed.Claim n c t u)) (λ none. (there, none))
-allowed_told b (deed.Finish n c t u) there =
-    unless_holds (IsTold b) (deed.Finish n c t u) (cause_aside b (deed.Finish n c t u)) (λ none. (there, unless_tells _ _ none))
-allowed_told b (deed.GiveBack n c t u) there =
-    unless_holds (IsTold b) (deed.GiveBack n c t u) (cause_aside b (deed.GiveBack n c t u)) (λ none. (there, unless_tells _ _ none))
+allowed_told b (deed.Claim d) there = unless_holds (IsTold b) (deed.Claim d) (cause_aside b (deed.Claim d)) (λ none. (there, none))
+allowed_told b (deed.Finish d) there =
+    unless_holds (IsTold b) (deed.Finish d) (cause_aside b (deed.Finish d)) (λ none. (there, unless_tells _ _ none))
+allowed_told b (deed.GiveBack d) there =
+    unless_holds (IsTold b) (deed.GiveBack d) (cause_aside b (deed.GiveBack d)) (λ none. (there, unless_tells _ _ none))
 allowed_told b (deed.Release n c t) there =
     unless_holds (IsTold b) (deed.Release n c t) (cause_aside b (deed.Release n c t)) (λ none. (there, unless_tells _ _ none))
 allowed_told b (deed.Change a) there = (there, tt)
@@ -177,8 +178,8 @@ no_user_free (Held v) rest make h = cc
 no_user_free (Finished v) rest make h = cc
 
 -- a step that may be claimed is free
-pub claim_free : (b : Book) (n : ℕ) (c : CaseShape) (t u : ℕ) → IsAllowed b (deed.Claim n c t u) → state_at c t ≡ Free
-claim_free b n c t u allowed = no_user_free (state_at c t) _ _ allowed
+pub claim_free : (b : Book) (d : Duty) → IsAllowed b (deed.Claim d) → state_at d.case d.step ≡ Free
+claim_free b d allowed = no_user_free (state_at d.case d.step) _ _ allowed
 
 pub held_by : (u : ℕ) (x : StepState) → is_held_by u x ≡ true → is_held x ≡ true
 held_by u Free h = cc

@@ -12,6 +12,7 @@ use Rattle.wf_talk.specs.declared.reply.Reply.TheVariants as reply
 use Rattle.wf_talk.specs.declared.reply.Denial.{Denial}
 use Rattle.wf_talk.specs.declared.reply.Denial.TheVariants.{Closed, NoCase, NoStep, NoUser, NotAdmin, Role}
 use Rattle.wf_board.specs.declared.deed.Deed.{Deed}
+use Rattle.wf_board.specs.declared.deed.Duty.{Duty}
 use Rattle.wf_board.specs.declared.deed.Deed.TheVariants as deed
 use Rattle.wf_board.specs.declared.verdict.Verdict.{Verdict}
 use Rattle.wf_board.specs.Laws.States.{Book, numbered_case, step_named, user_named}
@@ -71,14 +72,14 @@ unless_none given false d none = none
 -- what is no opening and no claim
 abbrev IsOther : Deed → Type 0
 IsOther (deed.Open f) = ⊥
-IsOther (deed.Claim n c t u) = ⊥
+IsOther (deed.Claim d) = ⊥
 IsOther given = Unit {0}
 
 aside_none : (b : Book) (given : Deed) → IsOther given → HasNoRoles (unless_denied given (cause_aside b given))
 aside_none b (deed.Open f) other = absurd other
-aside_none b (deed.Claim n c t u) other = absurd other
-aside_none b (deed.Finish n c t u) other = unless_none (deed.Finish n c t u) (is_held_by u (state_at c t)) _ refl
-aside_none b (deed.GiveBack n c t u) other = unless_none (deed.GiveBack n c t u) (is_held_by u (state_at c t)) _ refl
+aside_none b (deed.Claim d) other = absurd other
+aside_none b (deed.Finish d) other = unless_none (deed.Finish d) (is_held_by d.user (state_at d.case d.step)) _ refl
+aside_none b (deed.GiveBack d) other = unless_none (deed.GiveBack d) (is_held_by d.user (state_at d.case d.step)) _ refl
 aside_none b (deed.Release n c t) other = unless_none (deed.Release n c t) (is_held (state_at c t)) _ refl
 aside_none b given other = tt
 
@@ -106,12 +107,13 @@ open_none : (b : Book) (n : ℕ) → HasNoRoles (open_case_at b n)
 open_none b n = then_none (or_fault (numbered_case b.cases n) NoCase) _ (or_none (numbered_case b.cases n) NoCase refl)
     (λ c. then_none (check (is_open c) Closed) _ (check_none (is_open c) Closed refl) (λ _. tt))
 
-other_step : (b : Book) (make : ℕ → CaseShape → ℕ → ℕ → Deed) (n : ℕ) (step user : List ℕ) → ((c : CaseShape) (t u : ℕ) → IsOther (make n c t u)) →
+other_step : (b : Book) (make : Duty → Deed) (n : ℕ) (step user : List ℕ) → ((d : Duty) → IsOther (make d)) →
     IsOtherRead (on_step make b n step user)
 other_step b make n step user other =
     then_other (open_case_at b n) _ (open_none b n)
     (λ c. then_other (or_fault (step_named b c.flow step) NoStep) _ (or_none (step_named b c.flow step) NoStep refl)
-    (λ t. then_other (or_fault (user_named b user) NoUser) _ (or_none (user_named b user) NoUser refl) (λ u. other c t u)))
+    (λ t. then_other (or_fault (user_named b user) NoUser) _ (or_none (user_named b user) NoUser refl)
+    (λ u. other record { number = n; case = c; step = t; user = u })))
 
 none_apart : {X : Type 0} (r : Result Deed Denial) → HasNoRoles r → takes_memory r ≡ true → X
 none_apart (Ok given) none takes = cc
@@ -122,10 +124,10 @@ none_apart (Err d) none takes = cc
 pub roles_rightly : (b : Book) (what : Ask) → takes_memory (decision_of b what) ≡ true → may_lack_memory what ≡ true
 roles_rightly b (ask.Request (request.Finish n step user)) takes =
     let what = ask.Request (request.Finish n step user) in
-    none_apart (decision_of b what) (decided_none b what (other_step b deed.Finish n step user (λ c t u. tt))) takes
+    none_apart (decision_of b what) (decided_none b what (other_step b deed.Finish n step user (λ d. tt))) takes
 roles_rightly b (ask.Request (request.GiveBack n step user)) takes =
     let what = ask.Request (request.GiveBack n step user) in
-    none_apart (decision_of b what) (decided_none b what (other_step b deed.GiveBack n step user (λ c t u. tt))) takes
+    none_apart (decision_of b what) (decided_none b what (other_step b deed.GiveBack n step user (λ d. tt))) takes
 roles_rightly b (ask.Request (request.Release by n step)) takes =
     let what = ask.Request (request.Release by n step) in
     none_apart (decision_of b what)

@@ -14,6 +14,7 @@ use Rattle.wf_talk.specs.declared.reply.Denial.TheVariants.{Retired, Full, NotHe
 use Rattle.admin_edits.specs.ClaimCauses as causes
 use Rattle.admin_edits.specs.ClaimCauses.{first_cause, unless}
 use Rattle.wf_board.specs.declared.deed.Deed.{Deed}
+use Rattle.wf_board.specs.declared.deed.Duty.{Duty}
 use Rattle.wf_board.specs.declared.deed.Deed.TheVariants as deed
 use Rattle.wf_board.specs.Laws.States.{Book, is_full}
 use Rattle.wf_board.specs.Resolve.{resolve}
@@ -31,13 +32,17 @@ is_held_by u Free = false
 is_held_by u (Held v) = v == u
 is_held_by u (Finished v) = false
 
+-- that the user does not hold the step
+abbrev pub unless_holding : Duty → Option Denial
+unless_holding d =
+    unless (is_held_by d.user (state_at d.case d.step)) (NotHeld (state_at d.case d.step))
+
 -- why a deed is denied, `full` of an opening aside
 abbrev pub cause_aside : Book → Deed → Option Denial
 cause_aside b (deed.Open f) = unless (not (flow_at b.policy f).retired) Retired
-cause_aside b (deed.Claim n c s u) = first_cause b.policy c s u
-cause_aside b (deed.Finish n c s u) = unless (is_held_by u (state_at c s)) (NotHeld (state_at c s))
-cause_aside b (deed.GiveBack n c s u) =
-    unless (is_held_by u (state_at c s)) (NotHeld (state_at c s))
+cause_aside b (deed.Claim d) = first_cause b.policy d.case d.step d.user
+cause_aside b (deed.Finish d) = unless_holding d
+cause_aside b (deed.GiveBack d) = unless_holding d
 cause_aside b (deed.Release n c s) = unless (is_held (state_at c s)) (NotHeld (state_at c s))
 cause_aside b given = None
 
@@ -66,7 +71,7 @@ decision_of b what = do
 -- a deed that rests on whether its case can be completed, or on whether the open cases can be
 abbrev pub needs_plan : Deed → Bool
 needs_plan (deed.Open f) = true
-needs_plan (deed.Claim n c s u) = true
+needs_plan (deed.Claim d) = true
 needs_plan (deed.Change a) = true
 needs_plan (deed.Work u) = true
 needs_plan (deed.WhatIf a) = true

@@ -26,6 +26,7 @@ use Rattle.wf_talk.specs.declared.reply.Denial.{Denial}
 use Rattle.wf_talk.specs.declared.reply.Denial.TheVariants as denial
 use Rattle.refutation_tree.specs.declared.tree.Tree.TheVariants as tree
 use Rattle.wf_board.specs.declared.deed.Deed.TheVariants as deed
+use Rattle.wf_board.specs.declared.deed.Duty.{Duty}
 use Rattle.admin_edits.specs.declared.amendment.Amendment.{Amendment}
 use Rattle.admin_edits.specs.Laws.Edits.{amended}
 use Rattle.wf_board.specs.Laws.States.{State, open_cases, opening_state}
@@ -78,11 +79,12 @@ HistoriesKeepCompletable =
 -- is granted exactly where its case can then be completed
 abbrev pub ClaimsAreExact : Type 0
 ClaimsAreExact =
-    (s : State) (what : Ask) (given : Reply) (n : ℕ) (c : CaseShape) (t u : ℕ) → IsSoundState s →
-    decision_of s.book what ≡ Ok (deed.Claim n c t u) → IsStep s what given →
+    (s : State) (what : Ask) (given : Reply) (d : Duty) → IsSoundState s →
+    decision_of s.book what ≡ Ok (deed.Claim d) → IsStep s what given →
     ¬ (given ≡ reply.NoMemory) →
     ((plan : List ℕ) × (given ≡ reply.Granted plan)) ↔
-    IsCompletable (problem_of s.book.policy c.flow) (assigned_with c t u) (finished_of c)
+    IsCompletable (problem_of s.book.policy d.case.flow) (assigned_with d.case d.step d.user)
+    (finished_of d.case)
 
 -- in a state of one policy, an edit against which there is no cause and for which there is memory
 -- is accepted exactly where each open case can be completed under the changed policy

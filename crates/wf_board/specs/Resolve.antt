@@ -13,6 +13,7 @@ use Rattle.admin_edits.specs.declared.fault.EditCause.{EditCause}
 use Rattle.admin_edits.specs.declared.fault.EditCause.TheVariants as fault
 use Rattle.admin_edits.specs.Laws.Edits.{amendment_of, is_admin}
 use Rattle.wf_board.specs.declared.deed.Deed.{Deed}
+use Rattle.wf_board.specs.declared.deed.Duty.{Duty}
 use Rattle.wf_board.specs.declared.deed.Deed.TheVariants.{Open, Claim, Finish, GiveBack, Release}
 use Rattle.wf_board.specs.declared.deed.Deed.TheVariants.{Withdraw, Change, Show, Work, WhatIf}
 use Rattle.wf_board.specs.declared.deed.Deed.TheVariants.{TurnAway}
@@ -25,14 +26,13 @@ open_case_at b n = do
   _ ← check (is_open c) denial.Closed
   Ok c
 
--- an open case, a step of its workflow and a user
-abbrev pub on_step : (ℕ → CaseShape → ℕ → ℕ → Deed) → Book → ℕ → List ℕ → List ℕ →
-    Result Deed Denial
+-- a deed on a step of an open case and a user
+abbrev pub on_step : (Duty → Deed) → Book → ℕ → List ℕ → List ℕ → Result Deed Denial
 on_step deed b n step user = do
   c ← open_case_at b n
   s ← or_fault (step_named b c.flow step) denial.NoStep
   u ← or_fault (user_named b user) denial.NoUser
-  Ok (deed n c s u)
+  Ok (deed record { number = n; case = c; step = s; user = u })
 
 -- why an edit is refused
 abbrev pub edit_denial : EditCause → Denial

@@ -38,17 +38,18 @@ use Rattle.wf_board.specs.Limits.{is_large, shows_large}
 -- a plan by which the case of a deed can be completed
 abbrev pub IsPlanFor : Book → Result Deed Denial → List ℕ → Type 0
 IsPlanFor b (Ok (deed.Open f)) plan = IsValidPlan (problem_of b.policy f) no_users no_steps plan
-IsPlanFor b (Ok (deed.Claim n c t u)) plan =
-    IsValidPlan (problem_of b.policy c.flow) (assigned_with c t u) (finished_of c) plan
+IsPlanFor b (Ok (deed.Claim d)) plan =
+    IsValidPlan (problem_of b.policy d.case.flow) (assigned_with d.case d.step d.user)
+    (finished_of d.case) plan
 IsPlanFor b given plan = ⊥
 
 -- a tree that shows that the case of a deed cannot be completed
 abbrev pub IsTreeFor : Book → Result Deed Denial → Tree → Type 0
 IsTreeFor b (Ok (deed.Open f)) tree =
     IsTrue (refutes (problem_of b.policy f) no_users no_steps (shape_of tree))
-IsTreeFor b (Ok (deed.Claim n c t u)) tree =
-    IsTrue (refutes (problem_of b.policy c.flow) (assigned_with c t u) (finished_of c)
-    (shape_of tree))
+IsTreeFor b (Ok (deed.Claim d)) tree =
+    IsTrue (refutes (problem_of b.policy d.case.flow) (assigned_with d.case d.step d.user)
+    (finished_of d.case) (shape_of tree))
 IsTreeFor b given tree = ⊥
 
 -- an edition of a deed that changes the policy: the changed policy, with a valid plan for each open

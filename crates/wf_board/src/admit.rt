@@ -19,12 +19,12 @@ use crate::granted::{admit_claim, admit_opening};
 use crate::strands::admit_change;
 use crate::taking::{finish, give_back, withdraw};
 use crate::views::admit_view;
-use crate::{Deed, Verdict};
+use crate::{Deed, Duty, Verdict};
 use case_record::Case;
 use grant_table::Cases;
-use policy_book::{Course, Policy};
+use policy_book::Policy;
 use std::alloc::{AllocError, Global};
-use wf_names::{CaseId, StepId, UserId};
+use wf_names::{CaseId, StepId};
 use wf_talk::{Ask, Bad, Reply};
 
 /// Why a reply is not taken.
@@ -106,31 +106,10 @@ fn perform(
     ensures { HasAdmitted p.now cases.old cases.new (Ok deed) reply.now result }
 {
     match deed {
-        Deed::Open { flow } => {
-            let course = Course {
-                policy: p,
-                number: flow,
-            };
-            admit_opening(&course, cases, reply)
-        }
-        Deed::Claim {
-            number,
-            case,
-            step,
-            user,
-        } => admit_claim(p, cases, number, &case, step, user, reply),
-        Deed::Finish {
-            number,
-            case,
-            step,
-            user,
-        } => admit_finish(p, cases, number, &case, step, user, reply),
-        Deed::GiveBack {
-            number,
-            case,
-            step,
-            user,
-        } => admit_return(p, cases, number, &case, step, user, reply),
+        Deed::Open { flow } => admit_opening(p, cases, flow, reply),
+        Deed::Claim(duty) => admit_claim(p, cases, &duty, reply),
+        Deed::Finish(duty) => admit_finish(p, cases, &duty, reply),
+        Deed::GiveBack(duty) => admit_return(p, cases, &duty, reply),
         Deed::Release { number, case, step } => {
             admit_release(p, cases, number, &case, step, reply)
         }
@@ -143,44 +122,27 @@ fn perform(
 }
 
 /// Finishes a held step as a reply says, if the reply is one to it.
-fn admit_finish(
-    p: &Policy,
-    cases: &mut Cases,
-    n: CaseId,
-    case: &Case,
-    s: StepId,
-    u: UserId,
-    reply: &Reply,
-) -> Result<(), AdmitFault>
-    requires held { IsHeldAt p.now cases.old n case.now s }
+fn admit_finish(p: &Policy, cases: &mut Cases, duty: &Duty, reply: &Reply) -> Result<(), AdmitFault>
+    requires held { IsHeldAt p.now cases.old duty.now.number duty.now.case duty.now.step }
     requires given { reply.now ≢ replies.NoMemory }
-    ensures { HasAdmitted p.now cases.old cases.new (Ok (deeds.Finish n case.now s u))
-        reply.now result }
+    ensures { HasAdmitted p.now cases.old cases.new (Ok (deeds.Finish duty.now)) reply.now result }
 {
     match reply {
-        Reply::Finished { done } => finish_as(p, cases, n, case, s, u, *done),
+        Reply::Finished { done } => finish_as(p, cases, duty, *done),
         _ => Err(AdmitFault::NotStep),
     }
 }
 
 /// Finishes a held step, if it is then told rightly whether it was the last.
-fn finish_as(
-    p: &Policy,
-    cases: &mut Cases,
-    n: CaseId,
-    case: &Case,
-    s: StepId,
-    u: UserId,
-    done: bool,
-) -> Result<(), AdmitFault>
-    requires { IsHeldAt p.now cases.old n case.now s }
-    ensures { HasAdmitted p.now cases.old cases.new (Ok (deeds.Finish n case.now s u))
+fn finish_as(p: &Policy, cases: &mut Cases, duty: &Duty, done: bool) -> Result<(), AdmitFault>
+    requires { IsHeldAt p.now cases.old duty.now.number duty.now.case duty.now.step }
+    ensures { HasAdmitted p.now cases.old cases.new (Ok (deeds.Finish duty.now))
         (replies.Finished done) result }
 {
-    if !is_told(case, s, done) {
+    if !is_told(&duty.case, duty.step, done) {
         return Err(AdmitFault::NotStep);
     }
-    finish(p, cases, n, case, s, u);
+    finish(p, cases, duty);
     Ok(())
 }
 
@@ -202,24 +164,15 @@ fn is_last(case: &Case, s: StepId) -> bool
 }
 
 /// Lets go of a held step, if a reply says so.
-fn admit_return(
-    p: &Policy,
-    cases: &mut Cases,
-    n: CaseId,
-    case: &Case,
-    s: StepId,
-    u: UserId,
-    reply: &Reply,
-) -> Result<(), AdmitFault>
-    requires held { IsHeldAt p.now cases.old n case.now s }
+fn admit_return(p: &Policy, cases: &mut Cases, duty: &Duty, reply: &Reply) -> Result<(), AdmitFault>
+    requires held { IsHeldAt p.now cases.old duty.now.number duty.now.case duty.now.step }
     requires given { reply.now ≢ replies.NoMemory }
-    ensures { HasAdmitted p.now cases.old cases.new (Ok (deeds.GiveBack n case.now s u))
+    ensures { HasAdmitted p.now cases.old cases.new (Ok (deeds.GiveBack duty.now))
         reply.now result }
 {
-    let _ = u;
     match reply {
         Reply::Returned => {
-            give_back(p, cases, n, case, s);
+            give_back(p, cases, duty.number, &duty.case, duty.step);
             Ok(())
         }
         _ => Err(AdmitFault::NotStep),

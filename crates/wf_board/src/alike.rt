@@ -1,13 +1,12 @@
 //! Whether what a reply says is what is to be said.
 ghost use Rattle.std.specs.Prelude.{◌≡◌, ◌↔◌, true};
 ghost use Rattle.wf_talk.specs.declared.reply.Reply.TheVariants as replies;
-ghost use Rattle.wf_talk.specs.declared.reply.Denial.TheVariants as denials;
 ghost use Rattle.wf_board.specs.Admission.{has_no_tree};
 ghost use Rattle.wf_board.specs.Laws.Steps.{face_of};
 
 use case_record::Case;
-use wf_names::{FlowId, RoleId, StepId, StepState, UserId};
-use wf_talk::{Denial, Face, Missing, Reply};
+use wf_names::{RoleId, StepState};
+use wf_talk::{Denial, Face, Reply};
 
 /// Whether a reply is the denial by a cause, which has no tree.
 pub(crate) fn is_denied(reply: &Reply, cause: &Denial) -> bool
@@ -26,12 +25,16 @@ fn is_cause(denial: &Denial, cause: &Denial) -> bool
     ensures { result ≡ true ↔ denial.now ≡ cause.now }
 {
     match cause {
-        Denial::Taken(user) => is_taken(denial, *user),
-        Denial::Order { flow, step } => is_order(denial, *flow, *step),
-        Denial::Role(roles) => is_role(denial, roles.as_slice()),
-        Denial::Rule(rule) => is_rule(denial, *rule),
-        Denial::NotHeld(state) => is_not_held(denial, *state),
-        Denial::Unknown(what) => is_unknown(denial, *what),
+        Denial::Taken(user) => matches!(denial, Denial::Taken(given) if *given == *user),
+        Denial::Order { flow: f, step: s } => {
+            matches!(denial, Denial::Order { flow, step } if *flow == *f && *step == *s)
+        }
+        Denial::Role(roles) => {
+            matches!(denial, Denial::Role(given) if are_roles(given.as_slice(), roles.as_slice()))
+        }
+        Denial::Rule(rule) => matches!(denial, Denial::Rule(given) if *given == *rule),
+        Denial::NotHeld(state) => matches!(denial, Denial::NotHeld(given) if *given == *state),
+        Denial::Unknown(what) => matches!(denial, Denial::Unknown(given) if *given == *what),
         Denial::NoFlow => matches!(denial, Denial::NoFlow),
         Denial::Retired => matches!(denial, Denial::Retired),
         Denial::Full => matches!(denial, Denial::Full),
@@ -45,63 +48,6 @@ fn is_cause(denial: &Denial, cause: &Denial) -> bool
         Denial::Absent => matches!(denial, Denial::Absent),
         Denial::LastAdmin => matches!(denial, Denial::LastAdmin),
         Denial::Unsatisfiable { .. } | Denial::Stranded { .. } | Denial::Strands { .. } => false,
-    }
-}
-
-fn is_taken(denial: &Denial, user: UserId) -> bool
-    ensures { result ≡ true ↔ denial.now ≡ denials.Taken user }
-{
-    match denial {
-        Denial::Taken(given) => *given == user,
-        _ => false,
-    }
-}
-
-fn is_order(denial: &Denial, flow: FlowId, step: StepId) -> bool
-    ensures { result ≡ true ↔ denial.now ≡ denials.Order flow step }
-{
-    match denial {
-        Denial::Order {
-            flow: its_flow,
-            step: its_step,
-        } => *its_flow == flow && *its_step == step,
-        _ => false,
-    }
-}
-
-fn is_role(denial: &Denial, roles: &[RoleId]) -> bool
-    ensures { result ≡ true ↔ denial.now ≡ denials.Role roles.now }
-{
-    match denial {
-        Denial::Role(given) => are_roles(given.as_slice(), roles),
-        _ => false,
-    }
-}
-
-fn is_rule(denial: &Denial, rule: u8) -> bool
-    ensures { result ≡ true ↔ denial.now ≡ denials.Rule rule }
-{
-    match denial {
-        Denial::Rule(given) => *given == rule,
-        _ => false,
-    }
-}
-
-fn is_not_held(denial: &Denial, state: StepState) -> bool
-    ensures { result ≡ true ↔ denial.now ≡ denials.NotHeld state }
-{
-    match denial {
-        Denial::NotHeld(given) => *given == state,
-        _ => false,
-    }
-}
-
-fn is_unknown(denial: &Denial, what: Missing) -> bool
-    ensures { result ≡ true ↔ denial.now ≡ denials.Unknown what }
-{
-    match denial {
-        Denial::Unknown(given) => *given == what,
-        _ => false,
     }
 }
 

@@ -455,7 +455,7 @@ impl Board {
     {
         let policy: &Policy = &self.policy;
         match deed {
-            Deed::Open { .. } | Deed::Claim { .. } => {
+            Deed::Open { .. } | Deed::Claim(_) => {
                 decider.decide_deed(alloc, policy, &self.cases, deed)
             }
             _ => over_open(alloc, decider, policy, &self.cases, deed),

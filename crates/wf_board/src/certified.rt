@@ -16,13 +16,11 @@ ghost use Rattle.wf_board.specs.Verdicts.{IsCertificate, IsCertified};
 
 use crate::decision::{assigned_with, is_undecided};
 use crate::resolve::resolve;
-use crate::{Deed, Verdict};
-use case_record::Case;
+use crate::{Deed, Duty, Verdict};
 use certificate_check::{check_tree, is_valid_plan};
 use constraint_forms::{Assign, StepSet};
 use grant_table::Cases;
 use policy_book::{Course, Policy};
-use wf_names::{CaseId, StepId, UserId};
 use wf_talk::Ask;
 
 /// Whether a verdict is a plan or a tree that decides what is asked.
@@ -50,41 +48,28 @@ pub fn decides(p: &Policy, cases: &Cases, deed: &Deed, verdict: &Verdict) -> boo
             };
             is_certificate(&course, &Assign::empty(), &StepSet::empty(), verdict)
         }
-        Deed::Claim {
-            number,
-            case,
-            step,
-            user,
-        } => decides_claim(p, cases, *number, case, *step, *user, verdict),
+        Deed::Claim(duty) => decides_claim(p, cases, duty, verdict),
         _ => false,
     }
 }
 
 /// Whether a verdict is a plan or a tree that decides a claim.
-fn decides_claim(
-    p: &Policy,
-    cases: &Cases,
-    number: CaseId,
-    case: &Case,
-    step: StepId,
-    user: UserId,
-    verdict: &Verdict,
-) -> bool
+fn decides_claim(p: &Policy, cases: &Cases, duty: &Duty, verdict: &Verdict) -> bool
     requires planned { ArePlanned p.now cases.now.rows }
-    requires found { AreFound p.now cases.now.rows number case.now step user }
-    ensures { result ≡ true ↔ IsCertificateOf (problem_of p.now case.now.flow)
-        (assigned_with case.now step user)
-        (finished_of case.now) verdict.now }
+    requires found { AreFound p.now cases.now.rows duty.now }
+    ensures { result ≡ true ↔ IsCertificateOf (problem_of p.now duty.now.case.flow)
+        (assigned_with duty.now.case duty.now.step duty.now.user)
+        (finished_of duty.now.case) verdict.now }
 {
     let _ = cases;
-    let _ = number;
+    let case = &duty.case;
     let course = Course {
         policy: p,
         number: case.flow(),
     };
     is_certificate(
         &course,
-        &assigned_with(case, step, user),
+        &assigned_with(case, duty.step, duty.user),
         &case.finished(),
         verdict,
     )

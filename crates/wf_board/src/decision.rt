@@ -6,6 +6,7 @@ ghost use Rattle.wf_names.specs.States.{is_held};
 ghost use Rattle.basics.specs.Laws.Reading.{Gives};
 ghost use Rattle.case_record.specs.Cases.{state_at};
 ghost use Rattle.admin_edits.specs.ClaimCauses as causes;
+ghost use Rattle.wf_board.specs.declared.deed.Deed.TheVariants as deeds;
 ghost use Rattle.wf_board.specs.Boards.{book_of};
 ghost use Rattle.constraint_forms.specs.Assign.{planned, user_at};
 ghost use Rattle.constraint_forms.specs.Rules.{is_falsified, names};
@@ -16,20 +17,21 @@ ghost use Rattle.wf_board.specs.Laws.Kept.{ArePlanned, IsOfPolicy};
 ghost use Rattle.wf_board.specs.Laws.Found.{AreFound, IsFound};
 ghost use Rattle.wf_board.specs.Decisions.{cause_aside, cause_full, decision_aside, decision_of};
 ghost use Rattle.wf_board.specs.Decisions.{is_held_by, is_view, needs_plan, needs_verdict};
+ghost use Rattle.wf_board.specs.Decisions.{unless_holding};
 ghost use Rattle.wf_board.specs.Decisions.{takes_memory};
 ghost use Rattle.wf_board.specs.Taking.{undenied};
 ghost use Rattle.wf_board.specs.Decisions.{denial_in};
 ghost use Rattle.wf_board.specs.Laws.States.{is_full};
 
-use crate::Deed;
 use crate::resolve::resolve;
+use crate::{Deed, Duty};
 use admin_edits::{first_cause, has_cause};
 use case_record::Case;
 use constraint_forms::{Assign, Rule, falsified};
 use grant_table::Cases;
 use policy_book::Policy;
 use std::alloc::{AllocError, Global};
-use wf_names::{CASE_LIMIT, CaseId, FlowId, OPEN_CASE_LIMIT, StepId, StepState, UserId};
+use wf_names::{CASE_LIMIT, FlowId, OPEN_CASE_LIMIT, StepId, StepState, UserId};
 use wf_talk::{Ask, Denial, Request};
 
 /// Why a deed is not done.
@@ -113,12 +115,7 @@ pub(crate) fn is_undecided(p: &Policy, cases: &Cases, deed: &Deed) -> bool
 {
     match deed {
         Deed::Open { flow } => !p.retired(*flow) && !is_full(p, cases),
-        Deed::Claim {
-            case,
-            step,
-            user,
-            ..
-        } => !has_cause(p, case, *step, *user),
+        Deed::Claim(duty) => !has_cause(p, &duty.case, duty.step, duty.user),
         Deed::Change { .. } | Deed::Work { .. } | Deed::WhatIf { .. } => true,
         _ => false,
     }
@@ -149,80 +146,43 @@ fn cause_aside(
 {
     match deed {
         Deed::Open { flow } if p.retired(*flow) => Ok(Some(Denial::Retired)),
-        Deed::Claim {
-            number,
-            case,
-            step,
-            user,
-        } => claim_cause(alloc, p, cases, *number, case, *step, *user),
-        Deed::Finish {
-            case,
-            step,
-            user,
-            ..
-        }
-        | Deed::GiveBack {
-            case,
-            step,
-            user,
-            ..
-        } => { Ok(unless_holding(case, *step, *user)) }
+        Deed::Claim(duty) if is_clear(p, cases, duty) => Ok(None),
+        Deed::Claim(duty) => first_cause(alloc, p, &duty.case, duty.step, duty.user),
+        Deed::Finish(duty) | Deed::GiveBack(duty) => { Ok(unless_holding(duty)) }
         Deed::Release { case, step, .. } => Ok(unless_held(case, *step)),
         _ => Ok(None),
     }
 }
 
-/// Why a claim is denied. Its case can be completed as it stands, so that no rule is falsified but
-/// by the step that is claimed.
-fn claim_cause(
-    alloc: Global,
-    p: &Policy,
-    cases: &Cases,
-    n: CaseId,
-    case: &Case,
-    s: StepId,
-    u: UserId,
-) -> Result<Option<Denial>, AllocError>
+/// Whether there is no cause against a claim of a case that can be completed as it stands, so that
+/// no rule is falsified but by the step that is claimed. Where the kept plan gives the step to the
+/// user, no rule has to be looked at.
+fn is_clear(p: &Policy, cases: &Cases, duty: &Duty) -> bool
     requires kept { ArePlanned p.now cases.now.rows }
-    requires found { AreFound p.now cases.now.rows n case.now s u }
-    ensures cause { IfOk result (λ cause. cause ≡ causes.first_cause p.now case.now s u) }
-    ensures memory { OnErr result
-        (causes.takes_memory (causes.first_cause p.now case.now s u) ≡ true) }
+    requires found { AreFound p.now cases.now.rows duty.now }
+    ensures { result ≡ true → cause_aside (book_of p.now cases.now) (deeds.Claim duty.now) ≡ None }
 {
-    if is_clear(p, cases, n, case, s, u) {
-        return Ok(None);
-    }
-    first_cause(alloc, p, case, s, u)
-}
-
-/// Whether there is no cause against a claim of a case that can be completed as it stands. Where
-/// the kept plan gives the step to the user, no rule has to be looked at.
-fn is_clear(p: &Policy, cases: &Cases, n: CaseId, case: &Case, s: StepId, u: UserId) -> bool
-    requires kept { ArePlanned p.now cases.now.rows }
-    requires found { AreFound p.now cases.now.rows n case.now s u }
-    ensures { result ≡ true → causes.first_cause p.now case.now s u ≡ None }
-{
-    let f = case.flow();
-    if !case.ready(p.flow(f), s) {
+    let f = duty.case.flow();
+    if !duty.case.ready(p.flow(f), duty.step) {
         return false;
     }
     let _sound = p.admin();
-    if is_planned(cases, n, s, u) {
+    if is_planned(cases, duty) {
         return true;
     }
-    if !p.authorised(f, s, u) {
+    if !p.authorised(f, duty.step, duty.user) {
         return false;
     }
-    !breaks_rule(p, case, s, u)
+    !breaks_rule(p, &duty.case, duty.step, duty.user)
 }
 
 /// Whether the plan that is kept for a case gives a step to a user.
-fn is_planned(cases: &Cases, n: CaseId, s: StepId, u: UserId) -> bool
-    ensures { result ≡ true → (plan : List ℕ) × ((plan_at cases.now n ≡ Some plan)
-        × (planned plan s ≡ u)) }
+fn is_planned(cases: &Cases, duty: &Duty) -> bool
+    ensures { result ≡ true → (plan : List ℕ) × ((plan_at cases.now duty.now.number ≡ Some plan)
+        × (planned plan duty.now.step ≡ duty.now.user)) }
 {
-    match cases.kept_plan(n) {
-        Some(plan) => s.0 < plan.len() && plan.at(s) == u,
+    match cases.kept_plan(duty.number) {
+        Some(plan) => duty.step.0 < plan.len() && plan.at(duty.step) == duty.user,
         None => false,
     }
 }
@@ -272,14 +232,13 @@ pub(crate) fn assigned_with(case: &Case, s: StepId, u: UserId) -> Assign
 }
 
 /// That a user does not hold a step.
-fn unless_holding(case: &Case, s: StepId, u: UserId) -> Option<Denial>
-    ensures { result ≡ causes.unless (is_held_by u (state_at case.now s))
-        (Denial.NotHeld (state_at case.now s)) }
+fn unless_holding(duty: &Duty) -> Option<Denial>
+    ensures { result ≡ unless_holding duty.now }
 {
-    if holds(case.state(s), u) {
+    if holds(duty.case.state(duty.step), duty.user) {
         None
     } else {
-        Some(not_held(case, s))
+        Some(not_held(&duty.case, duty.step))
     }
 }
 
@@ -339,7 +298,7 @@ pub(crate) fn needs_plan(deed: &Deed) -> bool
     matches!(
         deed,
         Deed::Open { .. }
-            | Deed::Claim { .. }
+            | Deed::Claim(_)
             | Deed::Change { .. }
             | Deed::Work { .. }
             | Deed::WhatIf { .. }

@@ -5,6 +5,17 @@ use case_record::Case;
 use wf_names::{CaseId, FlowId, StepId, UserId};
 use wf_talk::Bad;
 
+/// A step of an open case, and the user who asks for it or holds it.
+#[derive(Clone, Copy)]
+pub struct Duty {
+    /// The number of the case.
+    pub number: CaseId,
+    /// The case as it stands.
+    pub case: Case,
+    pub step: StepId,
+    pub user: UserId,
+}
+
 /// What a line asks of a session, once its names and numbers are found.
 #[derive(Clone, Copy)]
 pub enum Deed {
@@ -13,26 +24,11 @@ pub enum Deed {
         flow: FlowId,
     },
     /// To perform a step of an open case.
-    Claim {
-        number: CaseId,
-        case: Case,
-        step: StepId,
-        user: UserId,
-    },
+    Claim(Duty),
     /// To report that a step of an open case is done.
-    Finish {
-        number: CaseId,
-        case: Case,
-        step: StepId,
-        user: UserId,
-    },
+    Finish(Duty),
     /// To let go of a step of an open case.
-    GiveBack {
-        number: CaseId,
-        case: Case,
-        step: StepId,
-        user: UserId,
-    },
+    GiveBack(Duty),
     /// To take a step of an open case from its holder.
     Release {
         number: CaseId,

@@ -14,36 +14,40 @@ ghost use Rattle.wf_board.specs.Admission.{HasAdmitted};
 ghost use Rattle.wf_board.specs.Boards.{book_of};
 ghost use Rattle.wf_board.specs.Decisions.{cause_aside};
 ghost use Rattle.wf_board.specs.Laws.Found.{AreFound};
-ghost use Rattle.wf_board.specs.Taking.{IsUnhindered, HasRoomToOpen, IsKept};
+ghost use Rattle.wf_board.specs.Taking.{full_or, IsUnhindered, HasRoomToOpen, IsKept};
 
-use crate::AdmitFault;
 use crate::admit::when;
 use crate::decision::assigned_with;
 use crate::taking::{claim, open};
-use case_record::Case;
+use crate::{AdmitFault, Duty};
 use certificate_check::{check_tree, is_valid_plan};
 use constraint_forms::{Assign, Plan, StepSet};
 use grant_table::Cases;
 use policy_book::{Course, Policy};
 use refutation_tree::Tree;
-use wf_names::{CaseId, StepId, UserId};
+use wf_names::{CaseId, FlowId};
 use wf_talk::{Denial, Reply};
 
 /// Opens a case as a reply says, if the reply is one to it.
 pub(crate) fn admit_opening(
-    course: &Course,
+    p: &Policy,
     cases: &mut Cases,
+    flow: FlowId,
     reply: &Reply,
 ) -> Result<(), AdmitFault>
-    requires kept { IsKept course.now.policy.now cases.old }
-    requires room { HasRoomToOpen course.now cases.old }
+    requires kept { IsKept p.now cases.old }
+    requires known { flow < length p.now.flows }
+    requires room { full_or (book_of p.now cases.old) (deeds.Open flow) ≡ Ok (deeds.Open flow) }
     requires given { reply.now ≢ replies.NoMemory }
-    ensures { HasAdmitted course.now.policy.now cases.old cases.new
-        (Ok (deeds.Open course.now.number)) reply.now result }
+    ensures { HasAdmitted p.now cases.old cases.new (Ok (deeds.Open flow)) reply.now result }
 {
+    let course = Course {
+        policy: p,
+        number: flow,
+    };
     match reply {
-        Reply::Opened { case, plan } => open_as(course, cases, *case, plan),
-        Reply::Denied(denial) => admit_unsatisfiable(course, cases, denial),
+        Reply::Opened { case, plan } => open_as(&course, cases, *case, plan),
+        Reply::Denied(denial) => admit_unsatisfiable(&course, cases, denial),
         _ => Err(AdmitFault::NotStep),
     }
 }
@@ -117,105 +121,71 @@ fn is_opening_tree(course: &Course, tree: &Tree) -> bool
 pub(crate) fn admit_claim(
     p: &Policy,
     cases: &mut Cases,
-    n: CaseId,
-    case: &Case,
-    s: StepId,
-    u: UserId,
+    duty: &Duty,
     reply: &Reply,
 ) -> Result<(), AdmitFault>
-    requires ready { IsUnhindered p.now cases.old (deeds.Claim n case.now s u) }
+    requires ready { IsUnhindered p.now cases.old (deeds.Claim duty.now) }
     requires given { reply.now ≢ replies.NoMemory }
-    ensures { HasAdmitted p.now cases.old cases.new (Ok (deeds.Claim n case.now s u))
-        reply.now result }
+    ensures { HasAdmitted p.now cases.old cases.new (Ok (deeds.Claim duty.now)) reply.now result }
 {
     match reply {
-        Reply::Granted(plan) => claim_as(p, cases, n, case, s, u, plan),
-        Reply::Denied(denial) => admit_stranded(p, cases, n, case, s, u, denial),
+        Reply::Granted(plan) => claim_as(p, cases, duty, plan),
+        Reply::Denied(denial) => admit_stranded(p, cases, duty, denial),
         _ => Err(AdmitFault::NotStep),
     }
 }
 
 /// Gives a step to a user with a plan, if the plan is valid.
-fn claim_as(
-    p: &Policy,
-    cases: &mut Cases,
-    n: CaseId,
-    case: &Case,
-    s: StepId,
-    u: UserId,
-    plan: &Plan,
-) -> Result<(), AdmitFault>
-    requires { IsUnhindered p.now cases.old (deeds.Claim n case.now s u) }
-    ensures { HasAdmitted p.now cases.old cases.new (Ok (deeds.Claim n case.now s u))
+fn claim_as(p: &Policy, cases: &mut Cases, duty: &Duty, plan: &Plan) -> Result<(), AdmitFault>
+    requires { IsUnhindered p.now cases.old (deeds.Claim duty.now) }
+    ensures { HasAdmitted p.now cases.old cases.new (Ok (deeds.Claim duty.now))
         (replies.Granted plan.now) result }
 {
-    if !is_claim_plan(p, cases, n, case, s, u, plan) {
+    if !is_claim_plan(p, cases, duty, plan) {
         return Err(AdmitFault::NotStep);
     }
-    claim(p, cases, n, case, s, u, *plan);
+    claim(p, cases, duty, *plan);
     Ok(())
 }
 
 /// Whether a plan is valid for a case once its step is given to a user.
-fn is_claim_plan(
-    p: &Policy,
-    cases: &Cases,
-    n: CaseId,
-    case: &Case,
-    s: StepId,
-    u: UserId,
-    plan: &Plan,
-) -> bool
-    requires { AreFound p.now cases.now.rows n case.now s u }
-    ensures { result ≡ true ↔ IsValidPlan (problem_of p.now case.now.flow)
-        (assigned_with case.now s u) (finished_of case.now) plan.now }
+fn is_claim_plan(p: &Policy, cases: &Cases, duty: &Duty, plan: &Plan) -> bool
+    requires { AreFound p.now cases.now.rows duty.now }
+    ensures { result ≡ true ↔ IsValidPlan (problem_of p.now duty.now.case.flow)
+        (assigned_with duty.now.case duty.now.step duty.now.user) (finished_of duty.now.case)
+        plan.now }
 {
     let _ = cases;
-    let _ = n;
-    let assigned = assigned_with(case, s, u);
+    let case = &duty.case;
+    let assigned = assigned_with(case, duty.step, duty.user);
     is_valid_plan(p, case.flow(), &assigned, &case.finished(), plan)
 }
 
 /// Whether a denial shows by its tree that a case could not be completed once its step is given to
 /// a user.
-fn admit_stranded(
-    p: &Policy,
-    cases: &Cases,
-    n: CaseId,
-    case: &Case,
-    s: StepId,
-    u: UserId,
-    denial: &Denial,
-) -> Result<(), AdmitFault>
+fn admit_stranded(p: &Policy, cases: &Cases, duty: &Duty, denial: &Denial) -> Result<(), AdmitFault>
     requires kept { IsKept p.now cases.now }
-    requires found { AreFound p.now cases.now.rows n case.now s u }
-    ensures { HasAdmitted p.now cases.now cases.now (Ok (deeds.Claim n case.now s u))
+    requires found { AreFound p.now cases.now.rows duty.now }
+    ensures { HasAdmitted p.now cases.now cases.now (Ok (deeds.Claim duty.now))
         (replies.Denied denial.now) result }
 {
     match denial {
         Denial::Stranded { flow, tree } => {
-            when(*flow == case.flow() && is_claim_tree(p, cases, n, case, s, u, tree.get()))
+            when(*flow == duty.case.flow() && is_claim_tree(p, cases, duty, tree.get()))
         }
         _ => Err(AdmitFault::NotStep),
     }
 }
 
 /// Whether a tree shows that a case could not be completed once its step is given to a user.
-fn is_claim_tree(
-    p: &Policy,
-    cases: &Cases,
-    n: CaseId,
-    case: &Case,
-    s: StepId,
-    u: UserId,
-    tree: &Tree,
-) -> bool
-    requires { AreFound p.now cases.now.rows n case.now s u }
-    ensures { result ≡ refutes (problem_of p.now case.now.flow) (assigned_with case.now s u)
-        (finished_of case.now) (shape_of tree.now) }
+fn is_claim_tree(p: &Policy, cases: &Cases, duty: &Duty, tree: &Tree) -> bool
+    requires { AreFound p.now cases.now.rows duty.now }
+    ensures { result ≡ refutes (problem_of p.now duty.now.case.flow)
+        (assigned_with duty.now.case duty.now.step duty.now.user) (finished_of duty.now.case)
+        (shape_of tree.now) }
 {
     let _ = cases;
-    let _ = n;
-    let assigned = assigned_with(case, s, u);
+    let case = &duty.case;
+    let assigned = assigned_with(case, duty.step, duty.user);
     check_tree(p, case.flow(), &assigned, &case.finished(), tree)
 }

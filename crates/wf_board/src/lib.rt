@@ -32,7 +32,7 @@ pub use certified::decides;
 pub use counting::counts;
 pub use decider::Decider;
 pub use decision::{Refused, decision_aside, is_view};
-pub use deed::Deed;
+pub use deed::{Deed, Duty};
 pub use edition::{Edition, Plans};
 pub use harmless::is_harmless_deed;
 pub use limits::TREE_LIMIT;

@@ -2,11 +2,11 @@
 ghost use Rattle.std.specs.Prelude.{◌≡◌, ◌<◌, ℕ, length, Err, IfErr, IfOk, MatchResult, Ok, Some};
 ghost use Rattle.basics.specs.Laws.Reading.{check, or_fault};
 ghost use Rattle.policy_book.specs.Policies.{flow_at};
-ghost use Rattle.case_record.specs.Cases.{CaseShape};
 ghost use Rattle.grant_table.specs.Cases.{case_in};
 ghost use Rattle.admin_edits.specs.declared.amendment.Amendment.{Amendment};
 ghost use Rattle.wf_talk.specs.declared.request.Request.TheVariants as requests;
 ghost use Rattle.wf_board.specs.declared.deed.Deed.{Deed};
+ghost use Rattle.wf_board.specs.declared.deed.Duty.{Duty};
 ghost use Rattle.wf_board.specs.Boards.{book_of};
 ghost use Rattle.wf_board.specs.Laws.Found.{AreFound, IsAllowed, IsFound, IsOpenAt};
 ghost use Rattle.wf_board.specs.Laws.Kept.{ArePlanned, IsOfPolicy};
@@ -16,7 +16,7 @@ ghost use Rattle.wf_board.specs.Laws.States.{numbered_case};
 ghost use Rattle.admin_edits.specs.Laws.Edits.{amendment_of, is_admin};
 ghost use Rattle.wf_names.specs.Table.{place_of};
 
-use crate::Deed;
+use crate::{Deed, Duty};
 use admin_edits::{Amendment, EditCause, amendment_of};
 use case_record::Case;
 use grant_table::Cases;
@@ -48,9 +48,15 @@ fn resolve_request(p: &Policy, cases: &Cases, request: &Request) -> Result<Deed,
             Some(flow) => Ok(Deed::Open { flow }),
             None => Err(Denial::NoFlow),
         },
-        Request::Claim { case, step, user } => claim(p, cases, *case, step, user),
-        Request::Finish { case, step, user } => finish(p, cases, *case, step, user),
-        Request::GiveBack { case, step, user } => give_back(p, cases, *case, step, user),
+        Request::Claim { case, step, user } => {
+            Ok(Deed::Claim(on_step(p, cases, *case, step, user)?))
+        }
+        Request::Finish { case, step, user } => {
+            Ok(Deed::Finish(on_step(p, cases, *case, step, user)?))
+        }
+        Request::GiveBack { case, step, user } => {
+            Ok(Deed::GiveBack(on_step(p, cases, *case, step, user)?))
+        }
         Request::Release {
             by,
             case: number,
@@ -73,54 +79,6 @@ fn resolve_request(p: &Policy, cases: &Cases, request: &Request) -> Result<Deed,
             Ok(Deed::WhatIf { amendment })
         }
     }
-}
-
-/// A free step of an open case given to a user.
-fn claim(p: &Policy, cases: &Cases, n: CaseId, step: &Name, user: &Name) -> Result<Deed, Denial>
-    requires { ArePlanned p.now cases.now.rows }
-    ensures deed { result ≡ resolve_request (book_of p.now cases.now)
-        (requests.Claim n step.now user.now) }
-    ensures found { IfOk result (IsFound p.now cases.now.rows) }
-{
-    let (case, step, user) = on_step(p, cases, n, step, user)?;
-    Ok(Deed::Claim {
-        number: n,
-        case: *case,
-        step,
-        user,
-    })
-}
-
-/// A step of an open case finished by a user.
-fn finish(p: &Policy, cases: &Cases, n: CaseId, step: &Name, user: &Name) -> Result<Deed, Denial>
-    requires { ArePlanned p.now cases.now.rows }
-    ensures deed { result ≡ resolve_request (book_of p.now cases.now)
-        (requests.Finish n step.now user.now) }
-    ensures found { IfOk result (IsFound p.now cases.now.rows) }
-{
-    let (case, step, user) = on_step(p, cases, n, step, user)?;
-    Ok(Deed::Finish {
-        number: n,
-        case: *case,
-        step,
-        user,
-    })
-}
-
-/// A step of an open case given back by a user.
-fn give_back(p: &Policy, cases: &Cases, n: CaseId, step: &Name, user: &Name) -> Result<Deed, Denial>
-    requires { ArePlanned p.now cases.now.rows }
-    ensures deed { result ≡ resolve_request (book_of p.now cases.now)
-        (requests.GiveBack n step.now user.now) }
-    ensures found { IfOk result (IsFound p.now cases.now.rows) }
-{
-    let (case, step, user) = on_step(p, cases, n, step, user)?;
-    Ok(Deed::GiveBack {
-        number: n,
-        case: *case,
-        step,
-        user,
-    })
 }
 
 /// A step taken from its holder, if an administrator asks for it.
@@ -152,26 +110,24 @@ fn withdrawal(p: &Policy, cases: &Cases, by: &Name, n: CaseId) -> Result<Deed, D
     Ok(Deed::Withdraw { number: n })
 }
 
-/// An open case, a step of its workflow and a user.
-fn on_step<'a>(
-    p: &Policy,
-    cases: &'a Cases,
-    n: CaseId,
-    step: &Name,
-    user: &Name,
-) -> Result<(&'a Case, StepId, UserId), Denial>
+/// A step of an open case, and a user.
+fn on_step(p: &Policy, cases: &Cases, n: CaseId, step: &Name, user: &Name) -> Result<Duty, Denial>
     requires { ArePlanned p.now cases.now.rows }
-    ensures deed { IfOk result (λ x. (deed : ℕ → CaseShape → ℕ → ℕ → Deed)
-        → on_step deed (book_of p.now cases.now) n step.now user.now ≡ Ok
-        (deed n x.0.now x.1 x.2)) }
-    ensures denied { IfErr result (λ d. (deed : ℕ → CaseShape → ℕ → ℕ → Deed)
+    ensures duty { IfOk result (λ d. (deed : Duty → Deed)
+        → on_step deed (book_of p.now cases.now) n step.now user.now ≡ Ok (deed d)) }
+    ensures denied { IfErr result (λ d. (deed : Duty → Deed)
         → on_step deed (book_of p.now cases.now) n step.now user.now ≡ Err d) }
-    ensures found { IfOk result (λ x. AreFound p.now cases.now.rows n x.0.now x.1 x.2) }
+    ensures found { IfOk result (AreFound p.now cases.now.rows) }
 {
     let case = open_case(p, cases, n)?;
     let s = step_named(p, case, step)?;
     let u = user_named(p, user)?;
-    Ok((case, s, u))
+    Ok(Duty {
+        number: n,
+        case: *case,
+        step: s,
+        user: u,
+    })
 }
 
 /// The user with a name.

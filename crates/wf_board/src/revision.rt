@@ -22,3 +22,20 @@ pub struct Revision<'p> {
     ghost allowed: { IsAllowed before.now amendment.now } by { Prim.hlevel (known-prop, props) },
     ghost made: { after.now ≡ amended before.now amendment.now } by { Coded-set policy_code _ _ },
 }
+
+impl<'p> Revision<'p> {
+    /// A change that has no fault, with the policy that it makes.
+    pub fn of(before: &'p Policy, amendment: &'p Amendment, after: &'p Policy) -> Revision<'p>
+        requires allowed { IsAllowed before.now amendment.now }
+        requires made { after.now ≡ amended before.now amendment.now }
+        ensures before { result.before.now ≡ before.now }
+        ensures amendment { result.amendment.now ≡ amendment.now }
+        ensures after { result.after.now ≡ after.now }
+    {
+        Revision {
+            before,
+            amendment,
+            after,
+        }
+    }
+}

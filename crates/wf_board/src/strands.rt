@@ -62,8 +62,9 @@ fn admit_denied_change(
     ensures { HasAdmitted p.now cases.now cases.now (Ok (deeds.Change a)) reply.now result }
 {
     let _sound = p.admin();
+    let _ = shown;
     match reply {
-        Reply::Denied(denial) => admit_strands(p, cases, a, denial, n, shown),
+        Reply::Denied(denial) => admit_strands(p, cases, a, denial, n),
         _ => Err(AdmitFault::NotStep),
     }
 }
@@ -75,14 +76,13 @@ fn admit_strands(
     a: Amendment,
     denial: &Denial,
     n: CaseId,
-    shown: &Tree,
 ) -> Result<(), AdmitFault>
     requires ready { IsUnhindered p.now cases.now (deeds.Change a) }
-    requires stranded { IsStrandingFor (book_of p.now cases.now) (Ok (deeds.Change a)) n shown.now }
+    requires stranded { (shown : Tree)
+        × IsStrandingFor (book_of p.now cases.now) (Ok (deeds.Change a)) n shown }
     ensures { HasAdmitted p.now cases.now cases.now (Ok (deeds.Change a))
         (replies.Denied denial.now) result }
 {
-    let _ = shown;
     match denial {
         Denial::Strands { case, flow, tree } => {
             admit_strands_of(p, cases, a, *case, *flow, tree.get(), n)

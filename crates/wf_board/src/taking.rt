@@ -31,7 +31,7 @@ ghost use Rattle.wf_board.specs.Verdicts.{IsStrandingFor, IsTreeFor};
 use crate::decision::{Refused, decision_of, is_full, needs_plan};
 use crate::resolve::resolve;
 use crate::views::by_view;
-use crate::{Answered, Deed, Stepped, Verdict};
+use crate::{Answered, Deed, Duty, Stepped, Verdict};
 use basics::Shared;
 use case_record::Case;
 use constraint_forms::Plan;
@@ -39,7 +39,7 @@ use grant_table::Cases;
 use policy_book::{Course, Policy};
 use refutation_tree::Tree;
 use std::alloc::{AllocError, Global};
-use wf_names::{CaseId, FlowId, StepId, UserId};
+use wf_names::{CaseId, FlowId, StepId};
 use wf_talk::{Ask, Denial, Face, Reply, States};
 
 /// Answers what a line asks, with a verdict where one is needed, under the same policy.
@@ -220,13 +220,8 @@ fn plan_for(p: &Policy, cases: &mut Cases, deed: Deed, plan: Plan) -> Reply
             };
             open(&course, cases, plan)
         }
-        Deed::Claim {
-            number,
-            case,
-            step,
-            user,
-        } => {
-            claim(p, cases, number, &case, step, user, plan);
+        Deed::Claim(duty) => {
+            claim(p, cases, &duty, plan);
             Reply::Granted(plan)
         }
         _ => unreachable!(),
@@ -265,8 +260,8 @@ fn tree_for(p: &Policy, cases: &Cases, deed: Deed, tree: Shared<Tree>) -> Reply
 {
     match deed {
         Deed::Open { flow } => unsatisfiable(p, cases, flow, tree),
-        Deed::Claim { case, .. } => Reply::Denied(Denial::Stranded {
-            flow: case.flow(),
+        Deed::Claim(duty) => Reply::Denied(Denial::Stranded {
+            flow: duty.case.flow(),
             tree,
         }),
         _ => unreachable!(),
@@ -324,21 +319,11 @@ fn perform(p: &Policy, cases: &mut Cases, deed: Deed) -> Reply
     ensures memory { result ≢ replies.NoMemory }
 {
     match deed {
-        Deed::Finish {
-            number,
-            case,
-            step,
-            user,
-        } => Reply::Finished {
-            done: finish(p, cases, number, &case, step, user),
+        Deed::Finish(duty) => Reply::Finished {
+            done: finish(p, cases, &duty),
         },
-        Deed::GiveBack {
-            number,
-            case,
-            step,
-            ..
-        } => {
-            give_back(p, cases, number, &case, step);
+        Deed::GiveBack(duty) => {
+            give_back(p, cases, duty.number, &duty.case, duty.step);
             Reply::Returned
         }
         Deed::Release { number, case, step } => {
@@ -352,7 +337,7 @@ fn perform(p: &Policy, cases: &mut Cases, deed: Deed) -> Reply
         Deed::Show { case } => Reply::Shown(face_of(&case)),
         Deed::TurnAway { bad } => Reply::Bad(bad),
         Deed::Open { .. }
-        | Deed::Claim { .. }
+        | Deed::Claim(_)
         | Deed::Change { .. }
         | Deed::Work { .. }
         | Deed::WhatIf { .. } => unreachable!(),
@@ -397,44 +382,25 @@ fn make_room(cases: &mut Cases) -> Result<(), AllocError>
 }
 
 /// Gives a free step to a user, with a plan for the rest of the case.
-pub(crate) fn claim(
-    p: &Policy,
-    cases: &mut Cases,
-    n: CaseId,
-    case: &Case,
-    s: StepId,
-    u: UserId,
-    plan: Plan,
-)
+pub(crate) fn claim(p: &Policy, cases: &mut Cases, duty: &Duty, plan: Plan)
     requires kept { IsKept p.now cases.old }
-    requires found { AreFound p.now cases.old.rows n case.now s u }
-    requires free { state_at case.now s ≡ FreeStep }
-    requires valid { IsValidPlan (problem_of p.now case.now.flow) (assigned_with case.now s u)
-        (finished_of case.now) plan }
-    ensures { HasTakenStep p.now cases.old cases.new (Ok (deeds.Claim n case.now s u))
+    requires found { AreFound p.now cases.old.rows duty.now }
+    requires free { state_at duty.now.case duty.now.step ≡ FreeStep }
+    requires valid { IsPlanFor (book_of p.now cases.old) (Ok (deeds.Claim duty.now)) plan }
+    ensures { HasTakenStep p.now cases.old cases.new (Ok (deeds.Claim duty.now))
         (replies.Granted plan) }
 {
-    let _ = case;
-    cases.hold(p, n, s, u, plan);
+    cases.hold(p, duty.number, duty.step, duty.user, plan);
 }
 
 /// Finishes a step that a user holds, and answers whether the case is then done.
-pub(crate) fn finish(
-    p: &Policy,
-    cases: &mut Cases,
-    n: CaseId,
-    case: &Case,
-    s: StepId,
-    u: UserId,
-) -> bool
-    requires { IsHeldAt p.now cases.old n case.now s }
-    ensures { HasTakenStep p.now cases.old cases.new (Ok (deeds.Finish n case.now s u))
+pub(crate) fn finish(p: &Policy, cases: &mut Cases, duty: &Duty) -> bool
+    requires { IsHeldAt p.now cases.old duty.now.number duty.now.case duty.now.step }
+    ensures { HasTakenStep p.now cases.old cases.new (Ok (deeds.Finish duty.now))
         (replies.Finished result) }
 {
     let _ = p;
-    let _ = case;
-    let _ = u;
-    cases.finish(n, s)
+    cases.finish(duty.number, duty.step)
 }
 
 /// Takes a held step from its holder.

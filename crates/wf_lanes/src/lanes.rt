@@ -42,8 +42,15 @@ pub fn serve_by_lanes<R: Threads + Wait + Sync, V: Decider + Sync, G: Gate + Syn
     ensures done { IsDone result }
 {
     let mut desk = desk;
+    let server = LaneServer {
+        rt,
+        alloc,
+        decider,
+        gate,
+        tells: tells(desk.rounds()),
+    };
     serve_ahead(alloc, decider, gate, &mut desk);
-    let mut desk = serve_on_lanes(rt, alloc, decider, gate, desk);
+    let mut desk = serve_on_lanes(&server, desk);
     serve_by_turns(alloc, decider, &mut desk);
     desk
 }
@@ -94,13 +101,10 @@ fn serve_round<V: Decider>(alloc: Global, decider: &V, desk: &mut Desk, waits: &
 
 // Serves the jobs that lanes find at a table, if there is memory for one.
 fn serve_on_lanes<R: Threads + Wait + Sync, V: Decider + Sync, G: Gate + Sync>(
-    rt: &R,
-    alloc: Global,
-    decider: &V,
-    gate: &G,
+    server: &LaneServer<R, V, G>,
     desk: Desk,
 ) -> Desk
-    requires ready { V.ready decider.now }
+    requires ready { V.ready server.now.decider.now }
     requires some { 0 < desk.lanes }
     ensures on { HasGrown desk result }
 {
@@ -109,16 +113,9 @@ fn serve_on_lanes<R: Threads + Wait + Sync, V: Decider + Sync, G: Gate + Sync>(
         return desk;
     }
     let lanes = desk.lanes();
-    let server = LaneServer {
-        rt,
-        alloc,
-        decider,
-        gate,
-        tells: tells(desk.rounds()),
-    };
-    match TurnTable::new(alloc, desk, lanes) {
+    match TurnTable::new(server.alloc, desk, lanes) {
         Ok((table, first)) => {
-            let first = run_lanes(rt, &server, &busy, &table, first, 0, lanes);
+            let first = run_lanes(server.rt, server, &busy, &table, first, 0, lanes);
             close_whole(table, first)
         }
         Err(Refused { value }) => value,

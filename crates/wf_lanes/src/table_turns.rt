@@ -5,7 +5,7 @@ ghost use Rattle.wf_board.specs.Boards.{book_on};
 ghost use Rattle.wf_board.specs.Verdicts.{Decides};
 ghost use Rattle.wf_talk.specs.declared.entry.Entry.{Entry};
 ghost use Rattle.wf_desk.specs.declared.tabled.Fixed.{Fixed};
-ghost use Rattle.wf_desk.specs.Laws.Commits.{HasCommitted, IsRightFor, next_asks_search};
+ghost use Rattle.wf_desk.specs.Laws.Commits.{next_asks_search};
 ghost use Rattle.wf_lanes.specs.Workers.{BeginsTurn, HasBegunAt, HasCommittedTask, IsBegun, IsIdle};
 
 use crate::worker::{Begun, Turns};
@@ -48,7 +48,7 @@ impl<R: Wait, V: Decider> Turns for TableTurns<'_, R, V> {
 
     fn commit(&mut self, task: &Task, verdict: Verdict) -> Outcome {
         let mut later = self.table.take(self.rt, &mut self.lane);
-        let outcome = commit_at(self.alloc, self.decider, &mut later, task, verdict);
+        let outcome = later.commit(self.alloc, self.decider, task, verdict);
         self.table.give(&mut self.lane, later);
         self.pending = false;
         outcome
@@ -83,20 +83,4 @@ fn decide_at<V: Decider>(alloc: Global, decider: &V, desk: &mut Desk, lane: u8) 
     } else {
         Begun::Ended
     }
-}
-
-// Commits a task at a desk, with its verdict.
-fn commit_at<V: Decider>(
-    alloc: Global,
-    decider: &V,
-    desk: &mut Desk,
-    task: &Task,
-    verdict: Verdict,
-) -> Outcome
-    requires ready { V.ready decider.now }
-    requires lane { task.now.lane < desk.old.lanes }
-    requires right { IsRightFor desk.old task.now verdict }
-    ensures { HasCommitted desk.old desk.new task.now verdict result }
-{
-    desk.commit(alloc, decider, task, verdict)
 }

@@ -58,12 +58,12 @@ deed_text s q what (deed.Open f) (reply.Opened n plan) keeps state known of is =
 deed_text s q what (deed.Open f) (reply.Denied (denial.Unsatisfiable g tree)) keeps state known of is =
     ap (λ d. single (codes "denied") (single (codes "unsatisfiable") d))
     (refuting_same s q f g _ _ tree keeps state.sound (subst (λ m. f < m) state.sound.policy.named of.1) is.0 is.1)
-deed_text s q what (deed.Claim n c t u) (reply.Granted plan) keeps state known of is =
-    ap (λ d. single (codes "granted") (single (codes "plan") d)) (plan_same s.book.policy q (problem_of s.book.policy c.flow) _ _ plan keeps refl is)
-deed_text s q what (deed.Claim n c t u) (reply.Denied (denial.Stranded g tree)) keeps state known of is =
-    ap (λ d. single (codes "denied") (single (codes "stranded") d)) (refuting_same s q c.flow g _ _ tree keeps state.sound of.1.flow is.0 is.1)
-deed_text s q what (deed.Finish n c t u) (reply.Finished done) keeps state known of is = refl
-deed_text s q what (deed.GiveBack n c t u) reply.Returned keeps state known of is = refl
+deed_text s q what (deed.Claim d) (reply.Granted plan) keeps state known of is =
+    ap (λ x. single (codes "granted") (single (codes "plan") x)) (plan_same s.book.policy q (problem_of s.book.policy d.case.flow) _ _ plan keeps refl is)
+deed_text s q what (deed.Claim d) (reply.Denied (denial.Stranded g tree)) keeps state known of is =
+    ap (λ x. single (codes "denied") (single (codes "stranded") x)) (refuting_same s q d.case.flow g _ _ tree keeps state.sound of.1.flow is.0 is.1)
+deed_text s q what (deed.Finish d) (reply.Finished done) keeps state known of is = refl
+deed_text s q what (deed.GiveBack d) reply.Returned keeps state known of is = refl
 deed_text s q what (deed.Release n c t) reply.Released keeps state known of is = refl
 deed_text s q what (deed.Withdraw n) reply.Withdrawn keeps state known of is = refl
 deed_text s q what (deed.Change a) (reply.Edited n) keeps state known of is = refl

@@ -83,9 +83,10 @@ IsEditExact s what given =
 abbrev pub IsDeniedByTree : State → Result Deed Denial → Denial → Type 0
 IsDeniedByTree s (Ok (deed.Open f)) (denial.Unsatisfiable g tree) =
     (g ≡ f) × IsRefuted (problem_of s.book.policy f) no_users no_steps tree
-IsDeniedByTree s (Ok (deed.Claim n c t u)) (denial.Stranded g tree) =
-    (g ≡ c.flow)
-    × IsRefuted (problem_of s.book.policy c.flow) (assigned_with c t u) (finished_of c) tree
+IsDeniedByTree s (Ok (deed.Claim d)) (denial.Stranded g tree) =
+    (g ≡ d.case.flow)
+    × IsRefuted (problem_of s.book.policy d.case.flow) (assigned_with d.case d.step d.user)
+    (finished_of d.case) tree
 IsDeniedByTree s (Ok (deed.Change a)) (denial.Strands n f tree) =
     IsLeastStranded (with_edited s a) n f tree
 IsDeniedByTree s given d = ⊥

@@ -8,6 +8,7 @@ use Rattle.admin_edits.specs.declared.amendment.Amendment.{Amendment}
 use Rattle.admin_edits.specs.Laws.Edits.{allowed}
 use Rattle.admin_edits.specs.Amendment as edits
 use Rattle.wf_board.specs.declared.deed.Deed.{Deed}
+use Rattle.wf_board.specs.declared.deed.Duty.{Duty}
 use Rattle.wf_board.specs.declared.deed.Deed.TheVariants.{Open, Claim, Finish, GiveBack, Release}
 use Rattle.wf_board.specs.declared.deed.Deed.TheVariants.{Withdraw, Change, Show, Work, WhatIf}
 use Rattle.wf_board.specs.declared.deed.Deed.TheVariants.{TurnAway}
@@ -20,11 +21,10 @@ pub record IsOpenAt (p : PolicyShape) (rows : List Row) (n : ℕ) (c : CaseShape
   pub known : IsOfPolicy p c
 
 -- an open case, one of its steps, and a user of the policy
-pub record AreFound (p : PolicyShape) (rows : List Row) (n : ℕ) (c : CaseShape) (s u : ℕ) :
-    Type 0 where
-  pub case : IsOpenAt p rows n c
-  pub step : s < length c.states
-  pub user : u < length p.roster.users
+pub record AreFound (p : PolicyShape) (rows : List Row) (d : Duty) : Type 0 where
+  pub case : IsOpenAt p rows d.number d.case
+  pub step : d.step < length d.case.states
+  pub user : d.user < length p.roster.users
 
 -- a change of the policy names what is there, and has no fault
 pub record IsAllowed (p : PolicyShape) (a : Amendment) : Type 0 where
@@ -34,9 +34,9 @@ pub record IsAllowed (p : PolicyShape) (a : Amendment) : Type 0 where
 -- the numbers of a deed are those of things that are there
 abbrev pub IsFound : PolicyShape → List Row → Deed → Type 0
 IsFound p rows (Open f) = f < length p.flows
-IsFound p rows (Claim n c s u) = AreFound p rows n c s u
-IsFound p rows (Finish n c s u) = AreFound p rows n c s u
-IsFound p rows (GiveBack n c s u) = AreFound p rows n c s u
+IsFound p rows (Claim d) = AreFound p rows d
+IsFound p rows (Finish d) = AreFound p rows d
+IsFound p rows (GiveBack d) = AreFound p rows d
 IsFound p rows (Release n c s) = IsOpenAt p rows n c × (s < length c.states)
 IsFound p rows (Withdraw n) = (c : CaseShape) × IsOpenAt p rows n c
 IsFound p rows (Change a) = IsAllowed p a

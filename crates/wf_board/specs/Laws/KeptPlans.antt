@@ -24,11 +24,11 @@ use Rattle.wf_board.specs.Decisions.{decision_of}
 abbrev pub rows_after_deed : PolicyShape → CasesShape → Deed → Reply → List Row
 rows_after_deed p t (deed.Open f) (reply.Opened n plan) =
     (with_case t f (length (flow_at p f).flow.steps) plan).rows
-rows_after_deed p t (deed.Claim n c s u) (reply.Granted plan) =
-    change_row n (held_row s u plan) t.rows
-rows_after_deed p t (deed.Finish n c s u) (reply.Finished done) =
-    change_row n (finished_row s) t.rows
-rows_after_deed p t (deed.GiveBack n c s u) reply.Returned = change_row n (freed_row s) t.rows
+rows_after_deed p t (deed.Claim d) (reply.Granted plan) =
+    change_row d.number (held_row d.step d.user plan) t.rows
+rows_after_deed p t (deed.Finish d) (reply.Finished done) =
+    change_row d.number (finished_row d.step) t.rows
+rows_after_deed p t (deed.GiveBack d) reply.Returned = change_row d.number (freed_row d.step) t.rows
 rows_after_deed p t (deed.Release n c s) reply.Released = change_row n (freed_row s) t.rows
 rows_after_deed p t (deed.Withdraw n) reply.Withdrawn = change_row n withdrawn_row t.rows
 rows_after_deed p t given answer = t.rows

@@ -38,13 +38,15 @@ IsReplyTo s (deed.Open f) (reply.Opened n plan) = (n ≡ s.book.ever) ×
     IsValidPlan (problem_of s.book.policy f) no_users no_steps plan
 IsReplyTo s (deed.Open f) (reply.Denied (denial.Unsatisfiable g tree)) =
     (g ≡ f) × IsTrue (refutes (problem_of s.book.policy f) no_users no_steps (shape_of tree))
-IsReplyTo s (deed.Claim n c t u) (reply.Granted plan) =
-    IsValidPlan (problem_of s.book.policy c.flow) (assigned_with c t u) (finished_of c) plan
-IsReplyTo s (deed.Claim n c t u) (reply.Denied (denial.Stranded g tree)) =
-    (g ≡ c.flow) × IsTrue (refutes (problem_of s.book.policy c.flow) (assigned_with c t u)
-    (finished_of c) (shape_of tree))
-IsReplyTo s (deed.Finish n c t u) (reply.Finished done) = done ≡ is_done (finished_case c t).phase
-IsReplyTo s (deed.GiveBack n c t u) reply.Returned = Unit {0}
+IsReplyTo s (deed.Claim d) (reply.Granted plan) =
+    IsValidPlan (problem_of s.book.policy d.case.flow) (assigned_with d.case d.step d.user)
+    (finished_of d.case) plan
+IsReplyTo s (deed.Claim d) (reply.Denied (denial.Stranded g tree)) =
+    (g ≡ d.case.flow) × IsTrue (refutes (problem_of s.book.policy d.case.flow)
+    (assigned_with d.case d.step d.user) (finished_of d.case) (shape_of tree))
+IsReplyTo s (deed.Finish d) (reply.Finished done) =
+    done ≡ is_done (finished_case d.case d.step).phase
+IsReplyTo s (deed.GiveBack d) reply.Returned = Unit {0}
 IsReplyTo s (deed.Release n c t) reply.Released = Unit {0}
 IsReplyTo s (deed.Withdraw n) reply.Withdrawn = Unit {0}
 IsReplyTo s (deed.Change a) (reply.Edited number) =
@@ -98,12 +100,12 @@ with_edited s a =
 -- the state after a deed; all that a row does not name stays
 abbrev pub state_after_deed : State → Deed → Reply → State
 state_after_deed s (deed.Open f) (reply.Opened n plan) = with_opened s f
-state_after_deed s (deed.Claim n c t u) (reply.Granted plan) =
-    with_changed s n (λ c. with_state c t (Held u))
-state_after_deed s (deed.Finish n c t u) (reply.Finished done) =
-    with_changed s n (λ c. finished_case c t)
-state_after_deed s (deed.GiveBack n c t u) reply.Returned =
-    with_changed s n (λ c. with_state c t Free)
+state_after_deed s (deed.Claim d) (reply.Granted plan) =
+    with_changed s d.number (λ c. with_state c d.step (Held d.user))
+state_after_deed s (deed.Finish d) (reply.Finished done) =
+    with_changed s d.number (λ c. finished_case c d.step)
+state_after_deed s (deed.GiveBack d) reply.Returned =
+    with_changed s d.number (λ c. with_state c d.step Free)
 state_after_deed s (deed.Release n c t) reply.Released = with_changed s n (λ c. with_state c t Free)
 state_after_deed s (deed.Withdraw n) reply.Withdrawn =
     with_changed s n (λ c. with_phase c Withdrawn)

@@ -9,7 +9,7 @@ use Rattle.case_views.proofs.found.outcome_with.Goals as goal
 pub solve_within-requires-clause-within : goal.solve_within-requires-clause-within
 solve_within-requires-clause-within c =
     rw (c.flow.ensures, c.assigned_with-assigned.ensures.given)
-    (search_within c.args.p.now c.args.case.now c.args.kept.now c.args.step c.args.user c.requires.known c.requires.valid c.requires.step c.requires.user)
+    (search_within c.args.p.now c.args.case.now c.args.kept.now c.args.step c.args.user c.requires)
 
 pub solve_within-requires-clause-assigned : goal.solve_within-requires-clause-assigned
 solve_within-requires-clause-assigned c =

@@ -43,7 +43,7 @@ returns-in-Some c =
 pub plan_near-requires-clause-within : goal.plan_near-requires-clause-within
 plan_near-requires-clause-within c =
     rw (c.flow-flow.ensures, c.assigned_with-assigned.ensures.given)
-    (search_within c.args.p.now c.args.case.now c.args.kept.now c.args.step c.args.user c.requires.known c.requires.valid c.requires.step c.requires.user)
+    (search_within c.args.p.now c.args.case.now c.args.kept.now c.args.step c.args.user c.requires)
 
 pub returns-in-None : goal.returns-in-None
 returns-in-None c =

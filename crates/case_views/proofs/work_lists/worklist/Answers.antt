@@ -1,11 +1,10 @@
-use Rattle.std.proofs.Common.{IfOk, subst}
+use Rattle.std.proofs.Common.{IfOk, ap, subst, ◌∙◌}
 use Rattle.policy_book.specs.Laws.Shapes.{PolicyShape}
 use Rattle.grant_table.specs.Cases.{CasesShape}
-use Rattle.wf_board.specs.Boards.{book_of}
-use Rattle.wf_board.specs.Views.{IsWorkOf}
+use Rattle.case_views.specs.Listing.{IsWorkIn}
 use Rattle.case_views.proofs.work_lists.worklist.Goals as goal
 
 pub returns : goal.returns
 returns c =
-    subst (λ (t : CasesShape). IfOk c.work_of.result (IsWorkOf (book_of c.args.snap.now.policy t) c.args.u)) c.cases.ensures.cases
-    (subst (λ (q : PolicyShape). IfOk c.work_of.result (IsWorkOf (book_of q c.cases.result.now) c.args.u)) c.policy.ensures.policy c.work_of.ensures)
+    subst (λ xs. IfOk c.work_in.result (IsWorkIn c.args.snap.now.policy c.args.u xs)) (c.rows.ensures ∙ ap (λ (t : CasesShape). t.rows) c.cases.ensures.cases)
+    (subst (λ (q : PolicyShape). IfOk c.work_in.result (IsWorkIn q c.args.u c.rows.result.now)) c.policy.ensures.policy c.work_in.ensures)

@@ -10,7 +10,8 @@ use Rattle.wf_board.proofs.admit.admit_return.Goals as goal
 
 pub returns-in-Returned : goal.returns-in-Returned
 returns-in-Returned c =
-    let d = Ok (deeds.GiveBack c.args.n c.args.case.now c.args.s c.args.u) in
+    let duty = c.args.duty.now in
+    let d = Ok (deeds.GiveBack duty) in
     subst (λ r. HasTakenStep c.args.p.now c.args.cases.now c.give_back.new.cases d r) (sym c.in-Returned.is)
-    (changed_taken c.args.p.now c.args.cases.now c.give_back.new.cases c.args.n (freed_row c.args.s) (λ k. with_state k c.args.s Free) d replies.Returned
+    (changed_taken c.args.p.now c.args.cases.now c.give_back.new.cases duty.number (freed_row duty.step) (λ k. with_state k duty.step Free) d replies.Returned
     c.give_back.ensures (λ edits. tt) (λ s. refl) refl)

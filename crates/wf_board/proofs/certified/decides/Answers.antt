@@ -20,4 +20,4 @@ returns-in-Claim c =
     let b = book_of c.args.p.now c.args.cases.now in
     let k = c.in-Claim in
     subst (λ d. c.decides_claim.result ≡ true ↔ IsCertificate b (Ok d) c.args.verdict.now) (sym k.is)
-    (claim_certificate b k.number k.case k.step k.user c.args.verdict.now c.decides_claim.result c.decides_claim.ensures)
+    (claim_certificate b k.duty c.args.verdict.now c.decides_claim.result c.decides_claim.ensures)

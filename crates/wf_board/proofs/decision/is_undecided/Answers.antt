@@ -9,4 +9,4 @@ pub returns-in-Claim : goal.returns-in-Claim
 returns-in-Claim c =
     let b = book_of c.args.p.now c.args.cases.now in
     let k = c.in-Claim in
-    subst (λ d. not c.has_cause.result ≡ needs_verdict (undenied b d)) (sym k.is) (ap not c.has_cause.ensures ∙ claim_needs b k.number k.case k.step k.user _)
+    subst (λ d. not c.has_cause.result ≡ needs_verdict (undenied b d)) (sym k.is) (ap not c.has_cause.ensures ∙ claim_needs b k.duty _)

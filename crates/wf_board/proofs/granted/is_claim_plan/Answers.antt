@@ -6,7 +6,8 @@ use Rattle.wf_board.proofs.granted.is_claim_plan.Goals as goal
 
 pub returns : goal.returns
 returns c =
-    let k = c.args.case.now in
-    certificate_same c.args.p.now k.flow c.flow.result (assigned_with k c.args.s c.args.u) c.assigned_with-assigned.result (finished_of k) c.finished.result
+    let duty = c.args.duty.now in
+    let k = duty.case in
+    certificate_same c.args.p.now k.flow c.flow.result (assigned_with k duty.step duty.user) c.assigned_with-assigned.result (finished_of k) c.finished.result
     (verdicts.Plan c.args.plan.now) c.is_valid_plan.result
     c.flow.ensures c.assigned_with-assigned.ensures c.finished.ensures.value c.is_valid_plan.ensures

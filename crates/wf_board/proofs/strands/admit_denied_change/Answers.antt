@@ -13,3 +13,6 @@ returns-in_default c =
           (λ number is. strands_excludes p t edits c.args.a c.args.n c.args.shown.now number c.admin-sound.ensures.sound c.requires.ready.found
           c.requires.stranded) c.in_default.not-Denied,
     )
+
+pub admit_strands-requires-clause-stranded : goal.admit_strands-requires-clause-stranded
+admit_strands-requires-clause-stranded c = (c.args.shown.now, c.requires.stranded)

@@ -12,10 +12,10 @@ use Rattle.wf_board.proofs.taking.claim.Goals as goal
 pub returns : goal.returns
 returns c =
     let p = c.args.p.now in
-    let k = c.args.case.now in
-    let decision = Ok (deeds.Claim c.args.n k c.args.s c.args.u) in
+    let duty = c.args.duty.now in
+    let decision = Ok (deeds.Claim duty) in
     subst (λ t. HasTakenStep p c.args.cases.now t decision (replies.Granted c.args.plan)) (sym c.hold.ensures)
-    (changed_taken p c.args.cases.now _ c.args.n (held_row c.args.s c.args.u c.args.plan) (λ d. with_state d c.args.s (Held c.args.u)) decision
+    (changed_taken p c.args.cases.now _ duty.number (held_row duty.step duty.user c.args.plan) (λ d. with_state d duty.step (Held duty.user)) decision
     (replies.Granted c.args.plan)
-    (held_keeps p c.args.cases.now c.args.n k c.args.s c.args.u c.args.plan c.requires.kept c.requires.found c.requires.free c.requires.valid)
+    (held_keeps p c.args.cases.now duty c.args.plan c.requires.kept c.requires.found c.requires.free c.requires.valid)
     (λ edits. c.requires.valid) (λ s. refl) refl)

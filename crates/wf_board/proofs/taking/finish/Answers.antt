@@ -11,18 +11,20 @@ use Rattle.wf_board.proofs.taking.finish.Goals as goal
 
 pub finish-requires : goal.finish-requires
 finish-requires c =
-    on_case (λ k. HasHeldStep k c.args.s) c.args.cases.now.rows c.args.n c.args.case.now c.requires.found.found
+    on_case (λ k. HasHeldStep k c.args.duty.now.step) c.args.cases.now.rows c.args.duty.now.number c.args.duty.now.case c.requires.found.found
     record { open_case = c.requires.found.live; held = c.requires.held }
 
 pub returns : goal.returns
 returns c =
     let p = c.args.p.now in
-    let k = c.args.case.now in
+    let duty = c.args.duty.now in
+    let n = duty.number in
+    let s = duty.step in
     let done = c.finish.result in
-    let decision = Ok (deeds.Finish c.args.n k c.args.s c.args.u) in
-    let is = done_is c.args.cases.now.rows c.args.n c.args.s k done c.requires.found.found
-    (subst (λ t. IsSomeAnd (case_at t c.args.n) (λ x. done ≡ is_done x.phase)) c.finish.ensures.finished c.finish.ensures.done) in
+    let decision = Ok (deeds.Finish duty) in
+    let is = done_is c.args.cases.now.rows n s duty.case done c.requires.found.found
+    (subst (λ t. IsSomeAnd (case_at t n) (λ x. done ≡ is_done x.phase)) c.finish.ensures.finished c.finish.ensures.done) in
     subst (λ t. HasTakenStep p c.args.cases.now t decision (replies.Finished done)) (sym c.finish.ensures.finished)
-    (changed_taken p c.args.cases.now _ c.args.n (finished_row c.args.s) (λ d. finished_case d c.args.s) decision (replies.Finished done)
-    (finished_keeps p c.args.cases.now c.args.n k c.args.s c.requires.kept c.requires.found c.requires.held)
+    (changed_taken p c.args.cases.now _ n (finished_row s) (λ d. finished_case d s) decision (replies.Finished done)
+    (finished_keeps p c.args.cases.now n duty.case s c.requires.kept c.requires.found c.requires.held)
     (λ edits. is) (λ s. refl) refl)

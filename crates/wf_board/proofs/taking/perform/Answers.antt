@@ -11,10 +11,10 @@ use Rattle.wf_board.proofs.taking.perform.Goals as goal
 
 pub returns-in-GiveBack-clause-taken : goal.returns-in-GiveBack-clause-taken
 returns-in-GiveBack-clause-taken c =
-    let given = c.in-GiveBack in
-    subst (λ d. HasTakenStep c.args.p.now c.args.cases.now c.give_back.new.cases (Ok d) replies.Returned) (sym given.is)
-    (changed_taken c.args.p.now c.args.cases.now c.give_back.new.cases given.number (freed_row given.step) (λ d. with_state d given.step Free)
-    (Ok (deeds.GiveBack given.number given.case given.step given.user)) replies.Returned
+    let duty = c.in-GiveBack.duty in
+    subst (λ d. HasTakenStep c.args.p.now c.args.cases.now c.give_back.new.cases (Ok d) replies.Returned) (sym c.in-GiveBack.is)
+    (changed_taken c.args.p.now c.args.cases.now c.give_back.new.cases duty.number (freed_row duty.step) (λ d. with_state d duty.step Free)
+    (Ok (deeds.GiveBack duty)) replies.Returned
     c.give_back.ensures (λ edits. tt) (λ s. refl) refl)
 
 pub returns-in-Release-clause-taken : goal.returns-in-Release-clause-taken

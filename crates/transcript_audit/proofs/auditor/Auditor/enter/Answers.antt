@@ -3,7 +3,7 @@ use Rattle.wf_board.specs.Boards.{state_on}
 use Rattle.transcript_audit.specs.Auditor.{ComesNext, state_now}
 use Rattle.transcript_audit.specs.Keeping.{entry_next}
 use Rattle.transcript_audit.proofs.Entering.{board_stays, edits_few, state_next, step_next}
-use Rattle.transcript_audit.proofs.auditor.Auditor.enter_step.Goals as goal
+use Rattle.transcript_audit.proofs.auditor.Auditor.enter.Goals as goal
 
 pub admit-requires-clause-few : goal.admit-requires-clause-few
 admit-requires-clause-few g c = edits_few c.self.inside.board c.self.inside.record.audit c.self.invariant c.number-few.ensures.few
@@ -12,7 +12,7 @@ pub add-requires-clause-next : goal.add-requires-clause-next
 add-requires-clause-next g c =
     subst (λ a. ComesNext a (entry_next a c.args.job.now c.args.reply)) (sym (c.reserve.ensures.same ∙ c.self.view_is))
     (step_next c.args.self.now c.self.inside.board c.args.job.now c.args.reply (c.self.invariant ∙ ap state_now c.self.view_is) c.requires.next
-    c.requires.once c.in_ok-admit.ensures.step)
+    (sym c.again_in.ensures ∙ c.in-None.is) c.in_ok-admit.ensures.step)
 
 pub invariant_of-self-in_err-admit : goal.invariant_of-self-in_err-admit
 invariant_of-self-in_err-admit g c =
