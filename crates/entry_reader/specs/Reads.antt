@@ -1,5 +1,8 @@
 -- Inside: code that reads a value.
 use Rattle.std.specs.Prelude.{◌≡◌, Option, None, Some, Result, Ok, Err, option_map}
+use Rattle.serde_json.specs.Data.{Data}
+use Rattle.serde_json.specs.View.{view}
+use Rattle.serde_json.specs.declared.value.Value.{Value}
 use Rattle.refutation_tree.specs.Tree.{Kids}
 use Rattle.refutation_tree.specs.Laws.Views.{branch_onto}
 use Rattle.refutation_tree.specs.declared.tree.Branch.{Branch}
@@ -15,3 +18,7 @@ Reads view (Err e) reading = e ≡ NotText → reading ≡ None
 abbrev pub ReadsOnto : Result Branch TextFault → Option Kids → Option Kids → Type 0
 ReadsOnto (Ok b) rest reading = reading ≡ option_map (branch_onto b) rest
 ReadsOnto (Err e) rest reading = e ≡ NotText → reading ≡ None
+
+-- each call at a value returns what a reading gives
+abbrev pub ReadsBy : {X : Type 0} → (Value → Option X → Type 0) → (Data → Option X) → Type 0
+ReadsBy {X} returns reading = (v : Value) (o : Option X) → returns v o → o ≡ reading (view v)

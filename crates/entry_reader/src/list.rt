@@ -1,30 +1,29 @@
 //! Lists of users, roles and states.
-ghost use Rattle.std.specs.Prelude.{◌≡◌};
+ghost use Rattle.std.specs.Prelude.{◌≡◌, ◌≤◌, IfOk, Option, length, option_and_then};
+ghost use Rattle.wf_names.specs.declared.limits.TheConstants.{STEP_LIMIT};
+ghost use Rattle.std.specs.Fn.{FnReturnsAt};
+ghost use Rattle.serde_json.specs.Data.{Data};
 ghost use Rattle.serde_json.specs.View.{view, items_view};
 ghost use Rattle.serde_json.specs.Find.{as_array};
-ghost use Rattle.entry_reader.specs.Reads.{Reads};
+ghost use Rattle.entry_reader.specs.Reads.{Reads, ReadsBy};
 ghost use Rattle.entry_reader.specs.Values as read;
 ghost use Rattle.entry_reader.specs.Told as told;
 
 use crate::TextFault;
 use crate::denial::step_by;
-use crate::parts::{case_number_of, numbered, pair_of, seen_of, user_of};
+use crate::parts::{case_number_of, pair_of, role_of, seen_of, user_of};
 use basics::List;
 use policy_book::{Plan, Policy};
 use serde_json::Value;
 use std::alloc::Global;
-use wf_names::{CaseId, RoleId, STEP_LIMIT, StepState, UserId};
+use wf_names::STEP_LIMIT;
 use wf_talk::{CaseList, FlowOf, RoleList, States, WorkItem, WorkList};
 
 /// The plan at the key plan.
 pub(crate) fn plan_of(alloc: Global, p: &Policy, value: &Value) -> Result<Plan, TextFault>
     ensures { Reads (λ plan. plan) result (told.plan_read p.now (view value.now)) }
 {
-    let value = value.get("plan").ok_or(TextFault::NotText)?;
-    let users = users_of(alloc, p, items_of(value)?)?;
-    if users.len() > STEP_LIMIT {
-        return Err(TextFault::NotText);
-    }
+    let users = few_of(alloc, value, "plan", |item| user_of(p, item))?;
     Ok(Plan::of(users.as_slice()))
 }
 
@@ -32,11 +31,7 @@ pub(crate) fn plan_of(alloc: Global, p: &Policy, value: &Value) -> Result<Plan, 
 pub(crate) fn states_of(alloc: Global, p: &Policy, value: &Value) -> Result<States, TextFault>
     ensures { Reads (λ states. states) result (told.states_read p.now (view value.now)) }
 {
-    let value = value.get("steps").ok_or(TextFault::NotText)?;
-    let states = each_state(alloc, p, items_of(value)?)?;
-    if states.len() > STEP_LIMIT {
-        return Err(TextFault::NotText);
-    }
+    let states = few_of(alloc, value, "steps", |item| seen_of(p, item))?;
     Ok(States::of(states.as_slice()))
 }
 
@@ -44,7 +39,7 @@ pub(crate) fn states_of(alloc: Global, p: &Policy, value: &Value) -> Result<Stat
 pub(crate) fn roles_of(alloc: Global, p: &Policy, value: &Value) -> Result<RoleList, TextFault>
     ensures { Reads (λ roles. roles) result (told.roles_read p.now (view value.now)) }
 {
-    each_role(alloc, p, items_of(value)?)
+    each_of(alloc, value, |item| role_of(p, item))
 }
 
 /// A work list.
@@ -57,14 +52,34 @@ pub(crate) fn work_of<F: FlowOf>(
     ensures { Reads (λ items. items) result
         (told.work_read p.now (F.FlowOf.flows cases.now) (view value.now)) }
 {
-    each_item(alloc, p, cases, items_of(value)?)
+    each_of(alloc, value, |item| item_of(p, cases, item))
 }
 
 /// Numbers of cases.
 pub(crate) fn cases_of(alloc: Global, value: &Value) -> Result<CaseList, TextFault>
     ensures { Reads (λ cases. cases) result (told.cases_read (view value.now)) }
 {
-    each_case(alloc, items_of(value)?)
+    each_of(alloc, value, |item| case_number_of(item))
+}
+
+// What is read of each item of an array at a key, of as many as a workflow may have steps.
+fn few_of<T: Drop, F: Fn(&Value) -> Option<T>>(
+    alloc: Global,
+    value: &Value,
+    key: &str,
+    reader: F,
+) -> Result<List<T>, TextFault>
+    requires { F.IsAlwaysCallable reader }
+    ensures read { (f : Data → Option T) → ReadsBy (FnReturnsAt F.Fn reader) f
+        → Reads (λ xs. xs) result (read.at_key (read.few_read f) key.now (view value.now)) }
+    ensures few { IfOk result (λ xs. length xs ≤ STEP_LIMIT) }
+{
+    let items = value.get(key).ok_or(TextFault::NotText)?;
+    let list = each_of(alloc, items, reader)?;
+    if list.len() > STEP_LIMIT {
+        return Err(TextFault::NotText);
+    }
+    Ok(list)
 }
 
 // The items of an array.
@@ -75,61 +90,25 @@ fn items_of(value: &Value) -> Result<&[Value], TextFault>
     Ok(items)
 }
 
+// What is read of each item of an array.
 #[tactic(auto, using(crate::proofs::Uses::each_item))]
-fn users_of(alloc: Global, p: &Policy, items: &[Value]) -> Result<List<UserId>, TextFault>
-    ensures { Reads (λ users. users) result
-        (read.each_read (read.user_read p.now) (items_view items.now)) }
-{
-    let mut users = List::new(alloc);
-    'items: for item in items {
-        let user = user_of(p, item).ok_or(TextFault::NotText)?;
-        users.push(user)?;
-    }
-    Ok(users)
-}
-
-#[tactic(auto, using(crate::proofs::Uses::each_item))]
-fn each_state(alloc: Global, p: &Policy, items: &[Value]) -> Result<List<StepState>, TextFault>
-    ensures { Reads (λ states. states) result
-        (read.each_read (read.seen_read p.now) (items_view items.now)) }
-{
-    let mut states = List::new(alloc);
-    'items: for item in items {
-        let state = seen_of(p, item).ok_or(TextFault::NotText)?;
-        states.push(state)?;
-    }
-    Ok(states)
-}
-
-#[tactic(auto, using(crate::proofs::Uses::each_item))]
-fn each_role(alloc: Global, p: &Policy, items: &[Value]) -> Result<RoleList, TextFault>
-    ensures { Reads (λ roles. roles) result
-        (read.each_read (read.number_read p.now.roster.roles) (items_view items.now)) }
-{
-    let mut roles = List::new(alloc);
-    'items: for item in items {
-        let role = numbered(p.roster().roles(), item).ok_or(TextFault::NotText)?;
-        roles.push(RoleId(role as u8))?;
-    }
-    Ok(roles)
-}
-
-#[tactic(auto, using(crate::proofs::Uses::each_item))]
-fn each_item<F: FlowOf>(
+fn each_of<T: Drop, F: Fn(&Value) -> Option<T>>(
     alloc: Global,
-    p: &Policy,
-    cases: &F,
-    items: &[Value],
-) -> Result<WorkList, TextFault>
-    ensures { Reads (λ work. work) result
-        (read.each_read (told.item_read p.now (F.FlowOf.flows cases.now)) (items_view items.now)) }
+    value: &Value,
+    reader: F,
+) -> Result<List<T>, TextFault>
+    requires { F.IsAlwaysCallable reader }
+    ensures { (f : Data → Option T) → ReadsBy (FnReturnsAt F.Fn reader) f
+        → Reads (λ xs. xs) result
+        (option_and_then (read.each_read f) (as_array (view value.now))) }
 {
-    let mut work = List::new(alloc);
+    let mut list = List::new(alloc);
+    let items = items_of(value)?;
     'items: for item in items {
-        let step = item_of(p, cases, item).ok_or(TextFault::NotText)?;
-        work.push(step)?;
+        let read = reader(item).ok_or(TextFault::NotText)?;
+        list.push(read)?;
     }
-    Ok(work)
+    Ok(list)
 }
 
 // A step of a work list, of the workflow of its case.
@@ -140,17 +119,4 @@ fn item_of<F: FlowOf>(p: &Policy, cases: &F, value: &Value) -> Option<WorkItem>
     let case = case_number_of(case)?;
     let (flow, step) = step_by(p, cases.flow_of(case), step)?;
     Some(WorkItem { case, flow, step })
-}
-
-#[tactic(auto, using(crate::proofs::Uses::each_item))]
-fn each_case(alloc: Global, items: &[Value]) -> Result<CaseList, TextFault>
-    ensures { Reads (λ cases. cases) result
-        (read.each_read told.number_of_case (items_view items.now)) }
-{
-    let mut cases: List<CaseId> = List::new(alloc);
-    'items: for item in items {
-        let case = case_number_of(item).ok_or(TextFault::NotText)?;
-        cases.push(case)?;
-    }
-    Ok(cases)
 }

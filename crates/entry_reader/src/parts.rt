@@ -7,7 +7,9 @@ ghost use Rattle.entry_reader.specs.Told as told;
 
 use policy_book::Policy;
 use serde_json::Value;
-use wf_names::{CASE_NUMBER_LIMIT, CaseId, FlowId, Name, NameTable, StepId, StepState, UserId};
+use wf_names::{
+    CASE_NUMBER_LIMIT, CaseId, FlowId, Name, NameTable, RoleId, StepId, StepState, UserId,
+};
 
 /// The key and the value of an object with one member.
 pub(crate) fn only(value: &Value) -> Option<(&str, &Value)>
@@ -97,6 +99,14 @@ pub(crate) fn user_of(p: &Policy, value: &Value) -> Option<UserId>
         Some(u) => Some(UserId(u)),
         None => None,
     }
+}
+
+/// The role whose name a value is.
+pub(crate) fn role_of(p: &Policy, value: &Value) -> Option<RoleId>
+    ensures { result ≡ read.number_read p.now.roster.roles (view value.now) }
+{
+    let role = numbered(p.roster().roles(), value)?;
+    Some(RoleId(role as u8))
 }
 
 /// The step of a workflow whose name a value is.

@@ -15,7 +15,7 @@ use crate::{Place, TextFault};
 use memchr::memchr;
 use policy_book::{Plan, Policy};
 use std::alloc::{AllocError, Global};
-use wf_names::{CASE_NUMBER_LIMIT, CaseId, Name, STEP_LIMIT, UserId};
+use wf_names::{CASE_NUMBER_LIMIT, CaseId, FlowId, Name, STEP_LIMIT, UserId};
 use wf_talk::{Ask, Entry, FlowOf, Reply};
 
 /// The place that a line may tell, by its first bytes. It is a hint, on which nothing rests.
@@ -93,24 +93,22 @@ fn guess_reply<F: FlowOf>(
         return Ok(None);
     };
     if let Some(text) = text.strip_prefix(b"{\"denied\":") {
-        return guess_denied(alloc, p, cases, ask, text);
+        let flow = flow_asked(p, cases, ask);
+        return guess_denied(p, cases, flow, &mut Rest { alloc, text });
     }
     Ok(guess_plain(p, text))
 }
 
-// A denial that a text may tell.
+// A denial that a text may tell, where this workflow is concerned.
 fn guess_denied<F: FlowOf>(
-    alloc: Global,
     p: &Policy,
     cases: &F,
-    ask: &Ask,
-    text: &[u8],
+    flow: Option<FlowId>,
+    rest: &mut Rest<'_>,
 ) -> Result<Option<Reply>, AllocError>
-    ensures { IfOk result (λ o. IfSome o (IsGuessed p.now (F.FlowOf.flows cases.now)
-        (concerned p.now (F.FlowOf.flows cases.now) ask.now))) }
+    ensures { IfOk result (λ o. IfSome o (IsGuessed p.now (F.FlowOf.flows cases.now) flow)) }
 {
-    let flow = flow_asked(p, cases, ask);
-    match guess_denial(alloc, p, cases, flow, &mut Rest { text }) {
+    match guess_denial(p, cases, flow, rest) {
         Ok(denial) => Ok(Some(Reply::Denied(denial))),
         Err(TextFault::NotText) => Ok(None),
         Err(TextFault::NoMemory) => Err(AllocError),

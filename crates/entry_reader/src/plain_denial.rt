@@ -1,8 +1,9 @@
 //! Denials as they are written: each is guessed in one pass over its text.
-ghost use Rattle.std.specs.Prelude.{IfOk};
+ghost use Rattle.std.specs.Prelude.{ℕ, ◌<◌, Option, IfOk, length};
 ghost use Rattle.refutation_tree.specs.Laws.Views.{shape_of};
 ghost use Rattle.wf_names.specs.declared.limits.TheConstants.{STEP_LIMIT};
-ghost use Rattle.entry_reader.specs.Laws.Within.{IsCase, IsConcerned, IsState};
+ghost use Rattle.policy_book.specs.Laws.Shapes.{PolicyShape};
+ghost use Rattle.entry_reader.specs.Laws.Within.{IsCase, IsConcerned, IsState, IsStepOf};
 ghost use Rattle.entry_reader.specs.Plain.{IsLow, IsPlainDenial};
 
 use crate::TextFault;
@@ -10,15 +11,13 @@ use crate::kind::{DenialKind, denial_word, missing_word};
 use crate::plain_tree::{guess_tree, take_rule, take_step, take_user};
 use crate::rest::Rest;
 use basics::Shared;
-use policy_book::Policy;
+use policy_book::{Course, Policy};
 use refutation_tree::Tree;
-use std::alloc::Global;
-use wf_names::{CASE_NUMBER_LIMIT, CaseId, FlowId, STEP_LIMIT, StepState};
+use wf_names::{CASE_NUMBER_LIMIT, CaseId, FlowId, STEP_LIMIT, StepId, StepState};
 use wf_talk::{Denial, FlowOf, Missing};
 
 /// The denial that comes next, where this workflow is concerned.
 pub(crate) fn guess_denial<F: FlowOf>(
-    alloc: Global,
     p: &Policy,
     cases: &F,
     flow: Option<FlowId>,
@@ -28,25 +27,18 @@ pub(crate) fn guess_denial<F: FlowOf>(
 {
     if rest.has(b"{") {
         let kind = take_kind(rest)?;
-        guess_by(alloc, p, cases, flow, kind, rest)
+        guess_by(p, cases, flow, kind, rest)
     } else {
-        guess_word(p, cases, flow, rest)
+        guess_word(rest)
     }
 }
 
 // The denial that is a word alone.
 #[tactic(auto, using(crate::proofs::PlainDenials::word_denial))]
-fn guess_word<F: FlowOf>(
-    p: &Policy,
-    cases: &F,
-    flow: Option<FlowId>,
-    rest: &mut Rest<'_>,
-) -> Result<Denial, TextFault>
-    ensures { IfOk result (IsPlainDenial p.now (F.FlowOf.flows cases.now) flow) }
+fn guess_word(rest: &mut Rest<'_>) -> Result<Denial, TextFault>
+    ensures { (p : PolicyShape) (flows : ℕ → Option ℕ) (concerned : Option ℕ) →
+        IfOk result (IsPlainDenial p flows concerned) }
 {
-    let _ = p;
-    let _ = cases;
-    let _ = flow;
     let word = rest.take_name().ok_or(TextFault::NotText)?;
     denial_word(word.as_str()).ok_or(TextFault::NotText)
 }
@@ -61,7 +53,6 @@ fn take_kind(rest: &mut Rest<'_>) -> Result<DenialKind, TextFault> {
 // The denial of a kind.
 #[tactic(auto, using(crate::proofs::Uses::refuting_denials))]
 fn guess_by<F: FlowOf>(
-    alloc: Global,
     p: &Policy,
     cases: &F,
     flow: Option<FlowId>,
@@ -73,56 +64,48 @@ fn guess_by<F: FlowOf>(
     match kind {
         DenialKind::Unsatisfiable => {
             let flow = flow_within(p, flow)?;
-            let tree = Shared::new(alloc, guess_tree(alloc, p, flow, STEP_LIMIT, rest)?)?;
+            let tree = guess_over(p, flow, rest)?;
             Ok(Denial::Unsatisfiable { flow, tree })
         }
         DenialKind::Stranded => {
             let flow = flow_within(p, flow)?;
-            let tree = Shared::new(alloc, guess_tree(alloc, p, flow, STEP_LIMIT, rest)?)?;
+            let tree = guess_over(p, flow, rest)?;
             Ok(Denial::Stranded { flow, tree })
         }
-        DenialKind::Strands => guess_strands(alloc, p, cases, flow, rest),
-        _ => guess_short(p, cases, flow, kind, rest),
+        DenialKind::Strands => guess_strands(p, cases, rest),
+        _ => guess_short(p, flow, kind, rest),
     }
 }
 
 // The case that an edit strands, with the tree.
 #[tactic(auto, using(crate::proofs::PlainDenials::strands))]
-fn guess_strands<F: FlowOf>(
-    alloc: Global,
-    p: &Policy,
-    cases: &F,
-    concerned: Option<FlowId>,
-    rest: &mut Rest<'_>,
-) -> Result<Denial, TextFault>
-    ensures { IfOk result (IsPlainDenial p.now (F.FlowOf.flows cases.now) concerned) }
+fn guess_strands<F: FlowOf>(p: &Policy, cases: &F, rest: &mut Rest<'_>) -> Result<Denial, TextFault>
+    ensures { (concerned : Option ℕ) →
+        IfOk result (IsPlainDenial p.now (F.FlowOf.flows cases.now) concerned) }
 {
-    let _ = concerned;
     rest.skip(b"{\"case\":")?;
     let case = take_case(rest)?;
     rest.skip(b",\"tree\":")?;
     let flow = flow_within(p, cases.flow_of(case))?;
-    let tree = Shared::new(alloc, guess_tree(alloc, p, flow, STEP_LIMIT, rest)?)?;
+    let tree = guess_over(p, flow, rest)?;
     Ok(Denial::Strands { case, flow, tree })
 }
 
 // The denial of a kind that takes no memory.
 #[tactic(auto, using(crate::proofs::Uses::other_denials))]
-fn guess_short<F: FlowOf>(
+fn guess_short(
     p: &Policy,
-    cases: &F,
     flow: Option<FlowId>,
     kind: DenialKind,
     rest: &mut Rest<'_>,
 ) -> Result<Denial, TextFault>
-    ensures { IfOk result (IsPlainDenial p.now (F.FlowOf.flows cases.now) flow) }
+    ensures { (flows : ℕ → Option ℕ) → IfOk result (IsPlainDenial p.now flows flow) }
 {
-    let _ = cases;
     match kind {
         DenialKind::Taken => Ok(Denial::Taken(take_user(p, rest)?)),
         DenialKind::Order => {
             let flow = flow_within(p, flow)?;
-            let step = take_step(p, flow, rest)?;
+            let step = take_step_of(p, flow, rest)?;
             Ok(Denial::Order { flow, step })
         }
         DenialKind::Rule => Ok(Denial::Rule(take_rule(rest)?)),
@@ -134,12 +117,38 @@ fn guess_short<F: FlowOf>(
 
 // The workflow that is concerned, where it is one of the policy.
 fn flow_within(p: &Policy, flow: Option<FlowId>) -> Result<FlowId, TextFault>
-    ensures { IfOk result (IsConcerned p.now flow) }
+    ensures concerned { IfOk result (IsConcerned p.now flow) }
+    ensures known { IfOk result (λ f. f < length p.now.flows) }
 {
     match flow {
         Some(f) if (f.0 as u16) < p.flows().len() => Ok(f),
         _ => Err(TextFault::NotText),
     }
+}
+
+// The tree over a workflow that comes next.
+fn guess_over(p: &Policy, f: FlowId, rest: &mut Rest<'_>) -> Result<Shared<Tree>, TextFault>
+    requires { f < length p.now.flows }
+    ensures { IfOk result (λ t. IsLow p.now f STEP_LIMIT (shape_of t)) }
+{
+    let course = Course {
+        policy: p,
+        number: f,
+    };
+    let tree = guess_tree(&course, STEP_LIMIT, rest)?;
+    Ok(Shared::new(rest.alloc, tree)?)
+}
+
+// Takes the name of a step of a workflow.
+fn take_step_of(p: &Policy, f: FlowId, rest: &mut Rest<'_>) -> Result<StepId, TextFault>
+    requires { f < length p.now.flows }
+    ensures { IfOk result (IsStepOf p.now f) }
+{
+    let course = Course {
+        policy: p,
+        number: f,
+    };
+    take_step(&course, rest)
 }
 
 // Takes the number of a case.

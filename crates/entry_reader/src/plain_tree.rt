@@ -7,31 +7,28 @@ ghost use Rattle.entry_reader.specs.Plain.{IsLow, AreLow, IsLowKid};
 
 use crate::TextFault;
 use crate::rest::Rest;
-use policy_book::Policy;
+use policy_book::{Course, Policy};
 use refutation_tree::{Branch, Branches, Kid, Tree};
-use std::alloc::Global;
-use wf_names::{FlowId, StepId, UserId};
+use wf_names::{StepId, UserId};
 
 /// The tree over a workflow that comes next, with at most `height` nodes one below the other.
 #[cycle(guess_tree)]
 #[tactic(auto, using(crate::proofs::LowTrees::low_node))]
 pub(crate) fn guess_tree(
-    alloc: Global,
-    p: &Policy,
-    f: FlowId,
+    course: &Course<'_>,
     height: usize,
     rest: &mut Rest<'_>,
 ) -> Result<Tree, TextFault>
-    ensures { IfOk result (λ t. IsLow p.now f height (shape_of t)) }
+    ensures { IfOk result (λ t. IsLow course.now.policy.now course.now.number height (shape_of t)) }
 {
     if !rest.has(b"{\"step\":") {
-        return guess_leaf(p, f, height, rest);
+        return guess_leaf(course, height, rest);
     }
     if height == 0 {
         return Err(TextFault::NotText);
     }
-    let step = take_step(p, f, rest)?;
-    let branches = guess_branches(alloc, p, f, height - 1, rest)?;
+    let step = take_step(course, rest)?;
+    let branches = guess_branches(course, height - 1, rest)?;
     Ok(Tree::Step(step, branches))
 }
 
@@ -39,21 +36,19 @@ pub(crate) fn guess_tree(
 #[cycle(guess_tree)]
 #[tactic(auto, using(crate::proofs::LowTrees::low_none))]
 fn guess_branches(
-    alloc: Global,
-    p: &Policy,
-    f: FlowId,
+    course: &Course<'_>,
     height: usize,
     rest: &mut Rest<'_>,
 ) -> Result<Branches, TextFault>
-    ensures { IfOk result (AreLow p.now f height) }
+    ensures { IfOk result (AreLow course.now.policy.now course.now.number height) }
 {
-    let mut branches = Branches::new(alloc);
+    let mut branches = Branches::new(rest.alloc);
     rest.skip(b",\"users\":[")?;
-    'branches: for _ in 0..p.roster().users().len() {
+    'branches: for _ in 0..course.policy.roster().users().len() {
         if rest.has(b"]}") {
             return Ok(branches);
         }
-        branches.push(guess_branch(alloc, p, f, height, rest)?)?;
+        branches.push(guess_branch(course, height, rest)?)?;
         rest.has(b",");
     }
     rest.skip(b"]}")?;
@@ -63,18 +58,17 @@ fn guess_branches(
 // The branch that comes next.
 #[cycle(guess_tree)]
 fn guess_branch(
-    alloc: Global,
-    p: &Policy,
-    f: FlowId,
+    course: &Course<'_>,
     height: usize,
     rest: &mut Rest<'_>,
 ) -> Result<Branch, TextFault>
-    ensures { IfOk result (λ b. AreLow p.now f height (branch_onto b no_kids)) }
+    ensures { IfOk result (λ b. AreLow course.now.policy.now course.now.number height
+        (branch_onto b no_kids)) }
 {
     rest.skip(b"[")?;
-    let user = take_user(p, rest)?;
+    let user = take_user(course.policy, rest)?;
     rest.skip(b",")?;
-    let kid = guess_kid(alloc, p, f, height, rest)?;
+    let kid = guess_kid(course, height, rest)?;
     rest.skip(b"]")?;
     Ok(Branch { user, kid })
 }
@@ -82,32 +76,26 @@ fn guess_branch(
 // The twin that comes next, or the tree.
 #[cycle(guess_tree)]
 #[tactic(auto, using(crate::proofs::LowTrees::low_tree, crate::proofs::LowTrees::low_twin))]
-fn guess_kid(
-    alloc: Global,
-    p: &Policy,
-    f: FlowId,
-    height: usize,
-    rest: &mut Rest<'_>,
-) -> Result<Kid, TextFault>
-    ensures { IfOk result (IsLowKid p.now f height) }
+fn guess_kid(course: &Course<'_>, height: usize, rest: &mut Rest<'_>) -> Result<Kid, TextFault>
+    ensures { IfOk result (IsLowKid course.now.policy.now course.now.number height) }
 {
     if rest.has(b"{\"twin\":") {
-        let twin = take_user(p, rest)?;
+        let twin = take_user(course.policy, rest)?;
         rest.skip(b"}")?;
         return Ok(Kid::Twin(twin));
     }
-    Ok(Kid::Tree(guess_tree(alloc, p, f, height, rest)?))
+    Ok(Kid::Tree(guess_tree(course, height, rest)?))
 }
 
 // The leaf that comes next.
-fn guess_leaf(p: &Policy, f: FlowId, height: usize, rest: &mut Rest<'_>) -> Result<Tree, TextFault>
-    ensures { IfOk result (λ t. IsLow p.now f height (shape_of t)) }
+fn guess_leaf(course: &Course<'_>, height: usize, rest: &mut Rest<'_>) -> Result<Tree, TextFault>
+    ensures { IfOk result (λ t. IsLow course.now.policy.now course.now.number height (shape_of t)) }
 {
     let leaf = if rest.has(b"{\"rule\":") {
         Tree::Rule(take_rule(rest)?)
     } else {
         rest.skip(b"{\"holder\":")?;
-        Tree::Holder(take_step(p, f, rest)?)
+        Tree::Holder(take_step(course, rest)?)
     };
     rest.skip(b"}")?;
     Ok(leaf)
@@ -135,14 +123,11 @@ pub(crate) fn take_user(p: &Policy, rest: &mut Rest<'_>) -> Result<UserId, TextF
 }
 
 /// Takes the name of a step of a workflow.
-pub(crate) fn take_step(p: &Policy, f: FlowId, rest: &mut Rest<'_>) -> Result<StepId, TextFault>
-    ensures { IfOk result (IsStepOf p.now f) }
+pub(crate) fn take_step(course: &Course<'_>, rest: &mut Rest<'_>) -> Result<StepId, TextFault>
+    ensures { IfOk result (IsStepOf course.now.policy.now course.now.number) }
 {
     let name = rest.take_name().ok_or(TextFault::NotText)?;
-    if f.0 as u16 >= p.flows().len() {
-        return Err(TextFault::NotText);
-    }
-    match p.flow(f).steps().find(&name) {
+    match course.flow().steps().find(&name) {
         Some(s) => Ok(StepId(s as u8)),
         None => Err(TextFault::NotText),
     }

@@ -3,11 +3,14 @@
 
 use crate::TextFault;
 use memchr::memchr;
+use std::alloc::Global;
 use wf_names::Name;
 
 /// What of a text is still to be read.
 #[derive(Drop)]
 pub(crate) struct Rest<'t> {
+    /// The memory for what is made of it.
+    pub(crate) alloc: Global,
     pub(crate) text: &'t [u8],
 }
 

@@ -37,7 +37,5 @@ leaf_made t0 t1 t2 t3 k d u c e0 e1 e2 e3 =
     e3 ∙ ap (λ t. c ++ 91 ∷ (u ++ t)) (e2 ∙ ap (λ t. 44 ∷ (k ++ (d ++ t))) closed ∙ ap (λ t. 44 ∷ t) (sym leaf))
 
 -- a step of a work list, from its end to its start
-pub item_made : (t0 t1 t2 t3 t4 n d c : List ℕ) → t0 ≡ 93 ∷ [] → t1 ≡ d ++ t0 → t2 ≡ 44 ∷ t1 → t3 ≡ 91 ∷ (n ++ t2) → t4 ≡ c ++ t3
-    → t4 ≡ c ++ 91 ∷ (n ++ 44 ∷ (d ++ 93 ∷ []))
-item_made t0 t1 t2 t3 t4 n d c e0 e1 e2 e3 e4 =
-    e4 ∙ ap (λ t. c ++ t) (e3 ∙ ap (λ t. 91 ∷ (n ++ t)) (e2 ∙ ap (λ t. 44 ∷ t) (e1 ∙ ap (λ t. d ++ t) e0)))
+pub item_made : (t0 t1 t2 t3 n d : List ℕ) → t0 ≡ 93 ∷ [] → t1 ≡ d ++ t0 → t2 ≡ 44 ∷ t1 → t3 ≡ 91 ∷ (n ++ t2) → t3 ≡ 91 ∷ (n ++ 44 ∷ (d ++ 93 ∷ []))
+item_made t0 t1 t2 t3 n d e0 e1 e2 e3 = e3 ∙ ap (λ t. 91 ∷ (n ++ t)) (e2 ∙ ap (λ t. 44 ∷ t) (e1 ∙ ap (λ t. d ++ t) e0))

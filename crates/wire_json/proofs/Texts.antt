@@ -20,12 +20,6 @@ pub added_5 : (x0 x1 x2 x3 x4 x5 a b c d e : List ℕ) → x1 ≡ x0 ++ a → x2
     x5 ≡ x0 ++ (a ++ (b ++ (c ++ (d ++ e))))
 added_5 x0 x1 x2 x3 x4 x5 a b c d e e1 e2 e3 e4 e5 = added_3 x0 x1 x2 x5 a b (c ++ (d ++ e)) e1 e2 (added_3 x2 x3 x4 x5 c d e e3 e4 e5)
 
-pub added_7 : (x0 x1 x2 x3 x4 x5 x6 x7 a b c d e f g : List ℕ) → x1 ≡ x0 ++ a → x2 ≡ x1 ++ b → x3 ≡ x2 ++ c → x4 ≡ x3 ++ d → x5 ≡ x4 ++ e → x6 ≡ x5 ++ f →
-    x7 ≡ x6 ++ g
-    → x7 ≡ x0 ++ (a ++ (b ++ (c ++ (d ++ (e ++ (f ++ g))))))
-added_7 x0 x1 x2 x3 x4 x5 x6 x7 a b c d e f g e1 e2 e3 e4 e5 e6 e7 =
-    added_3 x0 x1 x2 x7 a b (c ++ (d ++ (e ++ (f ++ g)))) e1 e2 (added_5 x2 x3 x4 x5 x6 x7 c d e f g e3 e4 e5 e6 e7)
-
 -- ---- objects within objects, whose braces are added at once
 
 pub added_in_two : (x0 x1 x2 x3 a b : List ℕ) → x1 ≡ x0 ++ a → x2 ≡ x1 ++ b → x3 ≡ x2 ++ 125 ∷ 125 ∷ [] → x3 ≡ x0 ++ (a ++ ((b ++ 125 ∷ []) ++ 125 ∷ []))
@@ -41,6 +35,10 @@ number_added_in_two x0 x1 x2 x3 x4 a n b d e1 e2 e3 e4 = rw (e4, e3, e2, e1) (si
 pub numbers_added_in_two : (x0 x1 x2 x3 a n b m : List ℕ) → x1 ≡ x0 ++ (a ++ n) → x2 ≡ x1 ++ (b ++ m) → x3 ≡ x2 ++ 125 ∷ 125 ∷ [] →
     x3 ≡ x0 ++ (a ++ ((n ++ (b ++ (m ++ 125 ∷ []))) ++ 125 ∷ []))
 numbers_added_in_two x0 x1 x2 x3 a n b m e1 e2 e3 = rw (e3, e2, e1) (simp append_assoc)
+
+pub face_added_in : (x0 x1 x2 x3 x4 x5 x6 a b c d e : List ℕ) → x1 ≡ x0 ++ a → x2 ≡ x1 ++ b → x3 ≡ x2 ++ c → x4 ≡ x3 ++ d → x5 ≡ x4 ++ e
+    → x6 ≡ x5 ++ 125 ∷ [] → x6 ≡ x0 ++ (a ++ ((b ++ (c ++ (d ++ e))) ++ 125 ∷ []))
+face_added_in x0 x1 x2 x3 x4 x5 x6 a b c d e e1 e2 e3 e4 e5 e6 = rw (e6, e5, e4, e3, e2, e1) (simp append_assoc)
 
 -- one more item behind a text, and the others behind it
 pub one_more : (old new : List ℕ) (later : Bool) (d : Data) (rest : Items) → new ≡ old ++ (comma_if later ++ compact_text d) →

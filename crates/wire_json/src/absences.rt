@@ -1,25 +1,25 @@
 //! Writing what is found of a workflow that has to do without some users.
 ghost use Rattle.std.specs.Prelude.{◌≡◌, ◌++◌, IfOk, OnOk};
-ghost use Rattle.serde_json.specs.Written.{comma_if, compact_text};
+ghost use Rattle.serde_json.specs.Written.{compact_text};
 ghost use Rattle.refutation_tree.specs.Laws.Views.{shape_of};
-ghost use Rattle.wire_json.specs.Entries.{names_data, plan_data, user_data};
-ghost use Rattle.wire_json.specs.Absences.{absence_data, absence_line, family_data, family_line};
-ghost use Rattle.wire_json.specs.Absences.{plans_data};
+ghost use Rattle.wire_json.specs.Entries.{plan_data, user_data};
+ghost use Rattle.wire_json.specs.Absences.{absence_data, absence_line, family_line};
 
-use crate::text::{push, push_comma, push_name, push_plan};
-use crate::tree_text::push_tree;
+use crate::denial::push_tree_in;
+use crate::list::{Item, push_list, push_list_in};
+use crate::text::{push, push_name, push_plan};
 use policy_book::{Plan, Policy};
 use refutation_tree::Tree;
 use std::alloc::{AllocError, Global};
 use wf_names::{FlowId, UserId};
 
 /// The line that is written for a family of plans, with its line end.
-#[tactic(auto, unfolding(crate::specs::Absences::family_line))]
+#[tactic(auto, unfolding(crate::specs::Absences::family_line, json::specs::Print::escape_byte))]
 pub fn write_family(alloc: Global, p: &Policy, plans: &[Plan]) -> Result<Vec<u8>, AllocError>
     ensures { IfOk result (λ line. line.items ≡ family_line p.now plans.now) }
 {
     let mut out = Vec::new(alloc);
-    push_family(&mut out, p, plans)?;
+    push_list_in(&mut out, b"{\"plans\":", p, plans)?;
     push(&mut out, b"\n")?;
     Ok(out)
 }
@@ -43,16 +43,6 @@ pub fn write_absence(
     Ok(out)
 }
 
-fn push_family(out: &mut Vec<u8>, p: &Policy, plans: &[Plan]) -> Result<(), AllocError>
-    ensures { OnOk result (out.new.items ≡ out.old.items ++ compact_text
-        (family_data p.now plans.now)) }
-{
-    push(out, b"{\"plans\":")?;
-    push_plans(out, p, plans)?;
-    push(out, b"}")?;
-    Ok(())
-}
-
 fn push_absence(
     out: &mut Vec<u8>,
     p: &Policy,
@@ -64,62 +54,23 @@ fn push_absence(
         (absence_data p.now f absent.now (shape_of tree.now))) }
 {
     push(out, b"{\"absent\":")?;
-    push_users(out, p, absent)?;
-    push(out, b",\"tree\":")?;
-    push_tree(out, p, f, tree)?;
-    push(out, b"}")?;
+    push_list(out, p, absent)?;
+    push_tree_in(out, b",\"tree\":", p, f, tree)?;
     Ok(())
 }
 
-// Adds plans, in order.
-fn push_plans(out: &mut Vec<u8>, p: &Policy, plans: &[Plan]) -> Result<(), AllocError>
-    ensures { OnOk result (out.new.items ≡ out.old.items ++ compact_text
-        (plans_data p.now plans.now)) }
-{
-    let mut later = false;
-    push(out, b"[")?;
-    'plans: for plan in plans {
-        push_plan_next(out, later, p, plan)?;
-        later = true;
+impl Item for Plan {
+    ghost item_data = { λ p plan. plan_data p.roster.users plan };
+
+    fn push_item(&self, out: &mut Vec<u8>, p: &Policy) -> Result<(), AllocError> {
+        push_plan(out, p.roster().users(), self)
     }
-    push(out, b"]")?;
-    Ok(())
 }
 
-// Adds one more plan.
-fn push_plan_next(out: &mut Vec<u8>, later: bool, p: &Policy, plan: &Plan) -> Result<(), AllocError>
-    ensures { OnOk result (out.new.items ≡ out.old.items ++
-        (comma_if later ++ compact_text (plan_data p.now.roster.users plan.now))) }
-{
-    push_comma(out, later)?;
-    push_plan(out, p.roster().users(), plan)
-}
+impl Item for UserId {
+    ghost item_data = { user_data };
 
-// Adds the names of users, in order.
-fn push_users(out: &mut Vec<u8>, p: &Policy, users: &[UserId]) -> Result<(), AllocError>
-    ensures { OnOk result (out.new.items ≡ out.old.items ++ compact_text
-        (names_data p.now.roster.users users.now)) }
-{
-    let mut later = false;
-    push(out, b"[")?;
-    'users: for user in users {
-        push_user_next(out, later, p, *user)?;
-        later = true;
+    fn push_item(&self, out: &mut Vec<u8>, p: &Policy) -> Result<(), AllocError> {
+        push_name(out, p.roster().users(), self.0)
     }
-    push(out, b"]")?;
-    Ok(())
-}
-
-// Adds one more name.
-fn push_user_next(
-    out: &mut Vec<u8>,
-    later: bool,
-    p: &Policy,
-    user: UserId,
-) -> Result<(), AllocError>
-    ensures { OnOk result (out.new.items ≡ out.old.items ++
-        (comma_if later ++ compact_text (user_data p.now user))) }
-{
-    push_comma(out, later)?;
-    push_name(out, p.roster().users(), user.0)
 }

@@ -3,11 +3,12 @@ ghost use Rattle.std.specs.Prelude.{◌≡◌, ◌++◌, ◌∷◌, [], codes, O
 ghost use Rattle.serde_json.specs.Data.{number, unsigned};
 ghost use Rattle.serde_json.specs.Written.{compact_text};
 ghost use Rattle.refutation_tree.specs.Laws.Views.{shape_of};
-ghost use Rattle.wire_json.specs.Entries.{single, names_data, step_data, state_data};
+ghost use Rattle.wire_json.specs.Entries.{single, named, step_data, state_data};
 ghost use Rattle.wire_json.specs.Trees.{tree_data};
 ghost use Rattle.wire_json.specs.Replies.{denial_data, missing_data, strands_data};
 
-use crate::text::{push, push_case, push_name, push_name_in, push_number, push_roles};
+use crate::list::{Item, push_list_in};
+use crate::text::{push, push_case, push_name, push_name_in, push_number};
 use crate::tree_text::push_tree;
 use policy_book::Policy;
 use refutation_tree::Tree;
@@ -34,7 +35,7 @@ pub(crate) fn push_denial(out: &mut Vec<u8>, p: &Policy, denial: &Denial) -> Res
         Denial::NoUser => push(out, b"\"no_user\""),
         Denial::Taken(u) => push_name_in(out, b"{\"taken\":", p.roster().users(), u.0, b"}"),
         Denial::Order { flow, step } => push_step_in(out, b"{\"order\":", p, *flow, *step, b"}"),
-        Denial::Role(roles) => push_roles_in(out, b"{\"role\":", p, roles.as_slice()),
+        Denial::Role(roles) => push_list_in(out, b"{\"role\":", p, roles.as_slice()),
         Denial::Rule(rule) => push_rule(out, *rule),
         Denial::Stranded { flow, tree } => {
             push_tree_in(out, b"{\"stranded\":", p, *flow, tree.get())
@@ -74,12 +75,22 @@ fn push_unknown(out: &mut Vec<u8>, missing: Missing) -> Result<(), AllocError>
     ensures { OnOk result (out.new.items ≡ out.old.items ++ compact_text
         (single (codes "unknown") (missing_data missing))) }
 {
+    push(out, b"{\"unknown\":")?;
+    push(out, missing_text(missing))?;
+    push(out, b"}")
+}
+
+// What is written for what has no name.
+#[tactic(auto, unfolding(json::specs::Print::escape_byte))]
+fn missing_text(missing: Missing) -> &'static [u8]
+    ensures { result.now ≡ compact_text (missing_data missing) }
+{
     match missing {
-        Missing::Flow => push(out, b"{\"unknown\":\"flow\"}"),
-        Missing::Step => push(out, b"{\"unknown\":\"step\"}"),
-        Missing::Relation => push(out, b"{\"unknown\":\"relation\"}"),
-        Missing::User => push(out, b"{\"unknown\":\"user\"}"),
-        Missing::Role => push(out, b"{\"unknown\":\"role\"}"),
+        Missing::Flow => b"\"flow\"",
+        Missing::Step => b"\"step\"",
+        Missing::Relation => b"\"relation\"",
+        Missing::User => b"\"user\"",
+        Missing::Role => b"\"role\"",
     }
 }
 
@@ -145,23 +156,16 @@ pub(crate) fn push_step(
     }
 }
 
-// Adds bytes, the names of roles and a closing brace.
-fn push_roles_in(
-    out: &mut Vec<u8>,
-    before: &[u8],
-    p: &Policy,
-    roles: &[RoleId],
-) -> Result<(), AllocError>
-    ensures { OnOk result (out.new.items ≡ out.old.items ++
-        (before.now ++ (compact_text (names_data p.now.roster.roles roles.now) ++ 125 ∷ []))) }
-{
-    push(out, before)?;
-    push_roles(out, p.roster().roles(), roles)?;
-    push(out, b"}")
+impl Item for RoleId {
+    ghost item_data = { λ p role. named p.roster.roles role };
+
+    fn push_item(&self, out: &mut Vec<u8>, p: &Policy) -> Result<(), AllocError> {
+        push_name(out, p.roster().roles(), self.0 as u16)
+    }
 }
 
-// Adds bytes, a tree and a closing brace.
-fn push_tree_in(
+/// Adds bytes, a tree and a closing brace.
+pub(crate) fn push_tree_in(
     out: &mut Vec<u8>,
     before: &[u8],
     p: &Policy,

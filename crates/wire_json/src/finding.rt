@@ -4,9 +4,9 @@ ghost use Rattle.serde_json.specs.Written.{compact_text};
 ghost use Rattle.refutation_tree.specs.Laws.Views.{shape_of};
 ghost use Rattle.wire_json.specs.Findings.{plan_found, plan_line, tree_found, tree_line};
 
+use crate::denial::push_tree_in;
 use crate::reply::{push_flow, push_users};
 use crate::text::push;
-use crate::tree_text::push_tree;
 use policy_book::{Plan, Policy};
 use refutation_tree::Tree;
 use std::alloc::AllocError;
@@ -62,8 +62,6 @@ fn push_tree_found(out: &mut Vec<u8>, p: &Policy, f: FlowId, tree: &Tree) -> Res
 {
     push(out, b"{\"flow\":")?;
     push_flow(out, p, f)?;
-    push(out, b",\"tree\":")?;
-    push_tree(out, p, f, tree)?;
-    push(out, b"}")?;
+    push_tree_in(out, b",\"tree\":", p, f, tree)?;
     Ok(())
 }

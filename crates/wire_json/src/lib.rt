@@ -9,6 +9,7 @@ mod fill;
 mod finding;
 mod flat;
 pub mod laws;
+mod list;
 mod object;
 mod plain;
 mod reply;

@@ -1,8 +1,7 @@
 //! Writing entries.
-ghost use Rattle.std.specs.Prelude.{◌≡◌, ◌≤◌, ◌++◌, codes, length, map, OnOk};
-ghost use Rattle.serde_json.specs.Data.{boolean, number, unsigned, array};
-ghost use Rattle.serde_json.specs.View.{items_of};
-ghost use Rattle.serde_json.specs.Written.{comma_if, compact_text};
+ghost use Rattle.std.specs.Prelude.{◌≡◌, ◌≤◌, ◌++◌, codes, length, OnOk};
+ghost use Rattle.serde_json.specs.Data.{boolean, number, unsigned};
+ghost use Rattle.serde_json.specs.Written.{compact_text};
 ghost use Rattle.wire_json.specs.Entries.{single, named, plan_data, seen_data, phase_data};
 ghost use Rattle.wire_json.specs.Entries.{bad_data};
 ghost use Rattle.wire_json.specs.Replies.{denial_data, face_data, again_data, reply_data};
@@ -11,10 +10,8 @@ ghost use Rattle.wire_json.specs.Pieces.{head_text};
 
 use crate::denial::push_denial;
 use crate::fill::{put_bytes, put_number};
-use crate::text::{
-    push, push_case, push_comma, push_name, push_name_in, push_number, push_plan, push_quoted,
-};
-use crate::views::{push_what_if, push_work};
+use crate::list::{Item, push_list_in};
+use crate::text::{push, push_case, push_name, push_name_in, push_number, push_plan, push_quoted};
 use policy_book::{Plan, Policy};
 use std::alloc::AllocError;
 use wf_names::{CaseId, FlowId, Name, Phase, StepState};
@@ -63,8 +60,8 @@ fn push_reply(out: &mut Vec<u8>, p: &Policy, reply: &Reply) -> Result<(), AllocE
         Reply::Withdrawn => push(out, b"\"withdrawn\""),
         Reply::Edited { number } => push_edited(out, *number),
         Reply::Shown(face) => push_shown(out, p, face),
-        Reply::Work(items) => push_work(out, p, items.as_slice()),
-        Reply::WhatIf(cases) => push_what_if(out, cases.as_slice()),
+        Reply::Work(items) => push_list_in(out, b"{\"worklist\":", p, items.as_slice()),
+        Reply::WhatIf(cases) => push_list_in(out, b"{\"what_if\":", p, cases.as_slice()),
         Reply::Denied(denial) => push_denied(out, p, denial),
         Reply::Again { rounds, at } => push_again(out, *rounds, *at),
         Reply::NoMemory => push(out, b"\"no_memory\""),
@@ -157,26 +154,16 @@ fn push_bad_key(out: &mut Vec<u8>, key: &Name) -> Result<(), AllocError>
     Ok(())
 }
 
+// Adds what is to be seen of a case.
 fn push_shown(out: &mut Vec<u8>, p: &Policy, face: &Face) -> Result<(), AllocError>
     ensures { OnOk result (out.new.items ≡ out.old.items ++ compact_text
         (single (codes "view") (face_data p.now face.now))) }
 {
-    push(out, b"{\"view\":")?;
-    push_face(out, p, face)?;
-    push(out, b"}")?;
-    Ok(())
-}
-
-fn push_face(out: &mut Vec<u8>, p: &Policy, face: &Face) -> Result<(), AllocError>
-    ensures { OnOk result (out.new.items ≡ out.old.items ++ compact_text
-        (face_data p.now face.now)) }
-{
-    push(out, b"{\"flow\":")?;
+    push(out, b"{\"view\":{\"flow\":")?;
     push_flow(out, p, face.flow)?;
     push(out, b",\"phase\":")?;
     push_phase(out, face.phase)?;
-    push(out, b",\"steps\":")?;
-    push_steps(out, p, face.states)?;
+    push_list_in(out, b",\"steps\":", p, face.states.as_slice())?;
     push(out, b"}")?;
     Ok(())
 }
@@ -187,13 +174,6 @@ pub(crate) fn push_flow(out: &mut Vec<u8>, p: &Policy, f: FlowId) -> Result<(), 
         (named p.now.flow_names f)) }
 {
     push_name(out, p.flows(), f.0 as u16)
-}
-
-fn push_steps(out: &mut Vec<u8>, p: &Policy, states: States) -> Result<(), AllocError>
-    ensures { OnOk result (out.new.items ≡ out.old.items ++ compact_text
-        (array (items_of (map (seen_data p.now) states)))) }
-{
-    push_states(out, p, states.as_slice())
 }
 
 #[tactic(auto, unfolding(json::specs::Print::escape_byte))]
@@ -207,34 +187,12 @@ fn push_phase(out: &mut Vec<u8>, phase: Phase) -> Result<(), AllocError>
     }
 }
 
-// Adds where steps stand, in order.
-fn push_states(out: &mut Vec<u8>, p: &Policy, states: &[StepState]) -> Result<(), AllocError>
-    ensures { OnOk result (out.new.items ≡ out.old.items ++ compact_text
-        (array (items_of (map (seen_data p.now) states.now)))) }
-{
-    let mut later = false;
-    push(out, b"[")?;
-    'states: for state in states {
-        push_seen_next(out, later, p, *state)?;
-        later = true;
-    }
-    push(out, b"]")?;
-    Ok(())
-}
+impl Item for StepState {
+    ghost item_data = { seen_data };
 
-// Adds where one more step stands.
-fn push_seen_next(
-    out: &mut Vec<u8>,
-    later: bool,
-    p: &Policy,
-    state: StepState,
-) -> Result<(), AllocError>
-    ensures { OnOk result (out.new.items ≡ out.old.items ++
-        (comma_if later ++ compact_text (seen_data p.now state))) }
-{
-    push_comma(out, later)?;
-    push_seen(out, p, state)?;
-    Ok(())
+    fn push_item(&self, out: &mut Vec<u8>, p: &Policy) -> Result<(), AllocError> {
+        push_seen(out, p, *self)
+    }
 }
 
 #[tactic(auto, unfolding(json::specs::Print::escape_byte))]

@@ -3,13 +3,13 @@ ghost use Rattle.std.specs.Prelude.{◌≡◌, ◌≤◌, ◌<◌, ◌++◌, dro
 ghost use Rattle.serde_json.specs.Written.{comma_if, compact_text};
 ghost use Rattle.json.specs.Print.{quoted};
 ghost use Rattle.wf_names.specs.Names.{is_name};
-ghost use Rattle.wire_json.specs.Entries.{named, names_data, plan_data};
+ghost use Rattle.wire_json.specs.Entries.{named, plan_data};
 
 use crate::fill::{PLAN_ROOM, put_plan};
 use itoa::Buffer;
 use policy_book::Plan;
 use std::alloc::AllocError;
-use wf_names::{CaseId, Name, NameTable, RoleId};
+use wf_names::{CaseId, Name, NameTable};
 
 /// Adds bytes.
 #[inline(always)]
@@ -99,34 +99,6 @@ pub(crate) fn push_plan(out: &mut Vec<u8>, users: &NameTable, plan: &Plan) -> Re
     let start = put_plan(&mut cells, PLAN_ROOM, users, plan);
     push(out, &cells[start..])?;
     Ok(())
-}
-
-/// Adds the names of roles.
-pub(crate) fn push_roles(
-    out: &mut Vec<u8>,
-    names: &NameTable,
-    roles: &[RoleId],
-) -> Result<(), AllocError>
-    ensures { OnOk result (out.new.items ≡ out.old.items ++ compact_text
-        (names_data names.now.names roles.now)) }
-{
-    let mut later = false;
-    push(out, b"[")?;
-    'roles: for role in roles {
-        push_next(out, later, names, role.0 as u16)?;
-        later = true;
-    }
-    push(out, b"]")?;
-    Ok(())
-}
-
-// Adds one more name.
-fn push_next(out: &mut Vec<u8>, later: bool, names: &NameTable, n: u16) -> Result<(), AllocError>
-    ensures { OnOk result (out.new.items ≡ out.old.items ++
-        (comma_if later ++ compact_text (named names.now.names n))) }
-{
-    push_comma(out, later)?;
-    push_name(out, names, n)
 }
 
 /// Adds a comma where something stands before.

@@ -41,6 +41,14 @@ pub(crate) fn push_tree(
     }
 }
 
+// What a branch begins with: a comma where another stands before it, and the name of its user.
+#[derive(Clone, Copy)]
+struct Front<'a> {
+    later: bool,
+    users: &'a NameTable,
+    user: UserId,
+}
+
 // Adds a node.
 #[tactic(auto, unfolding(json::specs::Print::escape_byte))]
 #[cycle(push_tree)]
@@ -94,11 +102,15 @@ fn push_branch(
     ensures { OnOk result (out.new.items ≡ out.old.items ++
         (comma_if later ++ compact_text (branch_data p.now f branch.now))) }
 {
-    let users = p.roster().users();
+    let front = Front {
+        later,
+        users: p.roster().users(),
+        user: branch.user,
+    };
     match &branch.kid {
-        Kid::Tree(Tree::Rule(k)) => push_ruled(out, later, users, branch.user, *k),
+        Kid::Tree(Tree::Rule(k)) => push_ruled(out, &front, *k),
         Kid::Tree(tree) => push_subtree(out, later, p, f, branch.user, tree),
-        Kid::Twin(twin) => push_twin(out, later, users, branch.user, *twin),
+        Kid::Twin(twin) => push_twin(out, &front, *twin),
     }
 }
 
@@ -115,64 +127,53 @@ fn push_subtree(
     ensures { OnOk result (out.new.items ≡ out.old.items ++ (comma_if later ++ pair_text
         (user_data p.now u) (compact_text (tree_data p.now f (shape_of tree.now))))) }
 {
-    push_front(out, later, p.roster().users(), u)?;
+    let front = Front {
+        later,
+        users: p.roster().users(),
+        user: u,
+    };
+    push_front(out, &front)?;
     push_tree(out, p, f, tree)?;
     push(out, b"]")
 }
 
 // Adds what stands before the tree of one more branch.
-fn push_front(
-    out: &mut Vec<u8>,
-    later: bool,
-    users: &NameTable,
-    u: UserId,
-) -> Result<(), AllocError>
-    ensures { OnOk result (out.new.items ≡ out.old.items ++ (comma_if later
-        ++ 91 ∷ (compact_text (named users.now.names u) ++ 44 ∷ []))) }
+fn push_front(out: &mut Vec<u8>, front: &Front<'_>) -> Result<(), AllocError>
+    ensures { OnOk result (out.new.items ≡ out.old.items ++ (comma_if front.now.later
+        ++ 91 ∷ (compact_text (named front.now.users.now.names front.now.user) ++ 44 ∷ []))) }
 {
     let mut cells = [0; LEAF_ROOM];
     let comma = put_byte(&mut cells, LEAF_ROOM, b',');
-    let start = put_front(&mut cells, comma, later, users, u);
+    let start = put_front(&mut cells, comma, front);
     push(out, &cells[start..])?;
     Ok(())
 }
 
 // Adds one more branch, whose tree is a falsified rule.
-fn push_ruled(
-    out: &mut Vec<u8>,
-    later: bool,
-    users: &NameTable,
-    u: UserId,
-    k: u8,
-) -> Result<(), AllocError>
-    ensures { OnOk result (out.new.items ≡ out.old.items ++ (comma_if later ++ pair_text
-        (named users.now.names u) (codes "{\"rule\":" ++ (decimal k ++ 125 ∷ [])))) }
+fn push_ruled(out: &mut Vec<u8>, front: &Front<'_>, k: u8) -> Result<(), AllocError>
+    ensures { OnOk result (out.new.items ≡ out.old.items ++ (comma_if front.now.later ++ pair_text
+        (named front.now.users.now.names front.now.user)
+        (codes "{\"rule\":" ++ (decimal k ++ 125 ∷ [])))) }
 {
     let mut cells = [0; LEAF_ROOM];
     let end = put_bytes(&mut cells, LEAF_ROOM, b"}]");
     let rule = put_number(&mut cells, end, b",{\"rule\":", k as u32);
-    let start = put_front(&mut cells, rule, later, users, u);
+    let start = put_front(&mut cells, rule, front);
     push(out, &cells[start..])?;
     Ok(())
 }
 
 // Adds one more branch, with the leaf that names a twin.
-fn push_twin(
-    out: &mut Vec<u8>,
-    later: bool,
-    users: &NameTable,
-    u: UserId,
-    twin: UserId,
-) -> Result<(), AllocError>
-    ensures { OnOk result (out.new.items ≡ out.old.items ++ (comma_if later ++ pair_text
-        (named users.now.names u)
-        (codes "{\"twin\":" ++ (compact_text (named users.now.names twin) ++ 125 ∷ [])))) }
+fn push_twin(out: &mut Vec<u8>, front: &Front<'_>, twin: UserId) -> Result<(), AllocError>
+    ensures { OnOk result (out.new.items ≡ out.old.items ++ (comma_if front.now.later ++ pair_text
+        (named front.now.users.now.names front.now.user) (codes "{\"twin\":"
+        ++ (compact_text (named front.now.users.now.names twin) ++ 125 ∷ [])))) }
 {
     let mut cells = [0; LEAF_ROOM];
     let end = put_bytes(&mut cells, LEAF_ROOM, b"}]");
-    let name = put_quoted(&mut cells, end, users, twin.0);
+    let name = put_quoted(&mut cells, end, front.users, twin.0);
     let leaf = put_bytes(&mut cells, name, b",{\"twin\":");
-    let start = put_front(&mut cells, leaf, later, users, u);
+    let start = put_front(&mut cells, leaf, front);
     push(out, &cells[start..])?;
     Ok(())
 }
@@ -180,14 +181,14 @@ fn push_twin(
 // Puts what a branch begins with before the bytes from `end` on, and a comma before it where
 // another stands there; where they start.
 #[inline(always)]
-fn put_front(cells: &mut [u8], end: usize, later: bool, users: &NameTable, u: UserId) -> usize
+fn put_front(cells: &mut [u8], end: usize, front: &Front<'_>) -> usize
     requires room { NAME_LIMIT + 4 ≤ end }
     requires within { end ≤ length cells.old }
     ensures start { result ≤ end }
-    ensures written { drop result cells.new ≡ comma_if later
-        ++ 91 ∷ (compact_text (named users.now.names u) ++ drop end cells.old) }
+    ensures written { drop result cells.new ≡ comma_if front.now.later ++ 91 ∷
+        (compact_text (named front.now.users.now.names front.now.user) ++ drop end cells.old) }
 {
-    let name = put_quoted(cells, end, users, u.0);
+    let name = put_quoted(cells, end, front.users, front.user.0);
     let bracket = put_byte(cells, name, b'[');
-    put_comma(cells, bracket, later)
+    put_comma(cells, bracket, front.later)
 }

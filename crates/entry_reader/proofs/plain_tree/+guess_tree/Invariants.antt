@@ -15,4 +15,4 @@ abbrev pub decreases-guess_kid : goal.decreases-guess_kid
 decreases-guess_kid l = 4 * l.height + 1
 
 abbrev pub invariant-guess_branches-branches : goal.invariant-guess_branches-branches
-invariant-guess_branches-branches l = AreLow l.p l.f l.height l.branches
+invariant-guess_branches-branches l = AreLow l.course.policy.now l.course.number l.height l.branches

@@ -1,8 +1,7 @@
 use Rattle.json.specs.Print.{escape_byte}
-use Rattle.wire_json.proofs.Texts.{added_5}
+use Rattle.wire_json.proofs.Texts.{added_3}
 use Rattle.wire_json.proofs.absences.push_absence.Goals as goal
 
 pub returns : goal.returns
 unfolding escape_byte
-returns c =
-    added_5 _ _ _ _ _ _ _ _ _ _ _ c.in_ok-push.ensures c.in_ok-push_users.ensures c.in_ok-push-2.ensures c.in_ok-push_tree.ensures c.in_ok-push-3.ensures
+returns c = added_3 _ _ _ _ _ _ _ c.in_ok-push.ensures c.in_ok-push_list.ensures c.in_ok-push_tree_in.ensures

@@ -10,4 +10,5 @@ returns c =
     ∙ ap (λ t. c.args.out.now.items ++ t)
     (whole_rest _ c.put_front-start.result c.put_front-start.new.cells (omega arith)
     ∙ c.put_front-start.ensures.written
-    ∙ ap (λ t. comma_if c.args.later ++ 91 ∷ (compact_text (named c.args.users.now.names c.args.u) ++ t)) c.put_byte-comma.ensures.written)
+    ∙ ap (λ t. comma_if c.args.front.now.later ++ 91 ∷ (compact_text (named c.args.front.now.users.now.names c.args.front.now.user) ++ t))
+    c.put_byte-comma.ensures.written)

@@ -10,6 +10,6 @@ returns c =
     c.in_ok-push.ensures
     ∙ ap (λ t. c.args.out.now.items ++ t)
     (whole_rest _ c.put_front-start.result c.put_front-start.new.cells (omega arith)
-    ∙ leaf_made _ _ _ _ (codes "{\"rule\":") (decimal c.args.k) (compact_text (named c.args.users.now.names c.args.u)) (comma_if c.args.later) refl
-    c.put_bytes-end.ensures.written c.put_number-rule.ensures.written
+    ∙ leaf_made _ _ _ _ (codes "{\"rule\":") (decimal c.args.k) (compact_text (named c.args.front.now.users.now.names c.args.front.now.user))
+    (comma_if c.args.front.now.later) refl c.put_bytes-end.ensures.written c.put_number-rule.ensures.written
     c.put_front-start.ensures.written)
