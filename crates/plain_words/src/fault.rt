@@ -98,7 +98,7 @@ fn words_of(
     let mut out = String::new(alloc);
     push_kind(&mut out, fault)?;
     push_part(&mut out, keys, fault)?;
-    push_meant(alloc, &mut out, text, marks, fault)?;
+    push_meant(&mut out, text, marks, fault)?;
     Ok(out)
 }
 
@@ -145,7 +145,6 @@ fn name_or_none(key: &str) -> &str {
 
 // Adds the name that was probably meant in place of one that is not known.
 fn push_meant(
-    alloc: Global,
     out: &mut String,
     text: &[u8],
     marks: &[Mark],
@@ -153,7 +152,7 @@ fn push_meant(
 ) -> Result<(), AllocError> {
     match fault.name {
         Some(name) => {
-            let meant = meant_by(alloc, text, marks, fault.kind, name.as_str())?;
+            let meant = meant_by(*out.allocator(), text, marks, fault.kind, name.as_str())?;
             push_near(out, fault.kind, meant)
         }
         None => Ok(()),
