@@ -6,7 +6,6 @@ ghost use Rattle.case_story.specs.Printed.{TellsBy, verdict_line};
 
 use crate::place::Place;
 use crate::verdict::Verdict;
-use plain_words::say;
 use run_record::{InputFault, RunFault};
 use std::alloc::{AllocError, Global};
 use transcript_audit::AuditKind;
@@ -70,7 +69,6 @@ pub(crate) fn answered(
 
 /// Adds the line that is the first that is wrong, as far as it is shown.
 pub(crate) fn push_wrong(
-    alloc: Global,
     out: &mut String,
     verdict: Verdict,
     text: &[u8],
@@ -79,8 +77,7 @@ pub(crate) fn push_wrong(
     match verdict {
         Verdict::Fault(_, AuditKind::Missing) => Ok(()),
         Verdict::Fault(n, _) => {
-            let number = format!(in alloc; "{n}")?;
-            say(out, &["line ", number.as_str(), " reads: "])?;
+            write!(out, "line {n} reads: ")?;
             push_shown(out, line_at(text, place.at))?;
             out.push_str("\n")
         }

@@ -51,12 +51,12 @@ impl Page {
     }
 
     /// Takes an entry. One that is about another case costs no more than a look.
-    pub fn take(&mut self, alloc: Global, told: &Told<'_>) -> Result<(), AllocError>
+    pub fn take(&mut self, told: &Told<'_>) -> Result<(), AllocError>
         ensures { self.new ≡ self.old }
     {
         let reply = &told.entry.reply;
         if subject(&told.entry.ask, reply) == Some(self.case) {
-            return put_row(alloc, &mut self.rows, told);
+            return put_row(&mut self.rows, told);
         }
         if !matches!(reply, Reply::Edited { .. }) {
             return Ok(());
@@ -66,7 +66,7 @@ impl Page {
                 self.edits = self.edits.saturating_add(1);
                 Ok(())
             }
-            Some(case) if case.phase().is_live() => { put_row(alloc, &mut self.rows, told) }
+            Some(case) if case.phase().is_live() => { put_row(&mut self.rows, told) }
             Some(_) => Ok(()),
         }
     }
@@ -96,9 +96,9 @@ impl Page {
             case,
         };
         let mut out = Html::new(alloc);
-        self.put_front(alloc, &mut out, p, case, verdict)?;
-        put_steps_of(alloc, &mut out, &shown, cases.plan(self.case))?;
-        put_rules(alloc, &mut out, &shown)?;
+        self.put_front(&mut out, p, case, verdict)?;
+        put_steps_of(&mut out, &shown, cases.plan(self.case))?;
+        put_rules(&mut out, &shown)?;
         self.put_history(&mut out)?;
         Ok(Some(out.into_text()))
     }
@@ -106,13 +106,12 @@ impl Page {
     // What stands above the steps.
     fn put_front(
         &self,
-        alloc: Global,
         out: &mut Html,
         p: &Policy,
         case: &Case,
         verdict: &str,
     ) -> Result<(), AllocError> {
-        let flow = flow_text(alloc, p, case.flow())?;
+        let flow = flow_text(out.allocator(), p, case.flow())?;
         out.put(&[Part::Mark(FRONT)])?;
         self.put_name(out, flow.as_str())?;
         out.put(&[Part::Mark(STYLE)])?;
@@ -151,26 +150,21 @@ impl Page {
 }
 
 // Adds the steps: as a picture and as a table, and for an open case a way to finish it.
-fn put_steps_of(
-    alloc: Global,
-    out: &mut Html,
-    shown: &Shown<'_>,
-    plan: Option<Plan>,
-) -> Result<(), AllocError> {
+fn put_steps_of(out: &mut Html, shown: &Shown<'_>, plan: Option<Plan>) -> Result<(), AllocError> {
     out.put(&[Part::Mark("<h2>Steps</h2>\n")])?;
-    put_picture(alloc, out, shown)?;
-    put_steps(alloc, out, shown)?;
+    put_picture(out, shown)?;
+    put_steps(out, shown)?;
     match plan {
-        Some(plan) => put_plan(alloc, out, shown, &plan),
+        Some(plan) => put_plan(out, shown, &plan),
         None => Ok(()),
     }
 }
 
 // Adds the row of an entry.
-fn put_row(alloc: Global, rows: &mut Html, told: &Told<'_>) -> Result<(), AllocError> {
+fn put_row(rows: &mut Html, told: &Told<'_>) -> Result<(), AllocError> {
     let entry = told.entry;
-    let mut ask = String::new(alloc);
-    push_ask(alloc, &mut ask, &entry.ask)?;
+    let mut ask = String::new(rows.allocator());
+    push_ask(&mut ask, &entry.ask)?;
     rows.put(&[
         Part::Mark(row_start(&entry.reply)),
         Part::Number(entry.at),
@@ -182,10 +176,10 @@ fn put_row(alloc: Global, rows: &mut Html, told: &Told<'_>) -> Result<(), AllocE
         Part::Mark("</td><td>"),
     ])?;
     if has_tree(&entry.reply) {
-        put_tree(alloc, rows, told)?;
+        put_tree(rows, told)?;
     } else {
-        let mut answer = String::new(alloc);
-        push_answer(alloc, &mut answer, told)?;
+        let mut answer = String::new(rows.allocator());
+        push_answer(&mut answer, told)?;
         rows.put(&[Part::Value(answer.as_str())])?;
     }
     rows.put(&[Part::Mark("</td></tr>\n")])
@@ -218,10 +212,11 @@ fn has_tree(reply: &Reply) -> bool {
 }
 
 // Adds an answer, and why nobody could finish the case.
-fn put_tree(alloc: Global, rows: &mut Html, told: &Told<'_>) -> Result<(), AllocError> {
+fn put_tree(rows: &mut Html, told: &Told<'_>) -> Result<(), AllocError> {
+    let alloc = rows.allocator();
     let (mut answer, mut why) = (String::new(alloc), String::new(alloc));
-    push_reply(alloc, &mut answer, told)?;
-    push_reasons(alloc, &mut why, told)?;
+    push_reply(&mut answer, told)?;
+    push_reasons(&mut why, told)?;
     rows.put(&[
         Part::Value(answer.as_str()),
         Part::Mark("<details open><summary>why</summary><pre>"),

@@ -16,7 +16,7 @@ use transcript_commands::{first_len, is_long};
 /// What looks at an audit after each entry. Nothing is promised of what it makes of it.
 pub(crate) trait Watches {
     /// Looks at the audit, of which one more entry is taken.
-    fn see(&mut self, alloc: Global, auditor: &Auditor) -> Result<(), AllocError>;
+    fn see(&mut self, auditor: &Auditor) -> Result<(), AllocError>;
 }
 
 /// Looks at nothing.
@@ -24,7 +24,7 @@ pub(crate) trait Watches {
 pub(crate) struct Quiet;
 
 impl Watches for Quiet {
-    fn see(&mut self, _alloc: Global, _auditor: &Auditor) -> Result<(), AllocError> {
+    fn see(&mut self, _auditor: &Auditor) -> Result<(), AllocError> {
         Ok(())
     }
 }
@@ -122,7 +122,7 @@ fn follow_line<W: Watches>(
     let count = first_len(rest);
     match auditor.line(alloc, &PlainDecider, &rest[..count]) {
         Ok(()) => {
-            watcher.see(alloc, auditor)?;
+            watcher.see(auditor)?;
             place.at += count;
             place.number += 1;
             Ok(None)

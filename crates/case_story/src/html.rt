@@ -43,6 +43,11 @@ impl Html {
         }
     }
 
+    /// The allocator of the text.
+    pub(crate) fn allocator(&self) -> Global {
+        *self.text.allocator()
+    }
+
     /// Adds some parts, one behind the other.
     pub(crate) fn put(&mut self, parts: &[Part<'_>]) -> Result<(), AllocError>
         ensures { OnOk result (self.new ≡ self.old ++ parts_text parts.now) }

@@ -8,7 +8,6 @@ use crate::answer::{push_wrong, tell_by};
 use crate::follow::{Watches, last_told};
 use crate::session::Session;
 use crate::whole::{Audited, audit_whole};
-use plain_words::say;
 use run_record::RunFault;
 use std::alloc::{AllocError, Global};
 use story_words::push_line;
@@ -25,11 +24,11 @@ struct Log {
 }
 
 impl Watches for Log {
-    fn see(&mut self, alloc: Global, auditor: &Auditor) -> Result<(), AllocError> {
+    fn see(&mut self, auditor: &Auditor) -> Result<(), AllocError> {
         match last_told(auditor) {
             Some(told) => {
-                push_number(alloc, &mut self.text, told.entry.at)?;
-                push_line(alloc, &mut self.text, &told)?;
+                push_number(&mut self.text, told.entry.at)?;
+                push_line(&mut self.text, &told)?;
                 self.text.push_str("\n")
             }
             None => Ok(()),
@@ -38,12 +37,8 @@ impl Watches for Log {
 }
 
 // Adds a number, with blanks before it, and a blank.
-fn push_number(alloc: Global, out: &mut String, n: u32) -> Result<(), AllocError> {
-    let number = format!(in alloc; "{n}")?;
-    'blanks: for _ in number.len()..WIDTH {
-        out.push_str(" ")?;
-    }
-    say(out, &[number.as_str(), " "])
+fn push_number(out: &mut String, n: u32) -> Result<(), AllocError> {
+    write!(out, "{n:WIDTH$} ")
 }
 
 /// Tells all entries that are right.
@@ -70,6 +65,6 @@ fn tell_audited(
     ensures ending { IfErr result IsAnswerEnding }
 {
     let text = s.transcript.as_bytes();
-    push_wrong(alloc, lines, audited.verdict, text, &audited.place)?;
+    push_wrong(lines, audited.verdict, text, &audited.place)?;
     tell_by(alloc, "", audited.verdict, "\n", true, lines.as_str())
 }

@@ -24,9 +24,9 @@ struct Rows {
 }
 
 impl Watches for Rows {
-    fn see(&mut self, alloc: Global, auditor: &Auditor) -> Result<(), AllocError> {
+    fn see(&mut self, auditor: &Auditor) -> Result<(), AllocError> {
         match last_told(auditor) {
-            Some(told) => self.page.take(alloc, &told),
+            Some(told) => self.page.take(&told),
             None => Ok(()),
         }
     }

@@ -57,20 +57,16 @@ const PICTURE: &str =
     d=\"M0 0L8 4L0 8z\"/></marker></defs>\n";
 
 /// Adds the picture.
-pub(crate) fn put_picture(
-    alloc: Global,
-    out: &mut Html,
-    shown: &Shown<'_>,
-) -> Result<(), AllocError> {
-    let mut canvas = canvas_of(alloc, shown)?;
-    let mut drawn = Html::new(alloc);
+pub(crate) fn put_picture(out: &mut Html, shown: &Shown<'_>) -> Result<(), AllocError> {
+    let mut canvas = canvas_of(out.allocator(), shown)?;
+    let mut drawn = Html::new(out.allocator());
     for s in 0..shown.case.steps() {
         put_arrows(&mut drawn, shown, &mut canvas, StepId(s))?;
     }
     for s in 0..shown.case.steps() {
-        put_box(alloc, &mut drawn, shown, &canvas, StepId(s))?;
+        put_box(&mut drawn, shown, &canvas, StepId(s))?;
     }
-    put_frame(alloc, out, shown, &canvas)?;
+    put_frame(out, shown, &canvas)?;
     out.join(&drawn)?;
     out.put(&[Part::Mark("</svg></div>\n")])
 }
@@ -92,12 +88,7 @@ fn canvas_of(alloc: Global, shown: &Shown<'_>) -> Result<Canvas, AllocError> {
     })
 }
 
-fn put_frame(
-    alloc: Global,
-    out: &mut Html,
-    shown: &Shown<'_>,
-    canvas: &Canvas,
-) -> Result<(), AllocError> {
+fn put_frame(out: &mut Html, shown: &Shown<'_>, canvas: &Canvas) -> Result<(), AllocError> {
     let last = Spot {
         layer: canvas.layout.last,
         halves: 0,
@@ -106,7 +97,7 @@ fn put_frame(
         .x(last)
         .saturating_add(canvas.wide)
         .saturating_add(EDGE);
-    let flow = flow_text(alloc, shown.course.policy, shown.course.number)?;
+    let flow = flow_text(out.allocator(), shown.course.policy, shown.course.number)?;
     out.put(&[
         Part::Mark("<div class=\"wide\"><svg viewBox=\"0 0 "),
         Part::Number(wide),
@@ -176,13 +167,13 @@ fn put_arrow(out: &mut Html, canvas: &mut Canvas, start: Spot, to: Spot) -> Resu
 }
 
 fn put_box(
-    alloc: Global,
     out: &mut Html,
     shown: &Shown<'_>,
     canvas: &Canvas,
     s: StepId,
 ) -> Result<(), AllocError> {
     let spot = canvas.layout.spot(s);
+    let alloc = out.allocator();
     let step = shown.step(alloc, s)?;
     let (roles, state) = (roles_text(alloc, shown, s)?, state_text(alloc, shown, s)?);
     let (begun, dots) = beginning(roles.as_str(), canvas.letters);

@@ -5,36 +5,34 @@ use crate::shown::Shown;
 use case_record::Case;
 use constraint_forms::Plan;
 use plain_words::{name_text, push_gap, rule_text, say};
-use std::alloc::{AllocError, Global};
+use std::alloc::AllocError;
 use wf_names::{Phase, StepId};
 
 /// Adds the sentence on how a case stands.
 pub(crate) fn put_standing(out: &mut Html, case: &Case) -> Result<(), AllocError> {
     let steps = case.steps() as u32;
     let (finished, held) = counts(case);
-    match case.phase() {
-        Phase::Done => out.put(&[
-            Part::Mark("<p class=\"lead\">It is done: all of its "),
-            Part::Number(steps),
-            Part::Mark(" steps are finished.</p>\n"),
-        ]),
-        Phase::Withdrawn => out.put(&[
-            Part::Mark("<p class=\"lead\">It was withdrawn. Finished steps: "),
-            Part::Number(finished),
-            Part::Mark(" of "),
-            Part::Number(steps),
-            Part::Mark(".</p>\n"),
-        ]),
-        Phase::Live => out.put(&[
-            Part::Mark("<p class=\"lead\">It is open. Finished steps: "),
-            Part::Number(finished),
-            Part::Mark(" of "),
-            Part::Number(steps),
-            Part::Mark("; held: "),
-            Part::Number(held),
-            Part::Mark(".</p>\n"),
-        ]),
+    let front = match case.phase() {
+        Phase::Done => {
+            return out.put(&[
+                Part::Mark("<p class=\"lead\">It is done: all of its "),
+                Part::Number(steps),
+                Part::Mark(" steps are finished.</p>\n"),
+            ]);
+        }
+        Phase::Withdrawn => "<p class=\"lead\">It was withdrawn. Finished steps: ",
+        Phase::Live => "<p class=\"lead\">It is open. Finished steps: ",
+    };
+    out.put(&[
+        Part::Mark(front),
+        Part::Number(finished),
+        Part::Mark(" of "),
+        Part::Number(steps),
+    ])?;
+    if case.phase().is_live() {
+        out.put(&[Part::Mark("; held: "), Part::Number(held)])?;
     }
+    out.put(&[Part::Mark(".</p>\n")])
 }
 
 // How many steps are finished, and how many held.
@@ -52,14 +50,10 @@ fn counts(case: &Case) -> (u32, u32) {
 }
 
 /// Adds who does the steps that are not finished, by the plan that is kept for an open case.
-pub(crate) fn put_plan(
-    alloc: Global,
-    out: &mut Html,
-    shown: &Shown<'_>,
-    plan: &Plan,
-) -> Result<(), AllocError> {
+pub(crate) fn put_plan(out: &mut Html, shown: &Shown<'_>, plan: &Plan) -> Result<(), AllocError> {
     let (finished, _) = counts(shown.case);
     let left = (plan.len() as u32).saturating_sub(finished);
+    let alloc = out.allocator();
     let mut text = String::new(alloc);
     let mut place = 0u32;
     for s in 0..plan.len() {
@@ -83,14 +77,10 @@ pub(crate) fn put_plan(
 }
 
 /// Adds the rules of a workflow, which are numbered from 0.
-pub(crate) fn put_rules(
-    alloc: Global,
-    out: &mut Html,
-    shown: &Shown<'_>,
-) -> Result<(), AllocError> {
+pub(crate) fn put_rules(out: &mut Html, shown: &Shown<'_>) -> Result<(), AllocError> {
     out.put(&[Part::Mark("<h2>Rules</h2>\n<ol start=\"0\">\n")])?;
     for rule in shown.course.rules().as_slice() {
-        let words = rule_text(alloc, &shown.course, rule)?;
+        let words = rule_text(out.allocator(), &shown.course, rule)?;
         out.put(&[
             Part::Mark("<li>"),
             Part::Value(words.as_str()),

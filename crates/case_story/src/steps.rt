@@ -109,23 +109,20 @@ fn before_text(alloc: Global, shown: &Shown<'_>, s: StepId) -> Result<String, Al
 }
 
 /// Adds the table of the steps.
-pub(crate) fn put_steps(
-    alloc: Global,
-    out: &mut Html,
-    shown: &Shown<'_>,
-) -> Result<(), AllocError> {
+pub(crate) fn put_steps(out: &mut Html, shown: &Shown<'_>) -> Result<(), AllocError> {
     out.put(&[Part::Mark(
         "<div class=\"wide\"><table><thead><tr><th scope=\"col\">Step</th><th scope=\"col\">Comes \
          after</th><th scope=\"col\">Permitted to</th><th scope=\"col\">State</th></tr></thead>\
          <tbody>\n",
     )])?;
     for s in 0..shown.case.steps() {
-        put_step(alloc, out, shown, StepId(s))?;
+        put_step(out, shown, StepId(s))?;
     }
     out.put(&[Part::Mark("</tbody></table></div>\n")])
 }
 
-fn put_step(alloc: Global, out: &mut Html, shown: &Shown<'_>, s: StepId) -> Result<(), AllocError> {
+fn put_step(out: &mut Html, shown: &Shown<'_>, s: StepId) -> Result<(), AllocError> {
+    let alloc = out.allocator();
     let (step, before) = (shown.step(alloc, s)?, before_text(alloc, shown, s)?);
     let (roles, state) = (roles_text(alloc, shown, s)?, state_text(alloc, shown, s)?);
     out.put(&[

@@ -90,11 +90,8 @@ fn state_words(kind: AuditKind) -> &'static str
     ensures { result.now ≡ state_words kind }
 {
     match kind {
-        AuditKind::Text => " is wrong (",
-        AuditKind::At => " is wrong (",
-        AuditKind::Job => " is wrong (",
-        AuditKind::Reply => " is wrong (",
         AuditKind::Missing => " is missing (",
+        _ => " is wrong (",
     }
 }
 

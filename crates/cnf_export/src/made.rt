@@ -6,7 +6,7 @@ ghost use Rattle.cnf_export.specs.Readings.{ReadsBack, SatisfiesWherever};
 
 use crate::Model;
 use crate::laws::plans_are_models;
-use crate::saying::{say_rules, say_until, say_users};
+use crate::saying::Planned;
 use crate::sizes::{step_count, user_count};
 use policy_book::{Course, Plan, Policy};
 use std::alloc::{AllocError, Global};
@@ -28,9 +28,10 @@ pub fn model_of(alloc: Global, p: &Policy, f: FlowId, plan: &Plan) -> Result<Mod
     };
     let steps = step_count(&course);
     let users = user_count(&course);
+    let planned = Planned { plan, users };
     let mut said = Model::new(alloc);
-    say_users(plan, steps, users, &mut said)?;
-    say_until(plan, steps, users, &mut said)?;
-    say_rules(plan, users, course.rules(), &mut said)?;
+    planned.say_users(steps, &mut said)?;
+    planned.say_until(steps, &mut said)?;
+    planned.say_rules(course.rules(), &mut said)?;
     Ok(said)
 }

@@ -13,6 +13,13 @@ use policy_book::Plan;
 use std::alloc::AllocError;
 use wf_names::StepId;
 
+/// A plan, and how many users there are.
+#[derive(Clone, Copy)]
+pub(crate) struct Planned<'a> {
+    pub(crate) plan: &'a Plan,
+    pub(crate) users: u16,
+}
+
 // The user whom a plan gives a step.
 fn user_of(plan: &Plan, s: StepId) -> u16
     ensures { result ≡ planned plan.now s }
@@ -32,20 +39,81 @@ fn say_each<F: Fn(u16) -> bool>(n: u16, test: F, into: &mut Model) -> Result<(),
     Ok(())
 }
 
-/// Of each step and user, whether the step has the user.
-pub(crate) fn say_users(
-    plan: &Plan,
-    steps: u8,
-    users: u16,
-    into: &mut Model,
-) -> Result<(), AllocError>
-    ensures { OnOk result (into.new
-        ≡ into.old ++ grid (λ s u. planned plan.now s == u) steps users) }
-{
-    'steps: for s in 0..steps {
-        say_user(user_of(plan, StepId(s)), users, into)?;
+impl Planned<'_> {
+    /// Of each step and user, whether the step has the user.
+    pub(crate) fn say_users(&self, steps: u8, into: &mut Model) -> Result<(), AllocError>
+        ensures { OnOk result (into.new
+            ≡ into.old ++ grid (λ s u. planned self.now.plan.now s == u) steps self.now.users) }
+    {
+        'steps: for s in 0..steps {
+            say_user(user_of(self.plan, StepId(s)), self.users, into)?;
+        }
+        Ok(())
     }
-    Ok(())
+
+    /// Of each step and user, whether the step has the user or one before.
+    pub(crate) fn say_until(&self, steps: u8, into: &mut Model) -> Result<(), AllocError>
+        ensures { OnOk result (into.new ≡ into.old
+            ++ grid (λ s u. nat_le (planned self.now.plan.now s) u) steps self.now.users) }
+    {
+        'steps: for s in 0..steps {
+            say_from(user_of(self.plan, StepId(s)), self.users, into)?;
+        }
+        Ok(())
+    }
+
+    /// What the rules that count are asked.
+    pub(crate) fn say_rules(&self, rules: &Rules, into: &mut Model) -> Result<(), AllocError>
+        ensures { OnOk result (into.new
+            ≡ into.old ++ rules_flags self.now.users self.now.plan.now rules.now) }
+    {
+        'rules: for k in 0..rules.len() {
+            self.say_rule(rules.get(k), into)?;
+        }
+        Ok(())
+    }
+
+    fn say_rule(&self, rule: &Rule, into: &mut Model) -> Result<(), AllocError>
+        ensures { OnOk result (into.new
+            ≡ into.old ++ rule_flags self.now.users self.now.plan.now rule.now) }
+    {
+        match *rule {
+            Rule::Pair { .. } => Ok(()),
+            Rule::SomeOf { .. } => Ok(()),
+            Rule::AllOf { .. } => Ok(()),
+            Rule::SomeTo { .. } => Ok(()),
+            Rule::AllTo { .. } => Ok(()),
+            Rule::AtMost { limit, group } => self.say_count(limit as u16 + 1, &group, into),
+            Rule::AtLeast { limit, group } => self.say_count(limit as u16, &group, into),
+        }
+    }
+
+    fn say_count(&self, high: u16, group: &StepSet, into: &mut Model) -> Result<(), AllocError>
+        ensures { OnOk result (into.new
+            ≡ into.old ++ count_flags self.now.users self.now.plan.now high group.now) }
+    {
+        self.say_takers(group, into)?;
+        self.say_counts(high, group, into)
+    }
+
+    fn say_takers(&self, group: &StepSet, into: &mut Model) -> Result<(), AllocError>
+        ensures { OnOk result (into.new ≡ into.old
+            ++ map (has_some group.now self.now.plan.now) (numbers 0 self.now.users)) }
+    {
+        say_each(self.users, |u| takes_some(self.plan, group, u), into)
+    }
+
+    fn say_counts(&self, high: u16, group: &StepSet, into: &mut Model) -> Result<(), AllocError>
+        ensures { OnOk result (into.new ≡ into.old ++ grid (λ u j. nat_lt j
+            (count_below (suc u) (has_some group.now self.now.plan.now))) self.now.users high) }
+    {
+        let mut count = 0u16;
+        'users: for u in 0..self.users {
+            count = count_on(count, takes_some(self.plan, group, u));
+            say_below(count, high, into)?;
+        }
+        Ok(())
+    }
 }
 
 fn say_user(v: u16, users: u16, into: &mut Model) -> Result<(), AllocError>
@@ -54,94 +122,10 @@ fn say_user(v: u16, users: u16, into: &mut Model) -> Result<(), AllocError>
     say_each(users, |u| v == u, into)
 }
 
-/// Of each step and user, whether the step has the user or one before.
-pub(crate) fn say_until(
-    plan: &Plan,
-    steps: u8,
-    users: u16,
-    into: &mut Model,
-) -> Result<(), AllocError>
-    ensures { OnOk result (into.new
-        ≡ into.old ++ grid (λ s u. nat_le (planned plan.now s) u) steps users) }
-{
-    'steps: for s in 0..steps {
-        say_from(user_of(plan, StepId(s)), users, into)?;
-    }
-    Ok(())
-}
-
 fn say_from(v: u16, users: u16, into: &mut Model) -> Result<(), AllocError>
     ensures { OnOk result (into.new ≡ into.old ++ map (λ u. nat_le v u) (numbers 0 users)) }
 {
     say_each(users, |u| v <= u, into)
-}
-
-/// What the rules that count are asked.
-pub(crate) fn say_rules(
-    plan: &Plan,
-    users: u16,
-    rules: &Rules,
-    into: &mut Model,
-) -> Result<(), AllocError>
-    ensures { OnOk result (into.new ≡ into.old ++ rules_flags users plan.now rules.now) }
-{
-    'rules: for k in 0..rules.len() {
-        say_rule(plan, users, rules.get(k), into)?;
-    }
-    Ok(())
-}
-
-fn say_rule(plan: &Plan, users: u16, rule: &Rule, into: &mut Model) -> Result<(), AllocError>
-    ensures { OnOk result (into.new ≡ into.old ++ rule_flags users plan.now rule.now) }
-{
-    match *rule {
-        Rule::Pair { .. } => Ok(()),
-        Rule::SomeOf { .. } => Ok(()),
-        Rule::AllOf { .. } => Ok(()),
-        Rule::SomeTo { .. } => Ok(()),
-        Rule::AllTo { .. } => Ok(()),
-        Rule::AtMost { limit, group } => say_count(plan, users, limit as u16 + 1, &group, into),
-        Rule::AtLeast { limit, group } => say_count(plan, users, limit as u16, &group, into),
-    }
-}
-
-fn say_count(
-    plan: &Plan,
-    users: u16,
-    high: u16,
-    group: &StepSet,
-    into: &mut Model,
-) -> Result<(), AllocError>
-    ensures { OnOk result (into.new ≡ into.old ++ count_flags users plan.now high group.now) }
-{
-    say_takers(plan, users, group, into)?;
-    say_counts(plan, users, high, group, into)
-}
-
-fn say_takers(plan: &Plan, users: u16, group: &StepSet, into: &mut Model) -> Result<(), AllocError>
-    ensures { OnOk result (into.new
-        ≡ into.old ++ map (has_some group.now plan.now) (numbers 0 users)) }
-{
-    say_each(users, |u| takes_some(plan, group, u), into)
-}
-
-fn say_counts(
-    plan: &Plan,
-    users: u16,
-    high: u16,
-    group: &StepSet,
-    into: &mut Model,
-) -> Result<(), AllocError>
-    ensures { OnOk result (into.new
-        ≡ into.old ++ grid (λ u j. nat_lt j
-        (count_below (suc u) (has_some group.now plan.now))) users high) }
-{
-    let mut count = 0u16;
-    'users: for u in 0..users {
-        count = count_on(count, takes_some(plan, group, u));
-        say_below(count, high, into)?;
-    }
-    Ok(())
 }
 
 // One more, where there is one.

@@ -13,13 +13,8 @@ use wf_names::{FlowId, RelId, RoleId, StepId, UserId, UserSet};
 
 /// Adds a line for each thing in a policy that is legal and probably not meant, each behind this
 /// front. Whether a workflow has a plan is not looked at.
-pub fn push_advice(
-    alloc: Global,
-    out: &mut String,
-    front: &str,
-    p: &Policy,
-) -> Result<(), AllocError> {
-    push_admin(alloc, out, front, p)?;
+pub fn push_advice(out: &mut String, front: &str, p: &Policy) -> Result<(), AllocError> {
+    push_admin(out, front, p)?;
     for r in 0..p.roster().roles().len().min(256) {
         push_role(out, front, p, RoleId(r as u8))?;
     }
@@ -28,7 +23,7 @@ pub fn push_advice(
         push_one_way(out, front, p, RelId(rho as u8))?;
     }
     for f in 0..p.flows().len() {
-        push_flow(alloc, out, front, &course_of(p, FlowId(f as u8)))?;
+        push_flow(out, front, &course_of(p, FlowId(f as u8)))?;
     }
     Ok(())
 }
@@ -43,14 +38,26 @@ fn course_of(p: &Policy, f: FlowId) -> Course<'_>
     }
 }
 
+// Whether one of the policy's workflows is so.
+fn some_course<F: Fn(&Course<'_>) -> bool>(p: &Policy, is_so: F) -> bool
+    requires { F.IsAlwaysCallable is_so }
+{
+    for f in 0..p.flows().len() {
+        if is_so(&course_of(p, FlowId(f as u8))) {
+            return true;
+        }
+    }
+    false
+}
+
 // One administrator alone.
-fn push_admin(alloc: Global, out: &mut String, front: &str, p: &Policy) -> Result<(), AllocError> {
+fn push_admin(out: &mut String, front: &str, p: &Policy) -> Result<(), AllocError> {
     let holders = p.roster().holders(p.admin());
     if holders.count() != 1 {
         return Ok(());
     }
     let role = name_of(p.roster().roles(), p.admin().0 as u16);
-    let user = users_text(alloc, p, &holders)?;
+    let user = users_text(*out.allocator(), p, &holders)?;
     let alone = " alone administers the policy\n";
     say(
         out,
@@ -60,7 +67,7 @@ fn push_admin(alloc: Global, out: &mut String, front: &str, p: &Policy) -> Resul
 
 // A role that permits nothing and does not administer the policy.
 fn push_role(out: &mut String, front: &str, p: &Policy, r: RoleId) -> Result<(), AllocError> {
-    if r == p.admin() || permits_some(p, r) {
+    if r == p.admin() || some_course(p, |course| permits_in(course, r)) {
         return Ok(());
     }
     let role = name_of(p.roster().roles(), r.0 as u16);
@@ -75,15 +82,6 @@ fn push_role(out: &mut String, front: &str, p: &Policy, r: RoleId) -> Result<(),
     )
 }
 
-fn permits_some(p: &Policy, r: RoleId) -> bool {
-    for f in 0..p.flows().len() {
-        if permits_in(&course_of(p, FlowId(f as u8)), r) {
-            return true;
-        }
-    }
-    false
-}
-
 fn permits_in(course: &Course, r: RoleId) -> bool {
     let flow = course.flow();
     for s in 0..flow.steps().len().min(256) {
@@ -96,7 +94,7 @@ fn permits_in(course: &Course, r: RoleId) -> bool {
 
 // A relation that no rule reads, nor a complement that a rule reads.
 fn push_relation(out: &mut String, front: &str, p: &Policy, rho: RelId) -> Result<(), AllocError> {
-    if is_read(p, rho) {
+    if some_course(p, |course| is_read_in(course, rho)) {
         return Ok(());
     }
     let name = relation_name(p, rho);
@@ -104,15 +102,6 @@ fn push_relation(out: &mut String, front: &str, p: &Policy, rho: RelId) -> Resul
         out,
         &[front, "relation ", text_of(&name), ": no rule reads it\n"],
     )
-}
-
-fn is_read(p: &Policy, rho: RelId) -> bool {
-    for f in 0..p.flows().len() {
-        if is_read_in(&course_of(p, FlowId(f as u8)), rho) {
-            return true;
-        }
-    }
-    false
 }
 
 fn is_read_in(course: &Course, rho: RelId) -> bool {
@@ -129,17 +118,12 @@ fn is_read_in(course: &Course, rho: RelId) -> bool {
     false
 }
 
-fn push_flow(
-    alloc: Global,
-    out: &mut String,
-    front: &str,
-    course: &Course,
-) -> Result<(), AllocError> {
+fn push_flow(out: &mut String, front: &str, course: &Course) -> Result<(), AllocError> {
     for s in 0..course.flow().steps().len().min(256) {
         push_step(out, front, course, StepId(s as u8))?;
     }
     for k in 0..course.rules().len() {
-        push_rule(alloc, out, front, course, k)?;
+        push_rule(out, front, course, k)?;
     }
     Ok(())
 }
@@ -159,14 +143,8 @@ fn push_step(out: &mut String, front: &str, course: &Course, s: StepId) -> Resul
 }
 
 // What may not be meant by a rule.
-fn push_rule(
-    alloc: Global,
-    out: &mut String,
-    front: &str,
-    course: &Course,
-    k: usize,
-) -> Result<(), AllocError> {
-    let Some(words) = rule_advice(alloc, course, k)? else {
+fn push_rule(out: &mut String, front: &str, course: &Course, k: usize) -> Result<(), AllocError> {
+    let Some(words) = rule_advice(*out.allocator(), course, k)? else {
         return Ok(());
     };
     let flow = flow_name(course);

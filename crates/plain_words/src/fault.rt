@@ -1,7 +1,7 @@
 //! The first fault of a policy file in words, with its place.
 
 use crate::culprit::faulty_rule;
-use crate::marks::{Mark, marks_of};
+use crate::marks::{Marked, marks_of};
 use crate::nearest::{is_key, nearest_key, nearest_word};
 use crate::place::{Keys, Span, keys_of, place_of};
 use crate::shown::{shown, spot_of};
@@ -66,8 +66,12 @@ fn table_fault(
     let mut keys = keys_of(table, fault);
     keys.rule = faulty_rule(alloc, text, keys.item, fault)?;
     let marks = marks_of(alloc, text.as_bytes())?;
-    let span = place_of(text.as_bytes(), &marks, keys, fault);
-    let words = words_of(alloc, text.as_bytes(), &marks, keys, fault)?;
+    let marked = Marked {
+        text: text.as_bytes(),
+        marks: &marks,
+    };
+    let span = place_of(marked, keys, fault);
+    let words = words_of(alloc, marked, keys, fault)?;
     told(alloc, file, text, span, fault.kind.word(), words.as_str())
 }
 
@@ -90,15 +94,14 @@ fn told(
 // What is wrong, and where by name.
 fn words_of(
     alloc: Global,
-    text: &[u8],
-    marks: &[Mark],
+    marked: Marked<'_>,
     keys: Keys<'_>,
     fault: &PolicyFault,
 ) -> Result<String, AllocError> {
     let mut out = String::new(alloc);
     push_kind(&mut out, fault)?;
     push_part(&mut out, keys, fault)?;
-    push_meant(alloc, &mut out, text, marks, fault)?;
+    push_meant(&mut out, marked, fault)?;
     Ok(out)
 }
 
@@ -144,16 +147,10 @@ fn name_or_none(key: &str) -> &str {
 }
 
 // Adds the name that was probably meant in place of one that is not known.
-fn push_meant(
-    alloc: Global,
-    out: &mut String,
-    text: &[u8],
-    marks: &[Mark],
-    fault: &PolicyFault,
-) -> Result<(), AllocError> {
+fn push_meant(out: &mut String, marked: Marked<'_>, fault: &PolicyFault) -> Result<(), AllocError> {
     match fault.name {
         Some(name) => {
-            let meant = meant_by(alloc, text, marks, fault.kind, name.as_str())?;
+            let meant = meant_by(*out.allocator(), marked, fault.kind, name.as_str())?;
             push_near(out, fault.kind, meant)
         }
         None => Ok(()),
@@ -174,13 +171,12 @@ fn push_near(out: &mut String, kind: PolicyKind, meant: &str) -> Result<(), Allo
 // The name that was probably meant by another one; empty where none is near.
 fn meant_by<'a>(
     alloc: Global,
-    text: &'a [u8],
-    marks: &[Mark],
+    marked: Marked<'a>,
     kind: PolicyKind,
     name: &str,
 ) -> Result<&'a str, AllocError> {
     match kind {
-        PolicyKind::Unknown | PolicyKind::Missing => nearest_word(alloc, text, marks, name),
+        PolicyKind::Unknown | PolicyKind::Missing => nearest_word(alloc, marked, name),
         PolicyKind::Extra => nearest_key(alloc, name),
         _ => Ok(""),
     }

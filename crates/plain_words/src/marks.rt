@@ -16,6 +16,13 @@ pub(crate) struct Mark {
     pub is_key: bool,
 }
 
+/// A text that reads as TOML, with its marks.
+#[derive(Clone, Copy)]
+pub(crate) struct Marked<'a> {
+    pub text: &'a [u8],
+    pub marks: &'a [Mark],
+}
+
 // What may come next.
 #[derive(Clone, Copy, PartialEq, Eq)]
 enum Next {

@@ -1,6 +1,6 @@
 //! The name that was probably meant.
 
-use crate::marks::Mark;
+use crate::marks::{Mark, Marked};
 use crate::place::words_at;
 use std::alloc::{AllocError, Global};
 use strsim::levenshtein;
@@ -66,14 +66,13 @@ pub(crate) fn nearest_key(alloc: Global, word: &str) -> Result<&'static str, All
 /// Of the words of a text the one that is nearest to a word; empty where none is near.
 pub(crate) fn nearest_word<'a>(
     alloc: Global,
-    text: &'a [u8],
-    marks: &[Mark],
+    marked: Marked<'a>,
     word: &str,
 ) -> Result<&'a str, AllocError> {
     let mut best = "";
     let mut edits = most_edits(word).saturating_add(1);
-    for mark in marks {
-        let other = word_at(text, *mark);
+    for mark in marked.marks {
+        let other = word_at(marked.text, *mark);
         if is_close(word, other) {
             let needed = levenshtein(alloc, word, other)?;
             if needed > 0 && needed < edits {

@@ -3,7 +3,7 @@
 ghost use Rattle.std.specs.Prelude.{◌<◌, length};
 
 use crate::amiss::shape_place;
-use crate::marks::Mark;
+use crate::marks::{Mark, Marked};
 use policy_reader::{PolicyFault, PolicyKind, PolicyPart};
 use toml::{Table, Value};
 use wf_names::Name;
@@ -67,53 +67,51 @@ fn key_at(value: Option<&Value>, n: u32) -> &str {
 
 /// The place that a fault is about: the item that it names, or what seems to be meant, and else the
 /// key of its part.
-pub(crate) fn place_of(text: &[u8], marks: &[Mark], keys: Keys<'_>, fault: &PolicyFault) -> Span {
-    match item_place(text, marks, keys, fault) {
+pub(crate) fn place_of(marked: Marked<'_>, keys: Keys<'_>, fault: &PolicyFault) -> Span {
+    match item_place(marked, keys, fault) {
         Some(span) => span,
-        None => key_place(text, marks, keys),
+        None => key_place(marked, keys),
     }
 }
 
-fn item_place(text: &[u8], marks: &[Mark], keys: Keys<'_>, fault: &PolicyFault) -> Option<Span> {
+fn item_place(marked: Marked<'_>, keys: Keys<'_>, fault: &PolicyFault) -> Option<Span> {
     if matches!(fault.table, PolicyPart::Roles) {
-        return role_place(text, marks, fault);
+        return role_place(marked, fault);
     }
     match fault.kind {
-        PolicyKind::Version => value_of_key(text, marks, "format"),
-        PolicyKind::NoAdmin => value_of_key(text, marks, "admin"),
+        PolicyKind::Version => value_of_key(marked, "format"),
+        PolicyKind::NoAdmin => value_of_key(marked, "admin"),
         PolicyKind::Missing => None,
-        PolicyKind::Name => first_bad(text, marks, keys),
-        PolicyKind::Shape => shape_place(text, marks, keys),
-        PolicyKind::Empty | PolicyKind::TooMany => list_place(text, marks, keys, fault.kind),
-        PolicyKind::Range => named_mark(text, marks, keys, "limit", true),
-        PolicyKind::Twice => second_place(text, marks, keys, fault.name),
-        PolicyKind::Form => form_place(text, marks, keys),
+        PolicyKind::Name => first_bad(marked, keys),
+        PolicyKind::Shape => shape_place(marked, keys),
+        PolicyKind::Empty | PolicyKind::TooMany => list_place(marked, keys, fault.kind),
+        PolicyKind::Range => named_mark(marked, keys, "limit", true),
+        PolicyKind::Twice => second_place(marked, keys, fault.name),
+        PolicyKind::Form => form_place(marked, keys),
         _ => match fault.name {
-            Some(name) => named_place(text, marks, keys, name.as_str(), fault.kind),
-            None => first_bad(text, marks, keys),
+            Some(name) => named_place(marked, keys, name.as_str(), fault.kind),
+            None => first_bad(marked, keys),
         },
     }
 }
 
 // The key of a workflow's list that is too short or too long: a rule's group, or the steps.
-fn list_place(text: &[u8], marks: &[Mark], keys: Keys<'_>, kind: PolicyKind) -> Option<Span> {
+fn list_place(marked: Marked<'_>, keys: Keys<'_>, kind: PolicyKind) -> Option<Span> {
     match kind {
-        PolicyKind::Empty if keys.rule > 0 => named_mark(text, marks, keys, "group", true),
-        _ if keys.table == "flows" && keys.rule == 0 => {
-            named_mark(text, marks, keys, "steps", true)
-        }
+        PolicyKind::Empty if keys.rule > 0 => named_mark(marked, keys, "group", true),
+        _ if keys.table == "flows" && keys.rule == 0 => { named_mark(marked, keys, "steps", true) }
         _ => None,
     }
 }
 
 // The role with the number of a fault, unless the fault is that of the list.
-fn role_place(text: &[u8], marks: &[Mark], fault: &PolicyFault) -> Option<Span> {
+fn role_place(marked: Marked<'_>, fault: &PolicyFault) -> Option<Span> {
     if matches!(fault.kind, PolicyKind::Empty | PolicyKind::TooMany) {
         return None;
     }
     let mut place = 0u32;
-    for mark in marks {
-        if is_value_of(text, marks, *mark, "roles") && is_at_top(marks, *mark) {
+    for mark in marked.marks {
+        if is_value_of(marked, *mark, "roles") && is_at_top(marked.marks, *mark) {
             if place == fault.index {
                 return Some(span_of(*mark));
             }
@@ -124,8 +122,8 @@ fn role_place(text: &[u8], marks: &[Mark], fault: &PolicyFault) -> Option<Span> 
 }
 
 // Whether a mark is a value of a key with this name.
-fn is_value_of(text: &[u8], marks: &[Mark], mark: Mark, key: &str) -> bool {
-    !mark.is_key && is_named(text, parent(marks, mark), key)
+fn is_value_of(marked: Marked<'_>, mark: Mark, key: &str) -> bool {
+    !mark.is_key && is_named(marked.text, parent(marked.marks, mark), key)
 }
 
 // Whether the key of a mark stands at the top.
@@ -137,11 +135,11 @@ fn is_at_top(marks: &[Mark], mark: Mark) -> bool {
 }
 
 // The key of a fault's item, or of its table; the front of the text where neither is there.
-fn key_place(text: &[u8], marks: &[Mark], keys: Keys<'_>) -> Span {
+fn key_place(marked: Marked<'_>, keys: Keys<'_>) -> Span {
     let mut found = Span { start: 0, end: 0 };
     let mut depth = 0;
-    for mark in marks {
-        let here = depth_under(text, marks, *mark, keys);
+    for mark in marked.marks {
+        let here = depth_under(marked, *mark, keys);
         if mark.is_key && here > depth {
             depth = here;
             found = span_of(*mark);
@@ -151,7 +149,7 @@ fn key_place(text: &[u8], marks: &[Mark], keys: Keys<'_>) -> Span {
         return found;
     }
     // A rule without keys is only in its list.
-    match named_mark(text, marks, Keys { rule: 0, ..keys }, "rules", true) {
+    match named_mark(marked, Keys { rule: 0, ..keys }, "rules", true) {
         Some(list) => list,
         None => found,
     }
@@ -166,25 +164,27 @@ pub(crate) fn span_of(mark: Mark) -> Span {
 
 // How many of the keys a mark is under, or is: 3 where it belongs to the rule, 2 to the item, 1 to
 // the table.
-fn depth_under(text: &[u8], marks: &[Mark], mark: Mark, keys: Keys<'_>) -> u8 {
+fn depth_under(marked: Marked<'_>, mark: Mark, keys: Keys<'_>) -> u8 {
     let mut path = [None; 3];
     let mut now = mark;
-    for _ in 0..marks.len() {
+    for _ in 0..marked.marks.len() {
         path[2] = path[1];
         path[1] = path[0];
         path[0] = Some(now);
-        match parent(marks, now) {
+        match parent(marked.marks, now) {
             Some(above) => now = above,
             None => break,
         }
     }
-    if !is_named(text, path[0], keys.table) {
+    if !is_named(marked.text, path[0], keys.table) {
         return 0;
     }
-    if !is_named(text, path[1], keys.item) {
+    if !is_named(marked.text, path[1], keys.item) {
         return 1;
     }
-    let is_in_rule = is_named(text, path[2], "rules") && mark.item == keys.rule && keys.rule > 0;
+    let is_in_rule = is_named(marked.text, path[2], "rules")
+        && mark.item == keys.rule
+        && keys.rule > 0;
     if is_in_rule { 3 } else { 2 }
 }
 
@@ -220,7 +220,7 @@ pub(crate) fn words_at(text: &[u8], mark: Mark) -> &[u8] {
 }
 
 // Whether a mark lies under the keys: all marks do where there are none.
-pub(crate) fn is_within(text: &[u8], marks: &[Mark], mark: Mark, keys: Keys<'_>) -> bool {
+pub(crate) fn is_within(marked: Marked<'_>, mark: Mark, keys: Keys<'_>) -> bool {
     let wanted = if keys.table.is_empty() {
         0
     } else if keys.item.is_empty() {
@@ -230,37 +230,25 @@ pub(crate) fn is_within(text: &[u8], marks: &[Mark], mark: Mark, keys: Keys<'_>)
     } else {
         3
     };
-    depth_under(text, marks, mark, keys) >= wanted
+    depth_under(marked, mark, keys) >= wanted
 }
 
 // Under the keys, the value with this name that is no step's declaration, and else the key with it;
 // of a key that has no meaning the other way round.
-fn named_place(
-    text: &[u8],
-    marks: &[Mark],
-    keys: Keys<'_>,
-    name: &str,
-    kind: PolicyKind,
-) -> Option<Span> {
+fn named_place(marked: Marked<'_>, keys: Keys<'_>, name: &str, kind: PolicyKind) -> Option<Span> {
     let is_key = matches!(kind, PolicyKind::Extra | PolicyKind::Reserved);
-    match named_mark(text, marks, keys, name, is_key) {
+    match named_mark(marked, keys, name, is_key) {
         Some(span) => Some(span),
-        None => named_mark(text, marks, keys, name, !is_key),
+        None => named_mark(marked, keys, name, !is_key),
     }
 }
 
-fn named_mark(
-    text: &[u8],
-    marks: &[Mark],
-    keys: Keys<'_>,
-    name: &str,
-    is_key: bool,
-) -> Option<Span> {
-    for mark in marks {
+fn named_mark(marked: Marked<'_>, keys: Keys<'_>, name: &str, is_key: bool) -> Option<Span> {
+    for mark in marked.marks {
         if mark.is_key == is_key
-            && is_named(text, Some(*mark), name)
-            && is_within(text, marks, *mark, keys)
-            && !is_value_of(text, marks, *mark, "steps")
+            && is_named(marked.text, Some(*mark), name)
+            && is_within(marked, *mark, keys)
+            && !is_value_of(marked, *mark, "steps")
         {
             return Some(span_of(*mark));
         }
@@ -270,14 +258,14 @@ fn named_mark(
 
 // Under the keys, where an item of this name, or a pair whose first it is, stands again in its
 // list.
-fn second_place(text: &[u8], marks: &[Mark], keys: Keys<'_>, name: Option<Name>) -> Option<Span> {
+fn second_place(marked: Marked<'_>, keys: Keys<'_>, name: Option<Name>) -> Option<Span> {
     let name = name?;
-    for i in 0..marks.len() {
-        let mark = marks[i];
+    for i in 0..marked.marks.len() {
+        let mark = marked.marks[i];
         if !mark.is_key
-            && is_named(text, Some(mark), name.as_str())
-            && is_within(text, marks, mark, keys)
-            && stands_before(text, marks, i)
+            && is_named(marked.text, Some(mark), name.as_str())
+            && is_within(marked, mark, keys)
+            && stands_before(marked, i)
         {
             return Some(span_of(mark));
         }
@@ -286,14 +274,13 @@ fn second_place(text: &[u8], marks: &[Mark], keys: Keys<'_>, name: Option<Name>)
 }
 
 // Whether the item at a place, or the pair that begins there, stands earlier in the same list.
-fn stands_before(text: &[u8], marks: &[Mark], i: usize) -> bool
-    requires { i < length marks.now }
+fn stands_before(marked: Marked<'_>, i: usize) -> bool
+    requires { i < length marked.marks.now }
 {
-    let mark = marks[i];
-    let is_pair = is_value_of(text, marks, mark, "order")
-        || is_value_of(text, marks, mark, "pairs");
+    let mark = marked.marks[i];
+    let is_pair = is_value_of(marked, mark, "order") || is_value_of(marked, mark, "pairs");
     for j in mark.under..i {
-        if marks[j].under == mark.under && is_again(text, marks, j, i, is_pair) {
+        if marked.marks[j].under == mark.under && is_again(marked, j, i, is_pair) {
             return true;
         }
     }
@@ -301,37 +288,38 @@ fn stands_before(text: &[u8], marks: &[Mark], i: usize) -> bool
 }
 
 // Whether two items of a list are the same, or two pairs that begin there.
-fn is_again(text: &[u8], marks: &[Mark], j: usize, i: usize, is_pair: bool) -> bool
+fn is_again(marked: Marked<'_>, j: usize, i: usize, is_pair: bool) -> bool
     requires before { j < i }
-    requires there { i < length marks.now }
+    requires there { i < length marked.marks.now }
 {
-    if words_at(text, marks[j]) != words_at(text, marks[i]) {
+    if words_at(marked.text, marked.marks[j]) != words_at(marked.text, marked.marks[i]) {
         return false;
     }
     if !is_pair {
         return true;
     }
-    let under = marks[i].under;
+    let under = marked.marks[i].under;
     let begins = i >= under && (i - under) % 2 == 0 && j >= under && (j - under) % 2 == 0;
-    match (marks.get(j + 1), marks.get(i + 1)) {
-        (Some(one), Some(other)) => begins && words_at(text, *one) == words_at(text, *other),
+    match (marked.marks.get(j + 1), marked.marks.get(i + 1)) {
+        (Some(one), Some(other)) => begins
+            && words_at(marked.text, *one) == words_at(marked.text, *other),
         _ => false,
     }
 }
 
 // Under the keys, the first form that no format has, or else that the first format lacks.
-fn form_place(text: &[u8], marks: &[Mark], keys: Keys<'_>) -> Option<Span> {
-    match form_but(text, marks, keys, true) {
+fn form_place(marked: Marked<'_>, keys: Keys<'_>) -> Option<Span> {
+    match form_but(marked, keys, true) {
         Some(span) => Some(span),
-        None => form_but(text, marks, keys, false),
+        None => form_but(marked, keys, false),
     }
 }
 
-fn form_but(text: &[u8], marks: &[Mark], keys: Keys<'_>, has_later: bool) -> Option<Span> {
-    for mark in marks {
-        if is_value_of(text, marks, *mark, "form")
-            && is_within(text, marks, *mark, keys)
-            && !is_form(words_at(text, *mark), has_later)
+fn form_but(marked: Marked<'_>, keys: Keys<'_>, has_later: bool) -> Option<Span> {
+    for mark in marked.marks {
+        if is_value_of(marked, *mark, "form")
+            && is_within(marked, *mark, keys)
+            && !is_form(words_at(marked.text, *mark), has_later)
         {
             return Some(span_of(*mark));
         }
@@ -355,11 +343,11 @@ pub(crate) fn is_one_of(word: &[u8], words: &[&str]) -> bool {
 }
 
 // Under the keys, the first key or text in quotes that is of no name's form.
-fn first_bad(text: &[u8], marks: &[Mark], keys: Keys<'_>) -> Option<Span> {
-    for mark in marks {
-        if (mark.is_key || is_quoted(text, mark.start))
-            && !is_name(words_at(text, *mark))
-            && is_within(text, marks, *mark, keys)
+fn first_bad(marked: Marked<'_>, keys: Keys<'_>) -> Option<Span> {
+    for mark in marked.marks {
+        if (mark.is_key || is_quoted(marked.text, mark.start))
+            && !is_name(words_at(marked.text, *mark))
+            && is_within(marked, *mark, keys)
         {
             return Some(span_of(*mark));
         }
@@ -379,9 +367,9 @@ fn is_name(bytes: &[u8]) -> bool {
 }
 
 // What stands behind a key at the top.
-pub(crate) fn value_of_key(text: &[u8], marks: &[Mark], key: &str) -> Option<Span> {
-    for mark in marks {
-        if is_value_of(text, marks, *mark, key) && is_at_top(marks, *mark) {
+pub(crate) fn value_of_key(marked: Marked<'_>, key: &str) -> Option<Span> {
+    for mark in marked.marks {
+        if is_value_of(marked, *mark, key) && is_at_top(marked.marks, *mark) {
             return Some(span_of(*mark));
         }
     }

@@ -33,35 +33,20 @@ enum Form {
 
 /// What a rule of a workflow wants, as a sentence without its full stop.
 pub fn rule_text(alloc: Global, course: &Course, rule: &Rule) -> Result<String, AllocError> {
-    match *rule {
-        Rule::Pair { rho, first, second } => pair_text(alloc, course, rho, first, second),
-        Rule::SomeOf { rho, group, step } => {
-            group_rule(alloc, course, Form::SomeOf, rho, &group, step)
+    let (form, rho, group, step) = match *rule {
+        Rule::Pair { rho, first, second } => return pair_text(alloc, course, rho, first, second),
+        Rule::SomeOf { rho, group, step } => (Form::SomeOf, rho, group, step),
+        Rule::AllOf { rho, group, step } => (Form::AllOf, rho, group, step),
+        Rule::SomeTo { rho, group, step } => (Form::SomeTo, rho, group, step),
+        Rule::AllTo { rho, group, step } => (Form::AllTo, rho, group, step),
+        Rule::AtMost { limit, group } => {
+            return limit_text(alloc, course, "at most ", "", limit, &group);
         }
-        Rule::AllOf { rho, group, step } => group_rule(
-            alloc,
-            course,
-            Form::AllOf,
-            rho,
-            &group,
-            step,
-        ),
-        Rule::SomeTo { rho, group, step } => {
-            group_rule(alloc, course, Form::SomeTo, rho, &group, step)
-        }
-        Rule::AllTo { rho, group, step } => group_rule(
-            alloc,
-            course,
-            Form::AllTo,
-            rho,
-            &group,
-            step,
-        ),
-        Rule::AtMost { limit, group } => limit_text(alloc, course, "at most ", "", limit, &group),
         Rule::AtLeast { limit, group } => {
-            limit_text(alloc, course, "at least ", "at least ", limit, &group)
+            return limit_text(alloc, course, "at least ", "at least ", limit, &group);
         }
-    }
+    };
+    group_rule(alloc, course, form, rho, &group, step)
 }
 
 // What a relation says of two people.
@@ -185,53 +170,36 @@ fn many_words(
             }
             Form::AllOf | Form::AllTo => joined(alloc, &["who does ", s, " does none of ", group]),
         },
-        Sense::Has(name) => many_have(alloc, form, name.as_str(), group, s),
-        Sense::Lacks(name) => many_lack(alloc, form, name.as_str(), group, s),
+        Sense::Has(name) => many_relate(alloc, form, false, name.as_str(), group, s),
+        Sense::Lacks(name) => many_relate(alloc, form, true, name.as_str(), group, s),
         Sense::Nothing => joined(alloc, &[group, " and ", s, " are related"]),
     }
 }
 
-fn many_have(
+// That people of a group have a listed relation to who does a step, or that they lack it; or the
+// other way.
+fn many_relate(
     alloc: Global,
     form: Form,
+    lacks: bool,
     name: &str,
     group: &str,
     s: &str,
 ) -> Result<String, AllocError> {
-    let (some, all) = ("somebody who does ", "everybody who does ");
+    let who = match form {
+        Form::SomeOf | Form::SomeTo => "somebody who does ",
+        Form::AllOf | Form::AllTo if lacks => "nobody who does ",
+        Form::AllOf | Form::AllTo => "everybody who does ",
+    };
     match form {
-        Form::SomeOf => has_words(alloc, some, group, " has", name, "who does ", s),
-        Form::AllOf => has_words(alloc, all, group, " has", name, "who does ", s),
-        Form::SomeTo => has_words(alloc, "who does ", s, " has", name, some, group),
-        Form::AllTo => has_words(alloc, "who does ", s, " has", name, all, group),
-    }
-}
-
-fn many_lack(
-    alloc: Global,
-    form: Form,
-    name: &str,
-    group: &str,
-    s: &str,
-) -> Result<String, AllocError> {
-    let (some, nobody) = ("somebody who does ", "nobody who does ");
-    match form {
-        Form::SomeOf => has_words(alloc, some, group, " does not have", name, "who does ", s),
-        Form::AllOf => has_words(alloc, nobody, group, " has", name, "who does ", s),
-        Form::SomeTo => joined(
-            alloc,
-            &[
-                "to ",
-                some,
-                group,
-                " who does ",
-                s,
-                " does not have \"",
-                name,
-                "\"",
-            ],
-        ),
-        Form::AllTo => has_words(alloc, "who does ", s, " has", name, nobody, group),
+        Form::SomeTo if lacks => {
+            format!(in alloc; "to {who}{group} who does {s} does not have \"{name}\"")
+        }
+        Form::SomeOf if lacks => {
+            has_words(alloc, who, group, " does not have", name, "who does ", s)
+        }
+        Form::SomeOf | Form::AllOf => has_words(alloc, who, group, " has", name, "who does ", s),
+        Form::SomeTo | Form::AllTo => has_words(alloc, "who does ", s, " has", name, who, group),
     }
 }
 

@@ -73,7 +73,7 @@ fn takers(course: &Course, steps: &[StepId]) -> UserSet {
 pub fn clash_text(alloc: Global, course: &Course, rules: &[u8]) -> Result<String, AllocError> {
     let mut text = clash_head(alloc, course)?;
     push_together(&mut text, rules.len())?;
-    push_rule_lines(alloc, &mut text, course, rules)?;
+    push_rule_lines(&mut text, course, rules)?;
     Ok(text)
 }
 
@@ -100,27 +100,16 @@ fn push_together(text: &mut String, count: usize) -> Result<(), AllocError> {
 }
 
 /// Adds a line for each of the rules with these numbers: the number, and what the rule wants.
-pub fn push_rule_lines(
-    alloc: Global,
-    out: &mut String,
-    course: &Course,
-    rules: &[u8],
-) -> Result<(), AllocError> {
+pub fn push_rule_lines(out: &mut String, course: &Course, rules: &[u8]) -> Result<(), AllocError> {
     for k in rules {
         if let Some(rule) = course.rules().as_slice().get(*k as usize) {
-            push_rule_line(alloc, out, course, rule, *k)?;
+            push_rule_line(out, course, rule, *k)?;
         }
     }
     Ok(())
 }
 
-fn push_rule_line(
-    alloc: Global,
-    out: &mut String,
-    course: &Course,
-    rule: &Rule,
-    k: u8,
-) -> Result<(), AllocError> {
-    let words = rule_text(alloc, course, rule)?;
+fn push_rule_line(out: &mut String, course: &Course, rule: &Rule, k: u8) -> Result<(), AllocError> {
+    let words = rule_text(*out.allocator(), course, rule)?;
     write!(out, "  rule {k}: {words}\n")
 }

@@ -2,7 +2,7 @@
 
 use crate::bits::{bit, has_bit, pop, pop_law};
 use crate::links::{
-    Changed, add_ahead, keep_block, keep_options, keep_step, make_other, make_related, make_same,
+    Changed, Settling, keep_options, keep_reached, keep_step, make_other, make_same,
 };
 use crate::matching::{can_match, can_reach};
 use crate::problem::{Demand, Law, Link, Over, Problem};
@@ -17,62 +17,130 @@ const PASSES: u32 = 4_096;
 /// Follows the change of the blocks `changed` to what the rules leave. Tells whether everything can
 /// still be met.
 pub(crate) fn settle(problem: &Problem, state: &mut State, work: &mut Work, changed: u32) -> bool {
-    let mut changed = Changed {
-        blocks: changed,
-        now: 0,
+    let mut settling = Settling {
+        problem,
+        state,
+        work,
+        changed: Changed {
+            blocks: changed,
+            now: 0,
+        },
     };
-    for _ in 0..PASSES {
-        let Some(b) = pop(&mut changed.blocks) else {
-            break
-        };
-        changed.now = bit(b);
-        if !settle_block(problem, state, work, b, &mut changed) {
-            return false;
-        }
-    }
-    state.refresh(problem, work) && can_match(state) && can_reach_all(problem, state, work)
+    settling.settle()
 }
 
-// Whether each rule that wants a number of users at least can have them.
-fn can_reach_all(problem: &Problem, state: &State, work: &mut Work) -> bool {
-    for (k, law) in problem.laws.as_slice().iter().enumerate() {
-        if let Demand::AtLeast(least) = law.demand {
-            if !can_reach(state, law.group, least) {
-                work.blame(k);
+impl Settling<'_> {
+    fn settle(&mut self) -> bool {
+        for _ in 0..PASSES {
+            let Some(b) = pop(&mut self.changed.blocks) else {
+                break
+            };
+            self.changed.now = bit(b);
+            if !self.settle_block(b) {
                 return false;
             }
         }
+        self.state.refresh(self.problem, self.work) && can_match(self.state) && self.can_reach_all()
     }
-    true
-}
 
-fn settle_block(
-    problem: &Problem,
-    state: &mut State,
-    work: &mut Work,
-    b: u8,
-    changed: &mut Changed,
-) -> bool {
-    if is_empty(state.block(b)) {
-        return false;
+    // Whether each rule that wants a number of users at least can have them.
+    fn can_reach_all(&mut self) -> bool {
+        for (k, law) in self.problem.laws.as_slice().iter().enumerate() {
+            if let Demand::AtLeast(least) = law.demand {
+                if !can_reach(self.state, law.group, least) {
+                    self.work.blame(k);
+                    return false;
+                }
+            }
+        }
+        true
     }
-    if let Some(user) = only_user(state.block(b)) {
-        if !leave_others(state, b, user, changed) {
+
+    fn settle_block(&mut self, b: u8) -> bool {
+        if is_empty(self.state.block(b)) {
             return false;
         }
+        if let Some(user) = only_user(self.state.block(b)) {
+            if !leave_others(self.state, b, user, &mut self.changed) {
+                return false;
+            }
+        }
+        let mut laws = self.problem.laws_of_some(self.state.members.at(b));
+        for _ in 0..RULE_LIMIT {
+            let Some(k) = pop_law(&mut laws) else { break };
+            let Some(law) = self.problem.laws.as_slice().get(k) else {
+                break
+            };
+            if !self.follow(law) {
+                self.work.blame(k);
+                return false;
+            }
+        }
+        true
     }
-    let mut laws = problem.laws_of_some(state.members.at(b));
-    for _ in 0..RULE_LIMIT {
-        let Some(k) = pop_law(&mut laws) else { break };
-        let Some(law) = problem.laws.as_slice().get(k) else {
-            break
-        };
-        if !follow(problem, state, work, law, changed) {
-            work.blame(k);
-            return false;
+
+    // What one rule leaves.
+    fn follow(&mut self, law: &Law) -> bool {
+        match law.demand {
+            Demand::Each => self.follow_each(law),
+            Demand::Some => self.follow_some(law),
+            Demand::AtMost(most) => follow_at_most(self.state, law, most),
+            Demand::AtLeast(least) => follow_at_least(self.state, law, least),
         }
     }
-    true
+
+    // Some member of the group is to be related to the step.
+    fn follow_some(&mut self, law: &Law) -> bool {
+        match law.over {
+            Over::Same => follow_some_plain(self.state, law, true),
+            Over::Other => follow_some_plain(self.state, law, false),
+            Over::Declared(at, back) => match self.problem.link(at, back) {
+                Some(link) => self.follow_some_related(link, law),
+                None => true,
+            },
+        }
+    }
+
+    // Each member of the group is to be related to the step.
+    fn follow_each(&mut self, law: &Law) -> bool {
+        let mut group = law.group;
+        for _ in 0..32u8 {
+            let Some(x) = pop(&mut group) else { break };
+            let met = match law.over {
+                Over::Same => make_same(self.state, x, law.step),
+                Over::Other => make_other(self.state, x, law.step),
+                Over::Declared(at, back) => match self.problem.link(at, back) {
+                    Some(link) => self.make_related(link, x, law.step),
+                    None => true,
+                },
+            };
+            if !met {
+                return false;
+            }
+        }
+        true
+    }
+
+    // Some member of the group is to be related to the step: looked at where no other step is open.
+    fn follow_some_related(&mut self, link: Link<'_>, law: &Law) -> bool {
+        let mut group = law.group & !bit(law.step);
+        if group & self.state.open != 0 {
+            return true;
+        }
+        clear(self.work.spare.row_mut(0));
+        if has_bit(law.group, law.step) {
+            join(self.work.spare.row_mut(0), link.own.row(0));
+        }
+        for _ in 0..32u8 {
+            let Some(x) = pop(&mut group) else { break };
+            self.add_ahead(link, x, law.step);
+        }
+        if self.state.is_open(law.step) {
+            keep_step(self.state, self.work, law.step)
+        } else {
+            keep_reached(self.state, self.work, law.step, &mut self.changed)
+        }
+    }
 }
 
 // The one user of a block leaves all others. Tells whether each keeps somebody.
@@ -87,22 +155,6 @@ fn leave_others(state: &mut State, b: u8, user: u16, changed: &mut Changed) -> b
         }
     }
     true
-}
-
-// What one rule leaves.
-fn follow(
-    problem: &Problem,
-    state: &mut State,
-    work: &mut Work,
-    law: &Law,
-    changed: &mut Changed,
-) -> bool {
-    match law.demand {
-        Demand::Each => follow_each(problem, state, work, law, changed),
-        Demand::Some => follow_some(problem, state, work, law, changed),
-        Demand::AtMost(most) => follow_at_most(state, law, most),
-        Demand::AtLeast(least) => follow_at_least(state, law, least),
-    }
 }
 
 // Where the closed members have as many users as there may be, the open ones have one of them.
@@ -126,50 +178,6 @@ fn keep_options_of(state: &mut State, steps: u32, set: u32) -> bool {
     for _ in 0..32u8 {
         let Some(t) = pop(&mut left) else { break };
         if !keep_options(state, t, set) {
-            return false;
-        }
-    }
-    true
-}
-
-// Some member of the group is to be related to the step.
-fn follow_some(
-    problem: &Problem,
-    state: &mut State,
-    work: &mut Work,
-    law: &Law,
-    changed: &mut Changed,
-) -> bool {
-    match law.over {
-        Over::Same => follow_some_plain(state, law, true),
-        Over::Other => follow_some_plain(state, law, false),
-        Over::Declared(at, back) => match problem.link(at, back) {
-            Some(link) => follow_some_related(problem, link, state, work, law, changed),
-            None => true,
-        },
-    }
-}
-
-// Each member of the group is to be related to the step.
-fn follow_each(
-    problem: &Problem,
-    state: &mut State,
-    work: &mut Work,
-    law: &Law,
-    changed: &mut Changed,
-) -> bool {
-    let mut group = law.group;
-    for _ in 0..32u8 {
-        let Some(x) = pop(&mut group) else { break };
-        let met = match law.over {
-            Over::Same => make_same(state, x, law.step),
-            Over::Other => make_other(state, x, law.step),
-            Over::Declared(at, back) => match problem.link(at, back) {
-                Some(link) => make_related(problem, link, state, work, x, law.step, changed),
-                None => true,
-            },
-        };
-        if !met {
             return false;
         }
     }
@@ -224,33 +232,5 @@ fn some_member(state: &State, law: &Law, steps: u32, same: bool) -> bool {
         homes & home != 0
     } else {
         homes & !home != 0
-    }
-}
-
-// Some member of the group is to be related to the step: looked at where no other step is open.
-fn follow_some_related(
-    problem: &Problem,
-    link: Link<'_>,
-    state: &mut State,
-    work: &mut Work,
-    law: &Law,
-    changed: &mut Changed,
-) -> bool {
-    let mut group = law.group & !bit(law.step);
-    if group & state.open != 0 {
-        return true;
-    }
-    clear(work.spare.row_mut(0));
-    if has_bit(law.group, law.step) {
-        join(work.spare.row_mut(0), link.own.row(0));
-    }
-    for _ in 0..32u8 {
-        let Some(x) = pop(&mut group) else { break };
-        add_ahead(problem, link, state, work, x, law.step);
-    }
-    if state.is_open(law.step) {
-        keep_step(state, work, law.step)
-    } else {
-        keep_block(state, work.spare.row(0), state.home(law.step), changed)
     }
 }

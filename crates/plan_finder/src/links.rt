@@ -56,96 +56,73 @@ impl Changed {
     }
 }
 
-/// The user of the first step is to be related to that of the second. Tells whether that can still
-/// be; blocks that lose users come to be among those that changed.
-pub(crate) fn make_related(
-    problem: &Problem,
-    link: Link<'_>,
-    state: &mut State,
-    work: &mut Work,
-    x: u8,
-    s: u8,
-    changed: &mut Changed,
-) -> bool {
-    match (state.is_open(x), state.is_open(s)) {
-        (true, true) => true,
-        (true, false) => {
-            !reach(problem, link.turned(), state, work, s, x, changed) || keep_step(state, work, x)
+/// A state that is brought to what the rules leave.
+#[derive(Drop)]
+pub(crate) struct Settling<'a> {
+    pub(crate) problem: &'a Problem,
+    pub(crate) state: &'a mut State,
+    pub(crate) work: &'a mut Work,
+    pub(crate) changed: Changed,
+}
+
+impl Settling<'_> {
+    /// The user of the first step is to be related to that of the second. Tells whether that can
+    /// still be; blocks that lose users come to be among those that changed.
+    pub(crate) fn make_related(&mut self, link: Link<'_>, x: u8, s: u8) -> bool {
+        match (self.state.is_open(x), self.state.is_open(s)) {
+            (true, true) => true,
+            (true, false) => !self.reach(link.turned(), s, x)
+                || keep_step(self.state, self.work, x),
+            (false, true) => !self.reach(link, x, s) || keep_step(self.state, self.work, s),
+            (false, false) if self.state.home(x) == self.state.home(s) => {
+                keep_block(self.state, link.own.row(0), x, &mut self.changed)
+            }
+            (false, false) => self.make_blocks_related(link, x, s),
         }
-        (false, true) => {
-            !reach(problem, link, state, work, x, s, changed) || keep_step(state, work, s)
+    }
+
+    // The same for steps of two blocks.
+    fn make_blocks_related(&mut self, link: Link<'_>, x: u8, s: u8) -> bool {
+        if self.reach(link, x, s) && !keep_reached(self.state, self.work, s, &mut self.changed) {
+            return false;
         }
-        (false, false) if state.home(x) == state.home(s) => {
-            keep_block(state, link.own.row(0), state.home(x), changed)
+        !self.reach(link.turned(), s, x)
+            || keep_reached(self.state, self.work, x, &mut self.changed)
+    }
+
+    // Into the spare row go those to whom some user of a step's block is related, of the users of
+    // another step at least. Tells whether that was done: where the block did not change, the other
+    // step has been left those alone before.
+    fn reach(&mut self, link: Link<'_>, x: u8, to: u8) -> bool {
+        let home = self.state.home(x);
+        if !self.changed.has(home) {
+            self.spend_on(home);
+            return false;
         }
-        (false, false) => make_blocks_related(problem, link, state, work, x, s, changed),
+        clear(self.work.spare.row_mut(0));
+        self.add_ahead(link, x, to);
+        true
     }
-}
 
-// The same for steps of two blocks.
-fn make_blocks_related(
-    problem: &Problem,
-    link: Link<'_>,
-    state: &mut State,
-    work: &mut Work,
-    x: u8,
-    s: u8,
-    changed: &mut Changed,
-) -> bool {
-    let ahead = reach(problem, link, state, work, x, s, changed);
-    if ahead && !keep_block(state, work.spare.row(0), state.home(s), changed) {
-        return false;
+    // The work of a look at the rows of the users of a block.
+    fn spend_on(&mut self, b: u8) {
+        let users = count(self.state.block(b)) as usize;
+        let _ = self.work.spend(users.saturating_mul(self.problem.width));
     }
-    !reach(problem, link.turned(), state, work, s, x, changed)
-        || keep_block(state, work.spare.row(0), state.home(x), changed)
-}
 
-// Into the spare row go those to whom some user of a step's block is related, of the users of
-// another step at least. Tells whether that was done: where the block did not change, the other
-// step has been left those alone before.
-fn reach(
-    problem: &Problem,
-    link: Link<'_>,
-    state: &State,
-    work: &mut Work,
-    x: u8,
-    to: u8,
-    changed: &Changed,
-) -> bool {
-    let home = state.home(x);
-    if !changed.has(home) {
-        spend_on(problem, state.block(home), work);
-        return false;
+    /// To the spare row come those to whom some user of a step's block is related, of the users of
+    /// another step at least.
+    pub(crate) fn add_ahead(&mut self, link: Link<'_>, x: u8, to: u8) {
+        let home = self.state.home(x);
+        self.spend_on(home);
+        unite(
+            self.work.spare.row_mut(0),
+            self.state.block(home),
+            link.ahead,
+            link.places,
+            users_of(self.state, to),
+        );
     }
-    clear(work.spare.row_mut(0));
-    add_ahead(problem, link, state, work, x, to);
-    true
-}
-
-// The work of a look at the rows of the users of a row.
-fn spend_on(problem: &Problem, from: &[u64], work: &mut Work) {
-    let _ = work.spend((count(from) as usize).saturating_mul(problem.width));
-}
-
-/// To the spare row come those to whom some user of a step's block is related, of the users of
-/// another step at least.
-pub(crate) fn add_ahead(
-    problem: &Problem,
-    link: Link<'_>,
-    state: &State,
-    work: &mut Work,
-    x: u8,
-    to: u8,
-) {
-    let from = state.block(state.home(x));
-    spend_on(problem, from, work);
-    unite(
-        work.spare.row_mut(0),
-        from,
-        link.ahead,
-        link.places,
-        users_of(state, to),
-    );
 }
 
 // Puts the rows of the users of a row in, until all who are wanted are in.
@@ -170,11 +147,17 @@ pub(crate) fn keep_step(state: &mut State, work: &Work, s: u8) -> bool {
     !keep(state.step_mut(s), work.spare.row(0)).none
 }
 
-/// A block keeps the users of a row. Tells whether one is left.
-pub(crate) fn keep_block(state: &mut State, row: &[u64], b: u8, changed: &mut Changed) -> bool {
+/// The block of a step keeps the users of a row. Tells whether one is left.
+fn keep_block(state: &mut State, row: &[u64], s: u8, changed: &mut Changed) -> bool {
+    let b = state.home(s);
     let kept = keep(state.block_mut(b), row);
     if kept.changed {
         changed.blocks |= bit(b);
     }
     !kept.none
+}
+
+/// The block of a step keeps the users of the spare row. Tells whether one is left.
+pub(crate) fn keep_reached(state: &mut State, work: &Work, s: u8, changed: &mut Changed) -> bool {
+    keep_block(state, work.spare.row(0), s, changed)
 }

@@ -179,10 +179,9 @@ impl Problem {
     pub(crate) fn new(alloc: Global, p: &Policy, f: FlowId) -> Result<Problem, AllocError>
         requires { f < length p.now.flows }
     {
-        let users = p.roster().users().len();
-        let width = (users as usize).saturating_add(63) / 64;
+        let width = width_of(p);
         let mut relations = Vec::new(alloc);
-        let laws = read_laws(alloc, p, p.rules(f), width, &mut relations)?;
+        let laws = read_laws(alloc, p, p.rules(f), &mut relations)?;
         note_steps(laws.as_slice(), &mut relations);
         let mut problem = Problem {
             steps: (p.flow(f).steps().len() & 0xff) as u8,
@@ -195,7 +194,7 @@ impl Problem {
             related: 0,
             full: false,
         };
-        add_first(problem.everyone.row_mut(0), users);
+        add_first(problem.everyone.row_mut(0), p.roster().users().len());
         problem.note_laws();
         if reads_own(&problem) {
             problem.learn_all(p)?;
@@ -294,6 +293,11 @@ pub(crate) fn place_of(places: &[u16], u: u16) -> usize {
     }
 }
 
+// How many words a row has, with a bit for each user.
+fn width_of(p: &Policy) -> usize {
+    (p.roster().users().len() as usize).saturating_add(63) / 64
+}
+
 // Notes for each relation the steps of the laws over it.
 fn note_steps(laws: &[Law], relations: &mut Vec<Relation>) {
     for law in laws.iter() {
@@ -328,26 +332,19 @@ fn read_laws(
     alloc: Global,
     p: &Policy,
     rules: &Rules,
-    width: usize,
     relations: &mut Vec<Relation>,
 ) -> Result<Vec<Law>, AllocError> {
     let mut laws = Vec::new(alloc);
     for rule in rules.as_slice().iter() {
-        let law = read_law(alloc, p, *rule, width, relations)?;
+        let law = read_law(p, *rule, relations)?;
         laws.push(law)?;
     }
     Ok(laws)
 }
 
-fn read_law(
-    alloc: Global,
-    p: &Policy,
-    rule: Rule,
-    width: usize,
-    relations: &mut Vec<Relation>,
-) -> Result<Law, AllocError> {
+fn read_law(p: &Policy, rule: Rule, relations: &mut Vec<Relation>) -> Result<Law, AllocError> {
     let over = match rule.relation() {
-        Some(rho) => read_over(alloc, p, rho, width, relations)?,
+        Some(rho) => read_over(p, rho, relations)?,
         None => Over::Same,
     };
     Ok(law_of(rule, over))
@@ -418,13 +415,7 @@ fn bits_of(steps: &StepSet) -> u32 {
 }
 
 // What a relation is over; its rows are made where no law before was over it.
-fn read_over(
-    alloc: Global,
-    p: &Policy,
-    rho: RelId,
-    width: usize,
-    relations: &mut Vec<Relation>,
-) -> Result<Over, AllocError> {
+fn read_over(p: &Policy, rho: RelId, relations: &mut Vec<Relation>) -> Result<Over, AllocError> {
     if rho == RelId::SAME {
         return Ok(Over::Same);
     }
@@ -437,18 +428,13 @@ fn read_over(
         }
     }
     let place = relations.len();
-    let relation = read_relation(alloc, p, rho, width)?;
+    let relation = read_relation(*relations.allocator(), p, rho)?;
     relations.push(relation)?;
     Ok(Over::Declared((place & 0xff) as u8, false))
 }
 
-fn read_relation(
-    alloc: Global,
-    p: &Policy,
-    rho: RelId,
-    width: usize,
-) -> Result<Relation, AllocError> {
-    let users = p.roster().users().len();
+fn read_relation(alloc: Global, p: &Policy, rho: RelId) -> Result<Relation, AllocError> {
+    let (users, width) = (p.roster().users().len(), width_of(p));
     Ok(Relation {
         rho,
         steps: 0,

@@ -108,26 +108,18 @@ impl Reasons {
             };
             for _ in 0..RULE_LIMIT {
                 let Some(k) = pop_law(&mut left) else { break };
-                self.number(problem, work, a, depth, s, k);
+                let Some(law) = problem.laws.as_slice().get(k) else {
+                    continue
+                };
+                put(work.before.row_mut(0), work.spare.row(0));
+                restrict(problem, work, law, a, s);
+                self.number(work, depth, k);
             }
         }
     }
 
-    // Gives the number of a rule to the users whom it keeps from a step, and nothing kept so far.
-    fn number(
-        &mut self,
-        problem: &Problem,
-        work: &mut Work,
-        a: &Assign,
-        depth: u8,
-        s: u8,
-        k: usize,
-    ) {
-        let Some(law) = problem.laws.as_slice().get(k) else {
-            return;
-        };
-        put(work.before.row_mut(0), work.spare.row(0));
-        restrict(problem, work, law, a, s);
+    // Gives the number of a rule to the users whom it has kept from a step, and nothing before it.
+    fn number(&mut self, work: &Work, depth: u8, k: usize) {
         number_struck(
             work.before.row(0),
             work.spare.row(0),

@@ -9,33 +9,33 @@ use crate::told::Told;
 use constraint_forms::Plan;
 use plain_words::{push_gap, say};
 use policy_book::Policy;
-use std::alloc::{AllocError, Global};
+use std::alloc::AllocError;
 use wf_names::{CaseId, Phase, StepId, USER_LIMIT, UserSet};
 use wf_talk::{Ask, Bad, Denial, Entry, Reply, WorkItem};
 
 /// Adds what was answered, in one line without its full stop; a tree only where one line is enough
 /// for it.
-pub fn push_answer(alloc: Global, out: &mut String, told: &Told<'_>) -> Result<(), AllocError> {
-    push_reply(alloc, out, &told.recent())?;
-    push_refused(alloc, out, told, Telling::InLine)
+pub fn push_answer(out: &mut String, told: &Told<'_>) -> Result<(), AllocError> {
+    push_reply(out, &told.recent())?;
+    push_refused(out, told, Telling::InLine)
 }
 
 /// The same without a tree, which `push_reasons` tells.
-pub fn push_reply(alloc: Global, out: &mut String, told: &Told<'_>) -> Result<(), AllocError> {
+pub fn push_reply(out: &mut String, told: &Told<'_>) -> Result<(), AllocError> {
     let (p, ask) = (told.policy, &told.entry.ask);
     match &told.entry.reply {
-        Reply::Granted(plan) => push_planned(alloc, out, "granted", p, plan),
+        Reply::Granted(plan) => push_planned(out, "granted", p, plan),
         Reply::Finished { done: true } => out.push_str("finished, and with it the case"),
         Reply::Finished { done: false } => out.push_str("finished"),
         Reply::Returned => out.push_str("given back"),
         Reply::Released => push_released(out, told.entries, ask),
-        Reply::Opened { case, plan } => push_opened(alloc, out, p, *case, plan),
+        Reply::Opened { case, plan } => push_opened(out, p, *case, plan),
         Reply::Withdrawn => out.push_str("the case is ended"),
         Reply::Edited { number } => write!(out, "accepted, edit {number}"),
         Reply::Shown(face) => out.push_str(phase_words(face.phase)),
-        Reply::Work(items) => push_work(alloc, out, p, asker(ask), items.as_slice()),
-        Reply::WhatIf(stranded) => push_stranded(alloc, out, stranded.as_slice()),
-        Reply::Denied(denial) => push_denied(alloc, out, told, denial),
+        Reply::Work(items) => push_work(out, p, asker(ask), items.as_slice()),
+        Reply::WhatIf(stranded) => push_stranded(out, stranded.as_slice()),
+        Reply::Denied(denial) => push_denied(out, told, denial),
         Reply::Again { rounds, at } => push_again(out, *rounds, *at),
         Reply::NoMemory => out.push_str("there was no memory; nothing changed"),
         Reply::Bad(bad) => push_bad(out, *bad),
@@ -47,35 +47,18 @@ fn push_released(out: &mut String, entries: &[Entry], ask: &Ask) -> Result<(), A
     push_grantee(out, entries, ask)
 }
 
-fn push_opened(
-    alloc: Global,
-    out: &mut String,
-    p: &Policy,
-    case: CaseId,
-    plan: &Plan,
-) -> Result<(), AllocError> {
+fn push_opened(out: &mut String, p: &Policy, case: CaseId, plan: &Plan) -> Result<(), AllocError> {
     write!(out, "opened as case {}", case.0)?;
-    push_planned(alloc, out, "", p, plan)
+    push_planned(out, "", p, plan)
 }
 
-fn push_denied(
-    alloc: Global,
-    out: &mut String,
-    told: &Told<'_>,
-    denial: &Denial,
-) -> Result<(), AllocError> {
+fn push_denied(out: &mut String, told: &Told<'_>, denial: &Denial) -> Result<(), AllocError> {
     out.push_str("denied: ")?;
-    push_denial(alloc, out, told, denial)
+    push_denial(out, told, denial)
 }
 
 // Adds these words, and who is in a plan.
-fn push_planned(
-    alloc: Global,
-    out: &mut String,
-    front: &str,
-    p: &Policy,
-    plan: &Plan,
-) -> Result<(), AllocError> {
+fn push_planned(out: &mut String, front: &str, p: &Policy, plan: &Plan) -> Result<(), AllocError> {
     say(out, &[front, "; it can be finished by "])?;
     let mut users = UserSet::empty();
     for s in 0..plan.len() {
@@ -84,7 +67,7 @@ fn push_planned(
             users.insert(user);
         }
     }
-    push_users(alloc, out, p, &users, "and")
+    push_users(out, p, &users, "and")
 }
 
 fn phase_words(phase: Phase) -> &'static str {
@@ -97,7 +80,6 @@ fn phase_words(phase: Phase) -> &'static str {
 
 // Adds what a user may do.
 fn push_work(
-    alloc: Global,
     out: &mut String,
     p: &Policy,
     user: &str,
@@ -115,7 +97,7 @@ fn push_work(
             push_item(out, p, item)?;
         }
     }
-    push_others(alloc, out, shown, count, "and")
+    push_others(out, shown, count, "and")
 }
 
 fn push_item(out: &mut String, p: &Policy, item: &WorkItem) -> Result<(), AllocError> {
@@ -124,7 +106,7 @@ fn push_item(out: &mut String, p: &Policy, item: &WorkItem) -> Result<(), AllocE
 }
 
 // Adds which cases an edit would strand.
-fn push_stranded(alloc: Global, out: &mut String, cases: &[CaseId]) -> Result<(), AllocError> {
+fn push_stranded(out: &mut String, cases: &[CaseId]) -> Result<(), AllocError> {
     if cases.is_empty() {
         return out.push_str("it would strand no case");
     }
@@ -135,10 +117,10 @@ fn push_stranded(alloc: Global, out: &mut String, cases: &[CaseId]) -> Result<()
     for place in 0..shown {
         if let Some(case) = cases.get(place as usize) {
             push_gap(out, place, count, "and")?;
-            push_number(alloc, out, case.0 as u64)?;
+            push_number(out, case.0 as u64)?;
         }
     }
-    push_others(alloc, out, shown, count, "and")
+    push_others(out, shown, count, "and")
 }
 
 fn push_again(out: &mut String, rounds: u8, at: u32) -> Result<(), AllocError> {

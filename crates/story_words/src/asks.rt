@@ -1,45 +1,41 @@
 //! What a line asks, in words.
 
-use crate::names::push_number;
 use plain_words::say;
-use std::alloc::{AllocError, Global};
+use std::alloc::AllocError;
 use wf_names::{CaseId, Name};
 use wf_talk::{Ask, Edit, Request};
 
 /// Adds what a line asks, as a sentence without its full stop.
-pub fn push_ask(alloc: Global, out: &mut String, ask: &Ask) -> Result<(), AllocError> {
+pub fn push_ask(out: &mut String, ask: &Ask) -> Result<(), AllocError> {
     match ask {
-        Ask::Request(request) => push_request(alloc, out, request),
+        Ask::Request(request) => push_request(out, request),
         Ask::Bad(_) => out.push_str("a line that is no request"),
     }
 }
 
-fn push_request(alloc: Global, out: &mut String, request: &Request) -> Result<(), AllocError> {
+fn push_request(out: &mut String, request: &Request) -> Result<(), AllocError> {
     match request {
-        Request::OpenCase { flow } => push_one(out, "somebody opens a case of ", flow, ""),
-        Request::Claim { case, step, user } => {
-            push_deed(alloc, out, user, " claims ", step, *case, "")
-        }
+        Request::OpenCase { flow } => say(out, &["somebody opens a case of ", flow.as_str()]),
+        Request::Claim { case, step, user } => { push_deed(out, user, " claims ", step, *case, "") }
         Request::Finish { case, step, user } => {
-            push_deed(alloc, out, user, " finishes ", step, *case, "")
+            push_deed(out, user, " finishes ", step, *case, "")
         }
         Request::GiveBack { case, step, user } => {
-            push_deed(alloc, out, user, " gives ", step, *case, " back")
+            push_deed(out, user, " gives ", step, *case, " back")
         }
         Request::Release { by, case, step } => {
-            push_deed(alloc, out, by, " takes ", step, *case, " from its holder")
+            push_deed(out, by, " takes ", step, *case, " from its holder")
         }
         Request::Withdraw { by, case } => write!(out, "{} ends case {}", by.as_str(), case.0),
         Request::Change { by, edit } => push_edit(out, "", by, edit),
         Request::Show { case } => write!(out, "case {} is looked at", case.0),
-        Request::Worklist { user } => push_one(out, "", user, " asks what there is to do"),
+        Request::Worklist { user } => say(out, &[user.as_str(), " asks what there is to do"]),
         Request::WhatIf { by, edit } => push_edit(out, "what if ", by, edit),
     }
 }
 
 // Adds what somebody does with a step of a case.
 fn push_deed(
-    alloc: Global,
     out: &mut String,
     user: &Name,
     verb: &str,
@@ -47,9 +43,8 @@ fn push_deed(
     case: CaseId,
     tail: &str,
 ) -> Result<(), AllocError> {
-    say(out, &[user.as_str(), verb, step.as_str(), " of case "])?;
-    push_number(alloc, out, case.0 as u64)?;
-    out.push_str(tail)
+    let (user, step) = (user.as_str(), step.as_str());
+    write!(out, "{user}{verb}{step} of case {}{tail}", case.0)
 }
 
 // Adds who edits, and what the edit does.
@@ -60,8 +55,8 @@ fn push_edit(out: &mut String, front: &str, by: &Name, edit: &Edit) -> Result<()
 
 fn push_change(out: &mut String, edit: &Edit) -> Result<(), AllocError> {
     match edit {
-        Edit::AddUser { user } => push_one(out, " adds user ", user, ""),
-        Edit::Leave { user } => push_one(out, " takes ", user, " out (all roles)"),
+        Edit::AddUser { user } => say(out, &[" adds user ", user.as_str()]),
+        Edit::Leave { user } => say(out, &[" takes ", user.as_str(), " out (all roles)"]),
         Edit::Enrol { role, user } => push_two(out, " gives the role ", role, " to ", user),
         Edit::Dismiss { role, user } => push_two(out, " takes the role ", role, " from ", user),
         Edit::Relate {
@@ -74,14 +69,16 @@ fn push_change(out: &mut String, edit: &Edit) -> Result<(), AllocError> {
             relation,
             second,
         } => push_pair(out, " takes ", first, second, " out of \"", relation),
-        Edit::Permit { flow, role, step } => push_permit(out, " permits ", step, flow, role),
-        Edit::Forbid { flow, role, step } => push_permit(out, " forbids ", step, flow, role),
-        Edit::Retire { flow } => push_one(out, " retires ", flow, ""),
+        Edit::Permit { flow, role, step } => {
+            let (s, f) = (step.as_str(), flow.as_str());
+            say(out, &[" permits ", s, " of ", f, " to ", role.as_str()])
+        }
+        Edit::Forbid { flow, role, step } => {
+            let (s, f) = (step.as_str(), flow.as_str());
+            say(out, &[" forbids ", s, " of ", f, " to ", role.as_str()])
+        }
+        Edit::Retire { flow } => say(out, &[" retires ", flow.as_str()]),
     }
-}
-
-fn push_one(out: &mut String, front: &str, name: &Name, end: &str) -> Result<(), AllocError> {
-    say(out, &[front, name.as_str(), end])
 }
 
 fn push_two(
@@ -104,15 +101,4 @@ fn push_pair(
 ) -> Result<(), AllocError> {
     let (u, v) = (first.as_str(), second.as_str());
     say(out, &[verb, u, " before ", v, way, relation.as_str(), "\""])
-}
-
-fn push_permit(
-    out: &mut String,
-    verb: &str,
-    step: &Name,
-    flow: &Name,
-    role: &Name,
-) -> Result<(), AllocError> {
-    let (s, f) = (step.as_str(), flow.as_str());
-    say(out, &[verb, s, " of ", f, " to ", role.as_str()])
 }

@@ -11,24 +11,22 @@ use wf_names::{StepId, USER_LIMIT, UserSet};
 
 /// Adds that some steps want more different users than have or may get them, and by which rules.
 pub(crate) fn push_crowd(
-    alloc: Global,
     out: &mut String,
     held: &Held<'_>,
     steps: &[StepId],
 ) -> Result<(), AllocError> {
-    let all = steps_text(alloc, &held.course, steps)?;
+    let all = steps_text(*out.allocator(), &held.course, steps)?;
     if steps.len() == 1 {
         return say(
             out,
             &["  In short: ", all.as_str(), " can be done by nobody.\n"],
         );
     }
-    push_short_of(alloc, out, held, steps, all.as_str())
+    push_short_of(out, held, steps, all.as_str())
 }
 
 // Adds that some steps, of these names, want more different users than there are for them.
 fn push_short_of(
-    alloc: Global,
     out: &mut String,
     held: &Held<'_>,
     steps: &[StepId],
@@ -36,8 +34,8 @@ fn push_short_of(
 ) -> Result<(), AllocError> {
     let (users, is_given) = takers(held, steps);
     push_wanted(out, names, steps.len(), users.count(), is_given)?;
-    push_users(alloc, out, held.course.policy, &users, "and")?;
-    push_parting(alloc, out, held, steps)
+    push_users(out, held.course.policy, &users, "and")?;
+    push_parting(out, held, steps)
 }
 
 // Adds how many different users some steps want, and how few there are for them.
@@ -61,18 +59,13 @@ fn push_wanted(
 }
 
 // Adds by which rules some steps want different users, and ends the line.
-fn push_parting(
-    alloc: Global,
-    out: &mut String,
-    held: &Held<'_>,
-    steps: &[StepId],
-) -> Result<(), AllocError> {
-    let rules = parting(alloc, held, steps)?;
+fn push_parting(out: &mut String, held: &Held<'_>, steps: &[StepId]) -> Result<(), AllocError> {
+    let rules = parting(*out.allocator(), held, steps)?;
     if rules.as_slice().is_empty() {
         return out.push_str(".\n");
     }
     out.push_str(" (")?;
-    push_rules(alloc, out, "rule", rules.as_slice())?;
+    push_rules(out, "rule", rules.as_slice())?;
     out.push_str(").\n")
 }
 

@@ -1,7 +1,7 @@
 //! Why a request was denied, in words.
 
 use crate::about::{asker, case_of, relation_asked, step_asked};
-use crate::facts::push_broken;
+use crate::facts::{Breach, push_broken};
 use crate::held::{Held, held_asked, held_in, held_with, step_in};
 use crate::names::{
     push_large, push_number, push_roles, push_step, push_steps, push_user, push_users,
@@ -11,7 +11,7 @@ use crate::told::Told;
 use grant_table::Cases;
 use plain_words::{flow_name, name_of, relation_name, say, text_of};
 use policy_book::Policy;
-use std::alloc::{AllocError, Global};
+use std::alloc::AllocError;
 use wf_names::{
     CASE_LIMIT, CaseId, FlowId, Name, OPEN_CASE_LIMIT, PAIR_LIMIT, RelId, RoleId, StepId,
     StepState, USER_LIMIT, UserId,
@@ -21,7 +21,6 @@ use wf_talk::{Ask, Denial, Missing, Request};
 /// Adds why what was asked was denied; it has changed neither the policy nor the cases. Trees are
 /// left out.
 pub(crate) fn push_denial(
-    alloc: Global,
     out: &mut String,
     told: &Told<'_>,
     denial: &Denial,
@@ -30,19 +29,19 @@ pub(crate) fn push_denial(
     match denial {
         Denial::NoFlow => say(out, &["there is no workflow \"", asker(ask), "\""]),
         Denial::Retired => say(out, &["no case of ", asker(ask), " is opened any more"]),
-        Denial::Full => push_full(alloc, out, cases, ask),
+        Denial::Full => push_full(out, cases, ask),
         Denial::Unsatisfiable { flow, .. } => push_planless(out, p, *flow),
-        Denial::NoCase => push_case_words(alloc, out, "there is no case ", case_of(ask), ""),
-        Denial::Closed => push_closed(alloc, out, told),
+        Denial::NoCase => push_case_words(out, "there is no case ", case_of(ask), ""),
+        Denial::Closed => push_closed(out, told),
         Denial::NoStep => push_no_step(out, told),
         Denial::NoUser => say(out, &["the policy has no user \"", asker(ask), "\""]),
-        Denial::Taken(user) => push_taken(alloc, out, told, *user),
+        Denial::Taken(user) => push_taken(out, told, *user),
         Denial::Order { flow, step } => push_before(out, p, *flow, *step),
-        Denial::Role(roles) => push_role(alloc, out, told, roles.as_slice()),
-        Denial::Rule(k) => push_rule(alloc, out, told, *k),
+        Denial::Role(roles) => push_role(out, told, roles.as_slice()),
+        Denial::Rule(k) => push_rule(out, told, *k),
         Denial::Stranded { .. } => out.push_str("after it, nobody could finish the case lawfully"),
         Denial::NotHeld(state) => push_not_held(out, p, *state),
-        _ => push_edit_denial(alloc, out, p, ask, denial),
+        _ => push_edit_denial(out, p, ask, denial),
     }
 }
 
@@ -58,16 +57,15 @@ fn push_before(out: &mut String, p: &Policy, f: FlowId, s: StepId) -> Result<(),
 }
 
 // Adds which rule would be broken, and by whom.
-fn push_rule(alloc: Global, out: &mut String, told: &Told<'_>, k: u8) -> Result<(), AllocError> {
+fn push_rule(out: &mut String, told: &Told<'_>, k: u8) -> Result<(), AllocError> {
     match held_with(told) {
-        Some(held) => push_broken(alloc, out, &held, k, " would be broken", true),
+        Some(held) => push_broken(out, &held, k, Breach::Would),
         None => out.push_str("a rule would be broken"),
     }
 }
 
 // The same of what is denied to administrators.
 fn push_edit_denial(
-    alloc: Global,
     out: &mut String,
     p: &Policy,
     ask: &Ask,
@@ -92,7 +90,7 @@ fn push_edit_denial(
         Denial::LastAdmin => out.push_str("nobody would administer the policy any more"),
         Denial::Strands { case, .. } => {
             let tail = " could no longer be finished lawfully";
-            push_case_words(alloc, out, "case ", Some(*case), tail)
+            push_case_words(out, "case ", Some(*case), tail)
         }
         _ => Ok(()),
     }
@@ -110,7 +108,6 @@ fn word_of(what: Missing) -> &'static str {
 
 // Adds a case's number, between these words.
 fn push_case_words(
-    alloc: Global,
     out: &mut String,
     front: &str,
     case: Option<CaseId>,
@@ -118,22 +115,22 @@ fn push_case_words(
 ) -> Result<(), AllocError> {
     out.push_str(front)?;
     if let Some(case) = case {
-        push_number(alloc, out, case.0 as u64)?;
+        push_number(out, case.0 as u64)?;
     }
     out.push_str(tail)
 }
 
 // Adds which limit is reached.
-fn push_full(alloc: Global, out: &mut String, cases: &Cases, ask: &Ask) -> Result<(), AllocError> {
+fn push_full(out: &mut String, cases: &Cases, ask: &Ask) -> Result<(), AllocError> {
     match relation_asked(ask) {
         Some(relation) => {
             say(out, &["there is no room: \"", relation.as_str(), "\" has "])?;
-            push_limit(alloc, out, PAIR_LIMIT as u64, " pairs")
+            push_limit(out, PAIR_LIMIT as u64, " pairs")
         }
         None => {
             let (limit, what) = limit_of(cases, ask);
             out.push_str("there is no room: ")?;
-            push_limit(alloc, out, limit, what)
+            push_limit(out, limit, what)
         }
     }
 }
@@ -149,13 +146,13 @@ fn limit_of(cases: &Cases, ask: &Ask) -> (u64, &'static str) {
     }
 }
 
-fn push_limit(alloc: Global, out: &mut String, limit: u64, what: &str) -> Result<(), AllocError> {
-    push_large(alloc, out, limit)?;
+fn push_limit(out: &mut String, limit: u64, what: &str) -> Result<(), AllocError> {
+    push_large(out, limit)?;
     out.push_str(what)
 }
 
 // Adds how the case has ended, and by which entry.
-fn push_closed(alloc: Global, out: &mut String, told: &Told<'_>) -> Result<(), AllocError> {
+fn push_closed(out: &mut String, told: &Told<'_>) -> Result<(), AllocError> {
     let Some(c) = case_of(&told.entry.ask) else {
         return out.push_str("the case is not open");
     };
@@ -164,8 +161,8 @@ fn push_closed(alloc: Global, out: &mut String, told: &Told<'_>) -> Result<(), A
         Some(case) if !case.phase().is_live() => " was withdrawn",
         _ => " is not open",
     };
-    push_case_words(alloc, out, "case ", Some(c), tail)?;
-    push_which(alloc, out, told.entries, c, Deed::End)
+    push_case_words(out, "case ", Some(c), tail)?;
+    push_which(out, told.entries, c, Deed::End)
 }
 
 // Adds which steps there are.
@@ -187,18 +184,13 @@ fn push_own_steps(out: &mut String, held: &Held<'_>, step: &str) -> Result<(), A
 }
 
 // Adds who has the step.
-fn push_taken(
-    alloc: Global,
-    out: &mut String,
-    told: &Told<'_>,
-    user: UserId,
-) -> Result<(), AllocError> {
+fn push_taken(out: &mut String, told: &Told<'_>, user: UserId) -> Result<(), AllocError> {
     push_user(out, told.policy, user)?;
     let is_finished = has_finished(told);
     match step_asked(&told.entry.ask) {
         Some((case, step)) if is_finished => {
             out.push_str(" has finished it")?;
-            push_which(alloc, out, told.entries, case, Deed::Finish(step.as_str()))
+            push_which(out, told.entries, case, Deed::Finish(step.as_str()))
         }
         _ => out.push_str(" holds it already"),
     }
@@ -213,12 +205,7 @@ fn has_finished(told: &Told<'_>) -> bool {
 }
 
 // Adds which roles are permitted for the step, and who has one of them.
-fn push_role(
-    alloc: Global,
-    out: &mut String,
-    told: &Told<'_>,
-    roles: &[RoleId],
-) -> Result<(), AllocError> {
+fn push_role(out: &mut String, told: &Told<'_>, roles: &[RoleId]) -> Result<(), AllocError> {
     let (front, verb) = match roles.len() {
         0 => ("no role is", ""),
         1 => ("the role ", " is ("),
@@ -231,15 +218,15 @@ fn push_role(
     }
     push_roles(out, told.policy, roles)?;
     out.push_str(verb)?;
-    push_takers(alloc, out, told)
+    push_takers(out, told)
 }
 
 // Adds who may do the step that is asked for, and ends the bracket.
-fn push_takers(alloc: Global, out: &mut String, told: &Told<'_>) -> Result<(), AllocError> {
+fn push_takers(out: &mut String, told: &Told<'_>) -> Result<(), AllocError> {
     if let Some(held) = held_asked(told) {
         if let Some(step) = step_in(&held, &told.entry.ask) {
             let users = held.course.authorised_users(step);
-            push_users(alloc, out, told.policy, &users, "and")?;
+            push_users(out, told.policy, &users, "and")?;
         }
     }
     out.push_str(")")

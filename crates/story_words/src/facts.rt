@@ -24,60 +24,50 @@ struct Wish {
     back: bool,
 }
 
-/// Adds the number of a rule, this verb, and by whom the rule is broken where it is. Its words are
-/// added where they are asked for, or where nobody is told.
+/// How a rule is told of.
+#[derive(Clone, Copy)]
+pub(crate) enum Breach {
+    /// That it would be broken, with its words.
+    Would,
+    /// That it is broken; its words only where nobody breaks it.
+    Is,
+}
+
+/// Adds the number of a rule, that it is or would be broken, and by whom where it is.
 pub(crate) fn push_broken(
-    alloc: Global,
     out: &mut String,
     held: &Held<'_>,
     k: u8,
-    verb: &str,
-    in_words: bool,
+    breach: Breach,
 ) -> Result<(), AllocError> {
+    let (verb, in_words) = match breach {
+        Breach::Would => (" would be broken", true),
+        Breach::Is => (" is broken", false),
+    };
     write!(out, "rule {k}")?;
-    match held.course.rules().as_slice().get(k as usize) {
-        Some(rule) => push_verb(alloc, out, held, rule, verb, in_words),
-        None => out.push_str(verb),
-    }
-}
-
-fn push_verb(
-    alloc: Global,
-    out: &mut String,
-    held: &Held<'_>,
-    rule: &Rule,
-    verb: &str,
-    in_words: bool,
-) -> Result<(), AllocError> {
+    let Some(rule) = held.course.rules().as_slice().get(k as usize) else {
+        return out.push_str(verb);
+    };
     let is_broken = falsified(rule, held.course.policy, &held.users);
     if in_words || !is_broken {
-        push_words(alloc, out, held, rule)?;
+        push_words(out, held, rule)?;
     }
-    if !is_broken {
-        return out.push_str(verb);
+    out.push_str(verb)?;
+    if is_broken {
+        out.push_str(": ")?;
+        push_fact(out, held, rule)?;
     }
-    say(out, &[verb, ": "])?;
-    push_fact(alloc, out, held, rule)
+    Ok(())
 }
 
 // Adds the words of a rule.
-fn push_words(
-    alloc: Global,
-    out: &mut String,
-    held: &Held<'_>,
-    rule: &Rule,
-) -> Result<(), AllocError> {
-    let words = rule_text(alloc, &held.course, rule)?;
+fn push_words(out: &mut String, held: &Held<'_>, rule: &Rule) -> Result<(), AllocError> {
+    let words = rule_text(*out.allocator(), &held.course, rule)?;
     say(out, &[" (", words.as_str(), ")"])
 }
 
 // Adds who breaks a rule that is broken.
-fn push_fact(
-    alloc: Global,
-    out: &mut String,
-    held: &Held<'_>,
-    rule: &Rule,
-) -> Result<(), AllocError> {
+fn push_fact(out: &mut String, held: &Held<'_>, rule: &Rule) -> Result<(), AllocError> {
     match *rule {
         Rule::Pair { rho, first, second } => { push_unrelated(out, held, rho, first, second) }
         Rule::AllOf { rho, group, step } => {
@@ -87,13 +77,13 @@ fn push_fact(
             push_one(out, held, &wish_of(rho, &group, step, true))
         }
         Rule::SomeOf { rho, group, step } => {
-            push_none(alloc, out, held, &wish_of(rho, &group, step, false))
+            push_none(out, held, &wish_of(rho, &group, step, false))
         }
         Rule::SomeTo { rho, step, group } => {
-            push_none(alloc, out, held, &wish_of(rho, &group, step, true))
+            push_none(out, held, &wish_of(rho, &group, step, true))
         }
-        Rule::AtMost { group, .. } => push_many(alloc, out, held, &group),
-        Rule::AtLeast { group, .. } => push_few(alloc, out, held, &group),
+        Rule::AtMost { group, .. } => push_many(out, held, &group),
+        Rule::AtLeast { group, .. } => push_few(out, held, &group),
     }
 }
 
@@ -221,12 +211,7 @@ fn is_unrelated(p: &Policy, users: &Assign, wish: &Wish, x: StepId) -> bool
 
 // Adds that nobody of a group is related to the user of the step. That of a single member is told
 // as a pair.
-fn push_none(
-    alloc: Global,
-    out: &mut String,
-    held: &Held<'_>,
-    wish: &Wish,
-) -> Result<(), AllocError> {
+fn push_none(out: &mut String, held: &Held<'_>, wish: &Wish) -> Result<(), AllocError> {
     let Some(w) = held.users.at(wish.step) else {
         return Ok(());
     };
@@ -235,43 +220,35 @@ fn push_none(
     }
     let doer = name_of(held.course.policy.roster().users(), w.0);
     match listed_in(held.course.policy, wish.rho) {
-        Some((lacks, name)) => push_lone(alloc, out, held, wish, lacks, name.as_str()),
-        None if wish.rho == RelId::SAME => { push_neither(alloc, out, held, wish, text_of(&doer)) }
-        None => push_all(alloc, out, held, wish, text_of(&doer)),
+        Some((lacks, name)) => push_lone(out, held, wish, lacks, name.as_str()),
+        None if wish.rho == RelId::SAME => { push_neither(out, held, wish, text_of(&doer)) }
+        None => push_all(out, held, wish, text_of(&doer)),
     }
 }
 
 // Adds that nobody of a group is who does the step.
 fn push_neither(
-    alloc: Global,
     out: &mut String,
     held: &Held<'_>,
     wish: &Wish,
     doer: &str,
 ) -> Result<(), AllocError> {
     let step = step_name(&held.course, wish.step);
-    let others = group_text(alloc, &held.course, &wish.group, "nor")?;
+    let others = group_text(*out.allocator(), &held.course, &wish.group, "nor")?;
     let (step, others) = (text_of(&step), others.as_str());
     say(out, &[doer, " does ", step, ", and neither ", others])
 }
 
 // Adds that one user would do all of a group and the step.
-fn push_all(
-    alloc: Global,
-    out: &mut String,
-    held: &Held<'_>,
-    wish: &Wish,
-    doer: &str,
-) -> Result<(), AllocError> {
+fn push_all(out: &mut String, held: &Held<'_>, wish: &Wish, doer: &str) -> Result<(), AllocError> {
     let all = joined(&wish.group, wish.step);
-    let all = group_text(alloc, &held.course, &all, "and")?;
+    let all = group_text(*out.allocator(), &held.course, &all, "and")?;
     say(out, &[doer, " would do ", all.as_str()])
 }
 
 // Adds that nobody of a group has a listed relation to the user of the step, or that all have one
 // that they should lack.
 fn push_lone(
-    alloc: Global,
     out: &mut String,
     held: &Held<'_>,
     wish: &Wish,
@@ -288,8 +265,13 @@ fn push_lone(
     } else {
         " has \""
     };
-    let one = doers_text(alloc, held, &joined(&StepSet::empty(), wish.step), "and")?;
-    let others = doers_text(alloc, held, &wish.group, last)?;
+    let one = doers_text(
+        *out.allocator(),
+        held,
+        &joined(&StepSet::empty(), wish.step),
+        "and",
+    )?;
+    let others = doers_text(*out.allocator(), held, &wish.group, last)?;
     let (one, others) = (one.as_str(), others.as_str());
     if wish.back {
         push_has(out, "", one, verb, name, front, others)
@@ -328,26 +310,16 @@ fn doers_text(
     last: &str,
 ) -> Result<String, AllocError> {
     let mut text = String::new(alloc);
-    push_doers(&mut text, held, group, last)?;
-    Ok(text)
-}
-
-fn push_doers(
-    out: &mut String,
-    held: &Held<'_>,
-    group: &StepSet,
-    last: &str,
-) -> Result<(), AllocError> {
     let count = group.count() as u32;
     let mut place = 0u32;
     for x in 0..group.limit() {
         if let (true, Some(u)) = (group.has(StepId(x as u8)), held.users.at(StepId(x as u8))) {
-            push_gap(out, place, count, last)?;
-            push_doer(out, held, u, StepId(x as u8))?;
+            push_gap(&mut text, place, count, last)?;
+            push_doer(&mut text, held, u, StepId(x as u8))?;
             place = place.saturating_add(1);
         }
     }
-    Ok(())
+    Ok(text)
 }
 
 fn push_doer(out: &mut String, held: &Held<'_>, u: UserId, s: StepId) -> Result<(), AllocError> {
@@ -372,29 +344,19 @@ fn given_of(held: &Held, group: &StepSet) -> (StepSet, UserSet) {
 }
 
 // Adds that the steps of a group would be done by too many users.
-fn push_many(
-    alloc: Global,
-    out: &mut String,
-    held: &Held<'_>,
-    group: &StepSet,
-) -> Result<(), AllocError> {
+fn push_many(out: &mut String, held: &Held<'_>, group: &StepSet) -> Result<(), AllocError> {
     let (steps, users) = given_of(held, group);
-    let steps = group_text(alloc, &held.course, &steps, "and")?;
+    let steps = group_text(*out.allocator(), &held.course, &steps, "and")?;
     say(out, &[steps.as_str(), " would be done by "])?;
-    push_users(alloc, out, held.course.policy, &users, "and")
+    push_users(out, held.course.policy, &users, "and")
 }
 
 // Adds that too few users are left for the steps of a group.
-fn push_few(
-    alloc: Global,
-    out: &mut String,
-    held: &Held<'_>,
-    group: &StepSet,
-) -> Result<(), AllocError> {
+fn push_few(out: &mut String, held: &Held<'_>, group: &StepSet) -> Result<(), AllocError> {
     let (steps, users) = given_of(held, group);
     let open = group.count().saturating_sub(steps.count());
     let left = users.count().saturating_add(open as u32);
-    let all = group_text(alloc, &held.course, group, "and")?;
+    let all = group_text(*out.allocator(), &held.course, group, "and")?;
     let people = if left == 1 {
         "person is"
     } else {

@@ -14,15 +14,13 @@ pub(crate) const MOST_NAMED: u32 = 12;
 pub(crate) const NAMED: u32 = 10;
 
 /// Adds a number.
-pub(crate) fn push_number(alloc: Global, out: &mut String, n: u64) -> Result<(), AllocError> {
-    let digits = format!(in alloc; "{n}")?;
-    out.push_str(digits.as_str())
+pub(crate) fn push_number(out: &mut String, n: u64) -> Result<(), AllocError> {
+    write!(out, "{n}")
 }
 
 /// Adds a number of at least a thousand, and below a million.
-pub(crate) fn push_large(alloc: Global, out: &mut String, n: u64) -> Result<(), AllocError> {
-    let digits = format!(in alloc; "{},{:03}", n / 1_000, n % 1_000)?;
-    out.push_str(digits.as_str())
+pub(crate) fn push_large(out: &mut String, n: u64) -> Result<(), AllocError> {
+    write!(out, "{},{:03}", n / 1_000, n % 1_000)
 }
 
 /// Adds the name with a number, where there is one.
@@ -63,7 +61,6 @@ pub(crate) fn push_steps(out: &mut String, steps: &NameTable) -> Result<(), Allo
 /// Adds the names of a set's users, this word before the last one; of many the first ones, and how
 /// many others there are.
 pub(crate) fn push_users(
-    alloc: Global,
     out: &mut String,
     p: &Policy,
     users: &UserSet,
@@ -79,7 +76,7 @@ pub(crate) fn push_users(
             from = u.0 as u32 + 1;
         }
     }
-    push_others(alloc, out, shown, count, last)
+    push_others(out, shown, count, last)
 }
 
 /// How many of `count` are told.
@@ -89,7 +86,6 @@ pub(crate) fn shown_of(count: u32) -> u32 {
 
 /// Adds how many others there are, where not all of `count` are shown.
 pub(crate) fn push_others(
-    alloc: Global,
     out: &mut String,
     shown: u32,
     count: u32,
@@ -98,8 +94,7 @@ pub(crate) fn push_others(
     if count <= shown {
         return Ok(());
     }
-    let others = format!(in alloc; " {last} {} others", count - shown)?;
-    out.push_str(others.as_str())
+    write!(out, " {last} {} others", count - shown)
 }
 
 /// The roles that a step is permitted to.
@@ -126,18 +121,13 @@ pub(crate) fn push_roles(out: &mut String, p: &Policy, roles: &[RoleId]) -> Resu
 }
 
 /// Adds a word for rules, and their numbers.
-pub(crate) fn push_rules(
-    alloc: Global,
-    out: &mut String,
-    word: &str,
-    rules: &[u8],
-) -> Result<(), AllocError> {
+pub(crate) fn push_rules(out: &mut String, word: &str, rules: &[u8]) -> Result<(), AllocError> {
     let count = rules.len().min(256) as u32;
     let mut place = 0u32;
     say(out, &[word, if count == 1 { " " } else { "s " }])?;
     for k in rules {
         push_gap(out, place, count, "and")?;
-        push_number(alloc, out, *k as u64)?;
+        push_number(out, *k as u64)?;
         place = place.saturating_add(1);
     }
     Ok(())

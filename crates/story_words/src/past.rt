@@ -2,7 +2,7 @@
 
 use crate::about::{asker, case_of, step_asked};
 use crate::names::push_number;
-use std::alloc::{AllocError, Global};
+use std::alloc::AllocError;
 use wf_names::CaseId;
 use wf_talk::{Ask, Entry, Reply};
 
@@ -57,7 +57,6 @@ fn names_step(ask: &Ask, step: &str) -> bool {
 
 /// Adds which entry did this to a case, where it is among these.
 pub(crate) fn push_which(
-    alloc: Global,
     out: &mut String,
     entries: &[Entry],
     case: CaseId,
@@ -67,7 +66,7 @@ pub(crate) fn push_which(
     match entries.get(place) {
         Some(entry) => {
             out.push_str(" (entry ")?;
-            push_number(alloc, out, entry.at as u64)?;
+            push_number(out, entry.at as u64)?;
             out.push_str(")")
         }
         None => Ok(()),

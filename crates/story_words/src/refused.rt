@@ -8,7 +8,7 @@ use admin_edits::{EditFault, apply};
 use constraint_forms::{Assign, StepSet};
 use policy_book::Policy;
 use refutation_tree::Tree;
-use std::alloc::{AllocError, Global};
+use std::alloc::AllocError;
 use wf_names::CaseId;
 use wf_talk::{Ask, Denial, Reply, Request};
 
@@ -21,40 +21,47 @@ pub(crate) enum Telling {
     InLines,
 }
 
+impl Telling {
+    // Adds that much of why nobody can finish a case.
+    fn push(self, out: &mut String, held: &Held<'_>, tree: &Tree) -> Result<(), AllocError> {
+        match self {
+            Telling::InLine => push_short(out, held, tree),
+            Telling::InLines => push_why(out, held, tree),
+        }
+    }
+}
+
 /// Adds lines that tell why nobody could finish a case after what was denied, if that is why it
 /// was.
-pub fn push_reasons(alloc: Global, out: &mut String, told: &Told<'_>) -> Result<(), AllocError> {
-    push_refused(alloc, out, told, Telling::InLines)
+pub fn push_reasons(out: &mut String, told: &Told<'_>) -> Result<(), AllocError> {
+    push_refused(out, told, Telling::InLines)
 }
 
 /// Adds why nobody could finish a case after what was denied, as much of it as is to be told.
 pub(crate) fn push_refused(
-    alloc: Global,
     out: &mut String,
     told: &Told<'_>,
     telling: Telling,
 ) -> Result<(), AllocError> {
-    match &told.entry.reply {
-        Reply::Denied(Denial::Unsatisfiable { flow, tree }) => {
-            match held_as(told.policy, *flow, Assign::empty(), StepSet::empty()) {
-                Some(held) => push_told(alloc, out, &held, tree.get(), telling),
-                None => Ok(()),
-            }
-        }
-        Reply::Denied(Denial::Stranded { tree, .. }) => match held_with(told) {
-            Some(held) => push_told(alloc, out, &held, tree.get(), telling),
-            None => Ok(()),
-        },
+    let (held, tree) = match &told.entry.reply {
+        Reply::Denied(Denial::Unsatisfiable { flow, tree }) => (
+            held_as(told.policy, *flow, Assign::empty(), StepSet::empty()),
+            tree,
+        ),
+        Reply::Denied(Denial::Stranded { tree, .. }) => (held_with(told), tree),
         Reply::Denied(Denial::Strands { case, tree, .. }) => {
-            push_strands(alloc, out, told, *case, tree.get(), telling)
+            return push_strands(out, told, *case, tree.get(), telling);
         }
-        _ => Ok(()),
+        _ => return Ok(()),
+    };
+    match held {
+        Some(held) => telling.push(out, &held, tree.get()),
+        None => Ok(()),
     }
 }
 
 // Adds why an edit would have stranded a case, under the policy that it would have made.
 fn push_strands(
-    alloc: Global,
     out: &mut String,
     told: &Told<'_>,
     case: CaseId,
@@ -65,7 +72,7 @@ fn push_strands(
         return Ok(());
     };
     match held_in(&after, told.cases, case) {
-        Some(held) => push_told(alloc, out, &held, tree, telling),
+        Some(held) => telling.push(out, &held, tree),
         None => Ok(()),
     }
 }
@@ -79,18 +86,5 @@ fn edited(p: &Policy, ask: &Ask) -> Result<Option<Policy>, AllocError> {
             Err(_) => Ok(None),
         },
         _ => Ok(None),
-    }
-}
-
-fn push_told(
-    alloc: Global,
-    out: &mut String,
-    held: &Held<'_>,
-    tree: &Tree,
-    telling: Telling,
-) -> Result<(), AllocError> {
-    match telling {
-        Telling::InLine => push_short(alloc, out, held, tree),
-        Telling::InLines => push_why(alloc, out, held, tree),
     }
 }

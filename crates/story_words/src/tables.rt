@@ -6,7 +6,7 @@ use crate::past::{Deed, push_which};
 use case_record::Case;
 use plain_words::{name_of, say, step_name, text_of};
 use policy_book::{Course, Policy};
-use std::alloc::{AllocError, Global};
+use std::alloc::AllocError;
 use wf_names::{CaseId, NameTable, StepId, StepState, UserId};
 use wf_talk::Entry;
 
@@ -21,7 +21,6 @@ struct Table<'a> {
 
 /// Adds a line for each step of a case: its number, its name, and where it stands or who may do it.
 pub fn push_case<'a>(
-    alloc: Global,
     out: &mut String,
     p: &'a Policy,
     case: &'a Case,
@@ -41,21 +40,16 @@ pub fn push_case<'a>(
         entries,
     };
     for s in 0..case.steps() {
-        push_step_line(alloc, out, &table, StepId(s))?;
+        push_step_line(out, &table, StepId(s))?;
     }
     Ok(())
 }
 
-fn push_step_line(
-    alloc: Global,
-    out: &mut String,
-    table: &Table<'_>,
-    s: StepId,
-) -> Result<(), AllocError> {
+fn push_step_line(out: &mut String, table: &Table<'_>, s: StepId) -> Result<(), AllocError> {
     let width = widest(table.course.flow().steps());
     let name = step_name(&table.course, s);
     push_front(out, table.case.steps(), s, text_of(&name), width)?;
-    push_state(alloc, out, table, s, text_of(&name))?;
+    push_state(out, table, s, text_of(&name))?;
     out.push_str("\n")
 }
 
@@ -73,7 +67,6 @@ fn push_front(
 
 // Adds where a step of this name stands.
 fn push_state(
-    alloc: Global,
     out: &mut String,
     table: &Table<'_>,
     s: StepId,
@@ -81,14 +74,14 @@ fn push_state(
 ) -> Result<(), AllocError> {
     let p = table.course.policy;
     match table.case.state(s) {
-        StepState::Free => push_free(alloc, out, &table.course, s),
+        StepState::Free => push_free(out, &table.course, s),
         StepState::Held(user) => {
             push_by(out, "held by ", p, user)?;
-            push_which(alloc, out, table.entries, table.number, Deed::Grant(name))
+            push_which(out, table.entries, table.number, Deed::Grant(name))
         }
         StepState::Finished(user) => {
             push_by(out, "finished by ", p, user)?;
-            push_which(alloc, out, table.entries, table.number, Deed::Finish(name))
+            push_which(out, table.entries, table.number, Deed::Finish(name))
         }
     }
 }
@@ -108,13 +101,8 @@ fn widest(names: &NameTable) -> usize {
 }
 
 // Adds who may do a free step.
-fn push_free(
-    alloc: Global,
-    out: &mut String,
-    course: &Course,
-    s: StepId,
-) -> Result<(), AllocError> {
-    let roles = roles_of(alloc, course, s)?;
+fn push_free(out: &mut String, course: &Course, s: StepId) -> Result<(), AllocError> {
+    let roles = roles_of(*out.allocator(), course, s)?;
     if roles.as_slice().is_empty() {
         return out.push_str("free, permitted to no role");
     }
@@ -125,5 +113,5 @@ fn push_free(
     if users.count() == 0 {
         return out.push_str("nobody");
     }
-    push_users(alloc, out, course.policy, &users, "and")
+    push_users(out, course.policy, &users, "and")
 }

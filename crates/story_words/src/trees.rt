@@ -1,31 +1,37 @@
 //! Why nobody can finish a case, as a tree tells it.
 
-use crate::facts::push_broken;
+use crate::facts::{Breach, push_broken};
 use crate::held::{Held, given};
 use crate::names::{push_name, push_user, push_users};
 use plain_words::say;
 use policy_book::Policy;
 use refutation_tree::{Branch, Kid, Tree};
-use std::alloc::{AllocError, Global};
+use std::alloc::AllocError;
 use wf_names::{RULE_LIMIT, StepId, USER_LIMIT, UserId, UserSet};
+
+// A step of a tree with its branches, and who has which steps where it is given.
+#[derive(Clone, Copy)]
+struct Node<'a> {
+    held: &'a Held<'a>,
+    step: StepId,
+    branches: &'a [Branch],
+}
 
 /// Adds the lines of a tree that shows why nobody can finish a case in which steps are held so,
 /// each behind the indent.
 pub(crate) fn push_tree(
-    alloc: Global,
     out: &mut String,
     indent: &str,
     held: &Held<'_>,
     tree: &Tree,
 ) -> Result<(), AllocError> {
     out.push_str(indent)?;
-    push_node(alloc, out, indent, held, tree)
+    push_node(out, indent, held, tree)
 }
 
 // Adds what a tree says behind what stands in the line, and the lines below it.
 #[cycle(push_node)]
 fn push_node(
-    alloc: Global,
     out: &mut String,
     indent: &str,
     held: &Held<'_>,
@@ -37,15 +43,20 @@ fn push_node(
             out.push_str(".\n")
         }
         Tree::Rule(k) => {
-            push_broken(alloc, out, held, *k, " is broken", false)?;
+            push_broken(out, held, *k, Breach::Is)?;
             out.push_str(".\n")
         }
         Tree::Step(s, branches) => {
             let branches = branches.as_slice();
-            push_choice(alloc, out, held, *s, branches)?;
+            let node = Node {
+                held,
+                step: *s,
+                branches,
+            };
+            push_choice(out, &node)?;
             out.push_str(".\n")?;
-            push_leaves(alloc, out, indent, held, *s, branches)?;
-            push_branches(alloc, out, indent, held, *s, branches)
+            push_leaves(out, indent, &node)?;
+            push_branches(out, indent, held, *s, branches)
         }
     }
 }
@@ -53,7 +64,6 @@ fn push_node(
 // Adds the branches that go on, or are told by another one.
 #[cycle(push_node)]
 fn push_branches(
-    alloc: Global,
     out: &mut String,
     indent: &str,
     held: &Held<'_>,
@@ -61,14 +71,13 @@ fn push_branches(
     branches: &[Branch],
 ) -> Result<(), AllocError> {
     'branches: for branch in branches {
-        push_branch(alloc, out, indent, held, s, branch)?;
+        push_branch(out, indent, held, s, branch)?;
     }
     Ok(())
 }
 
 #[cycle(push_node)]
 fn push_branch(
-    alloc: Global,
     out: &mut String,
     indent: &str,
     held: &Held<'_>,
@@ -82,8 +91,8 @@ fn push_branch(
             push_user(out, held.course.policy, branch.user)?;
             out.push_str(" does it, ")?;
             let next = given(held, s, branch.user);
-            let deeper = format!(in alloc; "{indent}  ")?;
-            push_node(alloc, out, deeper.as_str(), &next, tree)
+            let deeper = format!(in *out.allocator(); "{indent}  ")?;
+            push_node(out, deeper.as_str(), &next, tree)
         }
         Kid::Twin(twin) => push_twin(out, indent, held.course.policy, branch.user, *twin),
     }
@@ -106,19 +115,12 @@ fn push_twin(
 }
 
 // Adds a line for each rule that some branches break at once.
-fn push_leaves(
-    alloc: Global,
-    out: &mut String,
-    indent: &str,
-    held: &Held<'_>,
-    s: StepId,
-    branches: &[Branch],
-) -> Result<(), AllocError> {
+fn push_leaves(out: &mut String, indent: &str, node: &Node<'_>) -> Result<(), AllocError> {
     for k in 0..RULE_LIMIT {
-        let users = users_of(branches, Some(k as u8));
+        let users = users_of(node.branches, Some(k as u8));
         if users.count() > 0 {
             say(out, &[indent, "- "])?;
-            push_leaf(alloc, out, held, s, k as u8, &users)?;
+            push_leaf(out, node, k as u8, &users)?;
             out.push_str(".\n")?;
         }
     }
@@ -126,21 +128,14 @@ fn push_leaves(
 }
 
 // Adds that each of the users breaks a rule at once, and how the first does.
-fn push_leaf(
-    alloc: Global,
-    out: &mut String,
-    held: &Held<'_>,
-    s: StepId,
-    k: u8,
-    users: &UserSet,
-) -> Result<(), AllocError> {
+fn push_leaf(out: &mut String, node: &Node<'_>, k: u8, users: &UserSet) -> Result<(), AllocError> {
     out.push_str("If ")?;
-    push_users(alloc, out, held.course.policy, users, "or")?;
+    push_users(out, node.held.course.policy, users, "or")?;
     out.push_str(" does it, ")?;
     match users.next(0) {
         Some(u) => {
-            let next = given(held, s, u);
-            push_broken(alloc, out, &next, k, " is broken", false)
+            let next = given(node.held, node.step, u);
+            push_broken(out, &next, k, Breach::Is)
         }
         None => Ok(()),
     }
@@ -163,20 +158,14 @@ fn users_of(branches: &[Branch], rule: Option<u8>) -> UserSet {
 }
 
 // Adds who alone can do a step.
-fn push_choice(
-    alloc: Global,
-    out: &mut String,
-    held: &Held<'_>,
-    s: StepId,
-    branches: &[Branch],
-) -> Result<(), AllocError> {
-    push_name(out, held.steps(), s.0 as u16)?;
+fn push_choice(out: &mut String, node: &Node<'_>) -> Result<(), AllocError> {
+    push_name(out, node.held.steps(), node.step.0 as u16)?;
     out.push_str(" can be done by ")?;
-    let users = users_of(branches, None);
+    let users = users_of(node.branches, None);
     if users.count() == 0 {
         return out.push_str("nobody");
     }
-    push_users(alloc, out, held.course.policy, &users, "and")?;
+    push_users(out, node.held.course.policy, &users, "and")?;
     out.push_str(" alone")
 }
 
@@ -191,12 +180,7 @@ pub(crate) fn push_holder(out: &mut String, held: &Held<'_>, s: StepId) -> Resul
 }
 
 /// Adds what a tree says in one line, where one line is enough for it: behind a full stop.
-pub(crate) fn push_short(
-    alloc: Global,
-    out: &mut String,
-    held: &Held<'_>,
-    tree: &Tree,
-) -> Result<(), AllocError> {
+pub(crate) fn push_short(out: &mut String, held: &Held<'_>, tree: &Tree) -> Result<(), AllocError> {
     match tree {
         Tree::Holder(s) => {
             out.push_str(". ")?;
@@ -204,24 +188,25 @@ pub(crate) fn push_short(
         }
         Tree::Rule(k) => {
             out.push_str(". ")?;
-            push_broken(alloc, out, held, *k, " is broken", false)
+            push_broken(out, held, *k, Breach::Is)
         }
-        Tree::Step(s, branches) => push_short_node(alloc, out, held, *s, branches.as_slice()),
+        Tree::Step(s, branches) => {
+            let node = Node {
+                held,
+                step: *s,
+                branches: branches.as_slice(),
+            };
+            push_short_node(out, &node)
+        }
     }
 }
 
-// The same of a node, where all of its branches break one rule at once.
-fn push_short_node(
-    alloc: Global,
-    out: &mut String,
-    held: &Held<'_>,
-    s: StepId,
-    branches: &[Branch],
-) -> Result<(), AllocError> {
-    match branches {
+// The same of a step, where all of its branches break one rule at once.
+fn push_short_node(out: &mut String, node: &Node<'_>) -> Result<(), AllocError> {
+    match node.branches {
         [] => {
             out.push_str(". ")?;
-            push_choice(alloc, out, held, s, branches)
+            push_choice(out, node)
         }
         [
             Branch {
@@ -230,14 +215,14 @@ fn push_short_node(
             },
             ..
         ] => {
-            let users = users_of(branches, Some(*k));
-            if users.count() as usize != branches.len() {
+            let users = users_of(node.branches, Some(*k));
+            if users.count() as usize != node.branches.len() {
                 return Ok(());
             }
             out.push_str(". ")?;
-            push_choice(alloc, out, held, s, branches)?;
+            push_choice(out, node)?;
             out.push_str(". ")?;
-            push_leaf(alloc, out, held, s, *k, &users)
+            push_leaf(out, node, *k, &users)
         }
         _ => Ok(()),
     }

@@ -7,7 +7,7 @@ use crate::trees::{push_holder, push_tree};
 use plain_words::push_rule_lines;
 use refutation_tree::Tree;
 use rule_core::{Progress, Why, why_of};
-use std::alloc::{AllocError, Global};
+use std::alloc::AllocError;
 use wf_names::{STEP_LIMIT, StepId};
 
 /// A tree with more leaves and nodes is not told.
@@ -15,43 +15,32 @@ const MOST_NODES: u64 = 40;
 
 /// Adds why nobody can finish a case: that some steps want more different users than there are for
 /// them, where that is found; else the tree, and which rules cannot be met together.
-pub(crate) fn push_why(
-    alloc: Global,
-    out: &mut String,
-    held: &Held<'_>,
-    tree: &Tree,
-) -> Result<(), AllocError> {
+pub(crate) fn push_why(out: &mut String, held: &Held<'_>, tree: &Tree) -> Result<(), AllocError> {
     if !fits(held) {
-        return push_small(alloc, out, held, tree);
+        return push_small(out, held, tree);
     }
     let case = Progress {
         course: &held.course,
         users: &held.users,
         done: &held.done,
     };
-    match why_of(alloc, &case)? {
-        Why::Crowd(steps) => push_crowd(alloc, out, held, steps.as_slice()),
-        Why::Clash(rules) => push_clash(alloc, out, held, tree, rules.as_slice()),
-        Why::Plan(_) => push_small(alloc, out, held, tree),
+    match why_of(*out.allocator(), &case)? {
+        Why::Crowd(steps) => push_crowd(out, held, steps.as_slice()),
+        Why::Clash(rules) => push_clash(out, held, tree, rules.as_slice()),
+        Why::Plan(_) => push_small(out, held, tree),
     }
 }
 
 // Adds a tree that is small.
-fn push_small(
-    alloc: Global,
-    out: &mut String,
-    held: &Held<'_>,
-    tree: &Tree,
-) -> Result<(), AllocError> {
+fn push_small(out: &mut String, held: &Held<'_>, tree: &Tree) -> Result<(), AllocError> {
     if tree.nodes() > MOST_NODES {
         return Ok(());
     }
-    push_tree(alloc, out, "  ", held, tree)
+    push_tree(out, "  ", held, tree)
 }
 
 // Adds a small tree, or else the words of the rules; and that they cannot be met together.
 fn push_clash(
-    alloc: Global,
     out: &mut String,
     held: &Held<'_>,
     tree: &Tree,
@@ -61,11 +50,11 @@ fn push_clash(
         return push_blameless(out, held);
     }
     if tree.nodes() > MOST_NODES {
-        push_rule_lines(alloc, out, &held.course, rules)?;
+        push_rule_lines(out, &held.course, rules)?;
     } else {
-        push_tree(alloc, out, "  ", held, tree)?;
+        push_tree(out, "  ", held, tree)?;
     }
-    push_rules(alloc, out, "Rule", rules)?;
+    push_rules(out, "Rule", rules)?;
     out.push_str(match rules.len() {
         1 => " cannot be met then. ",
         2 => " cannot both be met then. ",

@@ -93,7 +93,7 @@ fn push_all(alloc: Global, out: &mut String, front: &str, p: &Policy) -> Result<
     ensures { IfOk result (λ found. (file : List ℕ) → policy_of_file file ≡ Ok p.now
         → JudgesFile file found) }
 {
-    push_advice(alloc, out, front, p)?;
+    push_advice(out, front, p)?;
     let lacks = push_planless(alloc, out, front, p)?;
     let tells = !out.is_empty();
     let found = either(lacks, tells);
