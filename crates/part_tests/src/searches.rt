@@ -9,95 +9,59 @@ use std::test::Fail;
 use wf_names::UserId;
 use wsp_solver::{Outcome, solve};
 
-const ALL_DIFFER: &str = r#"
-  { form = "pair", relation = "other", first = "a", second = "b" },
-  { form = "pair", relation = "other", first = "b", second = "c" },
-  { form = "pair", relation = "other", first = "a", second = "c" },
-"#;
+const OTHER_AB: &str = r#"{ form = "pair", relation = "other", first = "a", second = "b" }"#;
+const OTHER_BC: &str = r#"{ form = "pair", relation = "other", first = "b", second = "c" }"#;
+const OTHER_AC: &str = r#"{ form = "pair", relation = "other", first = "a", second = "c" }"#;
+const SAME_AC: &str = r#"{ form = "pair", relation = "same", first = "a", second = "c" }"#;
+const SAME_BC: &str = r#"{ form = "pair", relation = "same", first = "b", second = "c" }"#;
+const ANY: &str = r#"{ form = "some", relation = "mentor", group = ["a", "b"], step = "c" }"#;
+const ANY_TO: &str = r#"{ form = "some_to", relation = "mentor", group = ["a", "b"], step = "c" }"#;
+const ALL: &str = r#"{ form = "all", relation = "mentor", group = ["a", "b"], step = "c" }"#;
+const ALL_TO: &str = r#"{ form = "all_to", relation = "mentor", group = ["a", "b"], step = "c" }"#;
+const A_OF_B: &str = r#"{ form = "all", relation = "mentor", group = ["a"], step = "b" }"#;
+const TWO_OR_MORE: &str = r#"{ form = "at_least", limit = 2, group = ["a", "b", "c"] }"#;
+const THREE: &str = r#"{ form = "at_least", limit = 3, group = ["a", "b", "c"] }"#;
+const TWO_OR_ONE: &str = r#"{ form = "at_most", limit = 2, group = ["a", "b", "c"] }"#;
+const ONE: &str = r#"{ form = "at_most", limit = 1, group = ["a", "b", "c"] }"#;
 
 /// One user for the first and the third step by one rule, and two by the other.
-pub(crate) const SAME_AND_OTHER: &str = r#"
-  { form = "pair", relation = "same", first = "a", second = "c" },
-  { form = "pair", relation = "other", first = "a", second = "c" },
-"#;
-
-const SOME_MENTOR: &str = r#"
-  { form = "some", relation = "mentor", group = ["a", "b"], step = "c" },
-"#;
-
-const NO_SOME_MENTOR: &str = r#"
-  { form = "some", relation = "mentor", group = ["a", "b"], step = "c" },
-  { form = "pair", relation = "same", first = "a", second = "c" },
-  { form = "pair", relation = "same", first = "b", second = "c" },
-"#;
-
-const ALL_MENTORS: &str = r#"
-  { form = "all", relation = "mentor", group = ["a", "b"], step = "c" },
-"#;
-
-const NO_ALL_MENTORS: &str = r#"
-  { form = "all", relation = "mentor", group = ["a", "b"], step = "c" },
-  { form = "pair", relation = "other", first = "a", second = "b" },
-"#;
-
-const SOME_MENTORED: &str = r#"
-  { form = "some_to", relation = "mentor", group = ["a", "b"], step = "c" },
-"#;
-
-const NO_SOME_MENTORED: &str = r#"
-  { form = "some_to", relation = "mentor", group = ["a", "b"], step = "c" },
-  { form = "some", relation = "mentor", group = ["a", "b"], step = "c" },
-"#;
-
-const ALL_MENTORED: &str = r#"
-  { form = "all_to", relation = "mentor", group = ["a", "b"], step = "c" },
-"#;
-
-const NO_ALL_MENTORED: &str = r#"
-  { form = "all_to", relation = "mentor", group = ["a", "b"], step = "c" },
-  { form = "pair", relation = "other", first = "a", second = "b" },
-"#;
-
-const TWO_USERS: &str = r#"
-  { form = "at_least", limit = 2, group = ["a", "b", "c"] },
-  { form = "at_most", limit = 2, group = ["a", "b", "c"] },
-"#;
-
-const NO_THIRD_USER: &str = r#"
-  { form = "at_least", limit = 3, group = ["a", "b", "c"] },
-  { form = "pair", relation = "same", first = "a", second = "c" },
-"#;
-
-const NO_SECOND_USER: &str = r#"
-  { form = "at_most", limit = 1, group = ["a", "b", "c"] },
-  { form = "all", relation = "mentor", group = ["a"], step = "b" },
-"#;
+pub(crate) const SAME_AND_OTHER: [&str; 2] = [SAME_AC, OTHER_AC];
 
 // Rules, and whether there is a valid plan.
-const ROWS: [(&str, bool); 13] = [
-    (ALL_DIFFER, true),
-    (SAME_AND_OTHER, false),
-    (SOME_MENTOR, true),
-    (NO_SOME_MENTOR, false),
-    (ALL_MENTORS, true),
-    (NO_ALL_MENTORS, false),
-    (SOME_MENTORED, true),
-    (NO_SOME_MENTORED, false),
-    (ALL_MENTORED, true),
-    (NO_ALL_MENTORED, false),
-    (TWO_USERS, true),
-    (NO_THIRD_USER, false),
-    (NO_SECOND_USER, false),
+const ROWS: [(&[&str], bool); 13] = [
+    (&[OTHER_AB, OTHER_BC, OTHER_AC], true),
+    (&SAME_AND_OTHER, false),
+    (&[ANY], true),
+    (&[ANY, SAME_AC, SAME_BC], false),
+    (&[ALL], true),
+    (&[ALL, OTHER_AB], false),
+    (&[ANY_TO], true),
+    (&[ANY_TO, ANY], false),
+    (&[ALL_TO], true),
+    (&[ALL_TO, OTHER_AB], false),
+    (&[TWO_OR_MORE, TWO_OR_ONE], true),
+    (&[THREE, SAME_AC], false),
+    (&[ONE, A_OF_B], false),
 ];
 
 /// Whether the search finds a plan exactly where one of all assignments is valid.
 pub fn search_agrees_with_all_assignments(alloc: Global) -> Result<bool, Fail> {
     for (rules, solvable) in ROWS {
-        if !is_right_in_trio(alloc, rules, Look::Search(solvable))? {
+        if !is_right_with(alloc, rules, Look::Search(solvable))? {
             return Ok(false);
         }
     }
     Ok(true)
+}
+
+/// Whether all is right in the trio with these rules.
+pub(crate) fn is_right_with(alloc: Global, rules: &[&str], look: Look) -> Result<bool, Fail> {
+    let mut all = String::new(alloc);
+    for rule in rules {
+        all.push_str(rule)?;
+        all.push_str(",\n")?;
+    }
+    is_right_in_trio(alloc, all.as_str(), look)
 }
 
 pub(crate) fn agrees(alloc: Global, p: &Policy, solvable: bool) -> Result<bool, Fail> {

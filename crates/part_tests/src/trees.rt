@@ -1,7 +1,7 @@
 //! What is left of a tree that is read and trimmed.
 
-use crate::fixture::{FLOW, Look, is_right_in_trio};
-use crate::searches::SAME_AND_OTHER;
+use crate::fixture::{FLOW, Look};
+use crate::searches::{SAME_AND_OTHER, is_right_with};
 use certificate_check::check_tree;
 use constraint_forms::{Assign, StepSet};
 use entry_reader::tree_of;
@@ -39,7 +39,7 @@ const LEAN: &str = concat!(
 
 /// Whether trimming leaves of the tree what it should.
 pub fn a_step_that_is_not_mentioned_goes_and_makes_twins(alloc: Global) -> Result<bool, Fail> {
-    is_right_in_trio(alloc, SAME_AND_OTHER, Look::Tree)
+    is_right_with(alloc, &SAME_AND_OTHER, Look::Tree)
 }
 
 pub(crate) fn is_trimmed(alloc: Global, p: &Policy) -> Result<bool, Fail> {

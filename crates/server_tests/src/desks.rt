@@ -3,7 +3,7 @@ ghost use Rattle.std.specs.Prelude.{◌≡◌, [], IfOk, IsTrue};
 ghost use Rattle.wf_desk.specs.Desks.{AreOfLanes, IsDone};
 ghost use Rattle.wf_desk.specs.Schedules.{AreEventsOf};
 
-use crate::schedules::{ALL, CLAIMS, Kind, S0, S1, Schedule};
+use crate::schedules::{ALL, CLAIMS, S0, S1, Schedule};
 use case_views::PlainDecider;
 use fixtures::{PAY, STAFFED};
 use line_reader::jobs_of;
@@ -25,7 +25,7 @@ enum Scene<'a> {
     Checked,
 }
 
-/// Whether each schedule leaves the marks and the entries that it says.
+/// Whether each schedule leaves the marks and the replies that it says.
 pub fn tasks_are_served_begun_and_committed(alloc: Global) -> Result<bool, Fail> {
     for row in &ALL {
         if !is_right(alloc, row.policy, row.rounds, Scene::Turns(row))? {
@@ -67,7 +67,7 @@ fn follows(alloc: Global, desk: &mut Desk, row: &Schedule) -> Result<bool, Alloc
     Ok(
         load(alloc, desk, row.requests)?
             && takes(alloc, desk, row.turns, row.marks)?
-            && has_kinds(desk, row.kinds),
+            && has_replies(alloc, desk, row.replies)?,
     )
 }
 
@@ -114,12 +114,45 @@ fn takes(
     alloc: Global,
     desk: &mut Desk,
     turns: &[Event],
-    marks: &[Mark],
+    marks: &str,
 ) -> Result<bool, AllocError> {
     if desk.lanes() != 2 || !are_of_lanes(turns) {
         return Ok(false);
     }
-    Ok(desk.run_schedule(alloc, &PlainDecider, turns)?.as_slice() == marks)
+    let mut told = String::new(alloc);
+    for mark in desk.run_schedule(alloc, &PlainDecider, turns)?.as_slice() {
+        push_called(alloc, &mut told, mark_called(mark))?;
+    }
+    Ok(told.as_str() == marks)
+}
+
+// What a mark or a reply is called, with the number that it tells.
+type Called = (&'static str, Option<u32>);
+
+fn mark_called(mark: &Mark) -> Called {
+    match mark {
+        Mark::Served(n) => ("served", Some(*n)),
+        Mark::Began(n) => ("began", Some(*n)),
+        Mark::Recorded(n) => ("recorded", Some(*n)),
+        Mark::Lost => ("lost", None),
+        Mark::NoJob => ("no job", None),
+        Mark::NoTask => ("no task", None),
+        Mark::NotNext => ("not next", None),
+        Mark::NoMemory => ("no memory", None),
+    }
+}
+
+// Adds what is called so, behind those before.
+fn push_called(alloc: Global, out: &mut String, called: Called) -> Result<(), AllocError> {
+    if !out.is_empty() {
+        out.push_str(", ")?;
+    }
+    out.push_str(called.0)?;
+    let Some(n) = called.1 else {
+        return Ok(());
+    };
+    let number = format!(in alloc; " {n}")?;
+    out.push_str(number.as_str())
 }
 
 fn are_of_lanes(events: &[Event]) -> bool
@@ -134,28 +167,25 @@ fn are_of_lanes(events: &[Event]) -> bool
     }
 }
 
-// Whether the entries are of these kinds, in order.
-fn has_kinds(desk: &Desk, kinds: &[Kind]) -> bool {
-    let entries = desk.journal().as_slice();
-    for k in 0..kinds.len() {
-        match entries.get(k) {
-            Some(entry) if is_of_kind(&entry.reply, kinds[k].0, kinds[k].1) => {}
-            _ => return false,
-        }
+// Whether the entries reply so, in order.
+fn has_replies(alloc: Global, desk: &Desk, replies: &str) -> Result<bool, AllocError> {
+    let mut told = String::new(alloc);
+    for entry in desk.journal().as_slice() {
+        push_called(alloc, &mut told, reply_called(&entry.reply))?;
     }
-    entries.len() == kinds.len()
+    Ok(told.as_str() == replies)
 }
 
-fn is_of_kind(reply: &Reply, kind: &str, of: u32) -> bool {
+fn reply_called(reply: &Reply) -> Called {
     match reply {
-        Reply::Opened { case, .. } => kind == "opened" && case.0 as u32 == of,
-        Reply::Edited { number } => kind == "edited" && *number == of,
-        Reply::Again { at, .. } => kind == "again" && *at == of,
-        Reply::Granted(_) => kind == "granted",
-        Reply::Finished { done: false } => kind == "finished",
-        Reply::Returned => kind == "returned",
-        Reply::Denied(Denial::Stranded { .. }) => kind == "stranded",
-        _ => false,
+        Reply::Opened { case, .. } => ("opened", Some(case.0 as u32)),
+        Reply::Edited { number } => ("edited", Some(*number)),
+        Reply::Again { at, .. } => ("again", Some(*at)),
+        Reply::Granted(_) => ("granted", None),
+        Reply::Finished { done: false } => ("finished", None),
+        Reply::Returned => ("returned", None),
+        Reply::Denied(Denial::Stranded { .. }) => ("stranded", None),
+        _ => ("none of these", None),
     }
 }
 
@@ -163,12 +193,11 @@ fn is_of_kind(reply: &Reply, kind: &str, of: u32) -> bool {
 fn misses(alloc: Global, desk: &mut Desk) -> Result<bool, AllocError>
     requires { IsDone desk.old }
 {
-    let begun = [Mark::Served(0), Mark::Served(1), Mark::Served(2)];
     Ok(
         load(alloc, desk, CLAIMS)?
-            && takes(alloc, desk, &[S0, S0, S0], &begun)?
+            && takes(alloc, desk, &[S0, S0, S0], "served 0, served 1, served 2")?
             && commits(alloc, desk, 1)? == Outcome::Recorded(3)
-            && takes(alloc, desk, &[S1, S1], &[Mark::Served(4), Mark::Served(5)])?
+            && takes(alloc, desk, &[S1, S1], "served 4, served 5")?
             && commits(alloc, desk, 4)? == Outcome::Lost
             && commits(alloc, desk, 4)? == Outcome::Recorded(6),
     )
@@ -210,5 +239,5 @@ fn is_decided_in_the_turn(alloc: Global, desk: &mut Desk) -> Result<bool, AllocE
         return Ok(false);
     }
     let outcome = desk.commit_checked(alloc, &PlainDecider, &task, verdict);
-    Ok(outcome == Outcome::Recorded(1) && has_kinds(desk, &[("opened", 0), ("edited", 1)]))
+    Ok(outcome == Outcome::Recorded(1) && has_replies(alloc, desk, "opened 0, edited 1")?)
 }

@@ -1,7 +1,7 @@
 //! Turns of two lanes over the policy for payments, in a given order, and what comes of them.
 
 use fixtures::{PAY, STAFFED};
-use wf_desk::{Event, Mark};
+use wf_desk::Event;
 
 /// In lane 0 ann prepares a payment, which bob then claims to approve, twice; in lane 1 cyd takes
 /// the approval and gives it back, twice. Bob's approval would leave nobody to pay.
@@ -36,18 +36,6 @@ const OPENINGS: &str = r#"{"do":"open","flow":"pay"}
 {"do":"open","flow":"pay","lane":1}
 "#;
 
-/// What an entry replies, with the number of the case, of the edit, or of the entry at which it is
-/// told again.
-pub(crate) type Kind = (&'static str, u32);
-
-const GRANTED: Kind = ("granted", 0);
-
-const FINISHED: Kind = ("finished", 0);
-
-const RETURNED: Kind = ("returned", 0);
-
-const STRANDED: Kind = ("stranded", 0);
-
 // A lane begins, commits or serves.
 const B0: Event = Event::Begin(0);
 
@@ -57,15 +45,16 @@ pub(crate) const S0: Event = Event::Serve(0);
 
 pub(crate) const S1: Event = Event::Serve(1);
 
-/// A schedule of one batch, and what comes of it.
+/// A schedule of one batch, and what comes of it: the mark of each turn, and the replies of the
+/// entries, with the number of the case, of the edit, or of the entry at which it is told again.
 #[derive(Clone, Copy)]
 pub(crate) struct Schedule {
     pub(crate) policy: &'static str,
     pub(crate) rounds: u8,
     pub(crate) requests: &'static str,
     pub(crate) turns: &'static [Event],
-    pub(crate) marks: &'static [Mark],
-    pub(crate) kinds: &'static [Kind],
+    pub(crate) marks: &'static str,
+    pub(crate) replies: &'static str,
 }
 
 // Nothing has changed since the task was taken; its lane has no task any more.
@@ -74,209 +63,75 @@ const FRESH: Schedule = Schedule {
     rounds: 1,
     requests: CLAIMS,
     turns: &[S0, S0, S0, B0, C0, C0],
-    marks: &[
-        Mark::Served(0),
-        Mark::Served(1),
-        Mark::Served(2),
-        Mark::Began(3),
-        Mark::Recorded(3),
-        Mark::NoTask,
-    ],
-    kinds: &[("opened", 0), GRANTED, FINISHED, STRANDED],
+    marks: "served 0, served 1, served 2, began 3, recorded 3, no task",
+    replies: "opened 0, granted, finished, stranded",
 };
 
 // A task is not for the next job once its own was served; a lane with no job left holds no task.
 const SERVED: Schedule = Schedule {
-    policy: PAY,
-    rounds: 1,
-    requests: CLAIMS,
     turns: &[S0, S0, B0, S0, C0, S0, B0, S0, S0, B0, C0],
-    marks: &[
-        Mark::Served(0),
-        Mark::Served(1),
-        Mark::Began(2),
-        Mark::Served(2),
-        Mark::NotNext,
-        Mark::Served(3),
-        Mark::Began(4),
-        Mark::Served(4),
-        Mark::NoJob,
-        Mark::NoJob,
-        Mark::NoTask,
-    ],
-    kinds: &[("opened", 0), GRANTED, FINISHED, STRANDED, STRANDED],
+    marks: "served 0, served 1, began 2, served 2, not next, served 3, began 4, served 4, no job, \
+        no job, no task",
+    replies: "opened 0, granted, finished, stranded, stranded",
+    ..FRESH
 };
 
 // With one round: the case was claimed and given back since the task was taken.
 const ONE_ROUND: Schedule = Schedule {
-    policy: PAY,
-    rounds: 1,
-    requests: CLAIMS,
     turns: &[S0, S0, S0, B0, S1, S1, C0, S0],
-    marks: &[
-        Mark::Served(0),
-        Mark::Served(1),
-        Mark::Served(2),
-        Mark::Began(3),
-        Mark::Served(3),
-        Mark::Served(4),
-        Mark::Recorded(5),
-        Mark::Served(6),
-    ],
-    kinds: &[
-        ("opened", 0),
-        GRANTED,
-        FINISHED,
-        GRANTED,
-        RETURNED,
-        ("again", 4),
-        STRANDED,
-    ],
+    marks: "served 0, served 1, served 2, began 3, served 3, served 4, recorded 5, served 6",
+    replies: "opened 0, granted, finished, granted, returned, again 4, stranded",
+    ..FRESH
 };
 
 // With two rounds the first task is lost; the second is lost too, or it is fresh.
 const TWO_ROUNDS: Schedule = Schedule {
-    policy: PAY,
     rounds: 2,
-    requests: CLAIMS,
     turns: &[S0, S0, S0, B0, S1, S1, C0, B0, C0, B0, S1, S1, C0, B0],
-    marks: &[
-        Mark::Served(0),
-        Mark::Served(1),
-        Mark::Served(2),
-        Mark::Began(3),
-        Mark::Served(3),
-        Mark::Served(4),
-        Mark::Lost,
-        Mark::Began(5),
-        Mark::Recorded(5),
-        Mark::Began(6),
-        Mark::Served(6),
-        Mark::Served(7),
-        Mark::Lost,
-        Mark::Began(8),
-    ],
-    kinds: &[
-        ("opened", 0),
-        GRANTED,
-        FINISHED,
-        GRANTED,
-        RETURNED,
-        STRANDED,
-        GRANTED,
-        RETURNED,
-    ],
+    marks: "served 0, served 1, served 2, began 3, served 3, served 4, lost, began 5, recorded 5, \
+        began 6, served 6, served 7, lost, began 8",
+    replies: "opened 0, granted, finished, granted, returned, stranded, granted, returned",
+    ..FRESH
 };
 
 // With one round: dan is dismissed since the task was taken, on whose snapshot he could pay.
 const DISMISSED: Schedule = Schedule {
     policy: STAFFED,
-    rounds: 1,
     requests: STALE_CLAIMS,
     turns: &[S0, S0, S0, B0, S1, C0, S0],
-    marks: &[
-        Mark::Served(0),
-        Mark::Served(1),
-        Mark::Served(2),
-        Mark::Began(3),
-        Mark::Served(3),
-        Mark::Recorded(4),
-        Mark::Served(5),
-    ],
-    kinds: &[
-        ("opened", 0),
-        GRANTED,
-        FINISHED,
-        ("edited", 1),
-        ("again", 3),
-        STRANDED,
-    ],
+    marks: "served 0, served 1, served 2, began 3, served 3, recorded 4, served 5",
+    replies: "opened 0, granted, finished, edited 1, again 3, stranded",
+    ..FRESH
 };
 
 // With two rounds the task is lost, and found again on the new policy.
 const FOUND_AGAIN: Schedule = Schedule {
-    policy: STAFFED,
     rounds: 2,
-    requests: STALE_CLAIMS,
     turns: &[S0, S0, S0, B0, S1, C0, B0, C0, S0],
-    marks: &[
-        Mark::Served(0),
-        Mark::Served(1),
-        Mark::Served(2),
-        Mark::Began(3),
-        Mark::Served(3),
-        Mark::Lost,
-        Mark::Began(4),
-        Mark::Recorded(4),
-        Mark::Served(5),
-    ],
-    kinds: &[
-        ("opened", 0),
-        GRANTED,
-        FINISHED,
-        ("edited", 1),
-        STRANDED,
-        STRANDED,
-    ],
+    marks: "served 0, served 1, served 2, began 3, served 3, lost, began 4, recorded 4, served 5",
+    replies: "opened 0, granted, finished, edited 1, stranded, stranded",
+    ..DISMISSED
 };
 
 // An opening is stale once the policy has changed, an edit once a case has, too. With one round the
 // first opening and the first edit of lane 0 are answered again, and the next are fresh.
 const OPENED: Schedule = Schedule {
-    policy: STAFFED,
-    rounds: 1,
     requests: OPENINGS,
     turns: &[B0, S1, C0, B0, C0, B0, S1, C0, B0, C0],
-    marks: &[
-        Mark::Began(0),
-        Mark::Served(0),
-        Mark::Recorded(1),
-        Mark::Began(2),
-        Mark::Recorded(2),
-        Mark::Began(3),
-        Mark::Served(3),
-        Mark::Recorded(4),
-        Mark::Began(5),
-        Mark::Recorded(5),
-    ],
-    kinds: &[
-        ("edited", 1),
-        ("again", 0),
-        ("opened", 0),
-        ("opened", 1),
-        ("again", 3),
-        ("edited", 2),
-    ],
+    marks: "began 0, served 0, recorded 1, began 2, recorded 2, began 3, served 3, recorded 4, \
+        began 5, recorded 5",
+    replies: "edited 1, again 0, opened 0, opened 1, again 3, edited 2",
+    ..DISMISSED
 };
 
 // With two rounds each is lost at first; the edit is lost twice.
 const LOST_TWICE: Schedule = Schedule {
-    policy: STAFFED,
     rounds: 2,
-    requests: OPENINGS,
     turns: &[B0, S1, C0, B0, C0, S0, B0, S1, C0, B0, S1, C0],
-    marks: &[
-        Mark::Began(0),
-        Mark::Served(0),
-        Mark::Lost,
-        Mark::Began(1),
-        Mark::Recorded(1),
-        Mark::Served(2),
-        Mark::Began(3),
-        Mark::Served(3),
-        Mark::Lost,
-        Mark::Began(4),
-        Mark::Served(4),
-        Mark::Recorded(5),
-    ],
-    kinds: &[
-        ("edited", 1),
-        ("opened", 0),
-        ("opened", 1),
-        ("opened", 2),
-        ("opened", 3),
-        ("again", 4),
-    ],
+    marks: "began 0, served 0, lost, began 1, recorded 1, served 2, began 3, served 3, lost, \
+        began 4, served 4, recorded 5",
+    replies: "edited 1, opened 0, opened 1, opened 2, opened 3, again 4",
+    ..OPENED
 };
 
 /// All of the schedules.

@@ -23,33 +23,36 @@ const OPEN: &str = "{\"do\":\"open\",\"flow\":\"pay\"}\n";
 
 /// What a report has to tell: how many entries and batches, how many cases were opened, and the
 /// number of the last one. One opening is denied since there are too many cases.
-#[derive(Clone, Copy)]
-struct Told {
-    entries: usize,
-    batches: usize,
-    opened: u32,
-    last: u16,
-}
+type Told = (usize, usize, u32, u16);
 
 /// Whether by opening and withdrawing in turn every number is given once.
 pub fn numbers_end(alloc: Global) -> Result<bool, AllocError> {
-    let input = turns(alloc)?;
-    is_served(alloc, input.as_str(), &TURNS)
+    is_served(alloc, 65_535, true, (131_071, 128, 65_535, 65_534))
 }
 
-const TURNS: Told = Told {
-    entries: 131_071,
-    batches: 128,
-    opened: 65_535,
-    last: 65_534,
-};
+/// Whether no case is opened beside 1,024 others, and one again where one of them was withdrawn.
+/// The batch ends at 1,024 lines.
+pub fn open_cases_are_limited(alloc: Global) -> Result<bool, AllocError> {
+    is_served(alloc, 1_025, false, (1_027, 2, 1_025, 1_024))
+}
 
-// 65,535 cases are opened and withdrawn in turn, and then one is opened.
-fn turns(alloc: Global) -> Result<String, AllocError> {
+fn is_served(alloc: Global, cases: u16, in_turn: bool, told: Told) -> Result<bool, AllocError> {
+    let input = openings(alloc, cases, in_turn)?;
+    is_served_with(alloc, input.as_str(), told)
+}
+
+// Cases are opened and withdrawn in turn, or all are opened and one is withdrawn; then one is
+// opened.
+fn openings(alloc: Global, cases: u16, in_turn: bool) -> Result<String, AllocError> {
     let mut all = String::new(alloc);
-    for case in 0..65_535u16 {
+    for case in 0..cases {
         all.push_str(OPEN)?;
-        put_withdrawal(alloc, case, &mut all)?;
+        if in_turn {
+            put_withdrawal(alloc, case, &mut all)?;
+        }
+    }
+    if !in_turn {
+        put_withdrawal(alloc, 7, &mut all)?;
     }
     all.push_str(OPEN)?;
     Ok(all)
@@ -60,32 +63,7 @@ fn put_withdrawal(alloc: Global, case: u16, all: &mut String) -> Result<(), Allo
     all.push_str(line.as_str())
 }
 
-/// Whether no case is opened beside 1,024 others, and one again where one of them was withdrawn.
-/// The batch ends at 1,024 lines.
-pub fn open_cases_are_limited(alloc: Global) -> Result<bool, AllocError> {
-    let input = crowd(alloc)?;
-    is_served(alloc, input.as_str(), &CROWD)
-}
-
-const CROWD: Told = Told {
-    entries: 1_027,
-    batches: 2,
-    opened: 1_025,
-    last: 1_024,
-};
-
-// One case too many is opened, one is withdrawn, and one is opened.
-fn crowd(alloc: Global) -> Result<String, AllocError> {
-    let mut all = String::new(alloc);
-    for _ in 0..1_025 {
-        all.push_str(OPEN)?;
-    }
-    put_withdrawal(alloc, 7, &mut all)?;
-    all.push_str(OPEN)?;
-    Ok(all)
-}
-
-fn is_served(alloc: Global, input: &str, told: &Told) -> Result<bool, AllocError> {
+fn is_served_with(alloc: Global, input: &str, told: Told) -> Result<bool, AllocError> {
     let mut shelf = shelf_of(alloc, SMALL)?;
     is_served_from(alloc, input, &mut shelf, told)
 }
@@ -94,7 +72,7 @@ fn is_served_from(
     alloc: Global,
     input: &str,
     shelf: &mut MemShelf,
-    told: &Told,
+    told: Told,
 ) -> Result<bool, AllocError> {
     let mut source = source_of(alloc, input.as_bytes())?;
     is_served_over(alloc, shelf, &mut source, told)
@@ -104,7 +82,7 @@ fn is_served_over(
     alloc: Global,
     shelf: &mut MemShelf,
     source: &mut MemSource,
-    told: &Told,
+    told: Told,
 ) -> Result<bool, AllocError> {
     let mut sink = sink_of(alloc)?;
     is_served_into(alloc, shelf, source, &mut sink, told)
@@ -115,21 +93,22 @@ fn is_served_into(
     shelf: &mut MemShelf,
     source: &mut MemSource,
     sink: &mut MemSink,
-    told: &Told,
+    told: Told,
 ) -> Result<bool, AllocError> {
     let words = words_of(alloc, &["serve", "policy"])?;
     Ok(tells(&run_alone(alloc, &words, shelf, source, sink), told))
 }
 
-fn tells(report: &Report, told: &Told) -> bool {
+fn tells(report: &Report, told: Told) -> bool {
+    let (entries, batches, opened, last) = told;
     report.status == 0
-        && report.entries.len() == told.entries
-        && report.batch_ends.len() == told.batches
-        && answers(report.entries.as_slice(), told)
+        && report.entries.len() == entries
+        && report.batch_ends.len() == batches
+        && answers(report.entries.as_slice(), opened, last)
 }
 
 // Whether entries tell these openings, one that was denied, and no want of memory.
-fn answers(entries: &[Entry], told: &Told) -> bool {
+fn answers(entries: &[Entry], all: u32, at_last: u16) -> bool {
     let mut opened = 0u32;
     let mut last = 0u16;
     let mut full = 0u32;
@@ -144,5 +123,5 @@ fn answers(entries: &[Entry], told: &Told) -> bool {
             _ => {}
         }
     }
-    opened == told.opened && last == told.last && full == 1
+    opened == all && last == at_last && full == 1
 }

@@ -13,10 +13,7 @@ const ONE: &str = r#"
 format = 1
 admin = "chief"
 roles = ["chief", "clerk"]
-
-[users]
-kim = ["clerk"]
-zoe = ["chief"]
+users = { kim = ["clerk"], zoe = ["chief"] }
 
 [flows.one]
 steps = ["a"]
