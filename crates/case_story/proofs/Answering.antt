@@ -13,7 +13,8 @@ use Rattle.wf_commands.specs.Load.{IsLoadEnding}
 use Rattle.wf_commands.specs.Once.{Ends}
 use Rattle.wf_commands.proofs.Runs.{ends_refused}
 use Rattle.case_story.specs.declared.session.Session.{Session}
-use Rattle.case_story.specs.Sessions.{GivesSession, Names}
+use Rattle.transcript_commands.specs.Load.{FileNames}
+use Rattle.case_story.specs.Sessions.{GivesSession}
 use Rattle.case_story.specs.Transcript.{FindsRun, GivesServed, TellsRun}
 
 refuses_wider : (A B : RunFault → List ℕ → Type 0) (how : How) (fault : RunFault) → ((f : RunFault) (text : List ℕ) → A f text → B f text) →
@@ -35,7 +36,7 @@ pub ends_whole : (A : RunFault → List ℕ → Type 0) (found : Bool) (text : L
 ends_whole A true text before after h wrote = (text, h, wrote)
 ends_whole A false text before after h wrote = (text, h, wrote)
 
-pub told_whole : (files : List ℕ → Filed) (n : Names) (lanes rounds : ℕ) (T : Session → RunFault → List ℕ → Type 0) (answer : Answer)
+pub told_whole : (files : List ℕ → Filed) (n : FileNames) (lanes rounds : ℕ) (T : Session → RunFault → List ℕ → Type 0) (answer : Answer)
     (before after : Option (List ℕ)) (fault : RunFault)
     → FindsRun files n lanes rounds T (Ok answer) → fault ≡ ending_with answer.found → after ≡ with_bytes before answer.text.items →
     TellsRun files n lanes rounds T before after fault
@@ -54,14 +55,14 @@ pub ends_part : (A : RunFault → List ℕ → Type 0) (found : Bool) (text : Li
 ends_part A true text before after h part = (Found, text, tt, h, part)
 ends_part A false text before after h part = (Nothing, text, tt, h, part)
 
-pub told_part : (files : List ℕ → Filed) (n : Names) (lanes rounds : ℕ) (T : Session → RunFault → List ℕ → Type 0) (answer : Answer)
+pub told_part : (files : List ℕ → Filed) (n : FileNames) (lanes rounds : ℕ) (T : Session → RunFault → List ℕ → Type 0) (answer : Answer)
     (before after : Option (List ℕ))
     → FindsRun files n lanes rounds T (Ok answer) → HasPart before after answer.text.items → TellsRun files n lanes rounds T before after Write
 told_part files n lanes rounds T answer before after finds part =
     inr (finds.0, (finds.1.0, ends_part (T finds.0) answer.found answer.text.items before after finds.1.1 part))
 
 -- nothing is written
-pub told_none : (files : List ℕ → Filed) (n : Names) (lanes rounds : ℕ) (T : Session → RunFault → List ℕ → Type 0) (before after : Option (List ℕ))
+pub told_none : (files : List ℕ → Filed) (n : FileNames) (lanes rounds : ℕ) (T : Session → RunFault → List ℕ → Type 0) (before after : Option (List ℕ))
     (fault : RunFault)
     → FindsRun files n lanes rounds T (Err fault) → IsCommandEnding fault → after ≡ before → TellsRun files n lanes rounds T before after fault
 told_none files n lanes rounds T before after fault finds ends same = elim finds [
@@ -70,19 +71,19 @@ told_none files n lanes rounds T before after fault finds ends same = elim finds
 ]
 
 -- a file was not loaded
-pub not_given : (files : List ℕ → Filed) (n : Names) (result : Result Session RunFault) (fault : RunFault) → IsErrAnd result (λ e. e ≡ fault)
+pub not_given : (files : List ℕ → Filed) (n : FileNames) (result : Result Session RunFault) (fault : RunFault) → IsErrAnd result (λ e. e ≡ fault)
     → GivesSession files n (Err fault) → GivesSession files n result
 not_given files n (Ok s) fault is h = absurd is
 not_given files n (Err e) fault is h = subst (λ (x : RunFault). GivesSession files n (Err x)) (sym is) h
 
 -- what is told of a session that the files give
-pub found_all : (files : List ℕ → Filed) (n : Names) (lanes rounds : ℕ) (T : Session → RunFault → List ℕ → Type 0) (s : Session)
+pub found_all : (files : List ℕ → Filed) (n : FileNames) (lanes rounds : ℕ) (T : Session → RunFault → List ℕ → Type 0) (s : Session)
     (result : Result Answer RunFault)
     → GivesServed files n lanes rounds s → AnswersAs (T s) result → FindsRun files n lanes rounds T result
 found_all files n lanes rounds T s (Ok answer) gives h = (s, (gives, h))
 found_all files n lanes rounds T s (Err fault) gives h = inr (s, (gives, h))
 
-pub found_none : (files : List ℕ → Filed) (n : Names) (lanes rounds : ℕ) (T : Session → RunFault → List ℕ → Type 0) (result : Result Answer RunFault)
+pub found_none : (files : List ℕ → Filed) (n : FileNames) (lanes rounds : ℕ) (T : Session → RunFault → List ℕ → Type 0) (result : Result Answer RunFault)
     (fault : RunFault)
     → IsErrAnd result (λ e. e ≡ fault) → IsLoadEnding fault → GivesSession files n (Err fault) → FindsRun files n lanes rounds T result
 found_none files n lanes rounds T (Ok answer) fault is ending h = absurd is

@@ -3,7 +3,6 @@ pub mod Sessions
 pub mod Followed
 pub mod Printed
 pub mod Writing
-pub mod Session
 pub mod Follow
 pub mod Escape
 pub mod Html

@@ -13,14 +13,9 @@ use Rattle.transcript_audit.specs.Auditor.{AuditShape, IsTranscriptPart, audit_o
 use Rattle.transcript_audit.specs.Laws.{AreOfSession}
 use Rattle.run_record.specs.declared.fault.RunFault.{RunFault}
 use Rattle.wf_commands.specs.Load.{GivesBytes, GivesPolicy}
+use Rattle.transcript_commands.specs.Load.{FileNames}
 use Rattle.case_story.specs.declared.session.Session.{Session}
 use Rattle.case_story.specs.declared.session.TheConstants.{TRANSCRIPT_FILE_LIMIT}
-
--- the names of the files
-pub record Names : Type 0 where
-  pub policy : List ℕ
-  pub requests : List ℕ
-  pub transcript : List ℕ
 
 -- the requests as they are cut; where a limit is met, the lines before it count
 abbrev pub cut_in : Session → Cut
@@ -55,16 +50,16 @@ abbrev pub state_of : Session → List Entry → State
 state_of s entries = state_after (opening_state s.policy) entries
 
 -- the files are loaded, or the first of them that cannot be is told
-abbrev pub FailsTranscript : (List ℕ → Filed) → Names → RunFault → Type 0
+abbrev pub FailsTranscript : (List ℕ → Filed) → FileNames → RunFault → Type 0
 FailsTranscript files n fault = GivesBytes TRANSCRIPT_FILE_LIMIT (files n.transcript) (Err fault)
 
-abbrev pub FailsRequests : (List ℕ → Filed) → Names → RunFault → Type 0
+abbrev pub FailsRequests : (List ℕ → Filed) → FileNames → RunFault → Type 0
 FailsRequests files n fault =
     GivesBytes REQUESTS_FILE_LIMIT (files n.requests) (Err fault)
     ⊎ ((bytes : List ℕ) × (GivesBytes REQUESTS_FILE_LIMIT (files n.requests) (Ok bytes) ×
     FailsTranscript files n fault))
 
-abbrev pub GivesSession : (List ℕ → Filed) → Names → Result Session RunFault → Type 0
+abbrev pub GivesSession : (List ℕ → Filed) → FileNames → Result Session RunFault → Type 0
 GivesSession files n (Ok s) =
     GivesPolicy (files n.policy) (Ok s.policy)
     × (GivesBytes REQUESTS_FILE_LIMIT (files n.requests) (Ok s.requests)

@@ -26,6 +26,6 @@ mod transcript;
 mod verdict;
 mod whole;
 
-pub use session::Files;
 pub use transcript::{What, run_told};
+pub use transcript_commands::Earlier;
 pub use verdict::Verdict;

@@ -1,10 +1,10 @@
 //! The files of a session, and its audit.
-ghost use Rattle.std.specs.Prelude.{◌≡◌, ◌<◌, ◌≤◌, ℕ, true, List, None, IfErr, IfOk, length};
-ghost use Rattle.wf_names.specs.declared.limits.TheConstants.{LANE_LIMIT};
+ghost use Rattle.std.specs.Prelude.{◌≡◌, IfErr, IfOk};
 ghost use Rattle.transcript_audit.specs.Laws.{AreOfSession};
 ghost use Rattle.run_record.specs.Fault.{fault_in, CountsLoads};
 ghost use Rattle.wf_commands.specs.Load.{IsLoadEnding};
-ghost use Rattle.case_story.specs.Session.{named_by};
+ghost use Rattle.transcript_commands.specs.Run.{IsOnLanes};
+ghost use Rattle.transcript_commands.specs.Start.{names_in};
 ghost use Rattle.case_story.specs.Sessions.{GivesSession, IsServed, audit_in, cut_in};
 
 use line_reader::jobs_of;
@@ -12,24 +12,13 @@ use policy_book::Policy;
 use run_record::RunFault;
 use std::alloc::{AllocError, Global};
 use transcript_audit::{Auditor, know_session};
+use transcript_commands::Earlier;
 use wf_commands::{load_file, load_policy};
 use wf_names::REQUESTS_FILE_LIMIT;
 use wf_outside::{Loaded, Shelf};
 
 /// Most bytes of a transcript.
 pub const TRANSCRIPT_FILE_LIMIT: usize = 67_108_864;
-
-/// The files of a session, and how it was served.
-#[derive(Clone, Copy)]
-pub struct Files<'a> {
-    pub policy: &'a str,
-    pub requests: &'a str,
-    pub transcript: &'a str,
-    /// How many lanes there were, at least one.
-    pub lanes: u8,
-    /// After how many lost rounds a request was answered again.
-    pub rounds: u8,
-}
 
 /// What is told of a session: the policy at its beginning, the texts of its requests and of its
 /// transcript, and how it was served.
@@ -63,12 +52,11 @@ impl Session {
 /// Loads the policy, the requests and the transcript of a session, in this order.
 pub(crate) fn load_session<F: Shelf>(
     alloc: Global,
-    files: Files,
+    files: Earlier,
     shelf: &mut F,
 ) -> Result<Session, RunFault>
-    requires some { 0 < files.lanes }
-    requires lanes { files.lanes ≤ LANE_LIMIT }
-    ensures gives { GivesSession (F.file shelf.old) (named_by files.entry) result }
+    requires { IsOnLanes files.lanes }
+    ensures gives { GivesSession (F.file shelf.old) (names_in files.entry) result }
     ensures lanes { IfOk result (λ s. s.lanes ≡ files.entry.lanes) }
     ensures rounds { IfOk result (λ s. s.rounds ≡ files.entry.rounds) }
     ensures served { IfOk result IsServed }

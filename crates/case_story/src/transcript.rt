@@ -1,9 +1,9 @@
 //! A run that tells of a transcript: the files are loaded, and what is told of them is written.
-ghost use Rattle.std.specs.Prelude.{◌≡◌, ◌<◌, ◌≤◌, ℕ, List, IfErr};
-ghost use Rattle.wf_names.specs.declared.limits.TheConstants.{LANE_LIMIT};
+ghost use Rattle.std.specs.Prelude.{IfErr};
 ghost use Rattle.run_record.specs.Fault.{fault_in, CountsLoads, CountsWrites};
 ghost use Rattle.wf_commands.specs.Answer.{AnswersAs, IsAnswerEnding, IsCommandEnding};
-ghost use Rattle.case_story.specs.Session.{named_by};
+ghost use Rattle.transcript_commands.specs.Run.{IsOnLanes};
+ghost use Rattle.transcript_commands.specs.Start.{names_in};
 ghost use Rattle.case_story.specs.Sessions.{IsServed};
 ghost use Rattle.case_story.specs.Transcript.{FindsRun, Tells, TellsRun};
 
@@ -11,9 +11,10 @@ use crate::entry::tell_entry;
 use crate::log::tell_log;
 use crate::now::tell_now;
 use crate::page::tell_page;
-use crate::session::{Files, Session, load_session};
+use crate::session::{Session, load_session};
 use run_record::RunFault;
 use std::alloc::Global;
+use transcript_commands::Earlier;
 use wf_commands::Answer;
 use wf_names::CaseId;
 use wf_outside::{Shelf, Sink, put_and_flush};
@@ -35,13 +36,12 @@ pub enum What {
 pub fn run_told<F: Shelf, K: Sink>(
     alloc: Global,
     what: What,
-    files: Files,
+    files: Earlier,
     shelf: &mut F,
     sink: &mut K,
 ) -> RunFault
-    requires some { 0 < files.lanes }
-    requires lanes { files.lanes ≤ LANE_LIMIT }
-    ensures tells { TellsRun (F.file shelf.old) (named_by files.entry) files.entry.lanes
+    requires { IsOnLanes files.lanes }
+    ensures tells { TellsRun (F.file shelf.old) (names_in files.entry) files.entry.lanes
         files.entry.rounds
         (Tells what) (K.held sink.old) (K.held sink.new) result }
     ensures loads { CountsLoads result (F.faults shelf.old) (F.faults shelf.new) }
@@ -60,12 +60,11 @@ pub fn run_told<F: Shelf, K: Sink>(
 fn find<F: Shelf>(
     alloc: Global,
     what: What,
-    files: Files,
+    files: Earlier,
     shelf: &mut F,
 ) -> Result<Answer, RunFault>
-    requires some { 0 < files.lanes }
-    requires lanes { files.lanes ≤ LANE_LIMIT }
-    ensures finds { FindsRun (F.file shelf.old) (named_by files.entry) files.entry.lanes
+    requires { IsOnLanes files.lanes }
+    ensures finds { FindsRun (F.file shelf.old) (names_in files.entry) files.entry.lanes
         files.entry.rounds
         (Tells what) result }
     ensures ending { IfErr result IsCommandEnding }

@@ -3,7 +3,7 @@ ghost use Rattle.std.specs.Prelude.{◌<◌, ◌≤◌, IfSome, IfOk};
 ghost use Rattle.wf_names.specs.declared.limits.TheConstants.{LANE_LIMIT};
 ghost use Rattle.tell_run.specs.Words.{CanTell};
 
-use case_story::{Files, What};
+use case_story::{Earlier, What};
 use clap::error::ErrorKind;
 use clap::{Arg, ArgMatches, Command};
 use std::alloc::{AllocError, Global};
@@ -17,7 +17,7 @@ pub(crate) enum Asked<'a> {
     /// Why a workflow can or cannot be done.
     Why { policy: &'a str, flow: &'a str },
     /// What a transcript tells.
-    Told { what: What, session: Files<'a> },
+    Told { what: What, session: Earlier<'a> },
 }
 
 /// Why words are no command.
@@ -242,7 +242,7 @@ fn what_in(name: &str, found: &ArgMatches<'_>) -> Option<What> {
 }
 
 // The files of a session.
-fn files_in<'a>(found: &ArgMatches<'a>) -> Option<Files<'a>>
+fn files_in<'a>(found: &ArgMatches<'a>) -> Option<Earlier<'a>>
     ensures some { IfSome result (λ s. 0 < s.lanes) }
     ensures lanes { IfSome result (λ s. s.lanes ≤ LANE_LIMIT) }
 {
@@ -251,7 +251,7 @@ fn files_in<'a>(found: &ArgMatches<'a>) -> Option<Files<'a>>
     if lanes == 0 || lanes > LANE_LIMIT {
         return None;
     }
-    Some(Files {
+    Some(Earlier {
         policy: found.get_str("POLICY")?,
         requests: found.get_str("REQUESTS")?,
         transcript: found.get_str("TRANSCRIPT")?,

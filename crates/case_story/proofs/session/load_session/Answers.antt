@@ -1,15 +1,15 @@
 use Rattle.std.proofs.Common.{Err, Ok, subst, ◌∙◌, inl, inr}
 use Rattle.wf_names.specs.declared.limits.TheConstants.{REQUESTS_FILE_LIMIT}
 use Rattle.wf_commands.specs.Load.{GivesBytes}
-use Rattle.case_story.specs.Session.{named_by}
-use Rattle.case_story.specs.Sessions.{Names}
+use Rattle.transcript_commands.specs.Start.{names_in}
+use Rattle.transcript_commands.specs.Load.{FileNames}
 use Rattle.case_story.specs.declared.session.TheConstants.{TRANSCRIPT_FILE_LIMIT}
 use Rattle.case_story.proofs.Answering.{not_given}
 use Rattle.case_story.proofs.session.load_session.Goals as goal
 
 pub returns-in_err-requests-clause-gives : goal.returns-in_err-requests-clause-gives
 returns-in_err-requests-clause-gives g c =
-    let n : Names = named_by c.args.files in
+    let n : FileNames = names_in c.args.files in
     not_given (g.F.Shelf.file c.args.shelf.now) n c.from_residual-in_err-requests.result c.in_err-requests.field-0.0 c.from_residual-in_err-requests.ensures.1
     (inr (
       c.in_ok-policy.policy,
@@ -22,7 +22,7 @@ returns-in_err-requests-clause-gives g c =
 
 pub returns-in_err-transcript-clause-gives : goal.returns-in_err-transcript-clause-gives
 returns-in_err-transcript-clause-gives g c =
-    let n : Names = named_by c.args.files in
+    let n : FileNames = names_in c.args.files in
     not_given (g.F.Shelf.file c.args.shelf.now) n c.from_residual-in_err-transcript.result c.in_err-transcript.field-0.0
     c.from_residual-in_err-transcript.ensures.1
     (inr (
