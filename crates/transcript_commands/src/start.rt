@@ -74,15 +74,15 @@ pub fn begin<V: Decider, F: Shelf>(
     ensures loads { CountsLoads (fault_by result) (F.faults shelf.old) (F.faults shelf.new) }
 {
     let policy = load_policy(alloc, shelf, earlier.policy)?;
-    begin_under(alloc, decider, &policy, earlier, shelf)
+    begin_under(alloc, decider, earlier, &policy, shelf)
 }
 
 // Loads the requests and the transcript of a session over a policy, and takes it up.
 fn begin_under<V: Decider, F: Shelf>(
     alloc: Global,
     decider: &V,
-    policy: &Policy,
     earlier: Earlier,
+    policy: &Policy,
     shelf: &mut F,
 ) -> Result<Beginning, Refusal>
     requires ready { V.ready decider.now }
@@ -98,7 +98,7 @@ fn begin_under<V: Decider, F: Shelf>(
     let text = load_requests(alloc, shelf, earlier.requests, earlier.lanes)?;
     match text.stop {
         Some(stop) => Err(Refusal::Ends(ending_at(stop))),
-        None => begin_behind(alloc, decider, policy, text, earlier, shelf),
+        None => begin_behind(alloc, decider, earlier, policy, text, shelf),
     }
 }
 
@@ -118,9 +118,9 @@ fn ending_at(stop: Stop) -> RunFault
 fn begin_behind<V: Decider, F: Shelf>(
     alloc: Global,
     decider: &V,
+    earlier: Earlier,
     policy: &Policy,
     text: CutText,
-    earlier: Earlier,
     shelf: &mut F,
 ) -> Result<Beginning, Refusal>
     requires ready { V.ready decider.now }
@@ -136,41 +136,10 @@ fn begin_behind<V: Decider, F: Shelf>(
     ensures loads { CountsLoads (fault_by result) (F.faults shelf.old) (F.faults shelf.new) }
 {
     let file = load_file(alloc, shelf, earlier.transcript, TRANSCRIPT_FILE_LIMIT)?;
-    begin_at(
-        alloc,
-        decider,
-        policy,
-        text,
-        file.as_bytes(),
-        earlier.lanes,
-        earlier.rounds,
-    )
-}
-
-// Takes a session up with its transcript, if none of the whole lines is too long.
-fn begin_at<V: Decider>(
-    alloc: Global,
-    decider: &V,
-    policy: &Policy,
-    text: CutText,
-    transcript: &[u8],
-    lanes: u8,
-    rounds: u8,
-) -> Result<Beginning, Refusal>
-    requires ready { V.ready decider.now }
-    requires within { AreServedWithin lanes rounds }
-    requires whole { AreWhole lanes text }
-    requires short { length transcript.now ≤ TRANSCRIPT_FILE_LIMIT }
-    ensures begins { (requests : List ℕ) → IsCutOf requests lanes text →
-        OverTranscript (StopsBy result)
-        (λ transcript. BeginsBy
-        (session_of policy.now lanes rounds (jobs_of_input requests true lanes))
-        (jobs_of_input requests true lanes) transcript result) transcript.now }
-    ensures ending { EndsLoaded (how_of (fault_by result)) }
-{
+    let transcript = file.as_bytes();
     match first_long(transcript) {
         Some(line) => Err(Refusal::Ends(RunFault::LineTooLong(line))),
-        None => take_up(alloc, decider, policy, text, transcript, lanes, rounds),
+        None => take_up(alloc, decider, earlier, policy, text, transcript),
     }
 }
 
@@ -178,20 +147,21 @@ fn begin_at<V: Decider>(
 fn take_up<V: Decider>(
     alloc: Global,
     decider: &V,
+    earlier: Earlier,
     policy: &Policy,
     text: CutText,
     transcript: &[u8],
-    lanes: u8,
-    rounds: u8,
 ) -> Result<Beginning, Refusal>
     requires ready { V.ready decider.now }
-    requires within { AreServedWithin lanes rounds }
-    requires whole { AreWhole lanes text }
-    ensures begins { (requests : List ℕ) → IsCutOf requests lanes text →
-        BeginsBy (session_of policy.now lanes rounds (jobs_of_input requests true lanes))
-        (jobs_of_input requests true lanes) transcript.now result }
+    requires within { AreServedWithin earlier.lanes earlier.rounds }
+    requires whole { AreWhole earlier.lanes text }
+    ensures begins { (requests : List ℕ) → IsCutOf requests earlier.entry.lanes text →
+        BeginsBy (session_of policy.now earlier.entry.lanes earlier.entry.rounds
+        (jobs_of_input requests true earlier.entry.lanes))
+        (jobs_of_input requests true earlier.entry.lanes) transcript.now result }
     ensures ending { EndsLoaded (how_of (fault_by result)) }
 {
+    let (lanes, rounds) = (earlier.lanes, earlier.rounds);
     inputs_go_on(lanes);
     let _ = policy.admin();
     let reader = BatchReader::new(alloc, lanes, text.lines, PIECE)?;

@@ -11,7 +11,7 @@ returns-in_err-reader-clause-begins g c requests cut = lacked _ _ _ _ c.from_res
 
 pub returns-in_err-resumed-clause-begins : goal.returns-in_err-resumed-clause-begins
 returns-in_err-resumed-clause-begins g c requests cut =
-    refused_so c.args.policy.now c.args.lanes c.args.rounds requests c.args.transcript.now c.args.text c.in_err-resumed.field-0.0
+    refused_so c.args.policy.now c.args.earlier.lanes c.args.earlier.rounds requests c.args.transcript.now c.args.text c.in_err-resumed.field-0.0
     c.from_residual-in_err-resumed.result cut
     c.in_err-resumed.ensures.refused
     c.from_residual-in_err-resumed.ensures.1
@@ -24,10 +24,10 @@ returns-clause-begins g c requests cut =
     let b = c.in_ok-with_told.field-0 in
     let w = c.in_ok-with_told.ensures in
     let r = c.in_ok-resumed.ensures in
-    let s : Session = session_over c.args.policy.now c.args.lanes c.args.rounds c.args.text.batch in
+    let s : Session = session_over c.args.policy.now c.args.earlier.lanes c.args.earlier.rounds c.args.text.batch in
     let next = c.in_ok-resumed.resumed.next in
-    has_begun c.args.policy.now c.args.lanes c.args.rounds requests c.args.transcript.now c.args.text next c.in_ok-reader.reader b c.admin.ensures.sound
-    c.requires.whole.order c.inputs_go_on.ensures cut c.requires.whole.going
+    has_begun c.args.policy.now c.args.earlier.lanes c.args.earlier.rounds requests c.args.transcript.now c.args.text next c.in_ok-reader.reader b
+    c.admin.ensures.sound c.requires.whole.order c.inputs_go_on.ensures cut c.requires.whole.going
     (subst (λ (d : DeskShape). HasResumed s c.args.transcript.now next d) (sym w.desk)
     r.resumed)
     (record {
