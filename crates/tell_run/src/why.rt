@@ -1,5 +1,5 @@
 //! The command `why`: a plan of a workflow, or why there is none.
-ghost use Rattle.std.specs.Prelude.{None, IfOk};
+ghost use Rattle.std.specs.Prelude.{IfOk};
 ghost use Rattle.wf_commands.specs.Answer.{ending_with};
 ghost use Rattle.tell_run.specs.Why.{AnswersWhy, TellsWhy};
 
@@ -8,8 +8,7 @@ use policy_book::{Course, Policy};
 use rule_core::{Why, why_at_start};
 use run_record::RunFault;
 use std::alloc::{AllocError, Global};
-use wf_commands::{Answer, Answers, find_flow};
-use wf_outside::Source;
+use wf_commands::{Answer, Tells, find_flow};
 
 /// `why`: can this workflow be done, and why?
 #[derive(Clone, Copy)]
@@ -17,21 +16,13 @@ pub(crate) struct WhyCommand<'a> {
     pub flow: &'a str,
 }
 
-impl Answers for WhyCommand<'_> {
-    ghost limit = { λ _. None };
+impl Tells for WhyCommand<'_> {
+    ghost tells = { λ command p. TellsWhy p command.flow.now };
 
-    ghost answers = { λ command _ p. TellsWhy p command.flow.now };
-
-    fn answer<S: Source>(
-        &self,
-        alloc: Global,
-        p: &Policy,
-        _source: &mut S,
-    ) -> Result<Answer, RunFault> {
-        let f = find_flow(p, self.flow)?;
+    fn tell(&self, alloc: Global, p: &Policy) -> Result<Answer, RunFault> {
         let course = Course {
             policy: p,
-            number: f,
+            number: find_flow(p, self.flow)?,
         };
         Ok(tell_why(alloc, &course)?)
     }

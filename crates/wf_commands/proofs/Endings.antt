@@ -7,7 +7,27 @@ use Rattle.run_record.specs.declared.fault.RunFault.TheVariants.{Usage}
 use Rattle.run_record.specs.Fault as ending
 use Rattle.run_record.specs.Fault.{How, how_of, fault_in, CountsLoads, CountsReadsAlone, LoadsSo, ReadsSoAlone}
 use Rattle.wf_commands.specs.Load.{EndsLoading, EndsTooLong, IsLoadEnding}
-use Rattle.wf_commands.specs.Answer.{ending_with, EndsAnswering, EndsUnanswered, IsAnswerEnding, IsCommandEnding}
+use Rattle.wf_commands.specs.Answer.{ending_with, EndsAnswering, EndsTelling, EndsUnanswered, IsAnswerEnding, IsCommandEnding, IsTellEnding}
+
+-- ---- no input is read
+
+telling_answers : (how : How) → EndsTelling how → EndsAnswering how
+telling_answers ending.refused ends = tt
+telling_answers ending.lacking ends = tt
+telling_answers how ends = absurd ends
+
+pub told_ending : {A : Type 0} (result : Result A RunFault) → IfErr result IsTellEnding → IfErr result IsAnswerEnding
+told_ending (Ok a) ends = tt
+told_ending (Err fault) ends = telling_answers (how_of fault) ends
+
+telling_reads : (how : How) (count : ℕ) → EndsTelling how → ReadsSoAlone how count count
+telling_reads ending.refused count ends = refl
+telling_reads ending.lacking count ends = refl
+telling_reads how count ends = absurd ends
+
+pub told_reads : {A : Type 0} (result : Result A RunFault) (count : ℕ) → IfErr result IsTellEnding → CountsReadsAlone (fault_in result) count count
+told_reads (Ok a) count ends = refl
+told_reads (Err fault) count ends = telling_reads (how_of fault) count ends
 
 -- ---- no policy was loaded
 

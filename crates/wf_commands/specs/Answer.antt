@@ -43,6 +43,15 @@ EndsAnswering how = ⊥
 abbrev pub IsAnswerEnding : RunFault → Type 0
 IsAnswerEnding fault = EndsAnswering (how_of fault)
 
+-- and where no input is read: what is asked is refused, or memory failed
+abbrev pub EndsTelling : How → Type 0
+EndsTelling refused = Unit {0}
+EndsTelling lacking = Unit {0}
+EndsTelling how = ⊥
+
+abbrev pub IsTellEnding : RunFault → Type 0
+IsTellEnding fault = EndsTelling (how_of fault)
+
 -- all endings without an answer
 abbrev pub EndsUnanswered : How → Type 0
 EndsUnanswered misfiled = Unit {0}

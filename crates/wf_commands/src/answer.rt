@@ -1,11 +1,12 @@
 //! What a command answers.
-ghost use Rattle.std.specs.Prelude.{◌≡◌, ℕ, List, Option, None, Ok, IfErr};
+ghost use Rattle.std.specs.Prelude.{◌≡◌, ℕ, false, List, Option, None, Ok, IfErr};
 ghost use Rattle.policy_book.specs.Laws.Shapes.{PolicyShape};
 ghost use Rattle.policy_reader.specs.Files.{policy_of_file};
 ghost use Rattle.policy_reader.specs.Laws.Printable.{IsPrintable};
 ghost use Rattle.run_record.specs.declared.fault.RunFault.{RunFault};
 ghost use Rattle.run_record.specs.Fault.{fault_in, CountsReadsAlone};
 ghost use Rattle.wf_commands.specs.Answer.{ending_with, AnswersAs, IsAnswerEnding};
+ghost use Rattle.wf_commands.specs.Answer.{IsTellEnding};
 ghost use Rattle.wf_commands.specs.Once.{ReadsInput};
 
 use policy_book::Policy;
@@ -23,6 +24,13 @@ pub struct Answer {
 }
 
 impl Answer {
+    /// The answer of a command that looks for nothing.
+    pub(crate) fn told(text: Vec<u8>) -> Answer
+        ensures { result ≡ record { found = false; text = text } }
+    {
+        Answer { found: false, text }
+    }
+
     /// How the run ends where all of the text is written.
     pub fn ending(&self) -> RunFault
         ensures { result ≡ ending_with self.now.found }
@@ -59,4 +67,32 @@ pub trait Answers {
         ensures input { ReadsInput (limit self.now) (fault_in result) (S.left source.old)
             (S.left source.new) }
         ensures untouched { limit self.now ≡ None → source.new ≡ source.old };
+}
+
+/// A command that answers once about the policy in a file, and reads no input.
+pub trait Tells {
+    /// Its answers for a policy: how the run ends with which text.
+    ghost tells: { Self → PolicyShape → RunFault → List ℕ → Type 0 };
+
+    /// The answer about a policy that a file gave.
+    fn tell(&self, alloc: Global, p: &Policy) -> Result<Answer, RunFault>
+        requires { IsPrintable p.now }
+        ensures answer { (file : List ℕ) → policy_of_file file ≡ Ok p.now →
+            AnswersAs (tells self.now p.now) result }
+        ensures ending { IfErr result IsTellEnding };
+}
+
+impl<T: Tells> Answers for T {
+    ghost limit = { λ _. None };
+
+    ghost answers = { λ command _ p. T.tells command p };
+
+    fn answer<S: Source>(
+        &self,
+        alloc: Global,
+        p: &Policy,
+        _source: &mut S,
+    ) -> Result<Answer, RunFault> {
+        self.tell(alloc, p)
+    }
 }

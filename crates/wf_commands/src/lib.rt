@@ -19,7 +19,7 @@ mod said;
 mod show;
 mod solve;
 
-pub use answer::{Answer, Answers};
+pub use answer::{Answer, Answers, Tells};
 pub use clauses::run_clauses;
 pub use given::{find_flow, take_input};
 pub use input::{InputError, find_user, json_of};

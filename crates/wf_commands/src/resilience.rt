@@ -1,15 +1,14 @@
 //! The command `resilience`: whether a workflow can be done whichever of its users are absent.
-ghost use Rattle.std.specs.Prelude.{None, IfOk};
+ghost use Rattle.std.specs.Prelude.{IfOk};
 ghost use Rattle.wf_commands.specs.Answer.{ending_with};
 ghost use Rattle.wf_commands.specs.Resilience.{ChecksAbsences, ChecksFlow};
 
-use crate::answer::{Answer, Answers};
+use crate::answer::{Answer, Tells};
 use crate::given::find_flow;
 use policy_book::{Course, Policy};
 use resilience_check::{AbsenceAnswer, resilience};
 use run_record::RunFault;
 use std::alloc::{AllocError, Global};
-use wf_outside::Source;
 use wire_json::{write_absence, write_family};
 
 /// `resilience`: can a workflow be done whichever users are absent, `absences` at most?
@@ -19,17 +18,10 @@ pub struct ResilienceCommand<'a> {
     pub absences: u8,
 }
 
-impl Answers for ResilienceCommand<'_> {
-    ghost limit = { λ _. None };
+impl Tells for ResilienceCommand<'_> {
+    ghost tells = { λ command p. ChecksFlow p command.flow.now command.absences };
 
-    ghost answers = { λ command _ p. ChecksFlow p command.flow.now command.absences };
-
-    fn answer<S: Source>(
-        &self,
-        alloc: Global,
-        p: &Policy,
-        _source: &mut S,
-    ) -> Result<Answer, RunFault> {
+    fn tell(&self, alloc: Global, p: &Policy) -> Result<Answer, RunFault> {
         let course = Course {
             policy: p,
             number: find_flow(p, self.flow)?,

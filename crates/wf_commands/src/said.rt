@@ -1,9 +1,7 @@
 //! What an item of the input says of a step.
-ghost use Rattle.std.specs.Prelude.{◌≡◌, length, option_and_then, option_map, IfSome};
+ghost use Rattle.std.specs.Prelude.{◌≡◌, length, option_and_then, IfSome};
 ghost use Rattle.serde_json.specs.View.{view, items_view};
 ghost use Rattle.serde_json.specs.Find.{as_str};
-ghost use Rattle.wf_names.specs.declared.states.StepState.TheVariants as state;
-ghost use Rattle.wf_commands.specs.Input.{number_named};
 ghost use Rattle.wf_commands.specs.Cases.{free_said, said_at, said_in, user_said, IsOfUsers};
 
 use crate::find_user;
@@ -79,32 +77,10 @@ fn user_said(p: &Policy, word: &str, name: &str) -> Option<Option<StepState>>
     ensures known { IfSome result (λ said. IfSome said (IsOfUsers (length p.now.roster.users))) }
 {
     if word == "held" {
-        Some(held(p, name))
+        Some(find_user(p, name).map(StepState::Held))
     } else if word == "finished" {
-        Some(finished(p, name))
+        Some(find_user(p, name).map(StepState::Finished))
     } else {
         None
-    }
-}
-
-// That a user of this name holds a step, if there is one.
-fn held(p: &Policy, name: &str) -> Option<StepState>
-    ensures state { result ≡ option_map state.Held (number_named p.now.roster.users name.now) }
-    ensures known { IfSome result (IsOfUsers (length p.now.roster.users)) }
-{
-    match find_user(p, name) {
-        Some(u) => Some(StepState::Held(u)),
-        None => None,
-    }
-}
-
-// That a user of this name has finished a step, if there is one.
-fn finished(p: &Policy, name: &str) -> Option<StepState>
-    ensures state { result ≡ option_map state.Finished (number_named p.now.roster.users name.now) }
-    ensures known { IfSome result (IsOfUsers (length p.now.roster.users)) }
-{
-    match find_user(p, name) {
-        Some(u) => Some(StepState::Finished(u)),
-        None => None,
     }
 }

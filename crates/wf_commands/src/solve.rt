@@ -1,13 +1,12 @@
 //! The command `solve`: a plan for each workflow, or a tree that shows that there is none.
-ghost use Rattle.std.specs.Prelude.{length, None, IfOk, OnOk};
+ghost use Rattle.std.specs.Prelude.{length, IfOk, OnOk};
 ghost use Rattle.wf_commands.specs.Solve.{SolvesPolicy, TellsFirst, TellsNext};
 
-use crate::answer::{Answer, Answers};
+use crate::answer::{Answer, Tells};
 use policy_book::{Assign, Course, Policy, StepSet};
 use run_record::RunFault;
 use std::alloc::{AllocError, Global};
 use wf_names::FlowId;
-use wf_outside::Source;
 use wire_json::{push_plan_line, push_tree_line};
 use wsp_solver::Outcome;
 
@@ -15,21 +14,11 @@ use wsp_solver::Outcome;
 #[derive(Clone, Copy)]
 pub struct SolveCommand;
 
-impl Answers for SolveCommand {
-    ghost limit = { λ _. None };
+impl Tells for SolveCommand {
+    ghost tells = { λ _. SolvesPolicy };
 
-    ghost answers = { λ _ _. SolvesPolicy };
-
-    fn answer<S: Source>(
-        &self,
-        alloc: Global,
-        p: &Policy,
-        _source: &mut S,
-    ) -> Result<Answer, RunFault> {
-        Ok(Answer {
-            found: false,
-            text: solve_flows(alloc, p)?,
-        })
+    fn tell(&self, alloc: Global, p: &Policy) -> Result<Answer, RunFault> {
+        Ok(Answer::told(solve_flows(alloc, p)?))
     }
 }
 
