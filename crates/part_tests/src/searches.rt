@@ -10,18 +10,31 @@ use wf_names::UserId;
 use wsp_solver::{Outcome, solve};
 
 const OTHER_AB: &str = r#"{ form = "pair", relation = "other", first = "a", second = "b" }"#;
+
 const OTHER_BC: &str = r#"{ form = "pair", relation = "other", first = "b", second = "c" }"#;
+
 const OTHER_AC: &str = r#"{ form = "pair", relation = "other", first = "a", second = "c" }"#;
+
 const SAME_AC: &str = r#"{ form = "pair", relation = "same", first = "a", second = "c" }"#;
+
 const SAME_BC: &str = r#"{ form = "pair", relation = "same", first = "b", second = "c" }"#;
+
 const ANY: &str = r#"{ form = "some", relation = "mentor", group = ["a", "b"], step = "c" }"#;
+
 const ANY_TO: &str = r#"{ form = "some_to", relation = "mentor", group = ["a", "b"], step = "c" }"#;
+
 const ALL: &str = r#"{ form = "all", relation = "mentor", group = ["a", "b"], step = "c" }"#;
+
 const ALL_TO: &str = r#"{ form = "all_to", relation = "mentor", group = ["a", "b"], step = "c" }"#;
+
 const A_OF_B: &str = r#"{ form = "all", relation = "mentor", group = ["a"], step = "b" }"#;
+
 const TWO_OR_MORE: &str = r#"{ form = "at_least", limit = 2, group = ["a", "b", "c"] }"#;
+
 const THREE: &str = r#"{ form = "at_least", limit = 3, group = ["a", "b", "c"] }"#;
+
 const TWO_OR_ONE: &str = r#"{ form = "at_most", limit = 2, group = ["a", "b", "c"] }"#;
+
 const ONE: &str = r#"{ form = "at_most", limit = 1, group = ["a", "b", "c"] }"#;
 
 /// One user for the first and the third step by one rule, and two by the other.

@@ -110,12 +110,7 @@ fn are_of_two_lanes(jobs: &[Job]) -> bool
 }
 
 // Whether a desk takes turns so.
-fn takes(
-    alloc: Global,
-    desk: &mut Desk,
-    turns: &[Event],
-    marks: &str,
-) -> Result<bool, AllocError> {
+fn takes(alloc: Global, desk: &mut Desk, turns: &[Event], marks: &str) -> Result<bool, AllocError> {
     if desk.lanes() != 2 || !are_of_lanes(turns) {
         return Ok(false);
     }

@@ -125,9 +125,9 @@ fn first_falsified(course: &Course, a: &Assign) -> Option<u8>
     ensures formed { IsWellFormed (problem_in course.now) }
     ensures falsified { MatchOption result
         ((k : ℕ) → is_broken (problem_in course.now) a.now
-            (slice_get (problem_in course.now).rules k) ≡ false)
+        (slice_get (problem_in course.now).rules k) ≡ false)
         (λ k. IsTrue (is_broken (problem_in course.now) a.now
-            (slice_get (problem_in course.now).rules k))) }
+        (slice_get (problem_in course.now).rules k))) }
 {
     'rules: for k in 0..course.rules().len() {
         if is_falsified(course, a, k as u8) {
