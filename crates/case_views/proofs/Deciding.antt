@@ -6,9 +6,8 @@ use Rattle.constraint_forms.specs.Assign.{no_steps, no_users}
 use Rattle.policy_book.specs.Laws.Shapes.{PolicyShape}
 use Rattle.policy_book.specs.Policies.{problem_of}
 use Rattle.policy_book.specs.Laws.Plans.{AreAssigned, IsValidPlan, IsWithin, Problem}
-use Rattle.certificate_check.proofs.Assigned.{given, still_assigned}
+use Rattle.certificate_check.proofs.Assigned.{still_assigned}
 use Rattle.case_record.specs.Cases.{CaseShape, assigned_of, finished_of}
-use Rattle.wf_talk.specs.declared.reply.WorkItem.{WorkItem}
 use Rattle.admin_edits.specs.ClaimCauses.{assigned_with}
 use Rattle.wsp_solver.specs.Searches.{HasSolved}
 use Rattle.wsp_solver.specs.declared.search.Outcome.{Outcome}
@@ -18,9 +17,7 @@ use Rattle.wf_board.specs.declared.deed.Deed.TheVariants as deed
 use Rattle.wf_board.specs.declared.deed.Duty.{Duty}
 use Rattle.wf_board.specs.declared.verdict.Verdict.{Verdict}
 use Rattle.wf_board.specs.declared.verdict.Verdict.TheVariants as verdict
-use Rattle.wf_board.specs.declared.verdict.View.TheVariants as view
-use Rattle.wf_board.specs.Laws.States.{Book, open_cases}
-use Rattle.wf_board.specs.Views.{AreStranded, IsWorkOf}
+use Rattle.wf_board.specs.Laws.States.{Book}
 use Rattle.wf_board.specs.Decisions.{needs_plan}
 use Rattle.std.proofs.lemmas.Bool.{false≢true}
 use Rattle.wf_board.specs.Laws.Kept.{IsOfPolicy}
@@ -28,7 +25,6 @@ use Rattle.wf_board.proofs.Within.{claimed_within, planned_within}
 use Rattle.wf_board.proofs.Exact.{finished_assigned}
 use Rattle.admin_edits.specs.declared.amendment.Amendment.{Amendment}
 use Rattle.wf_board.specs.Deeds.{DecidesDeed, is_over_open}
-use Rattle.admin_edits.specs.Laws.Edits.{amended}
 use Rattle.wsp_solver.specs.declared.search.Unsolved.{Unsolved}
 use Rattle.wsp_solver.specs.declared.search.Unsolved.TheVariants as unsolved
 use Rattle.case_views.specs.Found.{IsOffer}
@@ -91,14 +87,6 @@ decides_change b a v h = absurd h
 pub change_listed : (b : Book) (a : Amendment) (r : Result Verdict Unsolved) → IfOk r (DecidesChange b a) → IfOk r (DecidesDeed b (deed.Change a))
 change_listed b a (Ok v) is = decides_change b a v is
 change_listed b a (Err e) is = tt
-
--- a work list, and the cases that a change would strand, are verdicts
-pub work_listed : (b : Book) (u : ℕ) (items : List WorkItem) → IsWorkOf b u items → DecidesDeed b (deed.Work u) (verdict.View (view.Work items))
-work_listed b u items is = record { fits = is; nothing = λ e. cc; something = λ e same. cc }
-
-pub what_if_listed : (b : Book) (a : Amendment) (numbers : List ℕ) → AreStranded (amended b.policy a) (open_cases b.cases) numbers →
-    DecidesDeed b (deed.WhatIf a) (verdict.View (view.WhatIf numbers))
-what_if_listed b a numbers is = record { fits = is; nothing = λ e. cc; something = λ e same. cc }
 
 over_needs : (d : Deed) → is_over_open d ≡ true → needs_plan d ≡ true
 over_needs (deed.Change a) over = refl
