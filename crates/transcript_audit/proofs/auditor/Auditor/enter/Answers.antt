@@ -2,7 +2,7 @@ use Rattle.std.proofs.Common.{ap, subst, sym, ◌∙◌}
 use Rattle.wf_board.specs.Boards.{state_on}
 use Rattle.transcript_audit.specs.Auditor.{ComesNext, state_now}
 use Rattle.transcript_audit.specs.Keeping.{entry_next}
-use Rattle.transcript_audit.proofs.Entering.{board_stays, edits_few, state_next, step_next}
+use Rattle.transcript_audit.proofs.Entering.{edits_few, state_next, step_next}
 use Rattle.transcript_audit.proofs.auditor.Auditor.enter.Goals as goal
 
 pub admit-requires-clause-few : goal.admit-requires-clause-few
@@ -12,17 +12,9 @@ pub add-requires-clause-next : goal.add-requires-clause-next
 add-requires-clause-next g c =
     subst (λ a. ComesNext a (entry_next a c.args.job.now c.args.reply)) (sym (c.reserve.ensures.same ∙ c.self.view_is))
     (step_next c.args.self.now c.self.inside.board c.args.job.now c.args.reply (c.self.invariant ∙ ap state_now c.self.view_is) c.requires.next
-    (sym c.again_in.ensures ∙ c.in-None.is) c.in_ok-admit.ensures.step)
+    (sym c.again_in.ensures ∙ c.in-None.is) c.in_ok-admit-in-None.ensures.step)
 
-pub invariant_of-self-in_err-admit : goal.invariant_of-self-in_err-admit
-invariant_of-self-in_err-admit g c =
-    board_stays c.self.inside.board c.admit.new.self _ c.args.job.now.ask c.verdict_for-verdict.result c.args.reply c.in_err-admit.field-0.0
-    c.in_err-admit.ensures (c.self.invariant ∙ ap state_now (sym c.reserve.ensures.same))
-
-pub invariant_of-self : goal.invariant_of-self
-invariant_of-self g c = c.self.invariant ∙ ap state_now (sym c.reserve.ensures.same)
-
-pub invariant_of-self-2 : goal.invariant_of-self-2
-invariant_of-self-2 g c =
+pub invariant_of-self-in-None : goal.invariant_of-self-in-None
+invariant_of-self-in-None g c =
     state_next c.reserve.new.self.audit c.self.inside.board (state_on c.admit.new.self) c.args.job.now c.args.reply
-    (c.self.invariant ∙ ap state_now (sym c.reserve.ensures.same)) c.in_ok-admit.ensures.next ∙ ap state_now (sym c.add.ensures)
+    (c.self.invariant ∙ ap state_now (sym c.reserve.ensures.same)) c.in_ok-admit-in-None.ensures.next ∙ ap state_now (sym c.add.ensures)
