@@ -9,14 +9,6 @@ use refutation_tree::{Branch, Kid, Tree};
 use std::alloc::AllocError;
 use wf_names::{RULE_LIMIT, StepId, USER_LIMIT, UserId, UserSet};
 
-// A step of a tree with its branches, and who has which steps where it is given.
-#[derive(Clone, Copy)]
-struct Node<'a> {
-    held: &'a Held<'a>,
-    step: StepId,
-    branches: &'a [Branch],
-}
-
 /// Adds the lines of a tree that shows why nobody can finish a case in which steps are held so,
 /// each behind the indent.
 pub(crate) fn push_tree(
@@ -48,14 +40,9 @@ fn push_node(
         }
         Tree::Step(s, branches) => {
             let branches = branches.as_slice();
-            let node = Node {
-                held,
-                step: *s,
-                branches,
-            };
-            push_choice(out, &node)?;
+            push_choice(out, held, *s, branches)?;
             out.push_str(".\n")?;
-            push_leaves(out, indent, &node)?;
+            push_leaves(out, indent, held, *s, branches)?;
             push_branches(out, indent, held, *s, branches)
         }
     }
@@ -115,12 +102,18 @@ fn push_twin(
 }
 
 // Adds a line for each rule that some branches break at once.
-fn push_leaves(out: &mut String, indent: &str, node: &Node<'_>) -> Result<(), AllocError> {
+fn push_leaves(
+    out: &mut String,
+    indent: &str,
+    held: &Held<'_>,
+    s: StepId,
+    branches: &[Branch],
+) -> Result<(), AllocError> {
     for k in 0..RULE_LIMIT {
-        let users = users_of(node.branches, Some(k as u8));
+        let users = users_of(branches, Some(k as u8));
         if users.count() > 0 {
             say(out, &[indent, "- "])?;
-            push_leaf(out, node, k as u8, &users)?;
+            push_leaf(out, held, s, k as u8, &users)?;
             out.push_str(".\n")?;
         }
     }
@@ -128,13 +121,19 @@ fn push_leaves(out: &mut String, indent: &str, node: &Node<'_>) -> Result<(), Al
 }
 
 // Adds that each of the users breaks a rule at once, and how the first does.
-fn push_leaf(out: &mut String, node: &Node<'_>, k: u8, users: &UserSet) -> Result<(), AllocError> {
+fn push_leaf(
+    out: &mut String,
+    held: &Held<'_>,
+    s: StepId,
+    k: u8,
+    users: &UserSet,
+) -> Result<(), AllocError> {
     out.push_str("If ")?;
-    push_users(out, node.held.course.policy, users, "or")?;
+    push_users(out, held.course.policy, users, "or")?;
     out.push_str(" does it, ")?;
     match users.next(0) {
         Some(u) => {
-            let next = given(node.held, node.step, u);
+            let next = given(held, s, u);
             push_broken(out, &next, k, Breach::Is)
         }
         None => Ok(()),
@@ -158,14 +157,19 @@ fn users_of(branches: &[Branch], rule: Option<u8>) -> UserSet {
 }
 
 // Adds who alone can do a step.
-fn push_choice(out: &mut String, node: &Node<'_>) -> Result<(), AllocError> {
-    push_name(out, node.held.steps(), node.step.0 as u16)?;
+fn push_choice(
+    out: &mut String,
+    held: &Held<'_>,
+    s: StepId,
+    branches: &[Branch],
+) -> Result<(), AllocError> {
+    push_name(out, held.steps(), s.0 as u16)?;
     out.push_str(" can be done by ")?;
-    let users = users_of(node.branches, None);
+    let users = users_of(branches, None);
     if users.count() == 0 {
         return out.push_str("nobody");
     }
-    push_users(out, node.held.course.policy, &users, "and")?;
+    push_users(out, held.course.policy, &users, "and")?;
     out.push_str(" alone")
 }
 
@@ -190,23 +194,21 @@ pub(crate) fn push_short(out: &mut String, held: &Held<'_>, tree: &Tree) -> Resu
             out.push_str(". ")?;
             push_broken(out, held, *k, Breach::Is)
         }
-        Tree::Step(s, branches) => {
-            let node = Node {
-                held,
-                step: *s,
-                branches: branches.as_slice(),
-            };
-            push_short_node(out, &node)
-        }
+        Tree::Step(s, branches) => push_short_node(out, held, *s, branches.as_slice()),
     }
 }
 
-// The same of a step, where all of its branches break one rule at once.
-fn push_short_node(out: &mut String, node: &Node<'_>) -> Result<(), AllocError> {
-    match node.branches {
+// The same of a node, where all of its branches break one rule at once.
+fn push_short_node(
+    out: &mut String,
+    held: &Held<'_>,
+    s: StepId,
+    branches: &[Branch],
+) -> Result<(), AllocError> {
+    match branches {
         [] => {
             out.push_str(". ")?;
-            push_choice(out, node)
+            push_choice(out, held, s, branches)
         }
         [
             Branch {
@@ -215,14 +217,14 @@ fn push_short_node(out: &mut String, node: &Node<'_>) -> Result<(), AllocError> 
             },
             ..
         ] => {
-            let users = users_of(node.branches, Some(*k));
-            if users.count() as usize != node.branches.len() {
+            let users = users_of(branches, Some(*k));
+            if users.count() as usize != branches.len() {
                 return Ok(());
             }
             out.push_str(". ")?;
-            push_choice(out, node)?;
+            push_choice(out, held, s, branches)?;
             out.push_str(". ")?;
-            push_leaf(out, node, *k, &users)
+            push_leaf(out, held, s, *k, &users)
         }
         _ => Ok(()),
     }
