@@ -1,5 +1,5 @@
 -- What a step answers is written alike with the names of a later policy.
-use Rattle.std.proofs.Common.{◌≡◌, ℕ, ◌<◌, inl, inr, Option, Result, Ok, Err, refl, sym, ap, subst, codes}
+use Rattle.std.proofs.Common.{◌≡◌, ℕ, ◌<◌, inl, inr, Bool, true, List, length, Option, Result, Ok, Err, refl, sym, ap, subst, codes}
 use Rattle.serde_json.specs.Data.{array, number, object, member, no_members, unsigned}
 use Rattle.serde_json.specs.View.{items_of}
 use Rattle.refutation_tree.specs.declared.tree.Tree.{Tree}
@@ -17,7 +17,7 @@ use Rattle.admin_edits.specs.Laws.Keeping.{KeepsNames}
 use Rattle.wf_board.specs.declared.deed.Deed.{Deed}
 use Rattle.wf_board.specs.declared.deed.Deed.TheVariants as deed
 use Rattle.wf_board.specs.Laws.States.{State}
-use Rattle.wf_board.specs.Laws.Steps.{Answers, IsReplyTo, IsStep}
+use Rattle.wf_board.specs.Laws.Steps.{Answers, IsReplyTo, IsStep, face_of}
 use Rattle.wf_board.specs.Decisions.{decision_of}
 use Rattle.wf_board.specs.Laws.Kept.{IsSoundState, KeepsCompletable}
 use Rattle.wf_board.proofs.Faring.{Fares}
@@ -73,7 +73,7 @@ deed_text s q what (deed.Change a) (reply.Denied (denial.Strands n f tree)) keep
     (stranded_tree s a n f tree state.sound state.kept state.serial (known.0 state.sound.policy) is))
 deed_text s q what (deed.Show c) (reply.Shown face) keeps state known of is =
     subst (λ (x : Face). reply_data q (reply.Shown x) ≡ reply_data s.book.policy (reply.Shown x)) (sym is)
-    (ap (single (codes "view")) (face_same s.book.policy q _ keeps (case_stands s.book.policy c of)))
+    (ap (single (codes "view")) (face_same s.book.policy q (face_of c) keeps (case_stands s.book.policy c of)))
 deed_text s q what (deed.Work u) (reply.Work items) keeps state known of is =
     ap (λ ds. single (codes "worklist") (array (items_of ds))) (work_same s.book.policy q items keeps)
 deed_text s q what (deed.WhatIf a) (reply.WhatIf numbers) keeps state known of is = refl

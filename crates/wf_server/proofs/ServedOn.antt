@@ -3,6 +3,7 @@ use Rattle.std.proofs.Common.{◌≡◌, ◌<◌, List, None, drop, length, take
 use Rattle.std.proofs.lemmas.List.{drop_all, take_all}
 use Rattle.wf_talk.specs.declared.entry.Entry.{Entry}
 use Rattle.wf_talk.specs.declared.job.Job.{Job}
+use Rattle.line_reader.specs.declared.stop.Stop.TheVariants as stop
 use Rattle.line_reader.specs.declared.batch_reader.Paused.{Paused}
 use Rattle.line_reader.specs.declared.batch_reader.Paused.TheVariants as paused
 use Rattle.line_reader.specs.BatchReader.{BatchReaderShape, GoesOnReading}
@@ -96,4 +97,8 @@ told_then Leaves d e told a is size on sound =
 -- where reading has paused between two batches a session goes on
 pub pauses_on : (how : Paused) (r t : BatchReaderShape) → (how ≡ paused.Batch → GoesOnReading r t) → ending_after how ≡ None → GoesOnReading r t
 pauses_on paused.Batch r t ready none = ready refl
-pauses_on x r t ready none = cc
+pauses_on paused.End r t ready none = cc
+pauses_on paused.Failed r t ready none = cc
+pauses_on (paused.Stopped (stop.LineTooLong line)) r t ready none = cc
+pauses_on (paused.Stopped stop.TooManyLines) r t ready none = cc
+pauses_on paused.NoMemory r t ready none = cc
