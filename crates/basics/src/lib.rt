@@ -4,11 +4,13 @@
 //! definition reads), and proofs/ has facts of Booleans and numbers.
 #![tactic(auto)]
 
+mod fault;
 mod list;
 mod log;
 mod same;
 mod shared;
 
+pub use fault::Fault;
 pub use list::List;
 pub use log::Log;
 pub use same::Same;

@@ -1,6 +1,8 @@
 -- Readings that end at their first fault, and code that gives what they read.
 use Rattle.std.specs.Prelude.{◌≡◌, Bool, true, false, List, [], ◌∷◌, Option, None, Some, Result, Ok}
 use Rattle.std.specs.Prelude.{Err}
+use Rattle.basics.specs.declared.fault.Fault.{Fault}
+use Rattle.basics.specs.declared.fault.Fault.TheVariants.{Cause, NoMemory}
 
 infixl 10 ◌>>=◌
 -- reads on from what was read; the first fault ends the reading
@@ -34,3 +36,8 @@ Fails (Some fault) reading = reading ≡ Err fault
 abbrev pub Gives : {X Y E F : Type 0} → (E → Option F) → (X → Y) → Result X E → Result Y F → Type 0
 Gives fault_of view (Ok x) reading = reading ≡ Ok (view x)
 Gives fault_of view (Err e) reading = Fails (fault_of e) reading
+
+-- the cause of a fault that has one
+abbrev pub cause_of : {C : Type 0} → Fault C → Option C
+cause_of (Cause c) = Some c
+cause_of NoMemory = None
