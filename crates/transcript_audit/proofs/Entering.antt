@@ -60,12 +60,6 @@ step_next a b j r same next once step = record {
   rests = λ n place is. absurd (not_again r n place once is);
 }
 
--- where a board does not take a reply, it stays
-pub board_stays : (b c : BoardShape) (s : State) (what : Ask) (v : Verdict) (r : Reply) (fault : AdmitFault) → HasAdmittedStep b c what v r (Err fault) →
-    state_on b ≡ s → state_on c ≡ s
-board_stays b c s what v r admit.NotStep admitted same = ap state_on admitted.0 ∙ same
-board_stays b c s what v r admit.NoMemory admitted same = ap state_on admitted.0 ∙ same
-
 -- ---- answered again
 
 pub record MayAgain (a : AuditShape) (what : Ask) (lane n place : ℕ) : Type 0 where
