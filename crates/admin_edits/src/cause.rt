@@ -1,5 +1,6 @@
 //! Why an edit is refused.
 ghost use Rattle.std.specs.Prelude.{◌≡◌, ◌≢◌, ◌==◌, ◌&&◌, not, IfOk, Ok, Some};
+ghost use Rattle.basics.specs.declared.fault.Fault.TheVariants.{NoMemory};
 ghost use Rattle.basics.specs.Laws.Reading.{check};
 ghost use Rattle.admin_edits.specs.declared.amendment.Amendment.TheVariants as amend;
 ghost use Rattle.admin_edits.specs.Laws.Edits.{allowed, amendment_of, edit_cause, has_other};
@@ -10,6 +11,7 @@ ghost use Rattle.rbac_state.specs.Laws.Rosters.{has_role};
 
 use crate::find::{check_admin, find};
 use crate::{Amendment, EditCause, EditFault};
+use basics::Fault;
 use policy_book::Policy;
 use rbac_state::Roster;
 use user_relations::RelationFault;
@@ -20,11 +22,11 @@ use wf_talk::Edit;
 /// `NoMemory`.
 pub fn edit_cause(p: &Policy, by: &Name, e: &Edit) -> Option<EditFault>
     ensures cause { result ≡ edit_cause p.now by.now e.now }
-    ensures never { result ≢ Some EditFault.NoMemory }
+    ensures never { result ≢ Some NoMemory }
 {
     match amendment_of(p, by, e) {
         Ok(_) => None,
-        Err(cause) => Some(EditFault::from(cause)),
+        Err(cause) => Some(Fault::Cause(cause)),
     }
 }
 

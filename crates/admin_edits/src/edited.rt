@@ -1,12 +1,15 @@
 //! The policy after an edit.
 ghost use Rattle.std.specs.Prelude.{◌≡◌, ◌<◌, length, None, OnErr, OnOk, IfOk, Err, Ok, Some};
+ghost use Rattle.basics.specs.declared.fault.Fault.{Fault as FaultOf};
+ghost use Rattle.basics.specs.declared.fault.Fault.TheVariants.{NoMemory};
 ghost use Rattle.admin_edits.specs.declared.amendment.Amendment.TheVariants as amend;
-ghost use Rattle.admin_edits.specs.declared.fault.EditFault.{EditFault};
+ghost use Rattle.admin_edits.specs.declared.fault.EditCause.{EditCause};
 ghost use Rattle.admin_edits.specs.Laws.Edits.{allowed, amended, edit_cause, edited_policy};
 ghost use Rattle.admin_edits.specs.Amendment.{AreMember, ArePair, IsKnownChange};
 
 use crate::cause::amendment_of;
 use crate::{Amendment, EditFault};
+use basics::Fault;
 use policy_book::Policy;
 use rbac_state::RosterFault;
 use std::alloc::AllocError;
@@ -17,17 +20,17 @@ use wf_talk::Edit;
 /// The policy as an edit leaves it; the one that it is made of stays as it is. Or the first fault
 /// of the edit, or that there was no memory for the copy.
 pub fn apply(p: &Policy, by: &Name, e: &Edit) -> Result<Policy, EditFault>
-    ensures fault { (fault : EditFault) → edit_cause p.now by.now e.now ≡ Some fault
+    ensures fault { (fault : FaultOf EditCause) → edit_cause p.now by.now e.now ≡ Some fault
         → result ≡ Err fault }
     ensures edited { edit_cause p.now by.now e.now ≡ None
         → IfOk result (λ q. q ≡ edited_policy p.now by.now e.now) }
     ensures memory { edit_cause p.now by.now e.now ≡ None
-        → OnErr result (result ≡ Err EditFault.NoMemory) }
+        → OnErr result (result ≡ Err NoMemory) }
 {
     let amendment = amendment_of(p, by, e)?;
     match amended(p, amendment) {
         Ok(edited) => Ok(edited),
-        Err(_) => Err(EditFault::NoMemory),
+        Err(_) => Err(Fault::NoMemory),
     }
 }
 

@@ -25,8 +25,9 @@ use Rattle.wf_board.proofs.Within.{claimed_within, planned_within}
 use Rattle.wf_board.proofs.Exact.{finished_assigned}
 use Rattle.admin_edits.specs.declared.amendment.Amendment.{Amendment}
 use Rattle.wf_board.specs.Deeds.{DecidesDeed, is_over_open}
-use Rattle.wsp_solver.specs.declared.search.Unsolved.{Unsolved}
-use Rattle.wsp_solver.specs.declared.search.Unsolved.TheVariants as unsolved
+use Rattle.basics.specs.declared.fault.Fault.{Fault}
+use Rattle.basics.specs.declared.fault.Fault.TheVariants as fault
+use Rattle.wsp_solver.specs.declared.search.OverBudget.{OverBudget}
 use Rattle.case_views.specs.Found.{IsOffer}
 use Rattle.case_views.specs.Deciding.{DecidesChange, DecidesFor, IsVerdictOf, verdict_without}
 
@@ -55,9 +56,9 @@ tree_verdict tree (Ok t) v is told = inl (told ∙ ap verdict.Refuted is)
 tree_verdict tree (Err e) v is told = inr told
 
 -- what was not found out is one of two verdicts
-pub unfound_is : (Q : Verdict → Type 0) (u : Unsolved) (v : Verdict) → v ≡ verdict_without u → Q verdict.NoMemory → Q verdict.OverBudget → Q v
-unfound_is Q unsolved.NoMemory v is memory budget = subst Q (sym is) memory
-unfound_is Q unsolved.OverBudget v is memory budget = subst Q (sym is) budget
+pub unfound_is : (Q : Verdict → Type 0) (u : Fault OverBudget) (v : Verdict) → v ≡ verdict_without u → Q verdict.NoMemory → Q verdict.OverBudget → Q v
+unfound_is Q fault.NoMemory v is memory budget = subst Q (sym is) memory
+unfound_is Q (fault.Cause _) v is memory budget = subst Q (sym is) budget
 
 -- a verdict on an opening
 pub decides_open : (b : Book) (f : ℕ) (v : Verdict) → DecidesFor (problem_of b.policy f) no_users no_steps v → DecidesDeed b (deed.Open f) v
@@ -84,7 +85,7 @@ decides_change b a (verdict.Edited edition) h = record { fits = h; nothing = λ 
 decides_change b a (verdict.Strands n tree) h = record { fits = h; nothing = λ e. cc; something = λ e same. cc }
 decides_change b a v h = absurd h
 
-pub change_listed : (b : Book) (a : Amendment) (r : Result Verdict Unsolved) → IfOk r (DecidesChange b a) → IfOk r (DecidesDeed b (deed.Change a))
+pub change_listed : (b : Book) (a : Amendment) (r : Result Verdict (Fault OverBudget)) → IfOk r (DecidesChange b a) → IfOk r (DecidesDeed b (deed.Change a))
 change_listed b a (Ok v) is = decides_change b a v is
 change_listed b a (Err e) is = tt
 
@@ -95,7 +96,7 @@ over_needs (deed.WhatIf a) over = refl
 over_needs d over = absurd (false≢true over)
 
 -- what was not found out over the open cases decides
-pub unfound_decides : (b : Book) (d : Deed) (u : Unsolved) (v : Verdict) → is_over_open d ≡ true → v ≡ verdict_without u → DecidesDeed b d v
+pub unfound_decides : (b : Book) (d : Deed) (u : Fault OverBudget) (v : Verdict) → is_over_open d ≡ true → v ≡ verdict_without u → DecidesDeed b d v
 unfound_decides b d u v over is = unfound_is (DecidesDeed b d) u v is
     record { fits = tt; nothing = λ none. absurd (needed none); something = λ e same. cc }
     record { fits = tt; nothing = λ none. absurd (needed none); something = λ e same. cc }

@@ -20,13 +20,14 @@ use Rattle.wf_board.specs.Edition.{ArePlansOf, IsFirstStranded, IsTreeOf}
 use Rattle.wf_board.specs.Verdicts.{IsEditionFor, IsStrandingFor}
 use Rattle.case_views.specs.declared.edit_decider.Left.{Left}
 use Rattle.case_views.specs.declared.edit_decider.Left.TheVariants as left
-use Rattle.wsp_solver.specs.declared.search.Unsolved.{Unsolved}
-use Rattle.wsp_solver.specs.declared.search.Unsolved.TheVariants as unsolved
+use Rattle.basics.specs.declared.fault.Fault.{Fault}
+use Rattle.basics.specs.declared.fault.Fault.TheVariants as fault
+use Rattle.wsp_solver.specs.declared.search.OverBudget.{OverBudget}
 
 -- why there is no other verdict, as one
-abbrev pub verdict_without : Unsolved → Verdict
-verdict_without unsolved.NoMemory = verdict.NoMemory
-verdict_without unsolved.OverBudget = verdict.OverBudget
+abbrev pub verdict_without : Fault OverBudget → Verdict
+verdict_without fault.NoMemory = verdict.NoMemory
+verdict_without (fault.Cause _) = verdict.OverBudget
 
 -- a plan or a tree for an assignment, unless it was not found out
 abbrev pub DecidesFor : Problem → List (Option ℕ) → List Bool → Verdict → Type 0

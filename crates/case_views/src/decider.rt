@@ -18,7 +18,7 @@ use crate::lister::Lister;
 use crate::stranded::stranded_in;
 use crate::survey::Survey;
 use crate::work_lists::work_in;
-use basics::Shared;
+use basics::{Fault, Shared};
 use constraint_forms::Plan;
 use grant_table::{Cases, Row};
 use policy_book::{Course, Policy};
@@ -27,7 +27,7 @@ use std::alloc::{AllocError, Global};
 use wf_board::{Decider, Deed, Duty, Revision, Verdict};
 use wf_names::{FlowId, UserId};
 use wf_talk::{CaseList, WorkList};
-use wsp_solver::{Outcome, Unsolved};
+use wsp_solver::{Outcome, OverBudget, Unsolved};
 
 /// Finds verdicts one after the other, on one thread. For a claim the plan that is kept for the
 /// case decides where it gives the step to the user, else a plan near it where one is valid, and
@@ -189,7 +189,7 @@ pub(crate) fn verdict_without(unfound: Unsolved) -> Verdict
     ensures { result ≡ verdict_without unfound }
 {
     match unfound {
-        Unsolved::NoMemory => Verdict::NoMemory,
-        Unsolved::OverBudget => Verdict::OverBudget,
+        Fault::NoMemory => Verdict::NoMemory,
+        Fault::Cause(OverBudget) => Verdict::OverBudget,
     }
 }

@@ -2,7 +2,6 @@
 use Rattle.std.proofs.Common.{◌≡◌, sym, ap, ◌∙◌, ℕ, ◌+◌, ◌-◌, ◌<◌, ◌≤◌, Bool, true, false, List, [], ◌∷◌, ◌++◌, length, arith, append_assoc}
 use Rattle.std.specs.Prelude.{ℤ, Result, Ok, Err, IsErrOf}
 use Rattle.std.specs.Result.{IsErrAnd}
-use Rattle.cnf_export.specs.declared.fault.CnfFault.{CnfFault}
 use Rattle.std.proofs.lemmas.Bool.{false≢true}
 use Rattle.cnf_export.specs.Laws.Encodings.{literals}
 use Rattle.cnf_export.specs.Positions.{HasGiven}
@@ -55,10 +54,10 @@ given_next true left rest c h is = h
 given_next false left rest c h is = absurd (false≢true is)
 
 -- a fault that is handed on is the fault that was met
-pub handed_on : {A : Type 0} (r : Result A CnfFault) (met fault : CnfFault) → IsErrAnd r (λ e. e ≡ met) → IsErrOf r fault → met ≡ fault
+pub handed_on : {A F : Type 0} (r : Result A F) (met fault : F) → IsErrAnd r (λ e. e ≡ met) → IsErrOf r fault → met ≡ fault
 handed_on (Ok a) met fault same is = absurd same
-handed_on {A} (Err e) met fault same is = sym same ∙ ap (or_else e) is
+handed_on {A} {F} (Err e) met fault same is = sym same ∙ ap (or_else e) is
   where
-    or_else : CnfFault → Result A CnfFault → CnfFault
+    or_else : F → Result A F → F
     or_else d (Ok a) = d
     or_else d (Err f) = f

@@ -1,13 +1,18 @@
 -- How far a text is written, and what became of a count of faults.
 use Rattle.std.specs.Prelude.{◌≡◌, ℕ, List, ◌++◌, Option, Result, Ok, Err}
 use Rattle.wf_outside.specs.Laws.Outside.{with_bytes}
-use Rattle.cnf_export.specs.declared.writing.WriteFault.{WriteFault}
-use Rattle.cnf_export.specs.declared.writing.WriteFault.TheVariants.{Failed, NoMemory}
+use Rattle.basics.specs.declared.fault.Fault.{Fault}
+use Rattle.basics.specs.declared.fault.Fault.TheVariants.{Cause, NoMemory}
+use Rattle.cnf_export.specs.declared.writing.NotWritten.{NotWritten}
+
+-- that the sink failed
+abbrev pub not_written : Fault NotWritten
+not_written = Cause record {}
 
 -- the count of faults is as it was, unless the answer is a fault
-abbrev pub StaysUnlessUnwritten : {A : Type 0} → Result A WriteFault → ℕ → ℕ → Type 0
+abbrev pub StaysUnlessUnwritten : {A : Type 0} → Result A (Fault NotWritten) → ℕ → ℕ → Type 0
 StaysUnlessUnwritten (Ok a) before after = after ≡ before
-StaysUnlessUnwritten (Err Failed) before after = Unit {0}
+StaysUnlessUnwritten (Err (Cause _)) before after = Unit {0}
 StaysUnlessUnwritten (Err NoMemory) before after = after ≡ before
 
 -- inside: all of a text was put but the rest

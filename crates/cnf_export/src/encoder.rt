@@ -5,7 +5,7 @@ ghost use Rattle.policy_book.specs.Policies.{problem_of};
 ghost use Rattle.policy_book.specs.Laws.Plans.{IsWithin};
 ghost use Rattle.cnf_export.specs.Laws.Encodings.{clauses_of, literals, variables_of};
 ghost use Rattle.cnf_export.specs.Positions.{HasGiven};
-ghost use Rattle.cnf_export.specs.declared.fault.CnfFault.TheVariants.{TooLarge};
+ghost use Rattle.cnf_export.specs.Fault.{too_large};
 ghost use Rattle.cnf_export.specs.declared.tally.TheConstants.{LITERAL_LIMIT};
 
 use crate::group::Group;
@@ -61,7 +61,7 @@ impl Encoder {
         ensures variables { IfOk result (λ e. e.variables ≡ variables_of (problem_of p.now f)) }
         ensures few { OnOk result (literals
             (clauses_of (problem_of p.now f) a.now done.now) ≤ LITERAL_LIMIT) }
-        ensures large { IsErrOf result TooLarge
+        ensures large { IsErrOf result too_large
             → LITERAL_LIMIT < literals (clauses_of (problem_of p.now f) a.now done.now) }
     {
         let course = Course {

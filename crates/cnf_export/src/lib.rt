@@ -29,11 +29,11 @@ mod word;
 mod writing;
 
 pub use encoder::Encoder;
-pub use fault::CnfFault;
+pub use fault::{CnfFault, TooLarge};
 pub use literals::Literals;
 pub use made::model_of;
 pub use model::Model;
 pub use model_text::{ModelFault, read_model};
 pub use reading::{Reading, plan_of};
 pub use tally::LITERAL_LIMIT;
-pub use writing::{WriteFault, write_clauses};
+pub use writing::{NotWritten, WriteFault, write_clauses};

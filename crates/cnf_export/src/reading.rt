@@ -5,7 +5,7 @@ ghost use Rattle.policy_book.specs.Policies.{problem_of};
 ghost use Rattle.policy_book.specs.Laws.Plans.{IsWithin};
 ghost use Rattle.cnf_export.specs.Laws.Encodings.{clauses_of, literals, numbers};
 ghost use Rattle.cnf_export.specs.Models.{last_below};
-ghost use Rattle.cnf_export.specs.declared.fault.CnfFault.TheVariants.{TooLarge};
+ghost use Rattle.cnf_export.specs.Fault.{too_large};
 ghost use Rattle.cnf_export.specs.declared.tally.TheConstants.{LITERAL_LIMIT};
 ghost use Rattle.cnf_export.specs.Saying.{has_variable};
 ghost use Rattle.cnf_export.specs.Readings.{first_false, IsReading};
@@ -45,7 +45,7 @@ pub fn plan_of(
         (IsReading (problem_of p.now f) a.now done.now (has_variable m.now)) }
     ensures few { OnOk result (literals
         (clauses_of (problem_of p.now f) a.now done.now) ≤ LITERAL_LIMIT) }
-    ensures large { IsErrOf result TooLarge
+    ensures large { IsErrOf result too_large
         → LITERAL_LIMIT < literals (clauses_of (problem_of p.now f) a.now done.now) }
 {
     models_are_plans();

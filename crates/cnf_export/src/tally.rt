@@ -5,14 +5,15 @@ ghost use Rattle.cnf_export.specs.Laws.Encodings.{literals};
 ghost use Rattle.cnf_export.specs.Positions.{left_from};
 ghost use Rattle.cnf_export.specs.Sizes.{empties};
 ghost use Rattle.cnf_export.specs.Terms.{encoding_in};
-ghost use Rattle.cnf_export.specs.declared.fault.CnfFault.TheVariants.{TooLarge};
+ghost use Rattle.cnf_export.specs.Fault.{too_large};
 ghost use Rattle.cnf_export.specs.declared.tally.TheConstants.{LITERAL_LIMIT};
 
 use crate::Literals;
-use crate::fault::CnfFault;
+use crate::fault::{CnfFault, TooLarge};
 use crate::group::Group;
 use crate::position::{Position, give};
 use crate::terms::Terms;
+use basics::Fault;
 
 /// Most literals of all clauses.
 pub const LITERAL_LIMIT: usize = 20_000_000;
@@ -30,7 +31,7 @@ pub(crate) fn count(
         (λ n. n ≡ length (left_from (encoding_in terms.now) groups.now at.old)) }
     ensures few { OnOk result (literals
         (left_from (encoding_in terms.now) groups.now at.old) ≤ LITERAL_LIMIT) }
-    ensures large { IsErrOf result TooLarge
+    ensures large { IsErrOf result too_large
         → LITERAL_LIMIT < literals (left_from (encoding_in terms.now) groups.now at.old) }
 {
     let mut clauses = 0u32;
@@ -40,7 +41,7 @@ pub(crate) fn count(
             return Ok(clauses);
         }
         if one.len() > LITERAL_LIMIT - size {
-            return Err(CnfFault::TooLarge);
+            return Err(Fault::Cause(TooLarge));
         }
         size += one.len();
         clauses += 1;

@@ -3,40 +3,29 @@ ghost use Rattle.std.specs.Prelude.{◌≡◌, ◌++◌, [], IsErrOf, OnErr, OnO
 ghost use Rattle.std.specs.List.{flat_map};
 ghost use Rattle.wf_outside.specs.Laws.Outside.{HasPart, Rose, with_bytes};
 ghost use Rattle.cnf_export.specs.Text.{clause_line, dimacs_text};
-ghost use Rattle.cnf_export.specs.Writing.{StaysUnlessUnwritten};
-ghost use Rattle.cnf_export.specs.declared.writing.WriteFault.TheVariants.{NoMemory};
-ghost use Rattle.cnf_export.specs.declared.writing.WriteFault.TheVariants.{Failed as NotWritten};
+ghost use Rattle.cnf_export.specs.Writing.{not_written, StaysUnlessUnwritten};
 
 use crate::text::{push_clause, push_header};
 use crate::{Encoder, Literals};
-use std::alloc::{AllocError, Global};
+use basics::Fault;
+use std::alloc::Global;
 use wf_outside::{Failed, Sink, put_all, put_and_flush};
 
 /// From how many bytes on the text is put.
 const PIECE: usize = 65_536;
 
-/// Why clauses were not written whole.
+/// The sink failed, and its count of faults has risen.
 #[derive(Clone, Copy)]
-pub enum WriteFault {
-    /// The sink failed, and its count of faults has risen.
-    Failed,
-    /// There was no memory.
-    NoMemory,
-}
+pub struct NotWritten;
+
+/// Why clauses were not written whole.
+pub type WriteFault = Fault<NotWritten>;
 
 impl From<Failed> for WriteFault {
-    ghost from_gives = { λ _ fault. fault ≡ NotWritten };
+    ghost from_gives = { λ _ fault. fault ≡ not_written };
 
     fn from(_: Failed) -> Self {
-        WriteFault::Failed
-    }
-}
-
-impl From<AllocError> for WriteFault {
-    ghost from_gives = { λ _ fault. fault ≡ NoMemory };
-
-    fn from(_: AllocError) -> Self {
-        WriteFault::NoMemory
+        Fault::Cause(NotWritten)
     }
 }
 
@@ -54,7 +43,7 @@ pub fn write_clauses<K: Sink>(
     ensures part { HasPart (K.held sink.old) (K.held sink.new)
         (dimacs_text encoder.old.variables encoder.old.all) }
     ensures flushed { OnOk result (K.is_flushed sink.new) }
-    ensures rose { IsErrOf result NotWritten → Rose (K.faults sink.old) (K.faults sink.new) }
+    ensures rose { IsErrOf result not_written → Rose (K.faults sink.old) (K.faults sink.new) }
     ensures stays { StaysUnlessUnwritten result (K.faults sink.old) (K.faults sink.new) }
 {
     let mut out = Vec::new(alloc);
@@ -74,7 +63,7 @@ fn write_left<K: Sink>(
     ensures part { HasPart (K.held sink.old) (K.held sink.new)
         (out.old.items ++ flat_map clause_line encoder.old.left) }
     ensures flushed { OnOk result (K.is_flushed sink.new) }
-    ensures rose { IsErrOf result NotWritten → Rose (K.faults sink.old) (K.faults sink.new) }
+    ensures rose { IsErrOf result not_written → Rose (K.faults sink.old) (K.faults sink.new) }
     ensures stays { StaysUnlessUnwritten result (K.faults sink.old) (K.faults sink.new) }
 {
     'writing: loop {

@@ -1,7 +1,8 @@
 //! Calls that the program makes nowhere: that they succeed while there is memory.
 
 use crate::fixture::{FLOW, Look, is_right};
-use admin_edits::{EditFault, apply, edit_cause};
+use admin_edits::{EditCause, apply, edit_cause};
+use basics::Fault;
 use basics::Log;
 use cnf_export::{Reading, model_of, plan_of};
 use constraint_forms::{Assign, Plan, StepSet};
@@ -102,7 +103,7 @@ fn a_user_leaves(p: &Policy) -> bool {
     };
     let edit = Edit::Leave { user };
     match apply(p, &eve, &edit) {
-        Ok(after) => edit_cause(&after, &eve, &edit) == Some(EditFault::Absent),
+        Ok(after) => edit_cause(&after, &eve, &edit) == Some(Fault::Cause(EditCause::Absent)),
         Err(_) => false,
     }
 }

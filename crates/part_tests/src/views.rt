@@ -3,6 +3,7 @@
 
 use crate::fixture::FLOW;
 use admin_edits::edit_cause;
+use basics::Fault;
 use case_views::{PlainDecider, SpreadDecider, what_if, worklist};
 use fixtures::PAY;
 use std::alloc::{AllocError, Global};
@@ -11,7 +12,7 @@ use std::thread::Threads;
 use wf_board::{Board, Decider, Snap, Verdict};
 use wf_names::{CaseId, Name, StepId, UserId};
 use wf_talk::{Ask, Denial, Edit, Reply, Request, WorkItem};
-use wsp_solver::Unsolved;
+use wsp_solver::{OverBudget, Unsolved};
 
 /// More than stay on one thread.
 const CASES: u16 = 40;
@@ -159,8 +160,8 @@ fn lists(alloc: Global, board: &Board) -> Result<bool, AllocError> {
     let snap = board.snap(alloc, &Ask::Request(Request::Worklist { user }))?;
     match has_lists(alloc, &snap) {
         Ok(told) => Ok(told),
-        Err(Unsolved::NoMemory) => Err(AllocError),
-        Err(Unsolved::OverBudget) => Ok(false),
+        Err(Fault::NoMemory) => Err(AllocError),
+        Err(Fault::Cause(OverBudget)) => Ok(false),
     }
 }
 

@@ -4,7 +4,8 @@ use crate::held::{Held, held_as, held_in, held_with};
 use crate::told::Told;
 use crate::trees::push_short;
 use crate::why::push_why;
-use admin_edits::{EditFault, apply};
+use admin_edits::apply;
+use basics::Fault;
 use constraint_forms::{Assign, StepSet};
 use policy_book::Policy;
 use refutation_tree::Tree;
@@ -82,7 +83,7 @@ fn edited(p: &Policy, ask: &Ask) -> Result<Option<Policy>, AllocError> {
     match ask {
         Ask::Request(Request::Change { by, edit }) => match apply(p, by, edit) {
             Ok(edited) => Ok(Some(edited)),
-            Err(EditFault::NoMemory) => Err(AllocError),
+            Err(Fault::NoMemory) => Err(AllocError),
             Err(_) => Ok(None),
         },
         _ => Ok(None),

@@ -13,8 +13,6 @@ use Rattle.wf_talk.specs.declared.job.Job.{Job}
 use Rattle.wf_talk.specs.declared.reply.Reply.{Reply}
 use Rattle.wf_talk.specs.declared.reply.Reply.TheVariants as reply
 use Rattle.wf_talk.specs.declared.request.Ask.{Ask}
-use Rattle.wf_board.specs.declared.admit.AdmitFault.{AdmitFault}
-use Rattle.wf_board.specs.declared.admit.AdmitFault.TheVariants as admit
 use Rattle.wf_board.specs.declared.verdict.Verdict.{Verdict}
 use Rattle.wf_board.specs.Admit.{HasAdmittedStep}
 use Rattle.wf_board.specs.Boards.{BoardShape, numbered, state_on}
@@ -30,8 +28,8 @@ use Rattle.wire_json.specs.Replies.{entry_text}
 use Rattle.entry_reader.specs.Laws.Lines.{entry_at}
 use Rattle.entry_laws.proofs.Entries.{text_stays}
 use Rattle.transcript_audit.specs.declared.fault.AuditKind.TheVariants as kinds
-use Rattle.transcript_audit.specs.declared.flaw.Flaw.{Flaw}
-use Rattle.transcript_audit.specs.declared.flaw.Flaw.TheVariants as flaw
+use Rattle.basics.specs.declared.fault.Fault.{Fault}
+use Rattle.basics.specs.declared.fault.Fault.TheVariants as flaw
 use Rattle.transcript_audit.specs.Auditor.{AuditShape, ComesNext, HasFault, IsNextLine, flows_now, next_job, present_jobs, present_start, state_now, with_entry}
 use Rattle.transcript_audit.specs.Keeping.{HasEntered, TellsReply, TriesLine, again_in, entry_next, rests_on}
 use Rattle.transcript_audit.proofs.Excludes.{one_place, told_named}
@@ -221,11 +219,11 @@ read_wrong a line j r read wrong =
     (read.place, (j, (r, (read.stands, (read.due, (read.reply, λ next. wrong (subst (ComesNext a) (entry_there a line j r read) next)))))))
 
 -- what becomes of a line whose reply was taken or refused
-pub tried_of : (before after : AuditShape) (line : List ℕ) (j : Job) (r : Reply) (result : Result (Unit {0}) Flaw) → TellsReply before line j r →
+pub tried_of : (before after : AuditShape) (line : List ℕ) (j : Job) (r : Reply) (result : Result (Unit {0}) (Fault AuditKind)) → TellsReply before line j r →
     HasEntered before after j r result →
     TriesLine before after line result
 tried_of before after line j r (Ok done) read entered = (entry_next before j r, (read_next before line j r read entered.0, entered.1))
-tried_of before after line j r (Err (flaw.Kind kind)) read entered =
+tried_of before after line j r (Err (flaw.Cause kind)) read entered =
     (subst (HasFault before line) (sym entered.0) (read_wrong before line j r read entered.1.0), entered.1.1)
 tried_of before after line j r (Err flaw.NoMemory) read entered = entered
 

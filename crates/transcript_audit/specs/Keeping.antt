@@ -21,12 +21,10 @@ use Rattle.entry_reader.specs.declared.place.Place.{Place}
 use Rattle.entry_reader.specs.declared.fault.TextFault.{TextFault}
 use Rattle.entry_reader.specs.declared.fault.TextFault.TheVariants as text
 use Rattle.entry_reader.specs.Laws.Lines.{HasReply}
-use Rattle.wf_board.specs.declared.admit.AdmitFault.{AdmitFault}
-use Rattle.wf_board.specs.declared.admit.AdmitFault.TheVariants as admit
 use Rattle.transcript_audit.specs.declared.cursor.Cursor.{Cursor}
 use Rattle.transcript_audit.specs.declared.fault.AuditKind.TheVariants as kinds
-use Rattle.transcript_audit.specs.declared.flaw.Flaw.{Flaw}
-use Rattle.transcript_audit.specs.declared.flaw.Flaw.TheVariants as flaw
+use Rattle.basics.specs.declared.fault.Fault.{Fault}
+use Rattle.basics.specs.declared.fault.Fault.TheVariants as flaw
 use Rattle.transcript_audit.specs.Auditor.{AuditShape, ComesNext, HasFault, IsDue, IsNextLine}
 use Rattle.transcript_audit.specs.Auditor.{StandsAtPlace, flows_now, state_now, with_entry}
 
@@ -127,14 +125,9 @@ again_in (reply.Again n place) = Some (n, place)
 again_in given = None
 
 -- what is wrong where a text was not read
-abbrev pub flaw_of_text : TextFault → Flaw
-flaw_of_text text.NotText = flaw.Kind kinds.Text
+abbrev pub flaw_of_text : TextFault → Fault AuditKind
+flaw_of_text text.NotText = flaw.Cause kinds.Text
 flaw_of_text text.NoMemory = flaw.NoMemory
-
--- what is wrong where a reply was not taken
-abbrev pub flaw_of_admit : AdmitFault → Flaw
-flaw_of_admit admit.NotStep = flaw.Kind kinds.Reply
-flaw_of_admit admit.NoMemory = flaw.NoMemory
 
 -- the job at a place, if it is its lane's next one
 abbrev pub IsDueIf : AuditShape → Place → Option Job → Type 0
@@ -149,9 +142,9 @@ pub record TellsReply (a : AuditShape) (line : List ℕ) (j : Job) (r : Reply) :
   pub reply : HasReply (state_now a).book.policy (flows_now a) j.ask line r
 
 -- what came of reading a line
-abbrev pub ReadsLineTo : AuditShape → List ℕ → Result (Job × Reply) Flaw → Type 0
+abbrev pub ReadsLineTo : AuditShape → List ℕ → Result (Job × Reply) (Fault AuditKind) → Type 0
 ReadsLineTo a line (Ok found) = TellsReply a line found.0 found.1
-ReadsLineTo a line (Err (flaw.Kind kind)) = HasFault a line kind
+ReadsLineTo a line (Err (flaw.Cause kind)) = HasFault a line kind
 ReadsLineTo a line (Err flaw.NoMemory) = Unit {0}
 
 -- the entry of a job that comes next
@@ -159,16 +152,16 @@ abbrev pub entry_next : AuditShape → Job → Reply → Entry
 entry_next a j r = entry_for j (length a.entries) r
 
 -- what came of entering a reply
-abbrev pub HasEntered : AuditShape → AuditShape → Job → Reply → Result (Unit {0}) Flaw → Type 0
+abbrev pub HasEntered : AuditShape → AuditShape → Job → Reply → Result (Unit {0}) (Fault AuditKind) → Type 0
 HasEntered before after j r (Ok done) = ComesNext before (entry_next before j r) ×
     (after ≡ with_entry before (entry_next before j r))
-HasEntered before after j r (Err (flaw.Kind kind)) = (kind ≡ kinds.Reply) ×
+HasEntered before after j r (Err (flaw.Cause kind)) = (kind ≡ kinds.Reply) ×
     (¬ ComesNext before (entry_next before j r) × (after ≡ before))
 HasEntered before after j r (Err flaw.NoMemory) = after ≡ before
 
 -- what came of a line, where there was no fault before
-abbrev pub TriesLine : AuditShape → AuditShape → List ℕ → Result (Unit {0}) Flaw → Type 0
+abbrev pub TriesLine : AuditShape → AuditShape → List ℕ → Result (Unit {0}) (Fault AuditKind) → Type 0
 TriesLine before after line (Ok done) = (e : Entry) ×
     (IsNextLine before line e × (after ≡ with_entry before e))
-TriesLine before after line (Err (flaw.Kind kind)) = HasFault before line kind × (after ≡ before)
+TriesLine before after line (Err (flaw.Cause kind)) = HasFault before line kind × (after ≡ before)
 TriesLine before after line (Err flaw.NoMemory) = after ≡ before

@@ -19,17 +19,18 @@ ghost use Rattle.transcript_audit.specs.Keeping.{ReadsLineTo};
 ghost use Rattle.transcript_audit.specs.Keeping.{again_in, entry_next};
 
 use crate::again::again_in;
-use crate::flaw::Flaw;
+use crate::flaw::{Flaw, flaw_of_text};
 use crate::flows::Flows;
 use crate::record::Record;
 use crate::verdict::verdict_for;
 use crate::{AuditFault, AuditKind};
+use basics::Fault;
 use entry_reader::{Place, TextFault, guess_place, read_place, read_plain, read_reply};
 use policy_book::Policy;
 use std::alloc::{AllocError, Global};
 use std::marker::Model;
 use std::sync::Arc;
-use wf_board::{Board, Decider, is_view};
+use wf_board::{Board, Decider, NotStep, is_view};
 use wf_talk::{Ask, Ends, Entry, Job, Jobs, Journal, Reply};
 
 /// An audit of a transcript, line by line.
@@ -98,11 +99,11 @@ impl Auditor {
                 let _within = self.record.is_done();
                 Ok(())
             }
-            Err(Flaw::Kind(kind)) => {
+            Err(Fault::Cause(kind)) => {
                 self.record.keep_fault(kind);
                 Err(AuditFault::At(self.record.number(), kind))
             }
-            Err(Flaw::NoMemory) => Err(AuditFault::NoMemory),
+            Err(Fault::NoMemory) => Err(AuditFault::NoMemory),
         }
     }
 
@@ -194,14 +195,14 @@ impl Auditor {
     fn read_fully(&self, alloc: Global, line: &[u8]) -> Result<(Job, Reply), Flaw>
         ensures { ReadsLineTo self.now line.now result }
     {
-        let place = told_place(alloc, line)?;
+        let place = told_place(alloc, line).map_err(flaw_of_text)?;
         if place.at != self.record.number() {
-            return Err(Flaw::Kind(AuditKind::At));
+            return Err(Fault::Cause(AuditKind::At));
         }
         let Some(job) = self.due(&place) else {
-            return Err(Flaw::Kind(AuditKind::Job));
+            return Err(Fault::Cause(AuditKind::Job));
         };
-        let reply = self.reply(alloc, &job.ask, line)?;
+        let reply = self.reply(alloc, &job.ask, line).map_err(flaw_of_text)?;
         Ok((job, reply))
     }
 
@@ -264,12 +265,17 @@ impl Auditor {
                 let _few = self.record.number();
                 let verdict = verdict_for(&self.board, alloc, decider, &job.ask, &reply);
                 if verdict.is_want() {
-                    return Err(Flaw::NoMemory);
+                    return Err(Fault::NoMemory);
                 }
                 self.record.reserve()?;
-                self.board.admit(alloc, &job.ask, &reply, verdict)?;
-                self.record.add(job, reply);
-                Ok(())
+                match self.board.admit(alloc, &job.ask, &reply, verdict) {
+                    Ok(()) => {
+                        self.record.add(job, reply);
+                        Ok(())
+                    }
+                    Err(Fault::Cause(NotStep)) => Err(Fault::Cause(AuditKind::Reply)),
+                    Err(Fault::NoMemory) => Err(Fault::NoMemory),
+                }
             }
         }
     }
@@ -280,7 +286,7 @@ impl Auditor {
         ensures { HasEntered self.old self.new job.now (reply.Again rounds at) result }
     {
         if !self.may_retry(job, rounds, at) {
-            return Err(Flaw::Kind(AuditKind::Reply));
+            return Err(Fault::Cause(AuditKind::Reply));
         }
         self.record.reserve()?;
         self.record.add(job, Reply::Again { rounds, at });

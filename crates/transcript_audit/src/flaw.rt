@@ -1,48 +1,20 @@
 //! Why one line is not taken.
 ghost use Rattle.std.specs.Prelude.{◌≡◌};
-ghost use Rattle.transcript_audit.specs.declared.flaw.Flaw.TheVariants.{NoMemory};
-ghost use Rattle.transcript_audit.specs.Keeping.{flaw_of_admit, flaw_of_text};
+ghost use Rattle.transcript_audit.specs.Keeping.{flaw_of_text};
 
 use crate::AuditKind;
+use basics::Fault;
 use entry_reader::TextFault;
-use std::alloc::AllocError;
-use wf_board::AdmitFault;
 
-/// Why a line is not taken.
-#[derive(Clone, Copy)]
-pub(crate) enum Flaw {
-    /// What is wrong with it.
-    Kind(AuditKind),
-    /// An allocation was refused.
-    NoMemory,
-}
+/// Why a line is not taken: what is wrong with it, or that an allocation was refused.
+pub(crate) type Flaw = Fault<AuditKind>;
 
-impl From<AllocError> for Flaw {
-    ghost from_gives = { λ _ flaw. flaw ≡ NoMemory };
-
-    fn from(_: AllocError) -> Flaw {
-        Flaw::NoMemory
-    }
-}
-
-impl From<TextFault> for Flaw {
-    ghost from_gives = { λ fault flaw. flaw ≡ flaw_of_text fault };
-
-    fn from(fault: TextFault) -> Flaw {
-        match fault {
-            TextFault::NotText => Flaw::Kind(AuditKind::Text),
-            TextFault::NoMemory => Flaw::NoMemory,
-        }
-    }
-}
-
-impl From<AdmitFault> for Flaw {
-    ghost from_gives = { λ fault flaw. flaw ≡ flaw_of_admit fault };
-
-    fn from(fault: AdmitFault) -> Flaw {
-        match fault {
-            AdmitFault::NotStep => Flaw::Kind(AuditKind::Reply),
-            AdmitFault::NoMemory => Flaw::NoMemory,
-        }
+/// Why a line is not taken whose text was not read.
+pub(crate) fn flaw_of_text(fault: TextFault) -> Flaw
+    ensures { result ≡ flaw_of_text fault }
+{
+    match fault {
+        TextFault::NotText => Fault::Cause(AuditKind::Text),
+        TextFault::NoMemory => Fault::NoMemory,
     }
 }

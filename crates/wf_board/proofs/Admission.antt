@@ -28,7 +28,8 @@ use Rattle.wf_talk.specs.declared.reply.Reply.{Reply}
 use Rattle.wf_talk.specs.declared.reply.Reply.TheVariants as reply
 use Rattle.wf_talk.specs.declared.reply.Denial.{Denial}
 use Rattle.wf_talk.specs.declared.reply.Denial.TheVariants as denial
-use Rattle.wf_board.specs.declared.admit.AdmitFault.{AdmitFault}
+use Rattle.basics.specs.declared.fault.Fault.{Fault}
+use Rattle.wf_board.specs.declared.admit.NotStep.{NotStep}
 use Rattle.wf_board.specs.declared.deed.Deed.{Deed}
 use Rattle.wf_board.specs.declared.deed.Duty.{Duty}
 use Rattle.wf_board.specs.declared.deed.Deed.TheVariants as deed
@@ -203,7 +204,7 @@ want_answers s (Ok d) = tt
 want_answers s (Err d) = inr refl
 
 -- a reply that changes nothing is taken where a test of it passes
-pub test_admitted : (p : PolicyShape) (t : CasesShape) (r : Result Deed Denial) (given : Reply) (b : Bool) (result : Result (Unit {0}) AdmitFault) →
+pub test_admitted : (p : PolicyShape) (t : CasesShape) (r : Result Deed Denial) (given : Reply) (b : Bool) (result : Result (Unit {0}) (Fault NotStep)) →
     IsKept p t → result ≡ when b →
     (b ≡ true → (edits : ℕ) → Answers (state_on (board_of p t edits)) r given) → (b ≡ false → IsNoAnswer p t r given) →
     ((s : State) → state_after_decision s r given ≡ s) →
@@ -259,7 +260,7 @@ view_right b (deed.WhatIf a) v is right = absurd right
 view_right b d v is right = cc
 
 -- the reply to a view is taken where it tells the one that is right
-pub view_admitted : (p : PolicyShape) (t : CasesShape) (d : Deed) (v : View) (given : Reply) (b : Bool) (result : Result (Unit {0}) AdmitFault) →
+pub view_admitted : (p : PolicyShape) (t : CasesShape) (d : Deed) (v : View) (given : Reply) (b : Bool) (result : Result (Unit {0}) (Fault NotStep)) →
     IsKept p t → given ≢ reply.NoMemory → is_view_deed d ≡ true →
     IsViewFor (book_of p t) (Ok d) v → b ≡ true ↔ given ≡ reply_of v → result ≡ when b → HasAdmitted p t t (Ok d) given result
 view_admitted p t d v given b result kept memory is right test done =
@@ -357,7 +358,7 @@ stranded_exists p t a n shown order stranded none =
 
 -- a denial by the case that a change strands is taken where its tree shows it
 pub strands_admitted : (p : PolicyShape) (t : CasesShape) (a : Amendment) (n : ℕ) (c : CaseShape) (m f : ℕ) (tree : Tree) (b : Bool)
-    (result : Result (Unit {0}) AdmitFault) → IsKept p t → IsStrandedCase p t a n c →
+    (result : Result (Unit {0}) (Fault NotStep)) → IsKept p t → IsStrandedCase p t a n c →
     m ≡ n → f ≡ c.flow → b ≡ refutes (problem_of (amended p a) c.flow) (assigned_of c) (finished_of c) (shape_of tree) → result ≡ when b →
     HasAdmitted p t t (Ok (deed.Change a)) (reply.Denied (denial.Strands m f tree)) result
 strands_admitted p t a n c m f tree b result kept case number flow shows is =

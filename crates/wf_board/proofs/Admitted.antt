@@ -5,8 +5,9 @@ use Rattle.grant_table.specs.Cases.{CasesShape}
 use Rattle.wf_talk.specs.declared.request.Ask.{Ask}
 use Rattle.wf_talk.specs.declared.reply.Reply.{Reply}
 use Rattle.wf_talk.specs.declared.reply.Reply.TheVariants as reply
-use Rattle.wf_board.specs.declared.admit.AdmitFault.{AdmitFault}
-use Rattle.wf_board.specs.declared.admit.AdmitFault.TheVariants.{NotStep, NoMemory}
+use Rattle.basics.specs.declared.fault.Fault.{Fault}
+use Rattle.basics.specs.declared.fault.Fault.TheVariants.{Cause, NoMemory}
+use Rattle.wf_board.specs.declared.admit.NotStep.{NotStep}
 use Rattle.wf_board.specs.declared.verdict.Verdict.{Verdict}
 use Rattle.wf_board.specs.declared.verdict.Verdict.TheVariants as verdict
 use Rattle.wf_board.specs.Admission.{HasAdmitted}
@@ -29,11 +30,11 @@ reply_taken p before after edits what v given other taken = record {
 }
 
 pub step_admitted : (p : PolicyShape) (before after : CasesShape) (edits : ℕ) (what : Ask) (v : Verdict) (given : Reply)
-    (result : Result (Unit {0}) AdmitFault) →
+    (result : Result (Unit {0}) (Fault NotStep)) →
     ((edition : EditionShape) → v ≢ verdict.Edited edition) → HasAdmitted p before after (decision_of (book_of p before) what) given result →
     HasAdmittedStep (board_of p before edits) (board_of p after edits) what v given result
 step_admitted p before after edits what v given (Ok done) other is = reply_taken p before after edits what v given other is
-step_admitted p before after edits what v given (Err NotStep) other is = (ap (λ (t : CasesShape). board_of p t edits) is.0, is.1 edits)
+step_admitted p before after edits what v given (Err (Cause _)) other is = (ap (λ (t : CasesShape). board_of p t edits) is.0, is.1 edits)
 step_admitted p before after edits what v given (Err NoMemory) other is = (ap (λ (t : CasesShape). board_of p t edits) is.0, is.1)
 
 -- want of memory changes nothing, whatever the verdict

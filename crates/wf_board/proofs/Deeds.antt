@@ -7,15 +7,15 @@ use Rattle.grant_table.specs.declared.rows.Row.{Row}
 use Rattle.grant_table.specs.Cases.{open_rows}
 use Rattle.wf_talk.specs.declared.request.Ask.{Ask}
 use Rattle.wf_talk.specs.declared.reply.Denial.{Denial}
-use Rattle.wf_board.specs.declared.decision.Refused.{Refused}
-use Rattle.wf_board.specs.declared.decision.Refused.TheVariants as refused
+use Rattle.basics.specs.declared.fault.Fault.{Fault}
+use Rattle.basics.specs.declared.fault.Fault.TheVariants as fault
 use Rattle.wf_board.specs.declared.deed.Deed.{Deed}
 use Rattle.wf_board.specs.declared.deed.Deed.TheVariants as deed
 use Rattle.wf_board.specs.declared.verdict.Verdict.{Verdict}
 use Rattle.wf_board.specs.declared.verdict.Verdict.TheVariants as verdict
 use Rattle.wf_board.specs.Boards.{numbered}
 use Rattle.wf_board.specs.Laws.States.{Book}
-use Rattle.wf_board.specs.Decisions.{decision_aside, denial_in, needs_verdict, takes_memory}
+use Rattle.wf_board.specs.Decisions.{decision_aside, needs_verdict, takes_memory}
 use Rattle.wf_board.specs.Verdicts.{Decides}
 use Rattle.wf_board.specs.Deeds.{FitsDeed, is_over_open}
 use Rattle.wf_board.proofs.Snaps.{edition_same, stranding_same, view_same, with_cases, open_alone}
@@ -48,10 +48,10 @@ listed_needs_none (Ok given) h = cc
 listed_needs_none (Err d) h = refl
 
 -- where there is no deed, no verdict is needed
-pub refused_needs_none : (reading : Result Deed Denial) (e : Refused) → Gives {X = Deed} denial_in (λ d. d) (Err e) reading →
-    (e ≡ refused.NoMemory → takes_memory reading ≡ true) → needs_verdict reading ≡ false
-refused_needs_none reading (refused.Denied d) gives memory = ap needs_verdict gives
-refused_needs_none reading refused.NoMemory gives memory = listed_needs_none reading (memory refl)
+pub refused_needs_none : (reading : Result Deed Denial) (e : Fault Denial) → Gives {X = Deed} cause_of (λ d. d) (Err e) reading →
+    (e ≡ fault.NoMemory → takes_memory reading ≡ true) → needs_verdict reading ≡ false
+refused_needs_none reading (fault.Cause d) gives memory = ap needs_verdict gives
+refused_needs_none reading fault.NoMemory gives memory = listed_needs_none reading (memory refl)
 
 -- and nothing is right
 pub nothing_decides : (b c : Book) (what : Ask) → c ≡ b → needs_verdict (decision_aside c what) ≡ false → Decides b what verdict.Nothing

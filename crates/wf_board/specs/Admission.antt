@@ -6,8 +6,9 @@ use Rattle.wf_talk.specs.declared.reply.Reply.{Reply}
 use Rattle.wf_talk.specs.declared.reply.Reply.TheVariants as reply
 use Rattle.wf_talk.specs.declared.reply.Denial.{Denial}
 use Rattle.wf_talk.specs.declared.reply.Denial.TheVariants as denial
-use Rattle.wf_board.specs.declared.admit.AdmitFault.{AdmitFault}
-use Rattle.wf_board.specs.declared.admit.AdmitFault.TheVariants.{NotStep, NoMemory}
+use Rattle.basics.specs.declared.fault.Fault.{Fault}
+use Rattle.basics.specs.declared.fault.Fault.TheVariants.{Cause, NoMemory}
+use Rattle.wf_board.specs.declared.admit.NotStep.{NotStep}
 use Rattle.wf_board.specs.declared.deed.Deed.{Deed}
 use Rattle.wf_board.specs.declared.deed.Deed.TheVariants as deed
 use Rattle.wf_board.specs.declared.verdict.Verdict.{Verdict}
@@ -29,9 +30,9 @@ has_no_tree (denial.Strands n f tree) = false
 has_no_tree d = true
 
 -- the fault where the test fails
-abbrev pub when : Bool → Result (Unit {0}) AdmitFault
+abbrev pub when : Bool → Result (Unit {0}) (Fault NotStep)
 when true = Ok tt
-when false = Err NotStep
+when false = Err (Cause record {})
 
 -- a reply is none where the deed or the cause against it is this
 abbrev pub IsNoAnswer : PolicyShape → CasesShape → Result Deed Denial → Reply → Type 0
@@ -41,9 +42,9 @@ IsNoAnswer p t decision given = (edits : ℕ) →
 -- a reply was taken, where the deed or the cause against it is this; or it is no step, or there was
 -- no memory, and nothing has changed
 abbrev pub HasAdmitted : PolicyShape → CasesShape → CasesShape → Result Deed Denial → Reply →
-    Result (Unit {0}) AdmitFault → Type 0
+    Result (Unit {0}) (Fault NotStep) → Type 0
 HasAdmitted p before after decision given (Ok done) = HasTakenStep p before after decision given
-HasAdmitted p before after decision given (Err NotStep) = (after ≡ before) ×
+HasAdmitted p before after decision given (Err (Cause _)) = (after ≡ before) ×
     IsNoAnswer p before decision given
 HasAdmitted p before after decision given (Err NoMemory) = (after ≡ before) ×
     MayLackMemoryFor before.spare decision

@@ -5,8 +5,9 @@ use Rattle.wf_talk.specs.declared.request.Ask.{Ask}
 use Rattle.wf_talk.specs.declared.reply.Reply.{Reply}
 use Rattle.wf_talk.specs.declared.reply.Reply.TheVariants as reply
 use Rattle.wf_talk.specs.declared.reply.Denial.{Denial}
-use Rattle.wf_board.specs.declared.admit.AdmitFault.{AdmitFault}
-use Rattle.wf_board.specs.declared.admit.AdmitFault.TheVariants.{NotStep, NoMemory}
+use Rattle.basics.specs.declared.fault.Fault.{Fault}
+use Rattle.basics.specs.declared.fault.Fault.TheVariants.{Cause, NoMemory}
+use Rattle.wf_board.specs.declared.admit.NotStep.{NotStep}
 use Rattle.wf_board.specs.declared.deed.Deed.{Deed}
 use Rattle.wf_board.specs.declared.deed.Deed.TheVariants as deed
 use Rattle.wf_board.specs.declared.verdict.Verdict.{Verdict}
@@ -54,9 +55,9 @@ pub record HasTakenReply (before after : BoardShape) (what : Ask) (v : Verdict)
 -- a board has taken the step of a reply; or the reply is no step, or there was no memory, and
 -- nothing has changed
 abbrev pub HasAdmittedStep : BoardShape → BoardShape → Ask → Verdict → Reply →
-    Result (Unit {0}) AdmitFault → Type 0
+    Result (Unit {0}) (Fault NotStep) → Type 0
 HasAdmittedStep before after what v given (Ok done) = HasTakenReply before after what v given
-HasAdmittedStep before after what v given (Err NotStep) = (after ≡ before) ×
+HasAdmittedStep before after what v given (Err (Cause _)) = (after ≡ before) ×
     (¬ IsStep (state_on before) what given)
 HasAdmittedStep before after what v given (Err NoMemory) =
     (after ≡ before) × MayLackMemoryFor before.cases.spare (decision_of (state_on before).book what)

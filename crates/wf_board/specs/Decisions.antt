@@ -18,13 +18,6 @@ use Rattle.wf_board.specs.declared.deed.Duty.{Duty}
 use Rattle.wf_board.specs.declared.deed.Deed.TheVariants as deed
 use Rattle.wf_board.specs.Laws.States.{Book, is_full}
 use Rattle.wf_board.specs.Resolve.{resolve}
-use Rattle.wf_board.specs.declared.decision.Refused.{Refused}
-use Rattle.wf_board.specs.declared.decision.Refused.TheVariants.{Denied, NoMemory}
-
--- the denial where a deed is not done; want of memory is none
-abbrev pub denial_in : Refused → Option Denial
-denial_in (Denied d) = Some d
-denial_in NoMemory = None
 
 -- a user holds a step that stands so
 abbrev pub is_held_by : ℕ → StepState → Bool

@@ -14,12 +14,13 @@ ghost use Rattle.wf_board.specs.Taking.{IsKept};
 ghost use Rattle.wf_board.specs.Verdicts.{IsRight};
 
 use crate::alike::{is_denied, is_face};
-use crate::decision::{Refused, decision_of};
+use crate::decision::decision_of;
 use crate::granted::{admit_claim, admit_opening};
 use crate::strands::admit_change;
 use crate::taking::{finish, give_back, withdraw};
 use crate::views::admit_view;
 use crate::{Deed, Duty, Verdict};
+use basics::Fault;
 use case_record::Case;
 use grant_table::Cases;
 use policy_book::Policy;
@@ -27,24 +28,12 @@ use std::alloc::{AllocError, Global};
 use wf_names::{CaseId, StepId};
 use wf_talk::{Ask, Bad, Reply};
 
-/// Why a reply is not taken.
+/// A reply is no step of the session.
 #[derive(Clone, Copy)]
-pub enum AdmitFault {
-    /// It is no step of the session.
-    NotStep,
-    /// An allocation was refused.
-    NoMemory,
-}
+pub struct NotStep;
 
-impl From<AllocError> for AdmitFault {
-    ghost use Rattle.wf_board.specs.declared.admit.AdmitFault.TheVariants.{NoMemory};
-
-    ghost from_gives = { λ _ r. r ≡ NoMemory };
-
-    fn from(_: AllocError) -> AdmitFault {
-        AdmitFault::NoMemory
-    }
-}
+/// Why a reply is not taken.
+pub type AdmitFault = Fault<NotStep>;
 
 /// Takes the step of a reply, if it is one, under the same policy.
 pub(crate) fn admit(
@@ -68,8 +57,8 @@ pub(crate) fn admit(
     }
     match decision_of(alloc, p, cases, ask) {
         Ok(deed) => perform(p, cases, deed, reply, verdict),
-        Err(Refused::Denied(cause)) => when(is_denied(reply, &cause)),
-        Err(Refused::NoMemory) => Err(AdmitFault::NoMemory),
+        Err(Fault::Cause(cause)) => when(is_denied(reply, &cause)),
+        Err(Fault::NoMemory) => Err(Fault::NoMemory),
     }
 }
 
@@ -87,7 +76,7 @@ pub(crate) fn when(passes: bool) -> Result<(), AdmitFault>
     if passes {
         Ok(())
     } else {
-        Err(AdmitFault::NotStep)
+        Err(Fault::Cause(NotStep))
     }
 }
 
@@ -129,7 +118,7 @@ fn admit_finish(p: &Policy, cases: &mut Cases, duty: &Duty, reply: &Reply) -> Re
 {
     match reply {
         Reply::Finished { done } => finish_as(p, cases, duty, *done),
-        _ => Err(AdmitFault::NotStep),
+        _ => Err(Fault::Cause(NotStep)),
     }
 }
 
@@ -140,7 +129,7 @@ fn finish_as(p: &Policy, cases: &mut Cases, duty: &Duty, done: bool) -> Result<(
         (replies.Finished done) result }
 {
     if !is_told(&duty.case, duty.step, done) {
-        return Err(AdmitFault::NotStep);
+        return Err(Fault::Cause(NotStep));
     }
     finish(p, cases, duty);
     Ok(())
@@ -175,7 +164,7 @@ fn admit_return(p: &Policy, cases: &mut Cases, duty: &Duty, reply: &Reply) -> Re
             give_back(p, cases, duty.number, &duty.case, duty.step);
             Ok(())
         }
-        _ => Err(AdmitFault::NotStep),
+        _ => Err(Fault::Cause(NotStep)),
     }
 }
 
@@ -198,7 +187,7 @@ fn admit_release(
             give_back(p, cases, n, case, s);
             Ok(())
         }
-        _ => Err(AdmitFault::NotStep),
+        _ => Err(Fault::Cause(NotStep)),
     }
 }
 
@@ -218,7 +207,7 @@ fn admit_withdrawal(
             withdraw(p, cases, n);
             Ok(())
         }
-        _ => Err(AdmitFault::NotStep),
+        _ => Err(Fault::Cause(NotStep)),
     }
 }
 
@@ -232,7 +221,7 @@ fn admit_showing(p: &Policy, cases: &Cases, case: &Case, reply: &Reply) -> Resul
     let _ = cases;
     match reply {
         Reply::Shown(face) => when(is_face(face, case)),
-        _ => Err(AdmitFault::NotStep),
+        _ => Err(Fault::Cause(NotStep)),
     }
 }
 
@@ -246,6 +235,6 @@ fn admit_bad(p: &Policy, cases: &Cases, bad: Bad, reply: &Reply) -> Result<(), A
     let _ = cases;
     match reply {
         Reply::Bad(given) => when(*given == bad),
-        _ => Err(AdmitFault::NotStep),
+        _ => Err(Fault::Cause(NotStep)),
     }
 }

@@ -17,13 +17,14 @@ ghost use Rattle.wf_board.specs.Verdicts.{has_shown_large, HasAnswered, IsCertif
 ghost use Rattle.wf_board.specs.Verdicts.{IsEditionFor, IsPlanFor, IsRight, MayLackMemory};
 ghost use Rattle.wf_board.specs.Verdicts.{room_used, snap_of, snap_rows, UsesVerdict};
 
-use crate::admit::admit;
+use crate::admit::{NotStep, admit};
 use crate::certified::accepts;
 use crate::decision::needs_verdict;
 use crate::harmless::unbroken;
 use crate::taking::{answer, step, take, take_plan};
 use crate::{AdmitFault, Answered, Decider, Deed, Edition, Snap, Stepped, Verdict};
 use admin_edits::Amendment;
+use basics::Fault;
 use constraint_forms::Plan;
 use grant_table::Cases;
 use policy_book::Policy;
@@ -168,7 +169,7 @@ impl Board {
         match reply {
             Reply::NoMemory => Ok(()),
             Reply::Edited { number } => self.admit_edited(ask, *number, edition),
-            _ => Err(AdmitFault::NotStep),
+            _ => Err(Fault::Cause(NotStep)),
         }
     }
 
@@ -181,7 +182,7 @@ impl Board {
             (Reply.Edited number) result }
     {
         if number != self.edits + 1 {
-            return Err(AdmitFault::NotStep);
+            return Err(Fault::Cause(NotStep));
         }
         self.edit(ask, edition);
         Ok(())

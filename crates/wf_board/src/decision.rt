@@ -3,7 +3,8 @@ ghost use Rattle.std.specs.Prelude.{◌≡◌, ◌<◌, ◌&&◌, ℕ, List, len
 ghost use Rattle.std.specs.Prelude.{IfOk, OnErr};
 ghost use Rattle.std.specs.List.{list_any};
 ghost use Rattle.wf_names.specs.States.{is_held};
-ghost use Rattle.basics.specs.Laws.Reading.{Gives};
+ghost use Rattle.basics.specs.declared.fault.Fault.TheVariants.{NoMemory};
+ghost use Rattle.basics.specs.Laws.Reading.{cause_of, Gives};
 ghost use Rattle.case_record.specs.Cases.{state_at};
 ghost use Rattle.admin_edits.specs.ClaimCauses as causes;
 ghost use Rattle.wf_board.specs.declared.deed.Deed.TheVariants as deeds;
@@ -20,12 +21,12 @@ ghost use Rattle.wf_board.specs.Decisions.{is_held_by, is_view, needs_plan, need
 ghost use Rattle.wf_board.specs.Decisions.{unless_holding};
 ghost use Rattle.wf_board.specs.Decisions.{takes_memory};
 ghost use Rattle.wf_board.specs.Taking.{undenied};
-ghost use Rattle.wf_board.specs.Decisions.{denial_in};
 ghost use Rattle.wf_board.specs.Laws.States.{is_full};
 
 use crate::resolve::resolve;
 use crate::{Deed, Duty};
 use admin_edits::{first_cause, has_cause};
+use basics::Fault;
 use case_record::Case;
 use constraint_forms::{Assign, Rule, falsified};
 use grant_table::Cases;
@@ -34,43 +35,27 @@ use std::alloc::{AllocError, Global};
 use wf_names::{CASE_LIMIT, FlowId, OPEN_CASE_LIMIT, StepId, StepState, UserId};
 use wf_talk::{Ask, Denial, Request};
 
-/// Why a deed is not done.
-#[derive(Drop)]
-pub enum Refused {
-    /// The first cause against it.
-    Denied(Denial),
-    /// There was no memory to name the cause.
-    NoMemory,
-}
-
-impl From<AllocError> for Refused {
-    ghost use Rattle.wf_board.specs.declared.decision.Refused.TheVariants.{NoMemory};
-
-    ghost from_gives = { λ _ r. r ≡ NoMemory };
-
-    fn from(_: AllocError) -> Refused {
-        Refused::NoMemory
-    }
-}
+/// Why a deed is not done: the first cause against it, or that there was no memory to name it.
+pub type Refused = Fault<Denial>;
 
 /// The deed that a line asks for, or the first cause against it but `full` of an opening and what
 /// needs a verdict. Only the roles of a denied claim take memory.
 pub fn decision_aside(alloc: Global, p: &Policy, cases: &Cases, ask: &Ask) -> Result<Deed, Refused>
     requires { ArePlanned p.now cases.now.rows }
-    ensures decision { Gives denial_in (λ deed. deed) result
+    ensures decision { Gives cause_of (λ deed. deed) result
         (decision_aside (book_of p.now cases.now) ask.now) }
     ensures found { IfOk result (IsFound p.now cases.now.rows) }
-    ensures memory { IfErr result (λ e. e ≡ Refused.NoMemory
+    ensures memory { IfErr result (λ e. e ≡ NoMemory
         → takes_memory (decision_aside (book_of p.now cases.now) ask.now) ≡ true) }
 {
     let deed = match resolve(p, cases, ask) {
         Ok(deed) => deed,
-        Err(denial) => return Err(Refused::Denied(denial)),
+        Err(denial) => return Err(Fault::Cause(denial)),
     };
     match cause_aside(alloc, p, cases, &deed) {
         Ok(None) => Ok(deed),
-        Ok(Some(denial)) => Err(Refused::Denied(denial)),
-        Err(_) => Err(Refused::NoMemory),
+        Ok(Some(denial)) => Err(Fault::Cause(denial)),
+        Err(_) => Err(Fault::NoMemory),
     }
 }
 
@@ -82,18 +67,18 @@ pub(crate) fn decision_of(
     ask: &Ask,
 ) -> Result<Deed, Refused>
     requires { ArePlanned p.now cases.now.rows }
-    ensures decision { Gives denial_in (λ deed. deed) result
+    ensures decision { Gives cause_of (λ deed. deed) result
         (decision_of (book_of p.now cases.now) ask.now) }
     ensures aside { IfOk result (λ deed. decision_aside (book_of p.now cases.now)
         ask.now ≡ Ok deed) }
     ensures found { IfOk result (IsFound p.now cases.now.rows) }
-    ensures memory { IfErr result (λ e. e ≡ Refused.NoMemory
+    ensures memory { IfErr result (λ e. e ≡ NoMemory
         → takes_memory (decision_of (book_of p.now cases.now) ask.now) ≡ true) }
 {
     let deed = decision_aside(alloc, p, cases, ask)?;
     match cause_full(p, cases, &deed) {
         None => Ok(deed),
-        Some(denial) => Err(Refused::Denied(denial)),
+        Some(denial) => Err(Fault::Cause(denial)),
     }
 }
 

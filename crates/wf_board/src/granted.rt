@@ -16,10 +16,11 @@ ghost use Rattle.wf_board.specs.Decisions.{cause_aside};
 ghost use Rattle.wf_board.specs.Laws.Found.{AreFound};
 ghost use Rattle.wf_board.specs.Taking.{full_or, IsUnhindered, HasRoomToOpen, IsKept};
 
-use crate::admit::when;
+use crate::admit::{NotStep, when};
 use crate::decision::assigned_with;
 use crate::taking::{claim, open};
 use crate::{AdmitFault, Duty};
+use basics::Fault;
 use certificate_check::{check_tree, is_valid_plan};
 use constraint_forms::{Assign, Plan, StepSet};
 use grant_table::Cases;
@@ -48,7 +49,7 @@ pub(crate) fn admit_opening(
     match reply {
         Reply::Opened { case, plan } => open_as(&course, cases, *case, plan),
         Reply::Denied(denial) => admit_unsatisfiable(&course, cases, denial),
-        _ => Err(AdmitFault::NotStep),
+        _ => Err(Fault::Cause(NotStep)),
     }
 }
 
@@ -66,13 +67,13 @@ fn open_as(
         (Ok (deeds.Open course.now.number)) (replies.Opened number plan.now) result }
 {
     if !is_next(cases, number) {
-        return Err(AdmitFault::NotStep);
+        return Err(Fault::Cause(NotStep));
     }
     if !is_opening_plan(course, plan) {
-        return Err(AdmitFault::NotStep);
+        return Err(Fault::Cause(NotStep));
     }
     match open(course, cases, *plan) {
-        Reply::NoMemory => Err(AdmitFault::NoMemory),
+        Reply::NoMemory => Err(Fault::NoMemory),
         _ => Ok(()),
     }
 }
@@ -104,7 +105,7 @@ fn admit_unsatisfiable(course: &Course, cases: &Cases, denial: &Denial) -> Resul
         Denial::Unsatisfiable { flow: named, tree } => {
             when(*named == course.number && is_opening_tree(course, tree.get()))
         }
-        _ => Err(AdmitFault::NotStep),
+        _ => Err(Fault::Cause(NotStep)),
     }
 }
 
@@ -131,7 +132,7 @@ pub(crate) fn admit_claim(
     match reply {
         Reply::Granted(plan) => claim_as(p, cases, duty, plan),
         Reply::Denied(denial) => admit_stranded(p, cases, duty, denial),
-        _ => Err(AdmitFault::NotStep),
+        _ => Err(Fault::Cause(NotStep)),
     }
 }
 
@@ -142,7 +143,7 @@ fn claim_as(p: &Policy, cases: &mut Cases, duty: &Duty, plan: &Plan) -> Result<(
         (replies.Granted plan.now) result }
 {
     if !is_claim_plan(p, cases, duty, plan) {
-        return Err(AdmitFault::NotStep);
+        return Err(Fault::Cause(NotStep));
     }
     claim(p, cases, duty, *plan);
     Ok(())
@@ -173,7 +174,7 @@ fn admit_stranded(p: &Policy, cases: &Cases, duty: &Duty, denial: &Denial) -> Re
         Denial::Stranded { flow, tree } => {
             when(*flow == duty.case.flow() && is_claim_tree(p, cases, duty, tree.get()))
         }
-        _ => Err(AdmitFault::NotStep),
+        _ => Err(Fault::Cause(NotStep)),
     }
 }
 

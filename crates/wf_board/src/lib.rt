@@ -25,7 +25,7 @@ mod taking;
 mod verdict;
 mod views;
 
-pub use admit::AdmitFault;
+pub use admit::{AdmitFault, NotStep};
 pub use board::Board;
 pub use breaking::may_break;
 pub use certified::decides;

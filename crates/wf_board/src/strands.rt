@@ -16,9 +16,10 @@ ghost use Rattle.wf_board.specs.Laws.Kept.{IsOfPolicy};
 ghost use Rattle.wf_board.specs.Taking.{IsUnhindered};
 ghost use Rattle.wf_board.specs.Verdicts.{IsStrandingFor};
 
-use crate::admit::when;
+use crate::admit::{NotStep, when};
 use crate::{AdmitFault, Verdict};
 use admin_edits::{Amendment, amended};
+use basics::Fault;
 use case_record::Case;
 use certificate_check::check_tree;
 use grant_table::Cases;
@@ -65,7 +66,7 @@ fn admit_denied_change(
     let _ = shown;
     match reply {
         Reply::Denied(denial) => admit_strands(p, cases, a, denial, n),
-        _ => Err(AdmitFault::NotStep),
+        _ => Err(Fault::Cause(NotStep)),
     }
 }
 
@@ -87,7 +88,7 @@ fn admit_strands(
         Denial::Strands { case, flow, tree } => {
             admit_strands_of(p, cases, a, *case, *flow, tree.get(), n)
         }
-        _ => Err(AdmitFault::NotStep),
+        _ => Err(Fault::Cause(NotStep)),
     }
 }
 
@@ -114,7 +115,7 @@ fn admit_strands_of(
         unreachable!()
     };
     if !is_named(n, case, named, flow) {
-        return Err(AdmitFault::NotStep);
+        return Err(Fault::Cause(NotStep));
     }
     when(is_tree_after(p, a, case, tree)?)
 }

@@ -28,11 +28,11 @@ ghost use Rattle.wf_board.specs.Limits.{is_large, shows_large};
 ghost use Rattle.wf_board.specs.Verdicts.{is_opening, is_unusable, IsMadeOf, IsPlanFor, IsRight};
 ghost use Rattle.wf_board.specs.Verdicts.{IsStrandingFor, IsTreeFor};
 
-use crate::decision::{Refused, decision_of, is_full, needs_plan};
+use crate::decision::{decision_of, is_full, needs_plan};
 use crate::resolve::resolve;
 use crate::views::by_view;
 use crate::{Answered, Deed, Duty, Stepped, Verdict};
-use basics::Shared;
+use basics::{Fault, Shared};
 use case_record::Case;
 use constraint_forms::Plan;
 use grant_table::Cases;
@@ -117,8 +117,8 @@ pub(crate) fn step(alloc: Global, p: &Policy, cases: &mut Cases, ask: &Ask) -> S
     match decision_of(alloc, p, cases, ask) {
         Ok(deed) if needs_plan(&deed) => Stepped::Undecided(deed),
         Ok(deed) => Stepped::Done(perform(p, cases, deed)),
-        Err(Refused::Denied(denial)) => Stepped::Done(Reply::Denied(denial)),
-        Err(Refused::NoMemory) => Stepped::Done(Reply::NoMemory),
+        Err(Fault::Cause(denial)) => Stepped::Done(Reply::Denied(denial)),
+        Err(Fault::NoMemory) => Stepped::Done(Reply::NoMemory),
     }
 }
 

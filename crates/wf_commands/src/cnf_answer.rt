@@ -17,7 +17,8 @@ use crate::case::Case;
 use crate::encoding::encode;
 use crate::model_file::MODEL_FILE_LIMIT;
 use crate::{Answer, name_text};
-use cnf_export::{CnfFault, Model, ModelFault, Reading, plan_of, read_model};
+use basics::Fault;
+use cnf_export::{Model, ModelFault, Reading, TooLarge, plan_of, read_model};
 use policy_book::{Course, Plan, Policy};
 use run_record::{InputFault, RunFault};
 use serde_json::Value;
@@ -71,8 +72,8 @@ fn answer_model(alloc: Global, course: &Course, c: &Case, m: &Model) -> Result<A
         m,
     ) {
         Ok(reading) => Ok(answer_with(alloc, course.policy, &reading)?),
-        Err(CnfFault::TooLarge) => Err(RunFault::TooLarge),
-        Err(CnfFault::NoMemory) => Err(RunFault::NoMemory),
+        Err(Fault::Cause(TooLarge)) => Err(RunFault::TooLarge),
+        Err(Fault::NoMemory) => Err(RunFault::NoMemory),
     }
 }
 

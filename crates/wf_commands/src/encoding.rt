@@ -10,7 +10,8 @@ ghost use Rattle.wf_commands.specs.CnfSteps.{IsReadingEnding, ReadsCase};
 
 use crate::case::{Case, read_case};
 use crate::{InputError, take_input};
-use cnf_export::{CnfFault, Encoder};
+use basics::Fault;
+use cnf_export::{Encoder, TooLarge};
 use policy_book::Course;
 use run_record::RunFault;
 use std::alloc::Global;
@@ -63,7 +64,7 @@ pub(crate) fn encode(alloc: Global, course: &Course, c: &Case) -> Result<Encoder
         &c.finished,
     ) {
         Ok(encoder) => Ok(encoder),
-        Err(CnfFault::TooLarge) => Err(RunFault::TooLarge),
-        Err(CnfFault::NoMemory) => Err(RunFault::NoMemory),
+        Err(Fault::Cause(TooLarge)) => Err(RunFault::TooLarge),
+        Err(Fault::NoMemory) => Err(RunFault::NoMemory),
     }
 }

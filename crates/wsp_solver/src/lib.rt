@@ -14,4 +14,4 @@ mod twin;
 
 pub use lean::trim;
 pub use near::plan_near;
-pub use search::{Outcome, Unsolved, solve, solve_within};
+pub use search::{Outcome, OverBudget, Unsolved, solve, solve_within};

@@ -18,6 +18,7 @@ use crate::next::{next_step, plan_of};
 use crate::steps::joined;
 use crate::task::Task;
 use crate::twin::twin_among;
+use basics::Fault;
 use plan_finder::Finder;
 use policy_book::{Assign, Course, Plan, Policy, StepSet};
 use refutation_tree::{Branch, Branches, Kid, Tree};
@@ -36,25 +37,12 @@ pub enum Outcome {
     Refuted(Tree),
 }
 
-/// Why a search that may keep only a number of branches has no answer.
+/// The tree would have more branches than the search may keep.
 #[derive(Clone, Copy)]
-pub enum Unsolved {
-    /// An allocation was refused.
-    NoMemory,
-    /// The tree would have more branches than the search may keep.
-    OverBudget,
-}
+pub struct OverBudget;
 
-impl From<AllocError> for Unsolved {
-    ghost use Rattle.std.specs.Prelude.{◌≡◌};
-    ghost use Rattle.wsp_solver.specs.declared.search.Unsolved.TheVariants.{NoMemory};
-
-    ghost from_gives = { λ _ r. r ≡ NoMemory };
-
-    fn from(_: AllocError) -> Unsolved {
-        Unsolved::NoMemory
-    }
-}
+/// Why a search that may keep only a number of branches has no answer.
+pub type Unsolved = Fault<OverBudget>;
 
 // The same, with the steps that the tree mentions; or that a bounded search has come to its bound.
 #[derive(Drop)]
@@ -112,11 +100,11 @@ pub fn solve_within(
         Searched::Plan(plan) => Ok(Outcome::Plan(plan)),
         Searched::Refuted(found) => {
             if found.tree.nodes() > branches as u64 {
-                return Err(Unsolved::OverBudget);
+                return Err(Fault::Cause(OverBudget));
             }
             Ok(Outcome::Refuted(found.tree))
         }
-        Searched::Stopped => Err(Unsolved::OverBudget),
+        Searched::Stopped => Err(Fault::Cause(OverBudget)),
     }
 }
 

@@ -22,8 +22,8 @@ use Rattle.admin_edits.specs.declared.amendment.Amendment.TheVariants as amend
 use Rattle.admin_edits.specs.declared.fault.EditCause.{EditCause}
 use Rattle.admin_edits.specs.declared.fault.EditCause.TheVariants.{NotAdmin, Unknown, Fixed}
 use Rattle.admin_edits.specs.declared.fault.EditCause.TheVariants.{Already, Absent, Full, LastAdmin}
-use Rattle.admin_edits.specs.declared.fault.EditFault.{EditFault}
-use Rattle.admin_edits.specs.declared.fault.EditFault.TheVariants as fault
+use Rattle.basics.specs.declared.fault.Fault.{Fault}
+use Rattle.basics.specs.declared.fault.Fault.TheVariants as fault
 
 -- there is the user, and the user has the admin role
 abbrev pub administers : PolicyShape → Option ℕ → Bool
@@ -126,23 +126,13 @@ amendment_of p by e = do
   _ ← allowed p a
   Ok a
 
--- a cause against an edit, as its fault; none is want of memory
-abbrev pub fault_as : EditCause → EditFault
-fault_as NotAdmin = fault.NotAdmin
-fault_as (Unknown what) = fault.Unknown what
-fault_as Fixed = fault.Fixed
-fault_as Already = fault.Already
-fault_as Absent = fault.Absent
-fault_as Full = fault.Full
-fault_as LastAdmin = fault.LastAdmin
-
 -- the fault, if there is one
-abbrev pub fault_if_any : Result Amendment EditCause → Option EditFault
+abbrev pub fault_if_any : Result Amendment EditCause → Option (Fault EditCause)
 fault_if_any (Ok a) = None
-fault_if_any (Err cause) = Some (fault_as cause)
+fault_if_any (Err cause) = Some (fault.Cause cause)
 
 -- the first fault of an edit, if it has one
-abbrev pub edit_cause : PolicyShape → List ℕ → Edit → Option EditFault
+abbrev pub edit_cause : PolicyShape → List ℕ → Edit → Option (Fault EditCause)
 edit_cause p by e = fault_if_any (amendment_of p by e)
 
 -- the memberships without those of a user in the first n roles

@@ -6,7 +6,7 @@ use Rattle.policy_book.specs.Policies.{problem_of}
 use Rattle.cnf_export.specs.Laws.Encodings.{encoding_of, group_clauses, groups, literals}
 use Rattle.cnf_export.specs.Sizes.{empties}
 use Rattle.cnf_export.specs.Terms.{encoding_in}
-use Rattle.cnf_export.specs.declared.fault.CnfFault.TheVariants.{TooLarge}
+use Rattle.cnf_export.specs.Fault.{too_large}
 use Rattle.cnf_export.specs.declared.tally.TheConstants.{LITERAL_LIMIT}
 use Rattle.cnf_export.proofs.Filled.{filled}
 use Rattle.cnf_export.proofs.Sums.{handed_on}
@@ -30,7 +30,7 @@ returns-in_err-clauses-clause-large c fault =
     let whole = c.before-at.ensures (encoding_in c.in_ok-terms.terms) c.deref.result.now ∙
     (λ i. flat_map (group_clauses (c.in_ok-terms.ensures i)) ((c.deref.ensures.value ∙ made) i)) in
     subst (λ (cs : List (List ℤ)). LITERAL_LIMIT < literals cs) whole (c.in_err-clauses.ensures.large
-    (ap Err (handed_on c.from_residual-in_err-clauses.result c.in_err-clauses.field-0.0 TooLarge c.from_residual-in_err-clauses.ensures.1 fault)))
+    (ap Err (handed_on c.from_residual-in_err-clauses.result c.in_err-clauses.field-0.0 too_large c.from_residual-in_err-clauses.ensures.1 fault)))
 
 pub returns-clause-all : goal.returns-clause-all
 returns-clause-all c =
