@@ -2,8 +2,7 @@
 
 use crate::fixture::{FLOW, Look, is_right};
 use admin_edits::{EditCause, apply, edit_cause};
-use basics::Fault;
-use basics::Log;
+use basics::{Fault, Log};
 use cnf_export::{Reading, model_of, plan_of};
 use constraint_forms::{Assign, Plan, StepSet};
 use fixtures::PAY;

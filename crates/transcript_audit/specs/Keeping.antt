@@ -152,7 +152,8 @@ abbrev pub entry_next : AuditShape → Job → Reply → Entry
 entry_next a j r = entry_for j (length a.entries) r
 
 -- what came of entering a reply
-abbrev pub HasEntered : AuditShape → AuditShape → Job → Reply → Result (Unit {0}) (Fault AuditKind) → Type 0
+abbrev pub HasEntered : AuditShape → AuditShape → Job → Reply →
+    Result (Unit {0}) (Fault AuditKind) → Type 0
 HasEntered before after j r (Ok done) = ComesNext before (entry_next before j r) ×
     (after ≡ with_entry before (entry_next before j r))
 HasEntered before after j r (Err (flaw.Cause kind)) = (kind ≡ kinds.Reply) ×
@@ -160,7 +161,8 @@ HasEntered before after j r (Err (flaw.Cause kind)) = (kind ≡ kinds.Reply) ×
 HasEntered before after j r (Err flaw.NoMemory) = after ≡ before
 
 -- what came of a line, where there was no fault before
-abbrev pub TriesLine : AuditShape → AuditShape → List ℕ → Result (Unit {0}) (Fault AuditKind) → Type 0
+abbrev pub TriesLine : AuditShape → AuditShape → List ℕ →
+    Result (Unit {0}) (Fault AuditKind) → Type 0
 TriesLine before after line (Ok done) = (e : Entry) ×
     (IsNextLine before line e × (after ≡ with_entry before e))
 TriesLine before after line (Err (flaw.Cause kind)) = HasFault before line kind × (after ≡ before)

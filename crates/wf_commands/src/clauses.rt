@@ -13,8 +13,8 @@ ghost use Rattle.wf_commands.specs.CnfSteps.{EncodesAs, EncodesFile};
 
 use crate::encoding::{encode, take_case};
 use crate::{find_flow, load_policy};
-use cnf_export::model_laws::satisfiable_is_completable;
 use basics::Fault;
+use cnf_export::model_laws::satisfiable_is_completable;
 use cnf_export::{Encoder, NotWritten, write_clauses};
 use policy_book::{Course, Policy};
 use run_record::{Report, RunFault, bare_report};
