@@ -3,14 +3,14 @@ use Rattle.std.specs.Prelude.{◌≡◌, ℕ, List, ◌++◌, Option, Result, Ok
 use Rattle.wf_outside.specs.Laws.Outside.{with_bytes}
 use Rattle.basics.specs.declared.fault.Fault.{Fault}
 use Rattle.basics.specs.declared.fault.Fault.TheVariants.{Cause, NoMemory}
-use Rattle.cnf_export.specs.declared.writing.NotWritten.{NotWritten}
+use Rattle.wf_outside.specs.declared.source.Failed.{Failed}
 
 -- that the sink failed
-abbrev pub not_written : Fault NotWritten
+abbrev pub not_written : Fault Failed
 not_written = Cause record {}
 
 -- the count of faults is as it was, unless the answer is a fault
-abbrev pub StaysUnlessUnwritten : {A : Type 0} → Result A (Fault NotWritten) → ℕ → ℕ → Type 0
+abbrev pub StaysUnlessUnwritten : {A : Type 0} → Result A (Fault Failed) → ℕ → ℕ → Type 0
 StaysUnlessUnwritten (Ok a) before after = after ≡ before
 StaysUnlessUnwritten (Err (Cause _)) before after = Unit {0}
 StaysUnlessUnwritten (Err NoMemory) before after = after ≡ before

@@ -36,4 +36,4 @@ pub use model::Model;
 pub use model_text::{ModelFault, read_model};
 pub use reading::{Reading, plan_of};
 pub use tally::LITERAL_LIMIT;
-pub use writing::{NotWritten, WriteFault, write_clauses};
+pub use writing::{WriteFault, write_clauses};

@@ -14,20 +14,9 @@ use wf_outside::{Failed, Sink, put_all, put_and_flush};
 /// From how many bytes on the text is put.
 const PIECE: usize = 65_536;
 
-/// The sink failed, and its count of faults has risen.
-#[derive(Clone, Copy)]
-pub struct NotWritten;
-
-/// Why clauses were not written whole.
-pub type WriteFault = Fault<NotWritten>;
-
-impl From<Failed> for WriteFault {
-    ghost from_gives = { λ _ fault. fault ≡ not_written };
-
-    fn from(_: Failed) -> Self {
-        Fault::Cause(NotWritten)
-    }
-}
+/// Why clauses were not written whole: the sink failed, and its count of faults has risen, or there
+/// was no memory.
+pub type WriteFault = Fault<Failed>;
 
 /// Writes the text of all clauses, with an encoder that is before the first one, and lets it go. No
 /// more of the text is kept than a piece and the line of one clause, so that after a fault the sink
@@ -68,12 +57,12 @@ fn write_left<K: Sink>(
 {
     'writing: loop {
         if !encoder.next(one)? {
-            put_and_flush(sink, out)?;
+            put_and_flush(sink, out).map_err(Fault::Cause)?;
             return Ok(());
         }
         push_clause(out, one)?;
         if out.len() >= PIECE {
-            put_piece(sink, out)?;
+            put_piece(sink, out).map_err(Fault::Cause)?;
         }
     }
 }

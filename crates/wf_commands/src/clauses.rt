@@ -15,7 +15,7 @@ use crate::encoding::{encode, take_case};
 use crate::{find_flow, load_policy};
 use basics::Fault;
 use cnf_export::model_laws::satisfiable_is_completable;
-use cnf_export::{Encoder, NotWritten, write_clauses};
+use cnf_export::{Encoder, write_clauses};
 use policy_book::{Course, Policy};
 use run_record::{Report, RunFault, bare_report};
 use std::alloc::Global;
@@ -42,7 +42,7 @@ pub fn run_clauses<F: Shelf, S: Source, K: Sink>(
     match find_clauses(alloc, policy, flow, shelf, source) {
         Ok(mut encoder) => match write_clauses(alloc, &mut encoder, sink) {
             Ok(()) => bare_report(alloc, RunFault::Nothing),
-            Err(Fault::Cause(NotWritten)) => bare_report(alloc, RunFault::Write),
+            Err(Fault::Cause(_)) => bare_report(alloc, RunFault::Write),
             Err(Fault::NoMemory) => bare_report(alloc, RunFault::NoMemory),
         },
         Err(fault) => bare_report(alloc, fault),
