@@ -3,6 +3,7 @@ pub mod Terms
 pub mod Positions
 pub mod Sizes
 pub mod Encoders
+pub mod Fault
 pub mod Text
 pub mod Writing
 pub mod Saying
