@@ -57,12 +57,16 @@ fn write_left<K: Sink>(
 {
     'writing: loop {
         if !encoder.next(one)? {
-            put_and_flush(sink, out).map_err(Fault::Cause)?;
-            return Ok(());
+            return match put_and_flush(sink, out) {
+                Ok(()) => Ok(()),
+                Err(failed) => Err(Fault::Cause(failed)),
+            };
         }
         push_clause(out, one)?;
         if out.len() >= PIECE {
-            put_piece(sink, out).map_err(Fault::Cause)?;
+            if let Err(failed) = put_piece(sink, out) {
+                return Err(Fault::Cause(failed));
+            }
         }
     }
 }

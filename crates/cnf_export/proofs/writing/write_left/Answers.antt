@@ -9,20 +9,20 @@ writing-init g c = record { put = none_put (g.K.Sink.held c.args.sink.now) _ _ r
 pub returns-in_err-next-clause-part : goal.returns-in_err-next-clause-part
 returns-in_err-next-clause-part g c = so_far _ _ _ _ c.writing.invariant.put
 
-pub returns-in_err-put_and_flush-clause-part : goal.returns-in_err-put_and_flush-clause-part
-returns-in_err-put_and_flush-clause-part g c =
+pub returns-in-Err-clause-part : goal.returns-in-Err-clause-part
+returns-in-Err-clause-part g c =
     part_put _ _ _ _ c.writing.out.items _ c.writing.invariant.put
     (subst (λ (bytes : List ℕ). HasPart (g.K.Sink.held c.writing.sink) (g.K.Sink.held c.put_and_flush.new.sink) bytes) c.deref.ensures.value
     c.put_and_flush.ensures.part)
 
-pub returns-then-not-branch-clause-all : goal.returns-then-not-branch-clause-all
-returns-then-not-branch-clause-all g c =
+pub returns-in-Ok-clause-all : goal.returns-in-Ok-clause-all
+returns-in-Ok-clause-all g c =
     all_put _ _ _ _ c.writing.out.items _ c.writing.invariant.put
     (none_left _ _ _ _ c.in_ok-next.ensures.given c.if-not-branch.true)
-    (let all = c.in_ok-put_and_flush.ensures.all in let bytes = c.deref.ensures.value in cc)
+    (let all = c.in-Ok.ensures.all in let bytes = c.deref.ensures.value in cc)
 
-pub returns-then-not-branch-clause-part : goal.returns-then-not-branch-clause-part
-returns-then-not-branch-clause-part g c =
+pub returns-in-Ok-clause-part : goal.returns-in-Ok-clause-part
+returns-in-Ok-clause-part g c =
     part_put _ _ _ _ c.writing.out.items _ c.writing.invariant.put
     (subst (λ (bytes : List ℕ). HasPart (g.K.Sink.held c.writing.sink) (g.K.Sink.held c.put_and_flush.new.sink) bytes) c.deref.ensures.value
     c.put_and_flush.ensures.part)
@@ -30,16 +30,16 @@ returns-then-not-branch-clause-part g c =
 pub returns-in_err-push_clause-clause-part : goal.returns-in_err-push_clause-clause-part
 returns-in_err-push_clause-clause-part g c = so_far _ _ _ _ c.writing.invariant.put
 
-pub returns-in_err-put_piece-clause-part : goal.returns-in_err-put_piece-clause-part
-returns-in_err-put_piece-clause-part g c =
+pub returns-in-Err-put_piece-clause-part : goal.returns-in-Err-put_piece-clause-part
+returns-in-Err-put_piece-clause-part g c =
     part_put _ _ _ _ c.push_clause.new.out.items _
     (added _ _ _ _ _ _ _ _ c.in_ok-push_clause.ensures (next_is _ _ _ _ c.in_ok-next.ensures.given c.if-not-branch.false) c.writing.invariant.put)
     c.put_piece.ensures.part
 
-pub writing-preserved-in_ok-put_piece : goal.writing-preserved-in_ok-put_piece
-writing-preserved-in_ok-put_piece g c = record {
+pub writing-preserved-in_default : goal.writing-preserved-in_default
+writing-preserved-in_default g c = record {
   put = emptied _ _ _ _ _ c.put_piece.new.out.items _
       (added _ _ _ _ _ _ _ _ c.in_ok-push_clause.ensures (next_is _ _ _ _ c.in_ok-next.ensures.given c.if-not-branch.false) c.writing.invariant.put)
-      c.in_ok-put_piece.ensures.all c.in_ok-put_piece.ensures.empty;
-  faults = (let stays = c.in_ok-put_piece.ensures.stays in let before = c.writing.invariant.faults in cc);
+      c.in_default.ensures.all c.in_default.ensures.empty;
+  faults = (let stays = c.in_default.ensures.stays in let before = c.writing.invariant.faults in cc);
 }
