@@ -1,7 +1,7 @@
 -- Verdicts on deeds that go over the open cases.
 use Rattle.std.proofs.Common.{◌≡◌, ℕ, true, false, List, map, Result, Ok, Err, inr, refl, sym, ap, ◌∙◌}
 use Rattle.std.proofs.lemmas.Bool.{false≢true}
-use Rattle.basics.specs.Laws.Reading.{Gives}
+use Rattle.basics.specs.Laws.Reading.{Gives, cause_of}
 use Rattle.policy_book.specs.Laws.Shapes.{PolicyShape}
 use Rattle.grant_table.specs.declared.rows.Row.{Row}
 use Rattle.grant_table.specs.Cases.{open_rows}
