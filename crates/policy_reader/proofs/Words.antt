@@ -16,7 +16,7 @@ pub use Rattle.policy_book.specs.Policies.{any_below}
 pub use Rattle.policy_reader.specs.Bounds.{AreBelow}
 pub use Rattle.policy_reader.specs.Faults.{Reading, fault, fault_of, fault_about}
 pub use Rattle.policy_reader.specs.Flows.{least_below, found_or, cycle_at, next_flow, next_permit, next_permitted}
-pub use Rattle.policy_reader.specs.Kept.{IsGrown, IsCycleOrMemory, HasStepsBelow}
+pub use Rattle.policy_reader.specs.Kept.{IsGrown, IsCycleOrMemory, HasStepsBelow, HasPermitted}
 pub use Rattle.policy_reader.specs.Kinds.{is_marked, IsTarget, IsReadKind, AreReadRelations}
 pub use Rattle.policy_reader.specs.Parts.{entries, lists_text, items, both_texts, texts_in, next_pair, next_name, known_key}
 pub use Rattle.policy_reader.specs.Laws.Printable.{Ascend, IsFreshPolicy, IsPrintable}

@@ -1,7 +1,9 @@
 -- Inside: what is true of the parts of a policy as they are read.
 use Rattle.std.specs.Prelude.{◌≡◌, ℕ, ◌<◌, Bool, true, false, List, []}
 use Rattle.std.specs.List.{AllByRecursion}
+use Rattle.policy_book.specs.Laws.Facts.{PermitsRolesBelow}
 use Rattle.policy_book.specs.Laws.Shapes.{PolicyShape}
+use Rattle.workflow_schema.specs.Flows.{FlowShape}
 use Rattle.workflow_schema.specs.declared.fault.FlowFault.{FlowFault}
 use Rattle.workflow_schema.specs.declared.fault.FlowFault.TheVariants.{TooMany, Twice, Cycle}
 use Rattle.workflow_schema.specs.declared.fault.FlowFault.TheVariants.{NoMemory}
@@ -18,6 +20,11 @@ IsCycleOrMemory TooMany = ⊥
 IsCycleOrMemory Twice = ⊥
 IsCycleOrMemory (Cycle s) = Unit {0}
 IsCycleOrMemory NoMemory = Unit {0}
+
+-- a workflow with the same steps, permitted to roles below n alone
+pub record HasPermitted (n : ℕ) (before after : FlowShape) : Type 0 where
+  pub steps : after.steps ≡ before.steps
+  pub roles : PermitsRolesBelow n after
 
 -- a policy before its workflows are read
 pub record IsBare (p : PolicyShape) : Type 0 where

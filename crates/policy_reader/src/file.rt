@@ -92,7 +92,8 @@ fn policy_in(alloc: Global, file: &Table) -> Result<Policy, ReadFault>
     }
 }
 
-/// Reads the rest of the document, into a policy without workflows.
+/// Reads the workflows into a policy that has none, after which there is no other key.
+#[tactic(auto, unfolding(crate::specs::Files::rest_of))]
 fn with_rest(
     alloc: Global,
     format: Format,
@@ -104,32 +105,13 @@ fn with_rest(
         (spec.rest_of today format policy (table_view file.now)) }
     ensures printable { IfOk result IsPrintable }
 {
-    match read_rest(alloc, format, &mut policy, file) {
+    if let Err(fault) = read_flows(alloc, format, &mut policy, file) {
+        return Err(fault);
+    }
+    match no_others(file, format.file_keys(), PolicyPart::File, 0) {
         Ok(()) => Ok(policy),
         Err(fault) => Err(fault),
     }
-}
-
-/// Reads the workflows, after which there is no other key.
-#[tactic(auto, unfolding(crate::specs::Files::rest_of))]
-fn read_rest(
-    alloc: Global,
-    format: Format,
-    policy: &mut Policy,
-    file: &Table,
-) -> Result<(), ReadFault>
-    requires bare { IsBare policy.old }
-    ensures read { Gives fault_of (λ _. policy.new) result
-        (spec.rest_of today format policy.old (table_view file.now)) }
-    ensures printable { OnOk result (IsPrintable policy.new) }
-{
-    if let Err(fault) = read_flows(alloc, format, policy, file) {
-        return Err(fault);
-    }
-    if let Err(fault) = no_others(file, format.file_keys(), PolicyPart::File, 0) {
-        return Err(fault);
-    }
-    Ok(())
 }
 
 /// Reads what a document says after its format and before its workflows.

@@ -2,85 +2,59 @@
 ghost use Rattle.std.specs.Prelude.{◌≡◌, ◌<◌, ◌≤◌, ◌++◌, ◌∷◌, [], length, is_some, IfErr, IfOk};
 ghost use Rattle.std.specs.Prelude.{OnOk, false, true};
 ghost use Rattle.toml.specs.View.{view, table_view};
-ghost use Rattle.wf_names.specs.declared.limits.TheConstants.{FLOW_LIMIT, ROLE_LIMIT, RULE_LIMIT};
+ghost use Rattle.wf_names.specs.declared.limits.TheConstants.{FLOW_LIMIT, RULE_LIMIT};
 ghost use Rattle.wf_names.specs.Table.{place_of};
 ghost use Rattle.policy_book.specs.Laws.Facts.{AreSoundRules, PermitsRolesBelow};
 ghost use Rattle.std.specs.FinSet as set;
 ghost use Rattle.workflow_schema.specs.Flows.{is_count};
-ghost use Rattle.policy_reader.specs.Kept.{IsBare, IsGrown};
+ghost use Rattle.policy_reader.specs.Kept.{HasPermitted, IsBare, IsGrown};
 ghost use Rattle.policy_reader.specs.Laws.Printable.{IsPrintable};
 ghost use Rattle.policy_reader.specs.Faults.{fault_of};
-ghost use Rattle.policy_reader.specs.Parts.{entries};
 ghost use Rattle.policy_reader.specs.Flows as spec;
 ghost use Rattle.policy_reader.specs.Laws.Grammars.{today};
 ghost use Rattle.policy_reader.specs.declared.fault.ReadFault.TheVariants.{NoMemory};
-ghost use Rattle.basics.specs.Laws.Reading.{Gives, each};
+ghost use Rattle.basics.specs.Laws.Reading.{Gives};
 
 use crate::fault::{PolicyPart, ReadFault};
 use crate::format::Format;
 use crate::parts::{entries_at, name_of, no_others, table_of};
-use crate::rules::read_rules;
-use crate::workflows::{make_flow, read_order, read_permits, read_steps};
+use crate::rules::{Scope, read_rules};
+use crate::workflows::{Roles, make_flow, read_order, read_permits, read_steps};
 use constraint_forms::Rules;
 use policy_book::Policy;
 use std::alloc::Global;
 use toml::Value;
 use toml::value::Table;
-use wf_names::{FLOW_LIMIT, Name, NameFault, NameTable};
+use wf_names::{FLOW_LIMIT, Name, NameFault};
 use workflow_schema::Flow;
 
 /// Reads the steps of a workflow, their order and who may perform them.
-#[tactic(auto, unfolding(crate::specs::Flows::flow_in))]
-fn flow_of(alloc: Global, roles: &NameTable, table: &Table, number: u32) -> Result<Flow, ReadFault>
-    requires few { length roles.now.names ≤ ROLE_LIMIT }
+#[tactic(auto, unfolding(crate::specs::Flows::flow_in, crate::specs::Flows::ordered_in))]
+fn flow_of(alloc: Global, roles: &Roles, table: &Table) -> Result<Flow, ReadFault>
     ensures read { Gives fault_of (λ f. f) result
-        (spec.flow_in today number roles.now.names (table_view table.now)) }
-    ensures roles { IfOk result (PermitsRolesBelow (length roles.now.names)) }
+        (spec.flow_in today roles.now.flow roles.now.names.now.names (table_view table.now)) }
+    ensures roles { IfOk result (PermitsRolesBelow (length roles.now.names.now.names)) }
     ensures counted { IfOk result (λ f. is_count (length f.steps) ≡ true) }
 {
-    let steps = read_steps(alloc, table, number)?;
-    match ordered_flow(alloc, &steps, table, number) {
-        Ok(made) => with_permits(made, roles, table, number),
+    let steps = read_steps(alloc, table, roles.flow)?;
+    let order = read_order(&steps, table, roles.flow)?;
+    match make_flow(alloc, &steps, &order, roles.flow) {
+        Ok(made) => with_permits(made, roles, table),
         Err(fault) => Err(fault),
     }
 }
 
 /// Reads who may perform the steps of a workflow that permits nothing yet.
-fn with_permits(
-    mut made: Flow,
-    roles: &NameTable,
-    table: &Table,
-    number: u32,
-) -> Result<Flow, ReadFault>
-    requires few { length roles.now.names ≤ ROLE_LIMIT }
+fn with_permits(mut made: Flow, roles: &Roles, table: &Table) -> Result<Flow, ReadFault>
     requires bare { made.permits ≡ set.empty }
-    ensures read { Gives fault_of (λ f. f) result
-        (spec.permits_of number roles.now.names made (table_view table.now)) }
-    ensures roles { IfOk result (PermitsRolesBelow (length roles.now.names)) }
-    ensures steps { IfOk result (λ f. f.steps ≡ made.steps) }
+    ensures read { Gives fault_of (λ f. f) result (spec.permits_of roles.now.flow
+        roles.now.names.now.names made (table_view table.now)) }
+    ensures kept { IfOk result (HasPermitted (length roles.now.names.now.names) made) }
 {
-    match read_permits(&mut made, roles, table, number) {
+    match read_permits(&mut made, roles, table) {
         Ok(()) => Ok(made),
         Err(fault) => Err(fault),
     }
-}
-
-/// Reads the order of a workflow of these steps, which permits nothing yet.
-#[tactic(auto, unfolding(crate::specs::Flows::ordered_in))]
-fn ordered_flow(
-    alloc: Global,
-    steps: &NameTable,
-    table: &Table,
-    number: u32,
-) -> Result<Flow, ReadFault>
-    requires counted { is_count (length steps.now.names) ≡ true }
-    ensures read { Gives fault_of (λ f. f) result
-        (spec.ordered_in number steps.now.names (table_view table.now)) }
-    ensures bare { IfOk result (λ f. f.permits ≡ set.empty) }
-    ensures steps { IfOk result (λ f. f.steps ≡ steps.now.names) }
-{
-    let order = read_order(steps, table, number)?;
-    make_flow(alloc, steps, &order, number)
 }
 
 /// Reads the workflow in a table and adds it under its name.
@@ -107,7 +81,11 @@ fn add_workflow(
         PolicyPart::Flows,
         number,
     )?;
-    match flow_of(alloc, policy.roster().roles(), table, number) {
+    let roles = &Roles {
+        names: policy.roster().roles(),
+        flow: number,
+    };
+    match flow_of(alloc, roles, table) {
         Ok(made) => add_ruled(alloc, format, policy, name, made, table, number),
         Err(fault) => Err(fault),
     }
@@ -134,14 +112,12 @@ fn add_ruled(
     ensures names { OnOk result (policy.new.flow_names ≡ policy.old.flow_names ++ name ∷ []) }
     ensures grown { OnOk result (IsGrown policy.old policy.new) }
 {
-    match read_rules(
-        alloc,
-        format,
-        table,
-        policy.relations(),
-        made.steps(),
-        number,
-    ) {
+    let scope = &Scope {
+        relations: policy.relations(),
+        steps: made.steps(),
+        flow: number,
+    };
+    match read_rules(alloc, format, table, scope) {
         Ok(rules) => push_workflow(policy, name, made, rules),
         Err(fault) => Err(fault),
     }
@@ -190,27 +166,6 @@ fn next_flow(
     add_workflow(alloc, format, policy, name, table)
 }
 
-fn all_flows(
-    alloc: Global,
-    format: Format,
-    policy: &mut Policy,
-    flows: &Table,
-) -> Result<(), ReadFault>
-    requires bare { IsBare policy.old }
-    requires room { length flows.now.entries ≤ FLOW_LIMIT }
-    requires some { 0 < length flows.now.entries }
-    ensures read { Gives fault_of (λ _. policy.new) result
-        (each (spec.next_flow today format) policy.old (entries (table_view flows.now))) }
-    ensures printable { OnOk result (IsPrintable policy.new) }
-{
-    'entries: for (key, value) in flows {
-        if let Err(fault) = next_flow(alloc, format, policy, key.as_str(), value) {
-            return Err(fault);
-        }
-    }
-    Ok(())
-}
-
 /// Reads the workflows into a policy that has none.
 #[tactic(auto, unfolding(crate::specs::Flows::flows_in))]
 pub(crate) fn read_flows(
@@ -225,5 +180,10 @@ pub(crate) fn read_flows(
     ensures printable { OnOk result (IsPrintable policy.new) }
 {
     let flows = entries_at(FLOW_LIMIT as usize, file, "flows", PolicyPart::Flows, 0)?;
-    all_flows(alloc, format, policy, flows)
+    'entries: for (key, value) in flows {
+        if let Err(fault) = next_flow(alloc, format, policy, key.as_str(), value) {
+            return Err(fault);
+        }
+    }
+    Ok(())
 }

@@ -1,7 +1,6 @@
 //! The forms of a rule. A further one is a row here, one in `specs/Forms.antt`, and what is read
 //! and written of it.
-ghost use Rattle.std.specs.Prelude.{◌≡◌, map, nat_eq};
-ghost use Rattle.std.specs.Cmp.Lexicographic.{pointwise};
+ghost use Rattle.std.specs.Prelude.{◌≡◌, map};
 ghost use Rattle.policy_reader.specs.Forms as spec;
 
 use crate::Format;
@@ -86,33 +85,19 @@ impl Form {
         }
     }
 
-    // Whether a text is the word for the form.
-    fn is_named(&self, text: &str) -> bool
-        ensures { result ≡ pointwise nat_eq text.now (spec.form_word self.now) }
-    {
-        text == self.word()
-    }
-
     // The form with a word.
     fn with(text: &str) -> Option<Form>
         ensures { result ≡ spec.any_form_of_word text.now }
     {
-        if Form::Pair.is_named(text) {
-            Some(Form::Pair)
-        } else if Form::SomeOf.is_named(text) {
-            Some(Form::SomeOf)
-        } else if Form::AllOf.is_named(text) {
-            Some(Form::AllOf)
-        } else if Form::SomeTo.is_named(text) {
-            Some(Form::SomeTo)
-        } else if Form::AllTo.is_named(text) {
-            Some(Form::AllTo)
-        } else if Form::AtMost.is_named(text) {
-            Some(Form::AtMost)
-        } else if Form::AtLeast.is_named(text) {
-            Some(Form::AtLeast)
-        } else {
-            None
+        match text {
+            "pair" => Some(Form::Pair),
+            "some" => Some(Form::SomeOf),
+            "all" => Some(Form::AllOf),
+            "some_to" => Some(Form::SomeTo),
+            "all_to" => Some(Form::AllTo),
+            "at_most" => Some(Form::AtMost),
+            "at_least" => Some(Form::AtLeast),
+            _ => None,
         }
     }
 }

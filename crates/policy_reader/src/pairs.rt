@@ -1,6 +1,6 @@
 //! Reads pairs of declared names: those of a listed relation and those of an order, each straight
 //! into its rows.
-ghost use Rattle.std.specs.Prelude.{◌≡◌, ◌<◌, ◌≤◌, ◌+◌, length, IfOk, OnOk, option_map};
+ghost use Rattle.std.specs.Prelude.{◌≡◌, ℕ, ◌<◌, ◌≤◌, ◌+◌, length, not, IfOk, OnOk, option_map};
 ghost use Rattle.std.specs.FinSet as set;
 ghost use Rattle.toml.specs.View.{view, items_view};
 ghost use Rattle.wf_names.specs.declared.limits.TheConstants.{STEP_LIMIT, USER_LIMIT};
@@ -9,15 +9,52 @@ ghost use Rattle.policy_reader.specs.Faults.{fault_of, fault_about};
 ghost use Rattle.policy_reader.specs.declared.fault.ReadFault.TheVariants.{Policy};
 ghost use Rattle.policy_reader.specs.declared.fault.PolicyKind.TheVariants as kind;
 ghost use Rattle.policy_reader.specs.Parts as parts;
+ghost use Rattle.basics.specs.Laws.Pairs.{Pairs};
 ghost use Rattle.basics.specs.Laws.Reading.{Gives, each};
 
 use crate::fault::{PolicyKind, PolicyPart, ReadFault, refuse, refuse_text};
 use crate::parts::number_of;
-use std::alloc::Global;
+use std::alloc::AllocError;
 use toml::Value;
 use user_relations::UserPairs;
 use wf_names::{NameTable, StepId, UserId};
 use workflow_schema::StepPairs;
+
+/// A set of pairs of numbers, which takes one pair at a time.
+pub(crate) trait PairSet: Drop {
+    ghost held: { Self → Pairs };
+
+    // The numbers of its pairs are below this.
+    ghost limit: { ℕ };
+
+    /// Puts the pair `(a, b)` into the set and answers whether it is new there.
+    fn put(&mut self, a: u16, b: u16) -> Result<bool, AllocError>
+        requires first { a < limit }
+        requires second { b < limit }
+        ensures added { OnOk result (held self.new ≡ set.insert (held self.old) (a, b)) }
+        ensures fresh { IfOk result (λ fresh. fresh
+            ≡ not (set.contains (held self.old) (a, b))) };
+}
+
+impl PairSet for UserPairs {
+    ghost held = { λ pairs. pairs };
+
+    ghost limit = { USER_LIMIT };
+
+    fn put(&mut self, a: u16, b: u16) -> Result<bool, AllocError> {
+        self.insert(UserId(a), UserId(b))
+    }
+}
+
+impl PairSet for StepPairs {
+    ghost held = { λ pairs. pairs };
+
+    ghost limit = { STEP_LIMIT };
+
+    fn put(&mut self, a: u16, b: u16) -> Result<bool, AllocError> {
+        Ok(self.insert(StepId(a as u8), StepId(b as u8)))
+    }
+}
 
 /// The two texts of an array of two texts.
 fn two_texts(value: &Value) -> Option<(&str, &str)>
@@ -53,30 +90,9 @@ pub(crate) fn twice_pair(value: &Value, part: PolicyPart, index: u32) -> ReadFau
     }
 }
 
-/// The numbers of two declared names.
-#[tactic(auto, unfolding(crate::specs::Parts::numbers_in))]
-fn numbers_of(
-    names: &NameTable,
-    first: &str,
-    second: &str,
-    part: PolicyPart,
-    index: u32,
-) -> Result<(u16, u16), ReadFault>
-    ensures read { Gives fault_of (λ p. p) result
-        (parts.numbers_in part index names.now.names (first.now, second.now)) }
-    ensures first { IfOk result (λ p. p.0 < length names.now.names) }
-    ensures second { IfOk result (λ p. p.1 < length names.now.names) }
-{
-    let a = number_of(names, first, part, index)?;
-    match number_of(names, second, part, index) {
-        Ok(b) => Ok((a, b)),
-        Err(fault) => Err(fault),
-    }
-}
-
 /// The numbers of the two declared names that a value says.
-#[tactic(auto, unfolding(crate::specs::Parts::named_pair_in))]
-pub(crate) fn named_pair(
+#[tactic(auto, unfolding(crate::specs::Parts::named_pair_in, crate::specs::Parts::numbers_in))]
+fn named_pair(
     names: &NameTable,
     value: &Value,
     part: PolicyPart,
@@ -87,100 +103,59 @@ pub(crate) fn named_pair(
     ensures first { IfOk result (λ p. p.0 < length names.now.names) }
     ensures second { IfOk result (λ p. p.1 < length names.now.names) }
 {
-    match two_texts(value) {
-        Some((first, second)) => numbers_of(names, first, second, part, index),
-        None => Err(refuse(PolicyKind::Shape, part, index)),
+    let Some((first, second)) = two_texts(value) else {
+        return Err(refuse(PolicyKind::Shape, part, index));
+    };
+    let a = number_of(names, first, part, index)?;
+    match number_of(names, second, part, index) {
+        Ok(b) => Ok((a, b)),
+        Err(fault) => Err(fault),
     }
 }
 
-/// Reads a set of pairs of declared users.
-pub(crate) fn read_user_pairs(
-    alloc: Global,
-    users: &NameTable,
-    items: &[Value],
-    part: PolicyPart,
-    index: u32,
-) -> Result<UserPairs, ReadFault>
-    requires few { length users.now.names ≤ USER_LIMIT }
-    ensures read { Gives fault_of (λ pairs. pairs) result
-        (each (parts.next_pair part index users.now.names) set.empty
-        (parts.items (items_view items.now))) }
-    ensures within { IfOk result (λ pairs. AreBelow (length users.now.names) pairs) }
-    ensures len { IfOk result (λ pairs. set.len pairs ≤ length items.now) }
-{
-    let mut pairs = UserPairs::new(alloc)?;
-    'items: for value in items {
-        if let Err(fault) = next_user_pair(users, &mut pairs, value, part, index) {
-            return Err(fault);
-        }
-    }
-    Ok(pairs)
-}
-
-// Puts the next pair of declared users in.
-#[tactic(auto, unfolding(crate::specs::Parts::next_pair, crate::specs::Parts::once))]
-fn next_user_pair(
-    users: &NameTable,
-    pairs: &mut UserPairs,
-    value: &Value,
-    part: PolicyPart,
-    index: u32,
-) -> Result<(), ReadFault>
-    requires few { length users.now.names ≤ USER_LIMIT }
-    requires within { AreBelow (length users.now.names) pairs.old }
-    ensures read { Gives fault_of (λ _. pairs.new) result
-        (parts.next_pair part index users.now.names pairs.old (view value.now)) }
-    ensures within { OnOk result (AreBelow (length users.now.names) pairs.new) }
-    ensures len { OnOk result (set.len pairs.new ≤ set.len pairs.old + 1) }
-{
-    let (u, v) = named_pair(users, value, part, index)?;
-    if pairs.insert(UserId(u), UserId(v))? {
-        Ok(())
-    } else {
-        Err(twice_pair(value, part, index))
-    }
-}
-
-/// Reads a set of pairs of declared steps.
+/// Reads pairs of declared names into a set that has none.
 #[tactic(auto, using(basics::specs::PairLaws::all_empty))]
-pub(crate) fn read_step_pairs(
-    steps: &NameTable,
+pub(crate) fn read_pairs<P: PairSet>(
+    mut pairs: P,
+    names: &NameTable,
     items: &[Value],
     part: PolicyPart,
     index: u32,
-) -> Result<StepPairs, ReadFault>
-    requires few { length steps.now.names ≤ STEP_LIMIT }
-    ensures read { Gives fault_of (λ pairs. pairs) result
-        (each (parts.next_pair part index steps.now.names) set.empty
+) -> Result<P, ReadFault>
+    requires none { P.held pairs ≡ set.empty }
+    requires few { length names.now.names ≤ P.limit }
+    ensures read { Gives fault_of P.held result
+        (each (parts.next_pair part index names.now.names) set.empty
         (parts.items (items_view items.now))) }
-    ensures within { IfOk result (λ pairs. AreBelow (length steps.now.names) pairs) }
+    ensures within { IfOk result (λ pairs. AreBelow (length names.now.names) (P.held pairs)) }
+    ensures len { IfOk result (λ pairs. set.len (P.held pairs) ≤ length items.now) }
 {
-    let mut pairs = StepPairs::new();
     'items: for value in items {
-        if let Err(fault) = next_step_pair(steps, &mut pairs, value, part, index) {
+        if let Err(fault) = next_pair(&mut pairs, names, value, part, index) {
             return Err(fault);
         }
     }
     Ok(pairs)
 }
 
-// Puts the next pair of declared steps in.
+// Puts the next pair of declared names in.
 #[tactic(auto, unfolding(crate::specs::Parts::next_pair, crate::specs::Parts::once))]
-fn next_step_pair(
-    steps: &NameTable,
-    pairs: &mut StepPairs,
+fn next_pair<P: PairSet>(
+    pairs: &mut P,
+    names: &NameTable,
     value: &Value,
     part: PolicyPart,
     index: u32,
 ) -> Result<(), ReadFault>
-    requires few { length steps.now.names ≤ STEP_LIMIT }
-    requires within { AreBelow (length steps.now.names) pairs.old }
-    ensures read { Gives fault_of (λ _. pairs.new) result
-        (parts.next_pair part index steps.now.names pairs.old (view value.now)) }
-    ensures within { OnOk result (AreBelow (length steps.now.names) pairs.new) }
+    requires few { length names.now.names ≤ P.limit }
+    requires within { AreBelow (length names.now.names) (P.held pairs.old) }
+    ensures read { Gives fault_of (λ _. P.held pairs.new) result
+        (parts.next_pair part index names.now.names (P.held pairs.old) (view value.now)) }
+    ensures within { OnOk result (AreBelow (length names.now.names) (P.held pairs.new)) }
+    ensures len { OnOk result (set.len (P.held pairs.new) ≤ set.len (P.held pairs.old) + 1) }
 {
-    let (s, t) = named_pair(steps, value, part, index)?;
-    if pairs.insert(StepId(s as u8), StepId(t as u8)) {
+    let (a, b) = named_pair(names, value, part, index)?;
+    if pairs.put(a, b)? {
         Ok(())
     } else {
         Err(twice_pair(value, part, index))

@@ -15,6 +15,7 @@ ghost use Rattle.policy_reader.specs.Named.{HasFlags, HaveFlags, IsNamedWorkflow
 use crate::Form;
 use crate::printed_parts::{push, push_name, push_pair, put, put_name, put_names, put_word};
 use crate::printed_rosters::put_related;
+use crate::written::form_of;
 use constraint_forms::{Rule, Rules, StepSet};
 use policy_book::Policy;
 use std::alloc::{AllocError, Global};
@@ -177,17 +178,6 @@ struct Grouped {
     step: StepId,
 }
 
-fn over_group(form: Form, rho: RelId, group: StepSet, step: StepId) -> Grouped
-    ensures { result ≡ record { form = form; rho = rho; group = group; step = step } }
-{
-    Grouped {
-        form,
-        rho,
-        group,
-        step,
-    }
-}
-
 #[tactic(auto, unfolding(crate::specs::Documents::grouped_members))]
 fn put_grouped(
     alloc: Global,
@@ -251,27 +241,20 @@ fn put_rule(
         Rule::Pair { rho, first, second } => {
             put_pair(alloc, table, relations, steps, rho, first, second)
         }
-        Rule::SomeOf { rho, group, step } => {
-            let rule = over_group(Form::SomeOf, rho, group, step);
+        Rule::SomeOf { rho, group, step }
+        | Rule::AllOf { rho, group, step }
+        | Rule::SomeTo { rho, step, group }
+        | Rule::AllTo { rho, step, group } => {
+            let rule = Grouped {
+                form: form_of(rule),
+                rho,
+                group,
+                step,
+            };
             put_grouped(alloc, table, relations, steps, rule)
         }
-        Rule::AllOf { rho, group, step } => {
-            let rule = over_group(Form::AllOf, rho, group, step);
-            put_grouped(alloc, table, relations, steps, rule)
-        }
-        Rule::SomeTo { rho, step, group } => {
-            let rule = over_group(Form::SomeTo, rho, group, step);
-            put_grouped(alloc, table, relations, steps, rule)
-        }
-        Rule::AllTo { rho, step, group } => {
-            let rule = over_group(Form::AllTo, rho, group, step);
-            put_grouped(alloc, table, relations, steps, rule)
-        }
-        Rule::AtMost { limit, group } => {
-            put_counting(alloc, table, Form::AtMost, steps, limit, &group)
-        }
-        Rule::AtLeast { limit, group } => {
-            put_counting(alloc, table, Form::AtLeast, steps, limit, &group)
+        Rule::AtMost { limit, group } | Rule::AtLeast { limit, group } => {
+            put_counting(alloc, table, form_of(rule), steps, limit, &group)
         }
     }
 }
@@ -314,45 +297,6 @@ fn push_rule(
     push(values, Value::Table(table))
 }
 
-fn put_rules(
-    alloc: Global,
-    table: &mut Table,
-    relations: &Relations,
-    steps: &NameTable,
-    rules: &Rules,
-) -> Result<(), AllocError>
-    requires few { length steps.now.names ≤ STEP_LIMIT }
-    requires sound { AreSoundRules (length steps.now.names) (length relations.now) rules.now }
-    ensures put { OnOk result (table_view table.new ≡ spec.with_member (codes "rules")
-        (spec.rules_data relations.now steps.now.names rules.now) (table_view table.old)) }
-    ensures flags { OnOk result (HaveFlags rules.now) }
-{
-    let rules = rules_value(alloc, relations, steps, rules)?;
-    put(alloc, table, "rules", rules)
-}
-
-fn put_permits(
-    alloc: Global,
-    table: &mut Table,
-    roles: &NameTable,
-    flow: &Flow,
-) -> Result<(), AllocError>
-    requires { length roles.now.names ≤ ROLE_LIMIT }
-    ensures { OnOk result (table_view table.new ≡ spec.with_member (codes "permit")
-        (spec.permits_data roles.now.names flow.now) (table_view table.old)) }
-{
-    let permits = permits_value(alloc, roles, flow)?;
-    put(alloc, table, "permit", permits)
-}
-
-fn put_order(alloc: Global, table: &mut Table, flow: &Flow) -> Result<(), AllocError>
-    ensures { OnOk result (table_view table.new ≡ spec.with_member (codes "order")
-        (spec.pairs_data flow.now.steps flow.now.order) (table_view table.old)) }
-{
-    let order = order_value(alloc, flow)?;
-    put(alloc, table, "order", order)
-}
-
 /// Fills an empty table with the workflow with a number.
 #[tactic(auto, unfolding(crate::specs::Documents::workflow_members))]
 fn put_workflow(
@@ -372,9 +316,12 @@ fn put_workflow(
     let steps = flow.steps();
     let relations = policy.relations();
     put_names(alloc, table, "steps", steps)?;
-    put_rules(alloc, table, relations, steps, policy.rules(f))?;
-    put_permits(alloc, table, policy.roster().roles(), flow)?;
-    put_order(alloc, table, flow)
+    let rules = rules_value(alloc, relations, steps, policy.rules(f))?;
+    put(alloc, table, "rules", rules)?;
+    let permits = permits_value(alloc, policy.roster().roles(), flow)?;
+    put(alloc, table, "permit", permits)?;
+    let order = order_value(alloc, flow)?;
+    put(alloc, table, "order", order)
 }
 
 /// The name of a workflow.

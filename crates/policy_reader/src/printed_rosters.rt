@@ -2,7 +2,7 @@
 ghost use Rattle.std.specs.Prelude.{◌≡◌, ◌<◌, ◌+◌, ℕ, length, true, IfOk, OnOk, Some, None};
 ghost use Rattle.rbac_state.specs.Laws.Rosters.{has_role};
 ghost use Rattle.policy_book.specs.Laws.Facts.{AreOfUsers};
-ghost use Rattle.user_relations.specs.Laws.Relations.{complement_of, known_names, pairs_of};
+ghost use Rattle.user_relations.specs.Laws.Relations.{complement_of, known_names};
 ghost use Rattle.toml.specs.Data.{string};
 ghost use Rattle.user_relations.specs.Laws.Soundness.{AreSoundRelations};
 ghost use Rattle.toml.specs.View.{view, table_view};
@@ -105,20 +105,6 @@ fn complement_table(
     Ok(table)
 }
 
-fn listed_value(
-    alloc: Global,
-    users: &NameTable,
-    relations: &Relations,
-    rho: RelId,
-) -> Result<Value, AllocError>
-    requires { AreOfUsers (length users.now.names) relations.now }
-    ensures { IfOk result (λ v. view v ≡ spec.pairs_data users.now.names
-        (pairs_of relations.now rho)) }
-{
-    let pairs = relations.pairs(rho)?;
-    pairs_value(alloc, users, &pairs)
-}
-
 #[tactic(auto, unfolding(crate::specs::Documents::kind_members))]
 fn listed_table(
     alloc: Global,
@@ -131,7 +117,8 @@ fn listed_table(
         ≡ spec.kind_members users.now.names relations.now rho None) }
 {
     let mut table = Table::new(alloc);
-    let listed = listed_value(alloc, users, relations, rho)?;
+    let pairs = relations.pairs(rho)?;
+    let listed = pairs_value(alloc, users, &pairs)?;
     put(alloc, &mut table, "pairs", listed)?;
     Ok(table)
 }

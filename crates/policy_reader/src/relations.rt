@@ -1,15 +1,12 @@
 //! Reads the relations of a policy file. Their faults carry the relation's number.
 ghost use Rattle.std.specs.Prelude.{◌≡◌, ℕ, Bool, List, ◌<◌, ◌≤◌, ◌+◌, ◌++◌, ◌∷◌, [], length, map};
 ghost use Rattle.std.specs.Prelude.{is_some, IfOk, IfErr, OnOk, option_map, false};
-ghost use Rattle.std.specs.FinSet as set;
 ghost use Rattle.toml.specs.Data.{Data};
 ghost use Rattle.toml.specs.View.{view, table_view};
-ghost use Rattle.wf_names.specs.declared.limits.TheConstants.{PAIR_LIMIT, RELATION_LIMIT};
-ghost use Rattle.wf_names.specs.declared.limits.TheConstants.{USER_LIMIT};
+ghost use Rattle.wf_names.specs.declared.limits.TheConstants.{RELATION_LIMIT, USER_LIMIT};
 ghost use Rattle.wf_names.specs.Table.{place_of};
-ghost use Rattle.user_relations.specs.Laws.Relations.{listed, complement};
+ghost use Rattle.user_relations.specs.Laws.Relations.{complement};
 ghost use Rattle.policy_book.specs.Laws.Facts.{AreOfUsers};
-ghost use Rattle.policy_reader.specs.Bounds.{AreBelow};
 ghost use Rattle.policy_reader.specs.Kinds.{is_marked, IsTarget, IsReadKind, AreReadRelations};
 ghost use Rattle.policy_reader.specs.Kinds.{HasReadNext};
 ghost use Rattle.policy_reader.specs.Laws.Printable.{Ascend};
@@ -24,32 +21,13 @@ ghost use Rattle.policy_reader.specs.declared.fault.ReadFault.TheVariants.{NoMem
 ghost use Rattle.basics.specs.Laws.Reading.{Gives, each};
 
 use crate::fault::{PolicyKind, PolicyPart, ReadFault, refuse, refuse_text};
-use crate::pairs::read_user_pairs;
+use crate::pairs::read_pairs;
 use crate::parts::{array_of, at_most, find, is_among, name_of, table_of, text_of};
 use std::alloc::Global;
 use toml::Value;
 use toml::value::Table;
 use user_relations::{Kind, Relation, Relations, UserPairs};
 use wf_names::{Name, NameTable, PAIR_LIMIT, RELATION_LIMIT, RelId};
-
-/// Reads the pairs of a listed relation.
-#[tactic(auto, unfolding(crate::specs::Relations::listed_in))]
-fn listed_of(
-    alloc: Global,
-    users: &NameTable,
-    number: u32,
-    value: &Value,
-) -> Result<UserPairs, ReadFault>
-    requires known { length users.now.names ≤ USER_LIMIT }
-    ensures read { Gives fault_of (λ pairs. listed pairs) result
-        (spec.listed_in users.now.names number (view value.now)) }
-    ensures few { IfOk result (λ pairs. set.len pairs ≤ PAIR_LIMIT) }
-    ensures users { IfOk result (AreBelow (length users.now.names)) }
-{
-    let items = array_of(value, PolicyPart::Relations, number)?;
-    at_most(PAIR_LIMIT, items.len(), PolicyPart::Relations, number)?;
-    read_user_pairs(alloc, users, items, PolicyPart::Relations, number)
-}
 
 /// Whether a table has one entry.
 #[tactic(auto, using(crate::proofs::Counts::count_entries))]
@@ -104,6 +82,7 @@ fn complement_of(all: &Table, number: u32, value: &Value) -> Result<RelId, ReadF
 }
 
 /// Reads a listed relation.
+#[tactic(auto, unfolding(crate::specs::Relations::listed_in))]
 fn listed_kind(
     alloc: Global,
     users: &NameTable,
@@ -116,45 +95,18 @@ fn listed_kind(
     ensures kept { IfOk result (λ k. (all : List (List ℕ × Data)) (marked : Bool)
         → IsReadKind (length users.now.names) all marked (kind_view k)) }
 {
-    let pairs = listed_of(alloc, users, number, value)?;
+    let items = array_of(value, PolicyPart::Relations, number)?;
+    at_most(PAIR_LIMIT, items.len(), PolicyPart::Relations, number)?;
+    let none = UserPairs::new(alloc)?;
+    let pairs = read_pairs(none, users, items, PolicyPart::Relations, number)?;
     match Kind::of_pairs(alloc, pairs) {
         Ok(kind) => Ok(kind),
         Err(_) => Err(ReadFault::NoMemory),
     }
 }
 
-/// Reads what a relation is.
-#[tactic(auto, unfolding(crate::specs::Relations::kind_in))]
-fn kind_of(
-    alloc: Global,
-    users: &NameTable,
-    all: &Table,
-    number: u32,
-    table: &Table,
-) -> Result<Kind, ReadFault>
-    requires known { length users.now.names ≤ USER_LIMIT }
-    requires few { length all.now.entries ≤ RELATION_LIMIT }
-    ensures read { Gives fault_of kind_view result
-        (spec.kind_in users.now.names (table_view all.now) number (table_view table.now)) }
-    ensures kept { IfOk result (λ k. IsReadKind (length users.now.names)
-        (entries (table_view all.now))
-        (spec.is_complement_table (table_view table.now)) (kind_view k)) }
-{
-    if !has_one(table) {
-        return Err(refuse(PolicyKind::Shape, PolicyPart::Relations, number));
-    }
-    if let Some(value) = find(table, "pairs") {
-        return listed_kind(alloc, users, number, value);
-    }
-    let Some(value) = find(table, "complement") else {
-        return Err(refuse(PolicyKind::Shape, PolicyPart::Relations, number));
-    };
-    let rho = complement_of(all, number, value)?;
-    Ok(Kind::Complement(rho))
-}
-
 /// Reads what a value says that a relation is.
-#[tactic(auto, unfolding(crate::specs::Relations::kind_at))]
+#[tactic(auto, unfolding(crate::specs::Relations::kind_at, crate::specs::Relations::kind_in))]
 fn kind_at(
     alloc: Global,
     users: &NameTable,
@@ -170,7 +122,17 @@ fn kind_at(
         (entries (table_view all.now)) (spec.is_complement (view value.now)) (kind_view k)) }
 {
     let table = table_of(value, PolicyPart::Relations, number)?;
-    kind_of(alloc, users, all, number, table)
+    if !has_one(table) {
+        return Err(refuse(PolicyKind::Shape, PolicyPart::Relations, number));
+    }
+    if let Some(value) = find(table, "pairs") {
+        return listed_kind(alloc, users, number, value);
+    }
+    let Some(value) = find(table, "complement") else {
+        return Err(refuse(PolicyKind::Shape, PolicyPart::Relations, number));
+    };
+    let rho = complement_of(all, number, value)?;
+    Ok(Kind::Complement(rho))
 }
 
 fn push_relation(relations: &mut Vec<Relation>, name: Name, kind: Kind) -> Result<(), ReadFault>

@@ -26,89 +26,92 @@ use toml::value::Table;
 use user_relations::Relations;
 use wf_names::{Name, NameTable, RULE_LIMIT, RelId, StepId};
 
+/// What a rule of the workflow with a number may name.
+#[derive(Clone, Copy)]
+pub(crate) struct Scope<'p> {
+    /// The relations of the policy.
+    pub relations: &'p Relations,
+    /// The steps of the workflow.
+    pub steps: &'p NameTable,
+    /// The number of the workflow.
+    pub flow: u32,
+    ghost few: { length steps.now.names ≤ STEP_LIMIT },
+}
+
 /// The relation that is named in a table.
 #[tactic(auto, unfolding(crate::specs::Rules::relation_at, crate::specs::Parts::number_in))]
-fn relation_at(table: &Table, relations: &Relations, flow: u32) -> Result<RelId, ReadFault>
+fn relation_at(table: &Table, scope: &Scope) -> Result<RelId, ReadFault>
     ensures read { Gives fault_of (λ rho. rho) result
-        (spec.relation_at flow relations.now (table_view table.now)) }
-    ensures within { IfOk result (λ rho. rho < length relations.now + 2) }
+        (spec.relation_at scope.now.flow scope.now.relations.now (table_view table.now)) }
+    ensures within { IfOk result (λ rho. rho < length scope.now.relations.now + 2) }
 {
-    let value = value_at(table, "relation", PolicyPart::Flows, flow)?;
-    let text = text_of(value, PolicyPart::Flows, flow)?;
+    let value = value_at(table, "relation", PolicyPart::Flows, scope.flow)?;
+    let text = text_of(value, PolicyPart::Flows, scope.flow)?;
     let Some(name) = Name::read(text) else {
-        return Err(refuse(PolicyKind::Unknown, PolicyPart::Flows, flow));
+        return Err(refuse(PolicyKind::Unknown, PolicyPart::Flows, scope.flow));
     };
-    match relations.find(&name) {
+    match scope.relations.find(&name) {
         Some(rho) => Ok(rho),
-        None => Err(refuse_text(PolicyKind::Unknown, PolicyPart::Flows, flow, text)),
+        None => Err(refuse_text(PolicyKind::Unknown, PolicyPart::Flows, scope.flow, text)),
     }
 }
 
 /// The step that is named at a key.
 #[tactic(auto, unfolding(crate::specs::Rules::step_at, crate::specs::Rules::step_in))]
-fn step_at(table: &Table, key: &str, steps: &NameTable, flow: u32) -> Result<StepId, ReadFault>
-    requires few { length steps.now.names ≤ STEP_LIMIT }
+fn step_at(table: &Table, key: &str, scope: &Scope) -> Result<StepId, ReadFault>
     ensures read { Gives fault_of (λ s. s) result
-        (spec.step_at flow steps.now.names key.now (table_view table.now)) }
-    ensures within { IfOk result (λ s. s < length steps.now.names) }
+        (spec.step_at scope.now.flow scope.now.steps.now.names key.now (table_view table.now)) }
+    ensures within { IfOk result (λ s. s < length scope.now.steps.now.names) }
 {
-    let value = value_at(table, key, PolicyPart::Flows, flow)?;
-    let number = named_of(steps, value, PolicyPart::Flows, flow)?;
+    let value = value_at(table, key, PolicyPart::Flows, scope.flow)?;
+    let number = named_of(scope.steps, value, PolicyPart::Flows, scope.flow)?;
     Ok(StepId(number as u8))
 }
 
-/// Puts the next step into a group.
+/// A group with the next step in it.
 #[tactic(auto, unfolding(crate::specs::Rules::next_member, crate::specs::Parts::once))]
-fn next_member(
-    group: &mut StepSet,
-    steps: &NameTable,
-    value: &Value,
-    flow: u32,
-) -> Result<(), ReadFault>
-    requires few { length steps.now.names ≤ STEP_LIMIT }
-    requires within { HasStepsBelow (length steps.now.names) group.old }
-    ensures read { Gives fault_of (λ _. group.new) result
-        (spec.next_member flow steps.now.names group.old (view value.now)) }
-    ensures within { OnOk result (HasStepsBelow (length steps.now.names) group.new) }
-    ensures some { OnOk result (IsTrue (any_from 0 group.new (λ _. true))) }
+fn next_member(group: StepSet, value: &Value, scope: &Scope) -> Result<StepSet, ReadFault>
+    requires within { HasStepsBelow (length scope.now.steps.now.names) group }
+    ensures read { Gives fault_of (λ g. g) result
+        (spec.next_member scope.now.flow scope.now.steps.now.names group (view value.now)) }
+    ensures within { IfOk result (HasStepsBelow (length scope.now.steps.now.names)) }
+    ensures some { IfOk result (λ g. IsTrue (any_from 0 g (λ _. true))) }
 {
-    let number = named_of(steps, value, PolicyPart::Flows, flow)?;
+    let number = named_of(scope.steps, value, PolicyPart::Flows, scope.flow)?;
     let step = StepId(number as u8);
     if group.has(step) {
-        return Err(twice(value, PolicyPart::Flows, flow));
+        return Err(twice(value, PolicyPart::Flows, scope.flow));
     }
-    *group = group.with(step);
-    Ok(())
+    Ok(group.with(step))
 }
 
 /// The group in a table.
 #[tactic(auto, unfolding(crate::specs::Rules::group_at, crate::specs::Rules::group_in))]
-fn group_at(table: &Table, steps: &NameTable, flow: u32) -> Result<StepSet, ReadFault>
-    requires few { length steps.now.names ≤ STEP_LIMIT }
+fn group_at(table: &Table, scope: &Scope) -> Result<StepSet, ReadFault>
     ensures read { Gives fault_of (λ g. g) result
-        (spec.group_at flow steps.now.names (table_view table.now)) }
-    ensures within { IfOk result (HasStepsBelow (length steps.now.names)) }
+        (spec.group_at scope.now.flow scope.now.steps.now.names (table_view table.now)) }
+    ensures within { IfOk result (HasStepsBelow (length scope.now.steps.now.names)) }
     ensures some { IfOk result (λ g. IsTrue (any_from 0 g (λ _. true))) }
 {
-    let value = value_at(table, "group", PolicyPart::Flows, flow)?;
-    let items = array_of(value, PolicyPart::Flows, flow)?;
-    at_least_one(items.len(), PolicyPart::Flows, flow)?;
-    all_members(steps, items, flow)
+    let value = value_at(table, "group", PolicyPart::Flows, scope.flow)?;
+    let items = array_of(value, PolicyPart::Flows, scope.flow)?;
+    at_least_one(items.len(), PolicyPart::Flows, scope.flow)?;
+    all_members(items, scope)
 }
 
-fn all_members(steps: &NameTable, items: &[Value], flow: u32) -> Result<StepSet, ReadFault>
-    requires few { length steps.now.names ≤ STEP_LIMIT }
+fn all_members(items: &[Value], scope: &Scope) -> Result<StepSet, ReadFault>
     requires some { 0 < length items.now }
     ensures read { Gives fault_of (λ g. g) result
-        (each (spec.next_member flow steps.now.names) no_steps
+        (each (spec.next_member scope.now.flow scope.now.steps.now.names) no_steps
         (part_items (items_view items.now))) }
-    ensures within { IfOk result (HasStepsBelow (length steps.now.names)) }
+    ensures within { IfOk result (HasStepsBelow (length scope.now.steps.now.names)) }
     ensures some { IfOk result (λ g. IsTrue (any_from 0 g (λ _. true))) }
 {
     let mut group = StepSet::empty();
     'items: for value in items {
-        if let Err(fault) = next_member(&mut group, steps, value, flow) {
-            return Err(fault);
+        match next_member(group, value, scope) {
+            Ok(more) => group = more,
+            Err(fault) => return Err(fault),
         }
     }
     Ok(group)
@@ -134,21 +137,16 @@ fn check_keys(
 
 /// The rule over two steps in a table.
 #[tactic(auto, unfolding(crate::specs::Rules::pair_in))]
-fn pair_of(
-    table: &Table,
-    relations: &Relations,
-    steps: &NameTable,
-    flow: u32,
-) -> Result<Rule, ReadFault>
-    requires few { length steps.now.names ≤ STEP_LIMIT }
-    ensures read { Gives fault_of (λ r. r) result
-        (spec.pair_in flow relations.now steps.now.names (table_view table.now)) }
-    ensures sound { IfOk result (IsSoundRule (length steps.now.names) (length relations.now)) }
+fn pair_of(table: &Table, scope: &Scope) -> Result<Rule, ReadFault>
+    ensures read { Gives fault_of (λ r. r) result (spec.pair_in scope.now.flow
+        scope.now.relations.now scope.now.steps.now.names (table_view table.now)) }
+    ensures sound { IfOk result (IsSoundRule (length scope.now.steps.now.names)
+        (length scope.now.relations.now)) }
 {
-    check_keys(Form::Pair, "first", "second", table, flow)?;
-    let rho = relation_at(table, relations, flow)?;
-    let first = step_at(table, "first", steps, flow)?;
-    match step_at(table, "second", steps, flow) {
+    check_keys(Form::Pair, "first", "second", table, scope.flow)?;
+    let rho = relation_at(table, scope)?;
+    let first = step_at(table, "first", scope)?;
+    match step_at(table, "second", scope) {
         Ok(second) => Ok(Rule::Pair { rho, first, second }),
         Err(fault) => Err(fault),
     }
@@ -164,25 +162,18 @@ struct Grouped {
 
 /// The relation, the group of steps and the step in a table.
 #[tactic(auto, unfolding(crate::specs::Rules::grouped_in))]
-fn grouped_of(
-    form: Form,
-    table: &Table,
-    relations: &Relations,
-    steps: &NameTable,
-    flow: u32,
-) -> Result<Grouped, ReadFault>
-    requires few { length steps.now.names ≤ STEP_LIMIT }
-    ensures read { Gives fault_of (λ g. (g.rho, (g.group, g.step))) result
-        (spec.grouped_in form flow relations.now steps.now.names (table_view table.now)) }
-    ensures relation { IfOk result (λ g. g.rho < length relations.now + 2) }
-    ensures step { IfOk result (λ g. g.step < length steps.now.names) }
-    ensures within { IfOk result (λ g. HasStepsBelow (length steps.now.names) g.group) }
+fn grouped_of(form: Form, table: &Table, scope: &Scope) -> Result<Grouped, ReadFault>
+    ensures read { Gives fault_of (λ g. (g.rho, (g.group, g.step))) result (spec.grouped_in form
+        scope.now.flow scope.now.relations.now scope.now.steps.now.names (table_view table.now)) }
+    ensures relation { IfOk result (λ g. g.rho < length scope.now.relations.now + 2) }
+    ensures step { IfOk result (λ g. g.step < length scope.now.steps.now.names) }
+    ensures within { IfOk result (λ g. HasStepsBelow (length scope.now.steps.now.names) g.group) }
     ensures some { IfOk result (λ g. IsTrue (any_from 0 g.group (λ _. true))) }
 {
-    check_keys(form, "group", "step", table, flow)?;
-    let rho = relation_at(table, relations, flow)?;
-    let step = step_at(table, "step", steps, flow)?;
-    match group_at(table, steps, flow) {
+    check_keys(form, "group", "step", table, scope.flow)?;
+    let rho = relation_at(table, scope)?;
+    let step = step_at(table, "step", scope)?;
+    match group_at(table, scope) {
         Ok(group) => Ok(Grouped { rho, group, step }),
         Err(fault) => Err(fault),
     }
@@ -208,21 +199,15 @@ fn check_counting_keys(form: Form, table: &Table, flow: u32) -> Result<(), ReadF
 
 /// The number of users and the group of steps in a table.
 #[tactic(auto, unfolding(crate::specs::Rules::counting_in))]
-fn counting_of(
-    form: Form,
-    table: &Table,
-    steps: &NameTable,
-    flow: u32,
-) -> Result<Counting, ReadFault>
-    requires few { length steps.now.names ≤ STEP_LIMIT }
-    ensures read { Gives fault_of (λ g. (g.limit, g.group)) result
-        (spec.counting_in form flow steps.now.names (table_view table.now)) }
-    ensures within { IfOk result (λ g. HasStepsBelow (length steps.now.names) g.group) }
+fn counting_of(form: Form, table: &Table, scope: &Scope) -> Result<Counting, ReadFault>
+    ensures read { Gives fault_of (λ g. (g.limit, g.group)) result (spec.counting_in form
+        scope.now.flow scope.now.steps.now.names (table_view table.now)) }
+    ensures within { IfOk result (λ g. HasStepsBelow (length scope.now.steps.now.names) g.group) }
     ensures number { IfOk result (λ g. IsWithinGroup g.limit g.group) }
 {
-    check_counting_keys(form, table, flow)?;
-    let group = group_at(table, steps, flow)?;
-    match limit_at(table, group.count(), flow) {
+    check_counting_keys(form, table, scope.flow)?;
+    let group = group_at(table, scope)?;
+    match limit_at(table, group.count(), scope.flow) {
         Ok(limit) => Ok(Counting { limit, group }),
         Err(fault) => Err(fault),
     }
@@ -259,42 +244,30 @@ fn number_up_to(most: u8, number: i64) -> Option<u8>
 
 /// The rule of a form in a table.
 #[tactic(auto, unfolding(crate::specs::Rules::rule_of_form))]
-fn rule_of_form(
-    form: Form,
-    table: &Table,
-    relations: &Relations,
-    steps: &NameTable,
-    flow: u32,
-) -> Result<Rule, ReadFault>
-    requires few { length steps.now.names ≤ STEP_LIMIT }
-    ensures read { Gives fault_of (λ r. r) result
-        (spec.rule_of_form form flow relations.now steps.now.names (table_view table.now)) }
-    ensures sound { IfOk result (IsSoundRule (length steps.now.names) (length relations.now)) }
+fn rule_of_form(form: Form, table: &Table, scope: &Scope) -> Result<Rule, ReadFault>
+    ensures read { Gives fault_of (λ r. r) result (spec.rule_of_form form scope.now.flow
+        scope.now.relations.now scope.now.steps.now.names (table_view table.now)) }
+    ensures sound { IfOk result (IsSoundRule (length scope.now.steps.now.names)
+        (length scope.now.relations.now)) }
 {
     match form {
-        Form::Pair => pair_of(table, relations, steps, flow),
-        Form::SomeOf => match grouped_of(Form::SomeOf, table, relations, steps, flow) {
-            Ok(Grouped { rho, group, step }) => Ok(Rule::SomeOf { rho, group, step }),
-            Err(fault) => Err(fault),
-        },
-        Form::AllOf => match grouped_of(Form::AllOf, table, relations, steps, flow) {
-            Ok(Grouped { rho, group, step }) => Ok(Rule::AllOf { rho, group, step }),
-            Err(fault) => Err(fault),
-        },
-        Form::SomeTo => match grouped_of(Form::SomeTo, table, relations, steps, flow) {
-            Ok(Grouped { rho, group, step }) => Ok(Rule::SomeTo { rho, step, group }),
-            Err(fault) => Err(fault),
-        },
-        Form::AllTo => match grouped_of(Form::AllTo, table, relations, steps, flow) {
-            Ok(Grouped { rho, group, step }) => Ok(Rule::AllTo { rho, step, group }),
-            Err(fault) => Err(fault),
-        },
-        Form::AtMost => match counting_of(Form::AtMost, table, steps, flow) {
-            Ok(Counting { limit, group }) => Ok(Rule::AtMost { limit, group }),
-            Err(fault) => Err(fault),
-        },
-        Form::AtLeast => match counting_of(Form::AtLeast, table, steps, flow) {
-            Ok(Counting { limit, group }) => Ok(Rule::AtLeast { limit, group }),
+        Form::Pair => pair_of(table, scope),
+        Form::SomeOf | Form::AllOf | Form::SomeTo | Form::AllTo => {
+            match grouped_of(form, table, scope) {
+                Ok(Grouped { rho, group, step }) => Ok(match form {
+                    Form::SomeOf => Rule::SomeOf { rho, group, step },
+                    Form::AllOf => Rule::AllOf { rho, group, step },
+                    Form::SomeTo => Rule::SomeTo { rho, step, group },
+                    _ => Rule::AllTo { rho, step, group },
+                }),
+                Err(fault) => Err(fault),
+            }
+        }
+        Form::AtMost | Form::AtLeast => match counting_of(form, table, scope) {
+            Ok(Counting { limit, group }) => Ok(match form {
+                Form::AtMost => Rule::AtMost { limit, group },
+                _ => Rule::AtLeast { limit, group },
+            }),
             Err(fault) => Err(fault),
         },
     }
@@ -314,45 +287,26 @@ fn form_of(format: Format, value: &Value, flow: u32) -> Result<Form, ReadFault>
     }
 }
 
-/// The rule that a value gives.
-#[tactic(auto, unfolding(crate::specs::Rules::rule_in))]
-fn rule_of(
-    format: Format,
-    value: &Value,
-    relations: &Relations,
-    steps: &NameTable,
-    flow: u32,
-) -> Result<Rule, ReadFault>
-    requires few { length steps.now.names ≤ STEP_LIMIT }
-    ensures read { Gives fault_of (λ r. r) result
-        (spec.rule_in format flow relations.now steps.now.names (view value.now)) }
-    ensures sound { IfOk result (IsSoundRule (length steps.now.names) (length relations.now)) }
-{
-    let table = table_of(value, PolicyPart::Flows, flow)?;
-    let form = value_at(table, "form", PolicyPart::Flows, flow)?;
-    let form = form_of(format, form, flow)?;
-    rule_of_form(form, table, relations, steps, flow)
-}
-
-/// Adds the next rule.
-#[tactic(auto, unfolding(crate::specs::Rules::next_rule))]
+/// Adds the rule that the next value gives.
+#[tactic(auto, unfolding(crate::specs::Rules::next_rule, crate::specs::Rules::rule_in))]
 fn next_rule(
     format: Format,
     rules: &mut Rules,
     value: &Value,
-    relations: &Relations,
-    steps: &NameTable,
-    flow: u32,
+    scope: &Scope,
 ) -> Result<(), ReadFault>
-    requires few { length steps.now.names ≤ STEP_LIMIT }
-    requires sound { AreSoundRules (length steps.now.names) (length relations.now) rules.old }
-    ensures read { Gives fault_of (λ _. rules.new) result
-        (spec.next_rule format flow relations.now steps.now.names rules.old (view value.now)) }
-    ensures sound { OnOk result (AreSoundRules (length steps.now.names)
-        (length relations.now) rules.new) }
+    requires sound { AreSoundRules (length scope.now.steps.now.names)
+        (length scope.now.relations.now) rules.old }
+    ensures read { Gives fault_of (λ _. rules.new) result (spec.next_rule format scope.now.flow
+        scope.now.relations.now scope.now.steps.now.names rules.old (view value.now)) }
+    ensures sound { OnOk result (AreSoundRules (length scope.now.steps.now.names)
+        (length scope.now.relations.now) rules.new) }
     ensures count { OnOk result (length rules.new ≡ length rules.old + 1) }
 {
-    match rule_of(format, value, relations, steps, flow) {
+    let table = table_of(value, PolicyPart::Flows, scope.flow)?;
+    let form = value_at(table, "form", PolicyPart::Flows, scope.flow)?;
+    let form = form_of(format, form, scope.flow)?;
+    match rule_of_form(form, table, scope) {
         Ok(rule) => push_rule(rules, rule),
         Err(fault) => Err(fault),
     }
@@ -372,20 +326,18 @@ fn all_rules(
     alloc: Global,
     format: Format,
     items: &[Value],
-    relations: &Relations,
-    steps: &NameTable,
-    flow: u32,
+    scope: &Scope,
 ) -> Result<Rules, ReadFault>
-    requires few { length steps.now.names ≤ STEP_LIMIT }
     ensures read { Gives fault_of (λ r. r) result
-        (each (spec.next_rule format flow relations.now steps.now.names) []
-        (part_items (items_view items.now))) }
-    ensures sound { IfOk result (AreSoundRules (length steps.now.names) (length relations.now)) }
+        (each (spec.next_rule format scope.now.flow scope.now.relations.now
+        scope.now.steps.now.names) [] (part_items (items_view items.now))) }
+    ensures sound { IfOk result (AreSoundRules (length scope.now.steps.now.names)
+        (length scope.now.relations.now)) }
     ensures count { IfOk result (λ r. length r ≤ length items.now) }
 {
     let mut rules = Rules::new(alloc);
     'items: for value in items {
-        if let Err(fault) = next_rule(format, &mut rules, value, relations, steps, flow) {
+        if let Err(fault) = next_rule(format, &mut rules, value, scope) {
             return Err(fault);
         }
     }
@@ -398,20 +350,18 @@ pub(crate) fn read_rules(
     alloc: Global,
     format: Format,
     table: &Table,
-    relations: &Relations,
-    steps: &NameTable,
-    flow: u32,
+    scope: &Scope,
 ) -> Result<Rules, ReadFault>
-    requires few { length steps.now.names ≤ STEP_LIMIT }
-    ensures read { Gives fault_of (λ r. r) result
-        (spec.rules_of format flow relations.now steps.now.names (table_view table.now)) }
-    ensures sound { IfOk result (AreSoundRules (length steps.now.names) (length relations.now)) }
+    ensures read { Gives fault_of (λ r. r) result (spec.rules_of format scope.now.flow
+        scope.now.relations.now scope.now.steps.now.names (table_view table.now)) }
+    ensures sound { IfOk result (AreSoundRules (length scope.now.steps.now.names)
+        (length scope.now.relations.now)) }
     ensures few { IfOk result (λ r. length r ≤ RULE_LIMIT) }
 {
     let Some(value) = find(table, "rules") else {
         return Ok(Rules::new(alloc));
     };
-    let items = array_of(value, PolicyPart::Flows, flow)?;
-    at_most(RULE_LIMIT, items.len(), PolicyPart::Flows, flow)?;
-    all_rules(alloc, format, items, relations, steps, flow)
+    let items = array_of(value, PolicyPart::Flows, scope.flow)?;
+    at_most(RULE_LIMIT, items.len(), PolicyPart::Flows, scope.flow)?;
+    all_rules(alloc, format, items, scope)
 }

@@ -8,19 +8,19 @@ ghost use Rattle.wf_names.specs.declared.limits.TheConstants.{ROLE_LIMIT, STEP_L
 ghost use Rattle.workflow_schema.specs.Flows.{is_count};
 ghost use Rattle.policy_book.specs.Laws.Facts.{PermitsRolesBelow};
 ghost use Rattle.policy_reader.specs.Bounds.{AreBelow};
-ghost use Rattle.policy_reader.specs.Kept.{IsCycleOrMemory};
+ghost use Rattle.policy_reader.specs.Kept.{HasPermitted, IsCycleOrMemory};
 ghost use Rattle.policy_reader.specs.Faults.{fault_of, fault_about};
 ghost use Rattle.policy_reader.specs.declared.fault.ReadFault.TheVariants.{Policy, NoMemory};
 ghost use Rattle.policy_reader.specs.declared.fault.PolicyKind.TheVariants as kind;
 ghost use Rattle.policy_reader.specs.Parts as parts;
-ghost use Rattle.policy_reader.specs.Parts.{items as part_items, entries};
+ghost use Rattle.policy_reader.specs.Parts.{items as part_items};
 ghost use Rattle.policy_reader.specs.declared.fault.PolicyPart.TheVariants.{Flows};
 ghost use Rattle.policy_reader.specs.Flows as spec;
 ghost use Rattle.policy_reader.specs.Laws.Grammars.{today};
 ghost use Rattle.basics.specs.Laws.Reading.{Gives, each};
 
 use crate::fault::{PolicyKind, PolicyPart, ReadFault, refuse_text};
-use crate::pairs::read_step_pairs;
+use crate::pairs::read_pairs;
 use crate::parts::{array_of, find, items_at, named_of, next_name, number_of, table_at, twice};
 use std::alloc::Global;
 use toml::Value;
@@ -71,7 +71,7 @@ pub(crate) fn read_order(
         return Ok(StepPairs::new());
     };
     let items = array_of(value, PolicyPart::Flows, flow)?;
-    read_step_pairs(steps, items, PolicyPart::Flows, flow)
+    read_pairs(StepPairs::new(), steps, items, PolicyPart::Flows, flow)
 }
 
 /// Makes the workflow of these steps and this order, which permits nothing yet, where no step is
@@ -115,49 +115,50 @@ fn flow_fault(steps: &NameTable, fault: FlowFault, flow: u32) -> ReadFault
     }
 }
 
+/// The roles of a policy, to which the steps of the workflow with a number are permitted.
+#[derive(Clone, Copy)]
+pub(crate) struct Roles<'p> {
+    /// The names of the roles.
+    pub names: &'p NameTable,
+    /// The number of the workflow.
+    pub flow: u32,
+    ghost few: { length names.now.names ≤ ROLE_LIMIT },
+}
+
 /// Permits a step to the next role.
 #[tactic(auto, unfolding(crate::specs::Flows::next_permitted, crate::specs::Parts::once))]
-fn next_permitted(
-    made: &mut Flow,
-    roles: &NameTable,
-    s: StepId,
-    value: &Value,
-    flow: u32,
-) -> Result<(), ReadFault>
+fn next_permitted(made: &mut Flow, roles: &Roles, s: StepId, value: &Value) -> Result<(), ReadFault>
     requires step { s < length made.old.steps }
-    requires few { length roles.now.names ≤ ROLE_LIMIT }
-    requires roles { PermitsRolesBelow (length roles.now.names) made.old }
-    ensures read { Gives fault_of (λ _. made.new) result
-        (spec.next_permitted flow roles.now.names s made.old (view value.now)) }
-    ensures steps { OnOk result (made.new.steps ≡ made.old.steps) }
-    ensures roles { OnOk result (PermitsRolesBelow (length roles.now.names) made.new) }
+    requires roles { PermitsRolesBelow (length roles.now.names.now.names) made.old }
+    ensures read { Gives fault_of (λ _. made.new) result (spec.next_permitted roles.now.flow
+        roles.now.names.now.names s made.old (view value.now)) }
+    ensures kept { OnOk result (HasPermitted (length roles.now.names.now.names)
+        made.old made.new) }
 {
-    let role = named_of(roles, value, PolicyPart::Flows, flow)?;
+    let role = named_of(roles.names, value, PolicyPart::Flows, roles.flow)?;
     if made.permit(RoleId(role as u8), s) {
         Ok(())
     } else {
-        Err(twice(value, PolicyPart::Flows, flow))
+        Err(twice(value, PolicyPart::Flows, roles.flow))
     }
 }
 
 fn all_permitted(
     made: &mut Flow,
-    roles: &NameTable,
+    roles: &Roles,
     s: StepId,
     items: &[Value],
-    flow: u32,
 ) -> Result<(), ReadFault>
     requires step { s < length made.old.steps }
-    requires few { length roles.now.names ≤ ROLE_LIMIT }
-    requires roles { PermitsRolesBelow (length roles.now.names) made.old }
+    requires roles { PermitsRolesBelow (length roles.now.names.now.names) made.old }
     ensures read { Gives fault_of (λ _. made.new) result
-        (each (spec.next_permitted flow roles.now.names s) made.old
+        (each (spec.next_permitted roles.now.flow roles.now.names.now.names s) made.old
         (part_items (items_view items.now))) }
-    ensures steps { OnOk result (made.new.steps ≡ made.old.steps) }
-    ensures roles { OnOk result (PermitsRolesBelow (length roles.now.names) made.new) }
+    ensures kept { OnOk result (HasPermitted (length roles.now.names.now.names)
+        made.old made.new) }
 {
     'items: for value in items {
-        if let Err(fault) = next_permitted(made, roles, s, value, flow) {
+        if let Err(fault) = next_permitted(made, roles, s, value) {
             return Err(fault);
         }
     }
@@ -166,61 +167,32 @@ fn all_permitted(
 
 /// Permits the next step to its roles.
 #[tactic(auto, unfolding(crate::specs::Flows::next_permit))]
-fn next_permit(
-    made: &mut Flow,
-    roles: &NameTable,
-    key: &str,
-    value: &Value,
-    flow: u32,
-) -> Result<(), ReadFault>
-    requires few { length roles.now.names ≤ ROLE_LIMIT }
-    requires roles { PermitsRolesBelow (length roles.now.names) made.old }
-    ensures read { Gives fault_of (λ _. made.new) result
-        (spec.next_permit flow roles.now.names made.old (key.now, view value.now)) }
-    ensures steps { OnOk result (made.new.steps ≡ made.old.steps) }
-    ensures roles { OnOk result (PermitsRolesBelow (length roles.now.names) made.new) }
+fn next_permit(made: &mut Flow, roles: &Roles, key: &str, value: &Value) -> Result<(), ReadFault>
+    requires roles { PermitsRolesBelow (length roles.now.names.now.names) made.old }
+    ensures read { Gives fault_of (λ _. made.new) result (spec.next_permit roles.now.flow
+        roles.now.names.now.names made.old (key.now, view value.now)) }
+    ensures kept { OnOk result (HasPermitted (length roles.now.names.now.names)
+        made.old made.new) }
 {
-    let number = number_of(made.steps(), key, PolicyPart::Flows, flow)?;
-    let items = array_of(value, PolicyPart::Flows, flow)?;
-    all_permitted(made, roles, StepId(number as u8), items, flow)
-}
-
-fn all_permits(
-    made: &mut Flow,
-    roles: &NameTable,
-    permits: &Table,
-    flow: u32,
-) -> Result<(), ReadFault>
-    requires few { length roles.now.names ≤ ROLE_LIMIT }
-    requires roles { PermitsRolesBelow (length roles.now.names) made.old }
-    ensures read { Gives fault_of (λ _. made.new) result
-        (each (spec.next_permit flow roles.now.names) made.old (entries (table_view permits.now))) }
-    ensures steps { OnOk result (made.new.steps ≡ made.old.steps) }
-    ensures roles { OnOk result (PermitsRolesBelow (length roles.now.names) made.new) }
-{
-    'entries: for (key, value) in permits {
-        if let Err(fault) = next_permit(made, roles, key.as_str(), value, flow) {
-            return Err(fault);
-        }
-    }
-    Ok(())
+    let number = number_of(made.steps(), key, PolicyPart::Flows, roles.flow)?;
+    let items = array_of(value, PolicyPart::Flows, roles.flow)?;
+    all_permitted(made, roles, StepId(number as u8), items)
 }
 
 /// Reads the permissions of a workflow.
 #[tactic(auto, unfolding(crate::specs::Flows::permits_of))]
-pub(crate) fn read_permits(
-    made: &mut Flow,
-    roles: &NameTable,
-    table: &Table,
-    flow: u32,
-) -> Result<(), ReadFault>
-    requires few { length roles.now.names ≤ ROLE_LIMIT }
-    requires roles { PermitsRolesBelow (length roles.now.names) made.old }
-    ensures read { Gives fault_of (λ _. made.new) result
-        (spec.permits_of flow roles.now.names made.old (table_view table.now)) }
-    ensures steps { OnOk result (made.new.steps ≡ made.old.steps) }
-    ensures roles { OnOk result (PermitsRolesBelow (length roles.now.names) made.new) }
+pub(crate) fn read_permits(made: &mut Flow, roles: &Roles, table: &Table) -> Result<(), ReadFault>
+    requires roles { PermitsRolesBelow (length roles.now.names.now.names) made.old }
+    ensures read { Gives fault_of (λ _. made.new) result (spec.permits_of roles.now.flow
+        roles.now.names.now.names made.old (table_view table.now)) }
+    ensures kept { OnOk result (HasPermitted (length roles.now.names.now.names)
+        made.old made.new) }
 {
-    let permits = table_at(table, "permit", PolicyPart::Flows, flow)?;
-    all_permits(made, roles, permits, flow)
+    let permits = table_at(table, "permit", PolicyPart::Flows, roles.flow)?;
+    'entries: for (key, value) in permits {
+        if let Err(fault) = next_permit(made, roles, key.as_str(), value) {
+            return Err(fault);
+        }
+    }
+    Ok(())
 }

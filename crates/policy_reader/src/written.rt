@@ -44,7 +44,8 @@ fn is_second(rule: &Rule) -> bool
     !form_of(rule).is_first()
 }
 
-fn form_of(rule: &Rule) -> Form
+/// The form of a rule.
+pub(crate) fn form_of(rule: &Rule) -> Form
     ensures { result ≡ spec.form_of rule.now }
 {
     match rule {

@@ -3,7 +3,7 @@ use Rattle.policy_reader.proofs.rules.all_rules.Given as goal
 
 abbrev pub invariant-items : goal.invariant-items
 invariant-items l =
-    (each (next_rule l.format l.flow l.relations l.steps.names) l.rules (items (items_view (drop l.value-index l.items))) ≡ each
-    (next_rule l.format l.flow l.relations l.steps.names) [] (items (items_view l.items)))
-    × AreSoundRules (length l.steps.names) (length l.relations) l.rules
+    (each (next_rule l.format l.scope.flow l.scope.relations.now l.scope.steps.now.names) l.rules (items (items_view (drop l.value-index l.items))) ≡ each
+    (next_rule l.format l.scope.flow l.scope.relations.now l.scope.steps.now.names) [] (items (items_view l.items)))
+    × AreSoundRules (length l.scope.steps.now.names) (length l.scope.relations.now) l.rules
     × (length l.rules ≡ l.value-index)
