@@ -1,7 +1,7 @@
 //! The declared relations as they are kept, and what each call does to them.
 ghost use Rattle.std.specs.Prelude.{◌≡◌, ◌≢◌, ◌<◌, ◌≤◌, ◌+◌, ℕ, List, [], ◌∷◌, ◌++◌, length, IfOk};
 ghost use Rattle.std.specs.Prelude.{IfSome, OnOk, OnErr, MatchOption, IsTrue, ◌&&◌, not, nat_lt};
-ghost use Rattle.std.specs.Prelude.{true, false, slice_get, Some, None, position, nat_eq};
+ghost use Rattle.std.specs.Prelude.{cond, true, false, slice_get, Some, None, position, nat_eq};
 ghost use Rattle.std.specs.Cmp.Lexicographic.{pointwise};
 ghost use Rattle.std.specs.FinSet as set;
 ghost use Rattle.basics.specs.Laws.Pairs.{IsAscending};
@@ -82,10 +82,9 @@ pub(crate) fn holds(declared: &[Relation], rho: RelId, u: UserId, v: UserId) -> 
 fn is_in_list(declared: &[Relation], rho: RelId, u: UserId, v: UserId) -> bool
     ensures { result ≡ set.contains (pairs_of (shapes declared.now) rho) (u, v) }
 {
-    match kind_at(declared, rho) {
+    match listed(declared, rho) {
+        Some(pairs) => pairs.has(u, v),
         None => false,
-        Some(Kind::Listed(pairs)) => pairs.get().has(u, v),
-        Some(Kind::Complement(_)) => false,
     }
 }
 
@@ -118,55 +117,38 @@ pub(crate) fn pairs(
     }
 }
 
-/// The users below `users` to whom a declared relation relates u.
-pub(crate) fn after(declared: &[Relation], rho: RelId, u: UserId, users: u16) -> UserSet
+/// The users below `users` to whom a declared relation relates u, or whom it relates to u where
+/// `back` says so.
+pub(crate) fn beside(
+    declared: &[Relation],
+    rho: RelId,
+    u: UserId,
+    users: u16,
+    back: bool,
+) -> UserSet
     requires { users ≤ USER_LIMIT }
     ensures { (v : ℕ) → has_user result v
         ≡ (nat_lt v users && kind_holds (shapes declared.now) (kind_of
-        (shapes declared.now) rho) u v) }
+        (shapes declared.now) rho) (cond back v u) (cond back u v)) }
 {
     match kind_at(declared, rho) {
         None => UserSet::empty(),
-        Some(Kind::Listed(pairs)) => pairs.get().after(u, users),
-        Some(Kind::Complement(of)) => masks::others(users, &listed_after(declared, *of, u, users)),
+        Some(Kind::Listed(pairs)) => pairs.get().beside(u, users, back),
+        Some(Kind::Complement(of)) => {
+            masks::others(users, &listed_beside(declared, *of, u, users, back))
+        }
     }
 }
 
-fn listed_after(declared: &[Relation], rho: RelId, u: UserId, users: u16) -> UserSet
+fn listed_beside(declared: &[Relation], rho: RelId, u: UserId, users: u16, back: bool) -> UserSet
     requires { users ≤ USER_LIMIT }
     ensures { (v : ℕ) → has_user result v
-        ≡ (nat_lt v users && set.contains (pairs_of (shapes declared.now) rho) (u, v)) }
+        ≡ (nat_lt v users && set.contains (pairs_of (shapes declared.now) rho)
+        (cond back v u, cond back u v)) }
 {
-    match kind_at(declared, rho) {
+    match listed(declared, rho) {
+        Some(pairs) => pairs.beside(u, users, back),
         None => UserSet::empty(),
-        Some(Kind::Listed(pairs)) => pairs.get().after(u, users),
-        Some(Kind::Complement(_)) => UserSet::empty(),
-    }
-}
-
-/// The users below `users` whom a declared relation relates to u.
-pub(crate) fn ahead(declared: &[Relation], rho: RelId, u: UserId, users: u16) -> UserSet
-    requires { users ≤ USER_LIMIT }
-    ensures { (v : ℕ) → has_user result v
-        ≡ (nat_lt v users && kind_holds (shapes declared.now) (kind_of
-        (shapes declared.now) rho) v u) }
-{
-    match kind_at(declared, rho) {
-        None => UserSet::empty(),
-        Some(Kind::Listed(pairs)) => pairs.get().ahead(u, users),
-        Some(Kind::Complement(of)) => masks::others(users, &listed_ahead(declared, *of, u, users)),
-    }
-}
-
-fn listed_ahead(declared: &[Relation], rho: RelId, u: UserId, users: u16) -> UserSet
-    requires { users ≤ USER_LIMIT }
-    ensures { (v : ℕ) → has_user result v
-        ≡ (nat_lt v users && set.contains (pairs_of (shapes declared.now) rho) (v, u)) }
-{
-    match kind_at(declared, rho) {
-        None => UserSet::empty(),
-        Some(Kind::Listed(pairs)) => pairs.get().ahead(u, users),
-        Some(Kind::Complement(_)) => UserSet::empty(),
     }
 }
 

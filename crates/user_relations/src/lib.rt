@@ -4,7 +4,7 @@
 
 ghost use Rattle.std.specs.Prelude.{◌≡◌, ◌≢◌, ◌<◌, ◌≤◌, ◌+◌, ◌↔◌, ℕ, List, [], ◌∷◌, ◌++◌, length};
 ghost use Rattle.std.specs.Prelude.{is_some, IfOk, IfSome, OnOk, OnErr, MatchOption, IsErrOf, true};
-ghost use Rattle.std.specs.Prelude.{false, ◌==◌, ◌&&◌, not, nat_lt, slice_get, Some};
+ghost use Rattle.std.specs.Prelude.{false, ◌==◌, ◌&&◌, cond, not, nat_lt, slice_get, Some};
 ghost use Rattle.std.specs.FinSet as set;
 ghost use Rattle.basics.specs.Laws.Pairs.{AllPairs, IsAscending};
 ghost use Rattle.wf_names.specs.declared.limits.TheConstants.{PAIR_LIMIT, RELATION_LIMIT};
@@ -180,11 +180,7 @@ impl Relations {
         requires { users ≤ USER_LIMIT }
         ensures { (v : ℕ) → has_user result v ≡ (nat_lt v users && is_related self.now rho u v) }
     {
-        match rho.0 {
-            0 => masks::alone(users, u),
-            1 => masks::all_but(users, u),
-            _ => kinds::after(&self.declared, rho, u, users),
-        }
+        self.beside(rho, u, users, false)
     }
 
     /// The users `v` below `users` such that the relation holds of v and u. Takes no memory.
@@ -192,10 +188,19 @@ impl Relations {
         requires { users ≤ USER_LIMIT }
         ensures { (v : ℕ) → has_user result v ≡ (nat_lt v users && is_related self.now rho v u) }
     {
+        self.beside(rho, u, users, true)
+    }
+
+    // Who is after a user, or where `back` says so ahead of one.
+    fn beside(&self, rho: RelId, u: UserId, users: u16, back: bool) -> UserSet
+        requires { users ≤ USER_LIMIT }
+        ensures { (v : ℕ) → has_user result v
+            ≡ (nat_lt v users && is_related self.now rho (cond back v u) (cond back u v)) }
+    {
         match rho.0 {
             0 => masks::alone(users, u),
             1 => masks::all_but(users, u),
-            _ => kinds::ahead(&self.declared, rho, u, users),
+            _ => kinds::beside(&self.declared, rho, u, users, back),
         }
     }
 
