@@ -5,7 +5,8 @@ ghost use Rattle.basics.specs.declared.fault.Fault.TheVariants.{NoMemory};
 ghost use Rattle.admin_edits.specs.declared.amendment.Amendment.TheVariants as amend;
 ghost use Rattle.admin_edits.specs.declared.fault.EditCause.{EditCause};
 ghost use Rattle.admin_edits.specs.Laws.Edits.{allowed, amended, edit_cause, edited_policy};
-ghost use Rattle.admin_edits.specs.Amendment.{AreMember, ArePair, IsKnownChange};
+ghost use Rattle.admin_edits.specs.Amendment.{AreMember, IsKnownChange};
+ghost use Rattle.user_relations.specs.Kinds.{AnswersFault};
 
 use crate::cause::amendment_of;
 use crate::{Amendment, EditFault};
@@ -14,7 +15,7 @@ use policy_book::Policy;
 use rbac_state::RosterFault;
 use std::alloc::AllocError;
 use user_relations::RelationFault;
-use wf_names::{Name, NameFault, RelId, RoleId, UserId};
+use wf_names::{Name, NameFault, RoleId, UserId};
 use wf_talk::Edit;
 
 /// The policy as an edit leaves it; the one that it is made of stays as it is. Or the first fault
@@ -56,17 +57,17 @@ fn amend(p: &mut Policy, a: Amendment) -> Result<(), AllocError>
         Amendment::AddUser { name } => add_user(p, name),
         Amendment::Leave { user } => leave(p, user),
         Amendment::Enrol { user, role } => enrol(p, user, role),
-        Amendment::Dismiss { user, role } => dismiss(p, user, role),
+        Amendment::Dismiss { user, role } => p.take_role(user, role),
         Amendment::Relate {
             relation,
             first,
             second,
-        } => relate(p, relation, first, second),
+        } => without_fault(p.relate(relation, first, second)),
         Amendment::Unrelate {
             relation,
             first,
             second,
-        } => unrelate(p, relation, first, second),
+        } => without_fault(p.unrelate(relation, first, second)),
         Amendment::Permit { flow, role, step } => {
             p.permit(flow, role, step);
             Ok(())
@@ -107,41 +108,13 @@ fn enrol(p: &mut Policy, user: UserId, role: RoleId) -> Result<(), AllocError>
     }
 }
 
-/// Takes a role away from a user, who may not have it.
-fn dismiss(p: &mut Policy, user: UserId, role: RoleId) -> Result<(), AllocError>
-    requires { AreMember p.old user role }
-    ensures { OnOk result (p.new ≡ amended p.old (amend.Dismiss user role)) }
+/// What comes of a change of a relation that has no fault: only memory can be wanting.
+fn without_fault(related: Result<(), RelationFault>) -> Result<(), AllocError>
+    requires { AnswersFault None related }
+    ensures related { OnOk result (related ≡ Ok tt) }
+    ensures memory { OnErr result (related ≡ Err RelationFault.NoMemory) }
 {
-    if !p.roster().has(user, role) {
-        return Ok(());
-    }
-    match p.dismiss(user, role) {
-        Ok(()) => Ok(()),
-        Err(RosterFault::NoMemory) => Err(AllocError),
-        Err(_) => unreachable!(),
-    }
-}
-
-/// Puts a pair into a listed relation that lacks it and has room.
-fn relate(p: &mut Policy, rho: RelId, u: UserId, v: UserId) -> Result<(), AllocError>
-    requires within { ArePair p.old u v }
-    requires allowed { allowed p.old (amend.Relate rho u v) ≡ Ok tt }
-    ensures { OnOk result (p.new ≡ amended p.old (amend.Relate rho u v)) }
-{
-    match p.relate(rho, u, v) {
-        Ok(()) => Ok(()),
-        Err(RelationFault::NoMemory) => Err(AllocError),
-        Err(_) => unreachable!(),
-    }
-}
-
-/// Takes a pair out of a listed relation that has it.
-fn unrelate(p: &mut Policy, rho: RelId, u: UserId, v: UserId) -> Result<(), AllocError>
-    requires within { ArePair p.old u v }
-    requires allowed { allowed p.old (amend.Unrelate rho u v) ≡ Ok tt }
-    ensures { OnOk result (p.new ≡ amended p.old (amend.Unrelate rho u v)) }
-{
-    match p.unrelate(rho, u, v) {
+    match related {
         Ok(()) => Ok(()),
         Err(RelationFault::NoMemory) => Err(AllocError),
         Err(_) => unreachable!(),
@@ -155,7 +128,7 @@ fn leave(p: &mut Policy, user: UserId) -> Result<(), AllocError>
 {
     let roles = p.roster().roles().len();
     'roles: for r in 0..roles {
-        dismiss(p, user, RoleId(r as u8))?;
+        p.take_role(user, RoleId(r as u8))?;
     }
     Ok(())
 }

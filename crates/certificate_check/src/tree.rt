@@ -11,11 +11,10 @@ ghost use Rattle.certificate_check.specs.Walks.{AreUsersBelow, begins_with, tree
 ghost use Rattle.certificate_check.specs.Walks.{kid_user_onto};
 ghost use Rattle.policy_book.specs.Laws.Twins.{are_twins, is_one_of};
 ghost use Rattle.policy_book.specs.Laws.Refuting.{all_refute, any_mentions, authorised_users};
-ghost use Rattle.policy_book.specs.Laws.Refuting.{have_users, is_broken, is_unassigned, is_misheld};
+ghost use Rattle.policy_book.specs.Laws.Refuting.{have_users, is_unassigned, is_misheld};
 ghost use Rattle.policy_book.specs.Laws.Refuting.{is_rule_naming, mentions, refutes};
 
 use crate::alike::twins;
-use constraint_forms::falsified;
 use policy_book::{Assign, Course, Policy, Rules, StepSet};
 use refutation_tree::{Branch, Kid, Tree};
 use wf_names::{FlowId, StepId, UserId};
@@ -42,7 +41,7 @@ fn refutes(course: &Course, a: &Assign, done: &StepSet, tree: &Tree) -> bool
 {
     match tree {
         Tree::Holder(s) => is_misheld(course, a, done, *s),
-        Tree::Rule(k) => is_broken(course, a, *k),
+        Tree::Rule(k) => course.breaks(a, *k),
         Tree::Step(s, branches) => {
             let branches = branches.as_slice();
             if !is_unassigned(course, a, *s) {
@@ -138,16 +137,6 @@ fn is_misheld(course: &Course, a: &Assign, done: &StepSet, s: StepId) -> bool
 {
     match a.at(s) {
         Some(u) => !done.has(s) && !course.authorised(s, u),
-        None => false,
-    }
-}
-
-fn is_broken(course: &Course, a: &Assign, k: u8) -> bool
-    ensures { result ≡ is_broken (problem_in course.now) a.now
-        (slice_get (problem_in course.now).rules k) }
-{
-    match course.rules().as_slice().get(k as usize) {
-        Some(rule) => falsified(rule, course.policy, a),
         None => false,
     }
 }

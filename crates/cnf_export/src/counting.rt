@@ -17,6 +17,25 @@ use constraint_forms::StepSet;
 use std::alloc::AllocError;
 use wf_names::StepId;
 
+/// The variables of a count: the number of their block, and how many of them a user has.
+#[derive(Clone, Copy)]
+pub(crate) struct Count {
+    pub(crate) block: u16,
+    pub(crate) high: u16,
+    ghost low: { high ≤ 256 },
+}
+
+/// The count in a block of a rule that limits how many users have a step.
+pub(crate) fn count_in(block: u16, most: bool, limit: u8) -> Count
+    ensures block { result.block ≡ block }
+    ensures high { result.high ≡ height most limit }
+{
+    Count {
+        block,
+        high: height(most, limit),
+    }
+}
+
 /// How many variables of a count a user has.
 pub(crate) fn height(most: bool, limit: u8) -> u16
     ensures value { result ≡ height most limit }
@@ -109,21 +128,19 @@ fn add_takers(terms: &Terms, group: &StepSet, u: u16, into: &mut Literals) -> Re
 /// A row of a count, for the users up to u and a number j.
 pub(crate) fn write_counting(
     terms: &Terms,
-    block: u16,
-    high: u16,
+    count: Count,
     u: u16,
     j: u16,
     row: u16,
     into: &mut Literals,
 ) -> Result<(), AllocError>
-    requires { high ≤ 256 }
     ensures { OnOk result (into.new
-        ≡ into.old ++ counting_clause (encoding_in terms.now) block high u j row) }
+        ≡ into.old ++ counting_clause (encoding_in terms.now) count.block count.high u j row) }
 {
-    let so_many = terms.counts(block, high, u, j);
-    let above = terms.counts(block, high, u.saturating_sub(1), j);
-    let before = terms.counts(block, high, u.saturating_sub(1), j.saturating_sub(1));
-    let taken = terms.takes(block, u);
+    let so_many = terms.counts(count, u, j);
+    let above = terms.counts(count, u.saturating_sub(1), j);
+    let before = terms.counts(count, u.saturating_sub(1), j.saturating_sub(1));
+    let taken = terms.takes(count.block, u);
     match row {
         0 => add_two(into, no_to(above), yes_to(so_many)),
         1 => add_three(into, no_to(taken), j == 0, no_to(before), yes_to(so_many)),
@@ -153,27 +170,11 @@ fn write_followed(
     Ok(())
 }
 
-/// That not more of all users have a step, or not fewer.
-pub(crate) fn write_ending(
-    terms: &Terms,
-    block: u16,
-    most: bool,
-    high: u16,
-    into: &mut Literals,
-) -> Result<(), AllocError>
-    requires { high ≤ 256 }
-    ensures { OnOk result (into.new
-        ≡ into.old ++ ending_clause (encoding_in terms.now) block most high) }
+/// The literal that not more of all users have a step, or not fewer.
+pub(crate) fn ending(terms: &Terms, count: Count, most: bool) -> i32
+    ensures { ending_clause (encoding_in terms.now) count.block most count.high ≡ result ∷ [] }
 {
-    let all = terms.counts(
-        block,
-        high,
-        terms.users().saturating_sub(1),
-        high.saturating_sub(1),
-    );
-    if most {
-        add_no(into, all)
-    } else {
-        add_yes(into, all)
-    }
+    let last = terms.users().saturating_sub(1);
+    let all = terms.counts(count, last, count.high.saturating_sub(1));
+    if most { no_to(all) } else { yes_to(all) }
 }

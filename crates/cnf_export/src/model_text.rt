@@ -66,6 +66,7 @@ fn read_lines(limit: u32, text: &[u8], flags: &mut [bool]) -> Result<Option<usiz
 }
 
 // Reads the words of a line.
+#[tactic(auto, using(crate::proofs::ModelSteps::reads_on, crate::proofs::ModelSteps::fails_here))]
 fn read_line(
     limit: u32,
     words: Option<usize>,
@@ -81,29 +82,10 @@ fn read_line(
     ensures places { length flags.new ≡ length flags.old }
 {
     if passes_over(line) {
-        Ok(words)
-    } else {
-        read_parts(limit, words, without_v(line), flags)
+        return Ok(words);
     }
-}
-
-#[tactic(auto, using(crate::proofs::ModelSteps::reads_on, crate::proofs::ModelSteps::fails_here))]
-fn read_parts(
-    limit: u32,
-    words: Option<usize>,
-    line: &[u8],
-    flags: &mut [bool],
-) -> Result<Option<usize>, usize>
-    requires places { limit ≤ length flags.old }
-    requires fits { words_read words + length line.now < 2 ^ 64 }
-    ensures read { Gives Some (λ after. (flags.new, after)) result
-        (each (next_part limit) (flags.old, words) (slice_split is_blank line.now)) }
-    ensures word { IfErr result (λ k. k ≤ words_read words + length line.now) }
-    ensures few { IfOk result (λ after. words_read after ≤ words_read words + length line.now) }
-    ensures places { length flags.new ≡ length flags.old }
-{
     let mut after = words;
-    let mut rest = line;
+    let mut rest = without_v(line);
     'parts: loop {
         let (part, behind) = cut(rest, find_blank(rest));
         after = read_part(limit, after, part, flags)?;

@@ -17,7 +17,7 @@ ghost use Rattle.cnf_export.specs.declared.group.Group.TheVariants as groups;
 
 use crate::Literals;
 use crate::counting::{
-    height, list_members, list_rows, write_counting, write_ending, write_taking,
+    Count, count_in, ending, height, list_members, list_rows, write_counting, write_taking,
 };
 use crate::group::Group;
 use crate::listed::{Items, list_users};
@@ -120,12 +120,11 @@ impl Terms {
 
     /// The variable that says that of the users up to u more than j have some step of the rule.
     #[tactic(auto, using(crate::proofs::Products::row_small))]
-    pub(crate) fn counts(&self, block: u16, high: u16, u: u16, j: u16) -> u32
-        requires { high ≤ 256 }
-        ensures value { result ≡ counts (encoding_in self.now) block high u j }
+    pub(crate) fn counts(&self, count: Count, u: u16, j: u16) -> u32
+        ensures value { result ≡ counts (encoding_in self.now) count.block count.high u j }
         ensures small { result < 2 ^ 30 }
     {
-        self.block(block) + self.users as u32 + (u as u32 * high as u32 + j as u32)
+        self.block(count.block) + self.users as u32 + (u as u32 * count.high as u32 + j as u32)
     }
 
     /// How many users there are.
@@ -271,16 +270,12 @@ impl Terms {
             } => self.write_some(rho, back, &group, step, UserId(k), into),
             Group::Taking { block, group } => write_taking(self, block, &group, i, k, into),
             Group::Counting { block, most, limit } => {
-                let high = height(most, limit);
-                write_counting(self, block, high, i, k / 4, k % 4, into)
+                let count = count_in(block, most, limit);
+                write_counting(self, count, i, k / 4, k % 4, into)
             }
-            Group::Ending { block, most, limit } => write_ending(
-                self,
-                block,
-                most,
-                height(most, limit),
-                into,
-            ),
+            Group::Ending { block, most, limit } => {
+                into.push(ending(self, count_in(block, most, limit), most))
+            }
         }
     }
 

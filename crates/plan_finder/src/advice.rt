@@ -155,7 +155,7 @@ pub(crate) fn restrict(problem: &Problem, work: &mut Work, law: &Law, a: &Assign
 
 fn restrict_each(problem: &Problem, work: &mut Work, law: &Law, a: &Assign, s: u8) {
     if law.step == s {
-        restrict_last(problem, work, law, a);
+        restrict_last(problem, work, law, a, false);
     } else if let Some(v) = holder(a, law.step) {
         keep_back(problem, work, law.over, v);
     }
@@ -206,15 +206,24 @@ fn holder(a: &Assign, s: u8) -> Option<u16> {
     }
 }
 
-// Each member of the group that is assigned is to be related to the user of the rule's step.
-fn restrict_last(problem: &Problem, work: &mut Work, law: &Law, a: &Assign) {
+// Those stay to whom each user of the group is related, and who are related to themselves where the
+// step is in the group; or with `some` those are collected of whom one of these is true.
+fn restrict_last(problem: &Problem, work: &mut Work, law: &Law, a: &Assign, some: bool) {
     let mut group = law.group;
     for _ in 0..32u8 {
         let Some(x) = pop(&mut group) else { break };
         if x == law.step {
-            keep_own(problem, work, law.over);
+            if some {
+                add_own(problem, work, law.over);
+            } else {
+                keep_own(problem, work, law.over);
+            }
         } else if let Some(u) = holder(a, x) {
-            keep_ahead(problem, work, law.over, u);
+            if some {
+                add_ahead(problem, work, law.over, u);
+            } else {
+                keep_ahead(problem, work, law.over, u);
+            }
         }
     }
 }
@@ -322,15 +331,7 @@ fn are_related(problem: &Problem, over: Over, u: u16, v: u16) -> bool {
 // step is in the group.
 fn restrict_some_last(problem: &Problem, work: &mut Work, law: &Law, a: &Assign) {
     clear(work.taken.row_mut(0));
-    let mut group = law.group;
-    for _ in 0..32u8 {
-        let Some(x) = pop(&mut group) else { break };
-        if x == law.step {
-            add_own(problem, work, law.over);
-        } else if let Some(u) = holder(a, x) {
-            add_ahead(problem, work, law.over, u);
-        }
-    }
+    restrict_last(problem, work, law, a, true);
     let _ = meet(work.spare.row_mut(0), work.taken.row(0));
 }
 

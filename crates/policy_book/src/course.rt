@@ -2,7 +2,7 @@
 ghost use Rattle.std.specs.Prelude.{◌<◌, length};
 
 use crate::policy::Policy;
-use constraint_forms::Rules;
+use constraint_forms::{Assign, Rules, falsified};
 use wf_names::{FlowId, StepId, UserId, UserSet};
 use workflow_schema::Flow;
 
@@ -17,13 +17,14 @@ pub struct Course<'p> {
 }
 
 impl<'p> Course<'p> {
-    ghost use Rattle.std.specs.Prelude.{◌≡◌, ◌≤◌, ℕ, true};
+    ghost use Rattle.std.specs.Prelude.{◌≡◌, ◌≤◌, ℕ, slice_get, true};
     ghost use Rattle.wf_names.specs.declared.limits.TheConstants.{RULE_LIMIT};
     ghost use Rattle.wf_names.specs.UserSets.{has_user};
     ghost use Rattle.policy_book.specs.Course.{problem_in};
     ghost use Rattle.policy_book.specs.Laws.Plans.{IsWellFormed};
     ghost use Rattle.policy_book.specs.Policies.{flow_at};
     ghost use Rattle.policy_book.specs.Laws.Facts.{AreSoundRules, PermitsRolesBelow};
+    ghost use Rattle.policy_book.specs.Laws.Refuting.{is_broken};
 
     /// The workflow's steps, their order and who may perform them.
     pub fn flow(&self) -> &'p Flow
@@ -43,6 +44,17 @@ impl<'p> Course<'p> {
         ensures well_formed { IsWellFormed (problem_in self.now) }
     {
         self.policy.rules(self.number)
+    }
+
+    /// Whether there is a rule with the number `k`, and an assignment falsifies it.
+    pub fn breaks(&self, a: &Assign, k: u8) -> bool
+        ensures { result ≡ is_broken (problem_in self.now) a.now
+            (slice_get (problem_in self.now).rules k) }
+    {
+        match self.rules().as_slice().get(k as usize) {
+            Some(rule) => falsified(rule, self.policy, a),
+            None => false,
+        }
     }
 
     /// Whether a user is authorised for a step.

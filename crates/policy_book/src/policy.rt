@@ -360,6 +360,23 @@ impl Policy {
         Ok(())
     }
 
+    /// Takes a role away from a user where the user has it.
+    pub fn take_role(&mut self, u: UserId, r: RoleId) -> Result<(), AllocError>
+        requires user { u < length self.old.roster.users }
+        requires role { r < length self.old.roster.roles }
+        ensures { OnOk result (self.new ≡ with_roster self.old (record self.old.roster
+            { members = set.remove self.old.roster.members (u, r) })) }
+    {
+        if !self.roster().has(u, r) {
+            return Ok(());
+        }
+        match self.dismiss(u, r) {
+            Ok(()) => Ok(()),
+            Err(RosterFault::NoMemory) => Err(AllocError),
+            Err(_) => unreachable!(),
+        }
+    }
+
     /// Puts a pair of users into a listed relation.
     pub fn relate(&mut self, rho: RelId, u: UserId, v: UserId) -> Result<(), RelationFault>
         requires first { u < length self.old.roster.users }

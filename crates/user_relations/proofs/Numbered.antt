@@ -1,13 +1,15 @@
 -- Kinds of relations by their numbers, in the list and in the view of what is kept.
 use Rattle.std.proofs.Common.{◌≡◌, ℕ, zero, suc, ◌+◌, List, [], ◌∷◌, length, get_or, refl, sym, ap, ◌∙◌, subst, arith}
-use Rattle.std.specs.Prelude.{Option, Some, option_map, slice_get, Result, OnOk, slice_set}
+use Rattle.std.specs.Prelude.{Option, Some, None, option_map, slice_get, Result, OnOk, slice_set, false}
 use Rattle.std.proofs.lemmas.Option.{slice_get-map, slice_get-get_or}
 use Rattle.std.proofs.lemmas.Result.{on_ok_weaker}
+use Rattle.std.specs.FinSet as set
 use Rattle.basics.specs.Laws.Pairs.{Pairs}
 use Rattle.user_relations.specs.declared.kinds.Kind.{Kind}
 use Rattle.user_relations.specs.declared.kinds.Relation.{Relation}
 use Rattle.user_relations.specs.declared.RelationFault.{RelationFault}
-use Rattle.user_relations.specs.Laws.Relations.{RelationShape, RelationKind, listed, kind_of, listed_pairs, pairs_of, with_kind, change_kind}
+use Rattle.user_relations.specs.Laws.Relations.{RelationShape, RelationKind, listed, complement, kind_of, has_list, listed_pairs, pairs_of}
+use Rattle.user_relations.specs.Laws.Relations.{with_kind, change_kind}
 use Rattle.user_relations.specs.Kinds.{AnswersFault}
 use Rattle.user_relations.specs.Places.{IsPlace}
 use Rattle.user_relations.specs.View.{kind_view, relation_view, shapes}
@@ -52,3 +54,9 @@ pub fault_read : (ds : List Relation) (rho i : ℕ) (d : Relation) (f : Option R
     IsPlace (length ds) rho i
     → AnswersFault (f (Some (kind_view (get_or ds i d).kind))) r → AnswersFault (f (kind_of (shapes ds) rho)) r
 fault_read ds rho i d f r p told = subst (λ o. AnswersFault (f o) r) (sym (kind_read ds rho i d p)) told
+
+-- what has no list has no listed pairs
+pub unlisted : (kind : Option RelationKind) → has_list kind ≡ false → listed_pairs kind ≡ set.empty
+unlisted None none = refl
+unlisted (Some (listed pairs)) none = cc
+unlisted (Some (complement n)) none = refl

@@ -1,7 +1,7 @@
 //! The declared relations as they are kept, and what each call does to them.
 ghost use Rattle.std.specs.Prelude.{◌≡◌, ◌≢◌, ◌<◌, ◌≤◌, ◌+◌, ℕ, List, [], ◌∷◌, ◌++◌, length, IfOk};
 ghost use Rattle.std.specs.Prelude.{IfSome, OnOk, OnErr, MatchOption, IsTrue, ◌&&◌, not, nat_lt};
-ghost use Rattle.std.specs.Prelude.{true, false, slice_get, Some, None, position, nat_eq};
+ghost use Rattle.std.specs.Prelude.{cond, true, false, slice_get, Some, None, position, nat_eq};
 ghost use Rattle.std.specs.Cmp.Lexicographic.{pointwise};
 ghost use Rattle.std.specs.FinSet as set;
 ghost use Rattle.basics.specs.Laws.Pairs.{IsAscending};
@@ -13,7 +13,7 @@ ghost use Rattle.user_relations.specs.Laws.Relations.{listed, complement, kind_o
 ghost use Rattle.user_relations.specs.Laws.Relations.{listed_pairs, pairs_of, complement_of};
 ghost use Rattle.user_relations.specs.Laws.Relations.{known_names, with_kind, has_list};
 ghost use Rattle.user_relations.specs.Kinds.{relate_fault, unrelate_fault, put_fault, take_fault};
-ghost use Rattle.user_relations.specs.Kinds.{AnswersFault};
+ghost use Rattle.user_relations.specs.Kinds.{AnswersFault, changed};
 ghost use Rattle.user_relations.specs.Places.{IsPlace};
 ghost use Rattle.user_relations.specs.View.{kind_view, relation_view, shapes};
 
@@ -82,10 +82,9 @@ pub(crate) fn holds(declared: &[Relation], rho: RelId, u: UserId, v: UserId) -> 
 fn is_in_list(declared: &[Relation], rho: RelId, u: UserId, v: UserId) -> bool
     ensures { result ≡ set.contains (pairs_of (shapes declared.now) rho) (u, v) }
 {
-    match kind_at(declared, rho) {
+    match listed(declared, rho) {
+        Some(pairs) => pairs.has(u, v),
         None => false,
-        Some(Kind::Listed(pairs)) => pairs.get().has(u, v),
-        Some(Kind::Complement(_)) => false,
     }
 }
 
@@ -118,55 +117,38 @@ pub(crate) fn pairs(
     }
 }
 
-/// The users below `users` to whom a declared relation relates u.
-pub(crate) fn after(declared: &[Relation], rho: RelId, u: UserId, users: u16) -> UserSet
+/// The users below `users` to whom a declared relation relates u, or whom it relates to u where
+/// `back` says so.
+pub(crate) fn beside(
+    declared: &[Relation],
+    rho: RelId,
+    u: UserId,
+    users: u16,
+    back: bool,
+) -> UserSet
     requires { users ≤ USER_LIMIT }
     ensures { (v : ℕ) → has_user result v
         ≡ (nat_lt v users && kind_holds (shapes declared.now) (kind_of
-        (shapes declared.now) rho) u v) }
+        (shapes declared.now) rho) (cond back v u) (cond back u v)) }
 {
     match kind_at(declared, rho) {
         None => UserSet::empty(),
-        Some(Kind::Listed(pairs)) => pairs.get().after(u, users),
-        Some(Kind::Complement(of)) => masks::others(users, &listed_after(declared, *of, u, users)),
+        Some(Kind::Listed(pairs)) => pairs.get().beside(u, users, back),
+        Some(Kind::Complement(of)) => {
+            masks::others(users, &listed_beside(declared, *of, u, users, back))
+        }
     }
 }
 
-fn listed_after(declared: &[Relation], rho: RelId, u: UserId, users: u16) -> UserSet
+fn listed_beside(declared: &[Relation], rho: RelId, u: UserId, users: u16, back: bool) -> UserSet
     requires { users ≤ USER_LIMIT }
     ensures { (v : ℕ) → has_user result v
-        ≡ (nat_lt v users && set.contains (pairs_of (shapes declared.now) rho) (u, v)) }
+        ≡ (nat_lt v users && set.contains (pairs_of (shapes declared.now) rho)
+        (cond back v u, cond back u v)) }
 {
-    match kind_at(declared, rho) {
+    match listed(declared, rho) {
+        Some(pairs) => pairs.beside(u, users, back),
         None => UserSet::empty(),
-        Some(Kind::Listed(pairs)) => pairs.get().after(u, users),
-        Some(Kind::Complement(_)) => UserSet::empty(),
-    }
-}
-
-/// The users below `users` whom a declared relation relates to u.
-pub(crate) fn ahead(declared: &[Relation], rho: RelId, u: UserId, users: u16) -> UserSet
-    requires { users ≤ USER_LIMIT }
-    ensures { (v : ℕ) → has_user result v
-        ≡ (nat_lt v users && kind_holds (shapes declared.now) (kind_of
-        (shapes declared.now) rho) v u) }
-{
-    match kind_at(declared, rho) {
-        None => UserSet::empty(),
-        Some(Kind::Listed(pairs)) => pairs.get().ahead(u, users),
-        Some(Kind::Complement(of)) => masks::others(users, &listed_ahead(declared, *of, u, users)),
-    }
-}
-
-fn listed_ahead(declared: &[Relation], rho: RelId, u: UserId, users: u16) -> UserSet
-    requires { users ≤ USER_LIMIT }
-    ensures { (v : ℕ) → has_user result v
-        ≡ (nat_lt v users && set.contains (pairs_of (shapes declared.now) rho) (v, u)) }
-{
-    match kind_at(declared, rho) {
-        None => UserSet::empty(),
-        Some(Kind::Listed(pairs)) => pairs.get().ahead(u, users),
-        Some(Kind::Complement(_)) => UserSet::empty(),
     }
 }
 
@@ -180,61 +162,41 @@ pub(crate) fn complement_of(declared: &[Relation], rho: RelId) -> Option<RelId>
     }
 }
 
-/// Why a pair would not be put into a relation.
-pub(crate) fn relate_fault(
+/// Why a pair would not be put into a relation, or not taken out of it.
+pub(crate) fn change_fault(
     declared: &[Relation],
     rho: RelId,
     u: UserId,
     v: UserId,
+    put: bool,
 ) -> Option<RelationFault>
-    ensures { result ≡ relate_fault (shapes declared.now) rho u v }
+    ensures { result ≡ cond put (relate_fault (shapes declared.now) rho u v)
+        (unrelate_fault (shapes declared.now) rho u v) }
 {
     match kind_at(declared, rho) {
         None => Some(RelationFault::Fixed),
-        Some(kind) => put_fault(kind, u, v),
+        Some(kind) => kind_fault(kind, u, v, put),
     }
 }
 
-fn put_fault(kind: &Kind, u: UserId, v: UserId) -> Option<RelationFault>
-    ensures { result ≡ put_fault (Some (kind_view kind.now)) u v }
+fn kind_fault(kind: &Kind, u: UserId, v: UserId, put: bool) -> Option<RelationFault>
+    ensures { result ≡ cond put (put_fault (Some (kind_view kind.now)) u v)
+        (take_fault (Some (kind_view kind.now)) u v) }
 {
     match kind {
         Kind::Complement(_) => Some(RelationFault::Fixed),
         Kind::Listed(pairs) => {
-            if pairs.get().has(u, v) {
+            let has = pairs.get().has(u, v);
+            if !put {
+                if has {
+                    None
+                } else {
+                    Some(RelationFault::Absent)
+                }
+            } else if has {
                 Some(RelationFault::Already)
             } else if pairs.get().len() >= PAIR_LIMIT {
                 Some(RelationFault::Full)
-            } else {
-                None
-            }
-        }
-    }
-}
-
-/// Why a pair would not be taken out of a relation.
-pub(crate) fn unrelate_fault(
-    declared: &[Relation],
-    rho: RelId,
-    u: UserId,
-    v: UserId,
-) -> Option<RelationFault>
-    ensures { result ≡ unrelate_fault (shapes declared.now) rho u v }
-{
-    match kind_at(declared, rho) {
-        None => Some(RelationFault::Fixed),
-        Some(kind) => take_fault(kind, u, v),
-    }
-}
-
-fn take_fault(kind: &Kind, u: UserId, v: UserId) -> Option<RelationFault>
-    ensures { result ≡ take_fault (Some (kind_view kind.now)) u v }
-{
-    match kind {
-        Kind::Complement(_) => Some(RelationFault::Fixed),
-        Kind::Listed(pairs) => {
-            if !pairs.get().has(u, v) {
-                Some(RelationFault::Absent)
             } else {
                 None
             }
@@ -267,36 +229,38 @@ pub(crate) fn set_kind(declared: &mut [Relation], rho: RelId, kind: Kind)
     }
 }
 
-pub(crate) fn relate(
+/// Puts a pair into a listed relation, or takes it out of it.
+pub(crate) fn change(
     declared: &mut [Relation],
     rho: RelId,
     u: UserId,
     v: UserId,
+    put: bool,
 ) -> Result<(), RelationFault>
-    requires first { u < USER_LIMIT }
-    requires second { v < USER_LIMIT }
-    ensures related { OnOk result (shapes declared.new
+    requires { IsTrue put → (u < USER_LIMIT) × (v < USER_LIMIT) }
+    ensures changed { OnOk result (shapes declared.new
         ≡ with_kind (shapes declared.old) rho
-        (listed (set.insert (pairs_of (shapes declared.old) rho) (u, v)))) }
-    ensures fault { AnswersFault (relate_fault (shapes declared.old) rho u v) result }
+        (listed (changed put (pairs_of (shapes declared.old) rho) (u, v)))) }
+    ensures fault { AnswersFault (cond put (relate_fault (shapes declared.old) rho u v)
+        (unrelate_fault (shapes declared.old) rho u v)) result }
     ensures unchanged { OnErr result (shapes declared.new ≡ shapes declared.old) }
 {
     let Some(place) = place(declared, rho) else {
         return Err(RelationFault::Fixed);
     };
     let relation = &mut declared[place];
-    put_pair(&mut relation.kind, u, v)
+    change_pair(&mut relation.kind, u, v, put)
 }
 
-fn put_pair(kind: &mut Kind, u: UserId, v: UserId) -> Result<(), RelationFault>
-    requires first { u < USER_LIMIT }
-    requires second { v < USER_LIMIT }
-    ensures related { OnOk result (kind_view kind.new
-        ≡ listed (set.insert (listed_pairs (Some (kind_view kind.old))) (u, v))) }
-    ensures fault { AnswersFault (put_fault (Some (kind_view kind.old)) u v) result }
+fn change_pair(kind: &mut Kind, u: UserId, v: UserId, put: bool) -> Result<(), RelationFault>
+    requires { IsTrue put → (u < USER_LIMIT) × (v < USER_LIMIT) }
+    ensures changed { OnOk result (kind_view kind.new
+        ≡ listed (changed put (listed_pairs (Some (kind_view kind.old))) (u, v))) }
+    ensures fault { AnswersFault (cond put (put_fault (Some (kind_view kind.old)) u v)
+        (take_fault (Some (kind_view kind.old)) u v)) result }
     ensures unchanged { OnErr result (kind_view kind.new ≡ kind_view kind.old) }
 {
-    if let Some(fault) = put_fault(kind, u, v) {
+    if let Some(fault) = kind_fault(kind, u, v, put) {
         return Err(fault);
     }
     let Kind::Listed(pairs) = kind else {
@@ -306,48 +270,12 @@ fn put_pair(kind: &mut Kind, u: UserId, v: UserId) -> Result<(), RelationFault>
     let Ok(own) = pairs.edit() else {
         return Err(RelationFault::NoMemory);
     };
-    match own.insert(u, v) {
-        Ok(_) => Ok(()),
-        Err(_) => Err(RelationFault::NoMemory),
-    }
-}
-
-pub(crate) fn unrelate(
-    declared: &mut [Relation],
-    rho: RelId,
-    u: UserId,
-    v: UserId,
-) -> Result<(), RelationFault>
-    ensures unrelated { OnOk result (shapes declared.new
-        ≡ with_kind (shapes declared.old) rho
-        (listed (set.remove (pairs_of (shapes declared.old) rho) (u, v)))) }
-    ensures fault { AnswersFault (unrelate_fault (shapes declared.old) rho u v) result }
-    ensures unchanged { OnErr result (shapes declared.new ≡ shapes declared.old) }
-{
-    let Some(place) = place(declared, rho) else {
-        return Err(RelationFault::Fixed);
+    let done = if put {
+        own.insert(u, v)
+    } else {
+        own.remove(u, v)
     };
-    let relation = &mut declared[place];
-    take_pair(&mut relation.kind, u, v)
-}
-
-fn take_pair(kind: &mut Kind, u: UserId, v: UserId) -> Result<(), RelationFault>
-    ensures unrelated { OnOk result (kind_view kind.new
-        ≡ listed (set.remove (listed_pairs (Some (kind_view kind.old))) (u, v))) }
-    ensures fault { AnswersFault (take_fault (Some (kind_view kind.old)) u v) result }
-    ensures unchanged { OnErr result (kind_view kind.new ≡ kind_view kind.old) }
-{
-    if let Some(fault) = take_fault(kind, u, v) {
-        return Err(fault);
-    }
-    let Kind::Listed(pairs) = kind else {
-        return Err(RelationFault::Fixed);
-    };
-    // others may have a share of the pairs
-    let Ok(own) = pairs.edit() else {
-        return Err(RelationFault::NoMemory);
-    };
-    match own.remove(u, v) {
+    match done {
         Ok(_) => Ok(()),
         Err(_) => Err(RelationFault::NoMemory),
     }

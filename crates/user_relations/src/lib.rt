@@ -2,9 +2,9 @@
 //! built-in `same` and `other`.
 #![tactic(auto)]
 
-ghost use Rattle.std.specs.Prelude.{◌≡◌, ◌≢◌, ◌<◌, ◌≤◌, ◌+◌, ◌↔◌, ℕ, List, [], ◌∷◌, ◌++◌, length};
-ghost use Rattle.std.specs.Prelude.{is_some, IfOk, IfSome, OnOk, OnErr, MatchOption, IsErrOf, true};
-ghost use Rattle.std.specs.Prelude.{false, ◌==◌, ◌&&◌, not, nat_lt, slice_get, Some};
+ghost use Rattle.std.specs.Prelude.{◌≡◌, ◌≢◌, ◌<◌, ◌≤◌, ◌+◌, ℕ, List, [], ◌∷◌, ◌++◌, length};
+ghost use Rattle.std.specs.Prelude.{IfOk, IfSome, OnOk, OnErr, MatchOption, Err, true};
+ghost use Rattle.std.specs.Prelude.{false, ◌==◌, ◌&&◌, cond, not, nat_lt, slice_get, Some};
 ghost use Rattle.std.specs.FinSet as set;
 ghost use Rattle.basics.specs.Laws.Pairs.{AllPairs, IsAscending};
 ghost use Rattle.wf_names.specs.declared.limits.TheConstants.{PAIR_LIMIT, RELATION_LIMIT};
@@ -18,6 +18,7 @@ ghost use Rattle.user_relations.specs.Laws.Relations.{CanDeclare, known_names, w
 ghost use Rattle.user_relations.specs.Laws.Soundness.{AreSoundRelations};
 ghost use Rattle.user_relations.specs.View.{shapes};
 ghost use Rattle.user_relations.specs.Kinds.{relate_fault, unrelate_fault, AnswersFault};
+ghost use Rattle.user_relations.specs.Kinds.{RefusesName};
 
 mod blocks;
 mod kinds;
@@ -92,12 +93,7 @@ impl Relations {
         ensures added { OnOk result (self.new
             ≡ self.old ++ (record { name = name; kind = listed set.empty }) ∷ []) }
         ensures free { OnOk result (CanDeclare self.old name) }
-
-        ensures twice { IsErrOf result NameFault.Twice
-            ↔ (is_some (place_of (known_names self.old) name) ≡ true) }
-        ensures full { IsErrOf result NameFault.Full
-            ↔ ((is_some (place_of (known_names self.old) name) ≡ false)
-            × (length self.old ≡ RELATION_LIMIT)) }
+        ensures refused { RefusesName self.old name result }
         ensures unchanged { OnErr result (self.new ≡ self.old) }
     {
         match UserPairs::new(*self.declared.allocator()) {
@@ -108,11 +104,7 @@ impl Relations {
 
     // Why a relation is not declared where there is no memory for its pairs.
     fn unlisted(&self, name: &Name) -> NameFault
-        ensures twice { result ≡ NameFault.Twice
-            ↔ (is_some (place_of (known_names self.now) name.now) ≡ true) }
-        ensures full { result ≡ NameFault.Full
-            ↔ ((is_some (place_of (known_names self.now) name.now) ≡ false)
-            × (length self.now ≡ RELATION_LIMIT)) }
+        ensures { RefusesName {A = ℕ} self.now name.now (Err result) }
     {
         if self.find(name).is_some() {
             NameFault::Twice
@@ -131,12 +123,7 @@ impl Relations {
         ensures added { OnOk result (self.new
             ≡ self.old ++ (record { name = name; kind = listed pairs }) ∷ []) }
         ensures free { OnOk result (CanDeclare self.old name) }
-
-        ensures twice { IsErrOf result NameFault.Twice
-            ↔ (is_some (place_of (known_names self.old) name) ≡ true) }
-        ensures full { IsErrOf result NameFault.Full
-            ↔ ((is_some (place_of (known_names self.old) name) ≡ false)
-            × (length self.old ≡ RELATION_LIMIT)) }
+        ensures refused { RefusesName self.old name result }
         ensures unchanged { OnErr result (self.new ≡ self.old) }
     {
         if self.find(&name).is_some() {
@@ -180,11 +167,7 @@ impl Relations {
         requires { users ≤ USER_LIMIT }
         ensures { (v : ℕ) → has_user result v ≡ (nat_lt v users && is_related self.now rho u v) }
     {
-        match rho.0 {
-            0 => masks::alone(users, u),
-            1 => masks::all_but(users, u),
-            _ => kinds::after(&self.declared, rho, u, users),
-        }
+        self.beside(rho, u, users, false)
     }
 
     /// The users `v` below `users` such that the relation holds of v and u. Takes no memory.
@@ -192,10 +175,19 @@ impl Relations {
         requires { users ≤ USER_LIMIT }
         ensures { (v : ℕ) → has_user result v ≡ (nat_lt v users && is_related self.now rho v u) }
     {
+        self.beside(rho, u, users, true)
+    }
+
+    // Who is after a user, or where `back` says so ahead of one.
+    fn beside(&self, rho: RelId, u: UserId, users: u16, back: bool) -> UserSet
+        requires { users ≤ USER_LIMIT }
+        ensures { (v : ℕ) → has_user result v
+            ≡ (nat_lt v users && is_related self.now rho (cond back v u) (cond back u v)) }
+    {
         match rho.0 {
             0 => masks::alone(users, u),
             1 => masks::all_but(users, u),
-            _ => kinds::ahead(&self.declared, rho, u, users),
+            _ => kinds::beside(&self.declared, rho, u, users, back),
         }
     }
 
@@ -216,7 +208,7 @@ impl Relations {
         ensures fault { AnswersFault (relate_fault self.old rho u v) result }
         ensures unchanged { OnErr result (self.new ≡ self.old) }
     {
-        kinds::relate(&mut self.declared, rho, u, v)
+        kinds::change(&mut self.declared, rho, u, v, true)
     }
 
     /// Takes a pair out of a listed relation.
@@ -226,21 +218,21 @@ impl Relations {
         ensures fault { AnswersFault (unrelate_fault self.old rho u v) result }
         ensures unchanged { OnErr result (self.new ≡ self.old) }
     {
-        kinds::unrelate(&mut self.declared, rho, u, v)
+        kinds::change(&mut self.declared, rho, u, v, false)
     }
 
     /// Why `relate` would not put a pair into a relation, want of memory aside.
     pub fn relate_fault(&self, rho: RelId, u: UserId, v: UserId) -> Option<RelationFault>
         ensures { result ≡ relate_fault self.now rho u v }
     {
-        kinds::relate_fault(&self.declared, rho, u, v)
+        kinds::change_fault(&self.declared, rho, u, v, true)
     }
 
     /// Why `unrelate` would not take a pair out of a relation.
     pub fn unrelate_fault(&self, rho: RelId, u: UserId, v: UserId) -> Option<RelationFault>
         ensures { result ≡ unrelate_fault self.now rho u v }
     {
-        kinds::unrelate_fault(&self.declared, rho, u, v)
+        kinds::change_fault(&self.declared, rho, u, v, false)
     }
 
     /// The number of the relation with a name; that of `same` is 0, that of `other` is 1.

@@ -1,6 +1,6 @@
 //! Sets of pairs of users, kept as rows of bits both ways.
 ghost use Rattle.std.specs.Prelude.{◌≡◌, ◌<◌, ◌≤◌, ◌↔◌, ◌&&◌, not, true, false, nat_lt, is_some, ℕ};
-ghost use Rattle.std.specs.Prelude.{IfOk, IfSome, OnOk, OnErr, IsTrue};
+ghost use Rattle.std.specs.Prelude.{cond, IfOk, IfSome, OnOk, OnErr, IsTrue};
 ghost use Rattle.std.specs.FinSet as set;
 ghost use Rattle.basics.specs.Laws.Pairs.{IsAscending};
 ghost use Rattle.wf_names.specs.declared.limits.TheConstants.{USER_LIMIT};
@@ -107,20 +107,14 @@ impl UserPairs {
         Ok(true)
     }
 
-    /// The users `v` below `users` of pairs `(u, v)`.
-    pub fn after(&self, u: UserId, users: u16) -> UserSet
+    /// The users `v` below `users` of pairs `(u, v)`, or of pairs `(v, u)` where `back` says so.
+    pub fn beside(&self, u: UserId, users: u16, back: bool) -> UserSet
         requires { users ≤ USER_LIMIT }
-        ensures { (v : ℕ) → has_user result v ≡ (nat_lt v users && set.contains self.now (u, v)) }
+        ensures { (v : ℕ) → has_user result v
+            ≡ (nat_lt v users && set.contains self.now (cond back v u, cond back u v)) }
     {
-        masks::below(users, &blocks::row(&self.ahead, u))
-    }
-
-    /// The users `v` below `users` of pairs `(v, u)`.
-    pub fn ahead(&self, u: UserId, users: u16) -> UserSet
-        requires { users ≤ USER_LIMIT }
-        ensures { (v : ℕ) → has_user result v ≡ (nat_lt v users && set.contains self.now (v, u)) }
-    {
-        masks::below(users, &blocks::row(&self.behind, u))
+        let rows = if back { &self.behind } else { &self.ahead };
+        masks::below(users, &blocks::row(rows, u))
     }
 
     /// The users `v` of pairs `(u, v)` in place; None where u is no number below the limit.

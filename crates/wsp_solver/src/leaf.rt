@@ -130,22 +130,11 @@ fn first_falsified(course: &Course, a: &Assign) -> Option<u8>
         (slice_get (problem_in course.now).rules k))) }
 {
     'rules: for k in 0..course.rules().len() {
-        if is_falsified(course, a, k as u8) {
+        if course.breaks(a, k as u8) {
             return Some(k as u8);
         }
     }
     None
-}
-
-// Whether there is a rule of a number, and it is falsified.
-fn is_falsified(course: &Course, a: &Assign, k: u8) -> bool
-    ensures { result ≡ is_broken (problem_in course.now) a.now
-        (slice_get (problem_in course.now).rules k) }
-{
-    match course.rules().as_slice().get(k as usize) {
-        Some(rule) => falsified(rule, course.policy, a),
-        None => false,
-    }
 }
 
 /// The leaf of a rule that is falsified, if there is one, where only rules that name a step can be.
@@ -176,7 +165,7 @@ fn falsified_with(course: &Course, a: &Assign, done: &StepSet, s: StepId, first:
         (λ k. IsTrue (refutes (problem_in course.now) a.now done.now (rule k))) }
 {
     let _ = done;
-    if is_falsified(course, a, first) {
+    if course.breaks(a, first) {
         return Some(first);
     }
     'rules: for k in 0..course.rules().len() {

@@ -4,7 +4,7 @@ use Rattle.user_relations.proofs.Relations.relate.Goals as goal
 
 pub invariant_of-self : goal.invariant_of-self
 invariant_of-self c =
-    sound_back c.self.inside.declared.items c.deref_mut.result.now c.relate.new.declared c.self.inside.declared.len c.deref_mut.ensures.value
-    c.deref_mut.ensures.len c.relate.auto.declared c.self.invariant (λ before.
-    sound_relate (shapes c.deref_mut.result.now) _ c.args.rho c.args.u c.args.v c.relate.result before c.requires.first c.requires.second
-    c.relate.ensures.related c.relate.ensures.fault c.relate.ensures.unchanged)
+    sound_back c.self.inside.declared.items c.deref_mut.result.now c.change.new.declared c.self.inside.declared.len c.deref_mut.ensures.value
+    c.deref_mut.ensures.len c.change.auto.declared c.self.invariant (λ before.
+    sound_relate (shapes c.deref_mut.result.now) _ c.args.rho c.args.u c.args.v c.change.result before c.requires.first c.requires.second
+    c.change.ensures.changed c.change.ensures.fault c.change.ensures.unchanged)

@@ -4,7 +4,7 @@ use Rattle.user_relations.proofs.Relations.unrelate.Goals as goal
 
 pub invariant_of-self : goal.invariant_of-self
 invariant_of-self c =
-    sound_back c.self.inside.declared.items c.deref_mut.result.now c.unrelate.new.declared c.self.inside.declared.len c.deref_mut.ensures.value
-    c.deref_mut.ensures.len c.unrelate.auto.declared c.self.invariant (λ before.
-    sound_unrelate (shapes c.deref_mut.result.now) _ c.args.rho c.args.u c.args.v c.unrelate.result before c.unrelate.ensures.unrelated
-    c.unrelate.ensures.fault c.unrelate.ensures.unchanged)
+    sound_back c.self.inside.declared.items c.deref_mut.result.now c.change.new.declared c.self.inside.declared.len c.deref_mut.ensures.value
+    c.deref_mut.ensures.len c.change.auto.declared c.self.invariant (λ before.
+    sound_unrelate (shapes c.deref_mut.result.now) _ c.args.rho c.args.u c.args.v c.change.result before c.change.ensures.changed
+    c.change.ensures.fault c.change.ensures.unchanged)
