@@ -5,7 +5,7 @@ use Rattle.wf_talk.specs.declared.reply.Reply.{Reply}
 use Rattle.wf_talk.specs.declared.reply.Reply.TheVariants as reply
 use Rattle.wf_talk.specs.declared.reply.Denial.{Denial}
 use Rattle.wf_talk.specs.declared.reply.Denial.TheVariants as denial
-use Rattle.wf_board.specs.Counting.{case_of_ask}
+use Rattle.wf_talk.specs.Requests.{case_of_ask}
 
 -- the case that a denial names, and else the one that was asked about
 abbrev pub subject_of_denial : Ask → Denial → Option ℕ

@@ -1,6 +1,5 @@
 //! Which case an entry is about, and what a request names.
 ghost use Rattle.std.specs.Prelude.{◌≡◌};
-ghost use Rattle.wf_board.specs.Counting.{case_of_ask, case_of_request};
 ghost use Rattle.story_words.specs.About.{subject_of, subject_of_denial};
 
 use wf_names::{CaseId, Name};
@@ -14,7 +13,7 @@ pub fn subject(ask: &Ask, reply: &Reply) -> Option<CaseId>
     match reply {
         Reply::Opened { case, .. } => Some(*case),
         Reply::Denied(denial) => subject_of_denial(ask, denial),
-        _ => case_of(ask),
+        _ => ask.case(),
     }
 }
 
@@ -23,34 +22,7 @@ fn subject_of_denial(ask: &Ask, denial: &Denial) -> Option<CaseId>
 {
     match denial {
         Denial::Strands { case, .. } => Some(*case),
-        _ => case_of(ask),
-    }
-}
-
-/// The case that was asked about.
-pub(crate) fn case_of(ask: &Ask) -> Option<CaseId>
-    ensures { result ≡ case_of_ask ask.now }
-{
-    match ask {
-        Ask::Request(request) => case_of_request(request),
-        Ask::Bad(_) => None,
-    }
-}
-
-fn case_of_request(request: &Request) -> Option<CaseId>
-    ensures { result ≡ case_of_request request.now }
-{
-    match *request {
-        Request::OpenCase { .. }
-        | Request::Change { .. }
-        | Request::Worklist { .. }
-        | Request::WhatIf { .. } => None,
-        Request::Claim { case, .. }
-        | Request::Finish { case, .. }
-        | Request::GiveBack { case, .. }
-        | Request::Release { case, .. }
-        | Request::Withdraw { case, .. }
-        | Request::Show { case } => Some(case),
+        _ => ask.case(),
     }
 }
 

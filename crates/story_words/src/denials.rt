@@ -1,6 +1,6 @@
 //! Why a request was denied, in words.
 
-use crate::about::{asker, case_of, relation_asked, step_asked};
+use crate::about::{asker, relation_asked, step_asked};
 use crate::facts::{Breach, push_broken};
 use crate::held::{Held, held_asked, held_in, held_with, step_in};
 use crate::names::{
@@ -31,7 +31,7 @@ pub(crate) fn push_denial(
         Denial::Retired => say(out, &["no case of ", asker(ask), " is opened any more"]),
         Denial::Full => push_full(out, cases, ask),
         Denial::Unsatisfiable { flow, .. } => push_planless(out, p, *flow),
-        Denial::NoCase => push_case_words(out, "there is no case ", case_of(ask), ""),
+        Denial::NoCase => push_case_words(out, "there is no case ", ask.case(), ""),
         Denial::Closed => push_closed(out, told),
         Denial::NoStep => push_no_step(out, told),
         Denial::NoUser => say(out, &["the policy has no user \"", asker(ask), "\""]),
@@ -153,7 +153,7 @@ fn push_limit(out: &mut String, limit: u64, what: &str) -> Result<(), AllocError
 
 // Adds how the case has ended, and by which entry.
 fn push_closed(out: &mut String, told: &Told<'_>) -> Result<(), AllocError> {
-    let Some(c) = case_of(&told.entry.ask) else {
+    let Some(c) = told.entry.ask.case() else {
         return out.push_str("the case is not open");
     };
     let tail = match told.cases.case(c) {

@@ -1,6 +1,6 @@
 //! Which earlier entry did something.
 
-use crate::about::{asker, case_of, step_asked};
+use crate::about::{asker, step_asked};
 use crate::names::push_number;
 use std::alloc::AllocError;
 use wf_names::CaseId;
@@ -37,7 +37,7 @@ fn last_with(entries: &[Entry], case: CaseId, deed: Deed<'_>) -> Option<usize> {
 }
 
 fn has_done(entry: &Entry, case: CaseId, deed: Deed<'_>) -> bool {
-    if case_of(&entry.ask) != Some(case) {
+    if entry.ask.case() != Some(case) {
         return false;
     }
     match (&entry.reply, deed) {

@@ -7,6 +7,7 @@ use Rattle.basics.specs.Laws.Reading.{or_fault, check}
 use Rattle.basics.proofs.Booleans.{eq_back, eq_is, or_false}
 use Rattle.case_record.specs.Cases.{CaseShape}
 use Rattle.grant_table.specs.Cases.{look_up}
+use Rattle.wf_talk.specs.Requests.{case_of_ask}
 use Rattle.wf_talk.specs.declared.entry.Entry.{Entry}
 use Rattle.wf_talk.specs.declared.request.Request.TheVariants as request
 use Rattle.wf_talk.specs.declared.request.Ask.{Ask}
@@ -26,7 +27,7 @@ use Rattle.admin_edits.specs.declared.fault.EditCause.{EditCause}
 use Rattle.wf_board.specs.Resolve.{on_edit, on_step, open_case_at, resolve}
 use Rattle.wf_board.specs.Decisions.{cause_aside, cause_full, decision_aside, decision_of}
 use Rattle.wf_board.specs.Laws.Steps.{Answers, IsReplyTo, IsStep, state_after_decision, state_after_deed, state_after_step}
-use Rattle.wf_board.specs.Counting.{IsFresh, case_of_ask, changed_case, changes_any, counted, counts_for, is_edited, is_number}
+use Rattle.wf_board.specs.Counting.{IsFresh, changed_case, changes_any, counted, counts_for, is_edited, is_number}
 use Rattle.wf_board.specs.Laws.Histories.{EachAfter, IsLegal, IsRetry, IsRightAfter, state_after}
 use Rattle.wf_board.proofs.HistoryLaws.{after_all, after_more, again_stays, each_from, policy_stays}
 use Rattle.wf_board.specs.Verdicts.{IsRight}

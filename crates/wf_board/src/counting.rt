@@ -1,7 +1,7 @@
 //! Which entries count for a request.
 ghost use Rattle.std.specs.Prelude.{◌≡◌};
-ghost use Rattle.wf_board.specs.Counting.{case_of_ask, case_of_request, changed_case, changes_any};
-ghost use Rattle.wf_board.specs.Counting.{counts_for, is_edited, is_number};
+ghost use Rattle.wf_board.specs.Counting.{changed_case, changes_any, counts_for, is_edited};
+ghost use Rattle.wf_board.specs.Counting.{is_number};
 
 use wf_names::CaseId;
 use wf_talk::{Ask, Entry, Reply, Request};
@@ -55,35 +55,7 @@ fn changed_case(ask: &Ask, reply: &Reply) -> Option<CaseId>
         | Reply::Finished { .. }
         | Reply::Returned
         | Reply::Released
-        | Reply::Withdrawn => case_of(ask),
+        | Reply::Withdrawn => ask.case(),
         _ => None,
-    }
-}
-
-/// The case that what was asked names.
-fn case_of(ask: &Ask) -> Option<CaseId>
-    ensures { result ≡ case_of_ask ask.now }
-{
-    match *ask {
-        Ask::Request(request) => case_of_request(&request),
-        Ask::Bad(_) => None,
-    }
-}
-
-/// The case that a request names by its number.
-fn case_of_request(request: &Request) -> Option<CaseId>
-    ensures { result ≡ case_of_request request.now }
-{
-    match *request {
-        Request::OpenCase { .. }
-        | Request::Change { .. }
-        | Request::Worklist { .. }
-        | Request::WhatIf { .. } => None,
-        Request::Claim { case, .. }
-        | Request::Finish { case, .. }
-        | Request::GiveBack { case, .. }
-        | Request::Release { case, .. }
-        | Request::Withdraw { case, .. }
-        | Request::Show { case } => Some(case),
     }
 }

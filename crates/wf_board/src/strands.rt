@@ -64,29 +64,12 @@ fn admit_denied_change(
 {
     let _sound = p.admin();
     let _ = shown;
-    match reply {
-        Reply::Denied(denial) => admit_strands(p, cases, a, denial, n),
-        _ => Err(Fault::Cause(NotStep)),
-    }
-}
-
-/// Whether a denial is by the case that a change strands.
-fn admit_strands(
-    p: &Policy,
-    cases: &Cases,
-    a: Amendment,
-    denial: &Denial,
-    n: CaseId,
-) -> Result<(), AdmitFault>
-    requires ready { IsUnhindered p.now cases.now (deeds.Change a) }
-    requires stranded { (shown : Tree)
-        × IsStrandingFor (book_of p.now cases.now) (Ok (deeds.Change a)) n shown }
-    ensures { HasAdmitted p.now cases.now cases.now (Ok (deeds.Change a))
-        (replies.Denied denial.now) result }
-{
+    let Reply::Denied(denial) = reply else {
+        return Err(Fault::Cause(NotStep));
+    };
     match denial {
         Denial::Strands { case, flow, tree } => {
-            admit_strands_of(p, cases, a, *case, *flow, tree.get(), n)
+            admit_strands(p, cases, a, *case, *flow, tree.get(), n)
         }
         _ => Err(Fault::Cause(NotStep)),
     }
@@ -94,7 +77,7 @@ fn admit_strands(
 
 /// Whether the case with a number and a workflow is the one that a change strands, and a tree
 /// shows it.
-fn admit_strands_of(
+fn admit_strands(
     p: &Policy,
     cases: &Cases,
     a: Amendment,

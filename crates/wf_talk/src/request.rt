@@ -1,4 +1,6 @@
 //! What a caller asks.
+ghost use Rattle.std.specs.Prelude.{◌≡◌};
+ghost use Rattle.wf_talk.specs.Requests.{case_of_ask, case_of_request};
 
 use crate::Edit;
 use wf_names::{CaseId, Name};
@@ -83,4 +85,36 @@ pub enum Ask {
     Request(Request),
     /// The line is no request.
     Bad(Bad),
+}
+
+impl Request {
+    /// The case that the request names by its number.
+    pub fn case(&self) -> Option<CaseId>
+        ensures { result ≡ case_of_request self.now }
+    {
+        match *self {
+            Request::OpenCase { .. }
+            | Request::Change { .. }
+            | Request::Worklist { .. }
+            | Request::WhatIf { .. } => None,
+            Request::Claim { case, .. }
+            | Request::Finish { case, .. }
+            | Request::GiveBack { case, .. }
+            | Request::Release { case, .. }
+            | Request::Withdraw { case, .. }
+            | Request::Show { case } => Some(case),
+        }
+    }
+}
+
+impl Ask {
+    /// The case that what was asked names.
+    pub fn case(&self) -> Option<CaseId>
+        ensures { result ≡ case_of_ask self.now }
+    {
+        match self {
+            Ask::Request(request) => request.case(),
+            Ask::Bad(_) => None,
+        }
+    }
 }

@@ -1,7 +1,7 @@
 use Rattle.std.proofs.Common.{◌≡◌, true, false, refl, sym, ◌∙◌}
 use Rattle.wf_board.proofs.Admission.{strands_admitted, stranded_exists, stranded_here}
 use Rattle.wf_board.proofs.Planned.{known_case}
-use Rattle.wf_board.proofs.strands.admit_strands_of.Goals as goal
+use Rattle.wf_board.proofs.strands.admit_strands.Goals as goal
 
 pub unreachable-requires : goal.unreachable-requires
 unreachable-requires c =
