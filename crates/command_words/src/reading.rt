@@ -56,38 +56,27 @@ fn command_in<'a>(form: Form, found: Found<'a>) -> Option<Command<'a>>
     ensures served { (rows : List Row) → AreIn rows found.entry → IfSome result CanServe }
 {
     match form {
-        Form::Plan => match (found.policy, found.flow) {
-            (Some(policy), Some(flow)) => Some(Command::Plan { policy, flow }),
-            _ => None,
-        },
-        Form::Show => match found.policy {
-            Some(policy) => Some(Command::Show { policy }),
-            _ => None,
-        },
-        Form::Solve => match found.policy {
-            Some(policy) => Some(Command::Solve { policy }),
-            _ => None,
-        },
-        Form::Resilience => match (found.policy, found.flow, found.absences) {
-            (Some(policy), Some(flow), Some(absences)) => Some(Command::Resilience {
-                policy,
-                flow,
-                absences,
-            }),
-            _ => None,
-        },
-        Form::Cnf => match (found.policy, found.flow) {
-            (Some(policy), Some(flow)) => Some(Command::Cnf {
-                policy,
-                flow,
-                model: found.model,
-            }),
-            _ => None,
-        },
-        Form::Trial => match found.seed {
-            Some(seed) => Some(Command::Trial { seed }),
-            _ => None,
-        },
+        Form::Plan => Some(Command::Plan {
+            policy: found.policy?,
+            flow: found.flow?,
+        }),
+        Form::Show => Some(Command::Show {
+            policy: found.policy?,
+        }),
+        Form::Solve => Some(Command::Solve {
+            policy: found.policy?,
+        }),
+        Form::Resilience => Some(Command::Resilience {
+            policy: found.policy?,
+            flow: found.flow?,
+            absences: found.absences?,
+        }),
+        Form::Cnf => Some(Command::Cnf {
+            policy: found.policy?,
+            flow: found.flow?,
+            model: found.model,
+        }),
+        Form::Trial => Some(Command::Trial { seed: found.seed? }),
         Form::Session(session) => session_in(session, found),
     }
 }
@@ -99,33 +88,20 @@ fn session_in<'a>(session: SessionForm, found: Found<'a>) -> Option<Command<'a>>
     ensures served { (rows : List Row) → AreIn rows found.entry → IfSome result CanServe }
 {
     match session {
-        SessionForm::Serve => match (found.policy, found.options) {
-            (Some(policy), Some(options)) => Some(Command::Serve { policy, options }),
-            _ => None,
-        },
-        SessionForm::Audit => match (found.policy, found.requests, found.options) {
-            (Some(policy), Some(requests), Some(options)) => Some(Command::Audit {
-                policy,
-                requests,
-                options,
-            }),
-            _ => None,
-        },
-        SessionForm::Resume => match (
-            found.policy,
-            found.requests,
-            found.transcript,
-            found.options,
-        ) {
-            (Some(policy), Some(requests), Some(transcript), Some(options)) => Some(
-                Command::Resume {
-                    policy,
-                    requests,
-                    transcript,
-                    options,
-                },
-            ),
-            _ => None,
-        },
+        SessionForm::Serve => Some(Command::Serve {
+            policy: found.policy?,
+            options: found.options?,
+        }),
+        SessionForm::Audit => Some(Command::Audit {
+            policy: found.policy?,
+            requests: found.requests?,
+            options: found.options?,
+        }),
+        SessionForm::Resume => Some(Command::Resume {
+            policy: found.policy?,
+            requests: found.requests?,
+            transcript: found.transcript?,
+            options: found.options?,
+        }),
     }
 }
