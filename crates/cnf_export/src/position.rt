@@ -18,13 +18,13 @@ use wf_names::StepId;
 /// part that was listed last, of which those before `item` are given.
 #[derive(Drop)]
 pub(crate) struct Position {
-    pub(crate) next_group: usize,
-    pub(crate) current: Group,
-    pub(crate) parts: u16,
-    pub(crate) part: u16,
-    pub(crate) listed: u16,
-    pub(crate) items: Items,
-    pub(crate) item: usize,
+    next_group: usize,
+    current: Group,
+    parts: u16,
+    part: u16,
+    listed: u16,
+    items: Items,
+    item: usize,
 }
 
 /// Gives the next clause, if there is one.
