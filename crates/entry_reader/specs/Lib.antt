@@ -1,3 +1,4 @@
+pub mod Fault
 pub mod Places
 pub mod Plain
 pub mod Named

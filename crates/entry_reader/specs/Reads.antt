@@ -6,18 +6,19 @@ use Rattle.serde_json.specs.declared.value.Value.{Value}
 use Rattle.refutation_tree.specs.Tree.{Kids}
 use Rattle.refutation_tree.specs.Laws.Views.{branch_onto}
 use Rattle.refutation_tree.specs.declared.tree.Branch.{Branch}
-use Rattle.entry_reader.specs.declared.fault.TextFault.{TextFault}
-use Rattle.entry_reader.specs.declared.fault.TextFault.TheVariants.{NotText}
+use Rattle.basics.specs.declared.fault.Fault.{Fault}
+use Rattle.entry_reader.specs.declared.fault.NotText.{NotText}
+use Rattle.entry_reader.specs.Fault.{not_text}
 
 -- code returned what a reading gives, seen by view; want of memory says nothing
-abbrev pub Reads : {X Y : Type 0} → (X → Y) → Result X TextFault → Option Y → Type 0
+abbrev pub Reads : {X Y : Type 0} → (X → Y) → Result X (Fault NotText) → Option Y → Type 0
 Reads view (Ok x) reading = reading ≡ Some (view x)
-Reads view (Err e) reading = e ≡ NotText → reading ≡ None
+Reads view (Err e) reading = e ≡ not_text → reading ≡ None
 
 -- the same of a branch, put before the others
-abbrev pub ReadsOnto : Result Branch TextFault → Option Kids → Option Kids → Type 0
+abbrev pub ReadsOnto : Result Branch (Fault NotText) → Option Kids → Option Kids → Type 0
 ReadsOnto (Ok b) rest reading = reading ≡ option_map (branch_onto b) rest
-ReadsOnto (Err e) rest reading = e ≡ NotText → reading ≡ None
+ReadsOnto (Err e) rest reading = e ≡ not_text → reading ≡ None
 
 -- each call at a value returns what a reading gives
 abbrev pub ReadsBy : {X : Type 0} → (Value → Option X → Type 0) → (Data → Option X) → Type 0

@@ -6,12 +6,12 @@ ghost use Rattle.entry_reader.specs.Reads.{Reads};
 ghost use Rattle.entry_reader.specs.Values as read;
 ghost use Rattle.entry_reader.specs.Told as told;
 
-use crate::TextFault;
 use crate::kind::{DenialKind, denial_word, missing_word};
 use crate::list::roles_of;
 use crate::parts::{case_of, only, rule_of, state_of, step_of, user_of};
 use crate::tree::read_tree;
-use basics::Shared;
+use crate::{NotText, TextFault};
+use basics::{Fault, Shared};
 use policy_book::Policy;
 use refutation_tree::Tree;
 use serde_json::Value;
@@ -34,10 +34,10 @@ pub(crate) fn denial_of<F: FlowOf>(
     if let Some(denial) = word_denial(value) {
         return Ok(denial);
     }
-    let (key, value) = only(value).ok_or(TextFault::NotText)?;
+    let (key, value) = only(value).ok_or(Fault::Cause(NotText))?;
     match DenialKind::read(key) {
         Some(kind) => denial_by(alloc, p, cases, flow, kind, value),
-        None => Err(TextFault::NotText),
+        None => Err(Fault::Cause(NotText)),
     }
 }
 
@@ -71,7 +71,7 @@ fn denial_by<F: FlowOf>(
             Ok(Denial::Stranded { flow, tree })
         }
         DenialKind::Strands => strands_of(alloc, p, cases, value),
-        _ => short_denial(p, flow, kind, value).ok_or(TextFault::NotText),
+        _ => short_denial(p, flow, kind, value).ok_or(Fault::Cause(NotText)),
     }
 }
 
@@ -102,8 +102,8 @@ fn strands_of<F: FlowOf>(
     ensures { Reads (λ d. d) result (told.strands_read p.now (F.FlowOf.flows cases.now)
         (view value.now)) }
 {
-    let case = case_of(value).ok_or(TextFault::NotText)?;
-    let tree = value.get("tree").ok_or(TextFault::NotText)?;
+    let case = case_of(value).ok_or(Fault::Cause(NotText))?;
+    let tree = value.get("tree").ok_or(Fault::Cause(NotText))?;
     let (flow, tree) = tree_by(alloc, p, cases.flow_of(case), tree)?;
     Ok(Denial::Strands { case, flow, tree })
 }
@@ -117,7 +117,7 @@ fn tree_by(
 ) -> Result<(FlowId, Shared<Tree>), TextFault>
     ensures { Reads (λ t. t) result (told.tree_by p.now flow (view value.now)) }
 {
-    let flow = flow_within(p, flow).ok_or(TextFault::NotText)?;
+    let flow = flow_within(p, flow).ok_or(Fault::Cause(NotText))?;
     let tree = read_tree(alloc, p, flow, value)?;
     Ok((flow, Shared::new(alloc, tree)?))
 }

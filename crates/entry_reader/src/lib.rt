@@ -15,7 +15,7 @@ mod reply;
 mod rest;
 mod tree;
 
-pub use fault::TextFault;
+pub use fault::{NotText, TextFault};
 pub use names::know_names;
 pub use place::{Place, read_place};
 pub use plain::{guess_place, read_plain};

@@ -9,10 +9,10 @@ ghost use Rattle.entry_reader.specs.Reads.{Reads, ReadsBy};
 ghost use Rattle.entry_reader.specs.Values as read;
 ghost use Rattle.entry_reader.specs.Told as told;
 
-use crate::TextFault;
 use crate::denial::step_by;
 use crate::parts::{case_number_of, pair_of, role_of, seen_of, user_of};
-use basics::List;
+use crate::{NotText, TextFault};
+use basics::{Fault, List};
 use policy_book::{Plan, Policy};
 use serde_json::Value;
 use std::alloc::Global;
@@ -74,10 +74,10 @@ fn few_of<T: Drop, F: Fn(&Value) -> Option<T>>(
         → Reads (λ xs. xs) result (read.at_key (read.few_read f) key.now (view value.now)) }
     ensures few { IfOk result (λ xs. length xs ≤ STEP_LIMIT) }
 {
-    let items = value.get(key).ok_or(TextFault::NotText)?;
+    let items = value.get(key).ok_or(Fault::Cause(NotText))?;
     let list = each_of(alloc, items, reader)?;
     if list.len() > STEP_LIMIT {
-        return Err(TextFault::NotText);
+        return Err(Fault::Cause(NotText));
     }
     Ok(list)
 }
@@ -86,7 +86,7 @@ fn few_of<T: Drop, F: Fn(&Value) -> Option<T>>(
 fn items_of(value: &Value) -> Result<&[Value], TextFault>
     ensures { Reads (λ items. items_view items.now) result (as_array (view value.now)) }
 {
-    let items = value.as_array().ok_or(TextFault::NotText)?;
+    let items = value.as_array().ok_or(Fault::Cause(NotText))?;
     Ok(items)
 }
 
@@ -105,7 +105,7 @@ fn each_of<T: Drop, F: Fn(&Value) -> Option<T>>(
     let mut list = List::new(alloc);
     let items = items_of(value)?;
     'items: for item in items {
-        let read = reader(item).ok_or(TextFault::NotText)?;
+        let read = reader(item).ok_or(Fault::Cause(NotText))?;
         list.push(read)?;
     }
     Ok(list)

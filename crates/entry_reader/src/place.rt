@@ -1,11 +1,12 @@
 //! The place in a session that a line names.
 ghost use Rattle.std.specs.Prelude.{◌≡◌, IfOk, IsErrOf, None, Some};
 ghost use Rattle.serde_json.specs.View.{view};
-ghost use Rattle.entry_reader.specs.declared.fault.TextFault.TheVariants.{NotText};
+ghost use Rattle.entry_reader.specs.Fault.{not_text};
 ghost use Rattle.entry_reader.specs.Places.{place_read, place_of_line};
 
-use crate::TextFault;
 use crate::parts::number_below;
+use crate::{NotText, TextFault};
+use basics::Fault;
 use serde_json::Value;
 use std::alloc::Global;
 use wire_json::read_value;
@@ -23,10 +24,10 @@ pub struct Place {
 #[tactic(auto, unfolding(crate::specs::Places::place_of_line))]
 pub fn read_place(alloc: Global, text: &[u8]) -> Result<Place, TextFault>
     ensures place { IfOk result (λ place. place_of_line text.now ≡ Some place) }
-    ensures none { IsErrOf result NotText → place_of_line text.now ≡ None }
+    ensures none { IsErrOf result not_text → place_of_line text.now ≡ None }
 {
-    let value = read_value(alloc, text)?.ok_or(TextFault::NotText)?;
-    place_in(&value).ok_or(TextFault::NotText)
+    let value = read_value(alloc, text)?.ok_or(Fault::Cause(NotText))?;
+    place_in(&value).ok_or(Fault::Cause(NotText))
 }
 
 /// The place that a value names.

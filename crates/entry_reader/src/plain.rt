@@ -11,7 +11,8 @@ use crate::names::know_names;
 use crate::plain_denial::guess_denial;
 use crate::reply::{flow_asked, is_written};
 use crate::rest::{Rest, guess_number};
-use crate::{Place, TextFault};
+use crate::{NotText, Place, TextFault};
+use basics::Fault;
 use memchr::memchr;
 use policy_book::{Plan, Policy};
 use std::alloc::{AllocError, Global};
@@ -110,8 +111,8 @@ fn guess_denied<F: FlowOf>(
 {
     match guess_denial(p, cases, flow, rest) {
         Ok(denial) => Ok(Some(Reply::Denied(denial))),
-        Err(TextFault::NotText) => Ok(None),
-        Err(TextFault::NoMemory) => Err(AllocError),
+        Err(Fault::Cause(NotText)) => Ok(None),
+        Err(Fault::NoMemory) => Err(AllocError),
     }
 }
 

@@ -6,11 +6,11 @@ ghost use Rattle.policy_book.specs.Laws.Shapes.{PolicyShape};
 ghost use Rattle.entry_reader.specs.Laws.Within.{IsCase, IsConcerned, IsState, IsStepOf};
 ghost use Rattle.entry_reader.specs.Plain.{IsLow, IsPlainDenial};
 
-use crate::TextFault;
 use crate::kind::{DenialKind, denial_word, missing_word};
 use crate::plain_tree::{guess_tree, take_rule, take_step, take_user};
 use crate::rest::Rest;
-use basics::Shared;
+use crate::{NotText, TextFault};
+use basics::{Fault, Shared};
 use policy_book::{Course, Policy};
 use refutation_tree::Tree;
 use wf_names::{CASE_NUMBER_LIMIT, CaseId, FlowId, STEP_LIMIT, StepId, StepState};
@@ -39,15 +39,15 @@ fn guess_word(rest: &mut Rest<'_>) -> Result<Denial, TextFault>
     ensures { (p : PolicyShape) (flows : ℕ → Option ℕ) (concerned : Option ℕ) →
         IfOk result (IsPlainDenial p flows concerned) }
 {
-    let word = rest.take_name().ok_or(TextFault::NotText)?;
-    denial_word(word.as_str()).ok_or(TextFault::NotText)
+    let word = rest.take_name().ok_or(Fault::Cause(NotText))?;
+    denial_word(word.as_str()).ok_or(Fault::Cause(NotText))
 }
 
 // Takes the key of a denial that tells more.
 fn take_kind(rest: &mut Rest<'_>) -> Result<DenialKind, TextFault> {
-    let key = rest.take_name().ok_or(TextFault::NotText)?;
+    let key = rest.take_name().ok_or(Fault::Cause(NotText))?;
     rest.skip(b":")?;
-    DenialKind::read(key.as_str()).ok_or(TextFault::NotText)
+    DenialKind::read(key.as_str()).ok_or(Fault::Cause(NotText))
 }
 
 // The denial of a kind.
@@ -111,7 +111,7 @@ fn guess_short(
         DenialKind::Rule => Ok(Denial::Rule(take_rule(rest)?)),
         DenialKind::NotHeld => Ok(Denial::NotHeld(take_state(p, rest)?)),
         DenialKind::Unknown => Ok(Denial::Unknown(take_missing(rest)?)),
-        _ => Err(TextFault::NotText),
+        _ => Err(Fault::Cause(NotText)),
     }
 }
 
@@ -122,7 +122,7 @@ fn flow_within(p: &Policy, flow: Option<FlowId>) -> Result<FlowId, TextFault>
 {
     match flow {
         Some(f) if (f.0 as u16) < p.flows().len() => Ok(f),
-        _ => Err(TextFault::NotText),
+        _ => Err(Fault::Cause(NotText)),
     }
 }
 
@@ -157,7 +157,7 @@ fn take_case(rest: &mut Rest<'_>) -> Result<CaseId, TextFault>
 {
     match rest.take_number() {
         Some(n) if n <= CASE_NUMBER_LIMIT as u32 => Ok(CaseId(n as u16)),
-        _ => Err(TextFault::NotText),
+        _ => Err(Fault::Cause(NotText)),
     }
 }
 
@@ -177,6 +177,6 @@ fn take_state(p: &Policy, rest: &mut Rest<'_>) -> Result<StepState, TextFault>
 
 // Takes the word for what is not there.
 fn take_missing(rest: &mut Rest<'_>) -> Result<Missing, TextFault> {
-    let word = rest.take_name().ok_or(TextFault::NotText)?;
-    missing_word(word.as_str()).ok_or(TextFault::NotText)
+    let word = rest.take_name().ok_or(Fault::Cause(NotText))?;
+    missing_word(word.as_str()).ok_or(Fault::Cause(NotText))
 }

@@ -5,8 +5,9 @@ ghost use Rattle.refutation_tree.specs.Laws.Views.{branch_onto, shape_of};
 ghost use Rattle.entry_reader.specs.Laws.Within.{IsUser, IsStepOf, IsRule};
 ghost use Rattle.entry_reader.specs.Plain.{IsLow, AreLow, IsLowKid};
 
-use crate::TextFault;
 use crate::rest::Rest;
+use crate::{NotText, TextFault};
+use basics::Fault;
 use policy_book::{Course, Policy};
 use refutation_tree::{Branch, Branches, Kid, Tree};
 use wf_names::{StepId, UserId};
@@ -25,7 +26,7 @@ pub(crate) fn guess_tree(
         return guess_leaf(course, height, rest);
     }
     if height == 0 {
-        return Err(TextFault::NotText);
+        return Err(Fault::Cause(NotText));
     }
     let step = take_step(course, rest)?;
     let branches = guess_branches(course, height - 1, rest)?;
@@ -107,7 +108,7 @@ pub(crate) fn take_rule(rest: &mut Rest<'_>) -> Result<u8, TextFault>
 {
     match rest.take_number() {
         Some(n) if n < 256 => Ok(n as u8),
-        _ => Err(TextFault::NotText),
+        _ => Err(Fault::Cause(NotText)),
     }
 }
 
@@ -115,10 +116,10 @@ pub(crate) fn take_rule(rest: &mut Rest<'_>) -> Result<u8, TextFault>
 pub(crate) fn take_user(p: &Policy, rest: &mut Rest<'_>) -> Result<UserId, TextFault>
     ensures { IfOk result (IsUser p.now) }
 {
-    let name = rest.take_name().ok_or(TextFault::NotText)?;
+    let name = rest.take_name().ok_or(Fault::Cause(NotText))?;
     match p.roster().users().find(&name) {
         Some(u) => Ok(UserId(u)),
-        None => Err(TextFault::NotText),
+        None => Err(Fault::Cause(NotText)),
     }
 }
 
@@ -126,9 +127,9 @@ pub(crate) fn take_user(p: &Policy, rest: &mut Rest<'_>) -> Result<UserId, TextF
 pub(crate) fn take_step(course: &Course<'_>, rest: &mut Rest<'_>) -> Result<StepId, TextFault>
     ensures { IfOk result (IsStepOf course.now.policy.now course.now.number) }
 {
-    let name = rest.take_name().ok_or(TextFault::NotText)?;
+    let name = rest.take_name().ok_or(Fault::Cause(NotText))?;
     match course.flow().steps().find(&name) {
         Some(s) => Ok(StepId(s as u8)),
-        None => Err(TextFault::NotText),
+        None => Err(Fault::Cause(NotText)),
     }
 }

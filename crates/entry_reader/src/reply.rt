@@ -3,19 +3,20 @@ ghost use Rattle.std.specs.Prelude.{◌≡◌, ◌≢◌, IfOk, IsErrOf, MatchBo
 ghost use Rattle.serde_json.specs.View.{view};
 ghost use Rattle.serde_json.specs.Find.{as_str};
 ghost use Rattle.wire_json.specs.Replies.{entry_text};
-ghost use Rattle.entry_reader.specs.declared.fault.TextFault.TheVariants.{NotText};
+ghost use Rattle.entry_reader.specs.Fault.{not_text};
 ghost use Rattle.entry_reader.specs.Laws.Lines.{HasReply, HasNoReply, concerned};
 ghost use Rattle.entry_reader.specs.Reads.{Reads};
 ghost use Rattle.entry_reader.specs.Values as read;
 ghost use Rattle.entry_reader.specs.Told as told;
 
-use crate::TextFault;
 use crate::denial::denial_of;
 use crate::kind::{ReplyKind, bad_word, phase_word, reply_word};
 use crate::list::{cases_of, plan_of, states_of, work_of};
 use crate::names::know_names;
 use crate::parts::{case_of, name_of, number_below, numbered, only};
 use crate::place::place_in;
+use crate::{NotText, TextFault};
+use basics::Fault;
 use policy_book::Policy;
 use serde_json::Value;
 use std::alloc::{AllocError, Global};
@@ -36,7 +37,7 @@ pub fn read_reply<F: FlowOf>(
     text: &[u8],
 ) -> Result<Reply, TextFault>
     ensures reply { IfOk result (HasReply p.now (F.FlowOf.flows cases.now) ask.now text.now) }
-    ensures none { IsErrOf result NotText
+    ensures none { IsErrOf result not_text
         → HasNoReply p.now (F.FlowOf.flows cases.now) ask.now text.now }
 {
     know_names(p);
@@ -44,7 +45,7 @@ pub fn read_reply<F: FlowOf>(
     if is_written(alloc, p, &entry, text)? {
         Ok(entry.reply)
     } else {
-        Err(TextFault::NotText)
+        Err(Fault::Cause(NotText))
     }
 }
 
@@ -77,7 +78,7 @@ fn entry_of_line<F: FlowOf>(
 {
     match read_value(alloc, text)? {
         Some(value) => entry_in(alloc, p, cases, ask, &value),
-        None => Err(TextFault::NotText),
+        None => Err(Fault::Cause(NotText)),
     }
 }
 
@@ -92,8 +93,8 @@ fn entry_in<F: FlowOf>(
     ensures { Reads (λ e. e) result (told.entry_read p.now (F.FlowOf.flows cases.now) ask.now
         (view value.now)) }
 {
-    let place = place_in(value).ok_or(TextFault::NotText)?;
-    let reply = value.get("reply").ok_or(TextFault::NotText)?;
+    let place = place_in(value).ok_or(Fault::Cause(NotText))?;
+    let reply = value.get("reply").ok_or(Fault::Cause(NotText))?;
     let flow = flow_asked(p, cases, ask);
     let reply = reply_of(alloc, p, cases, flow, reply)?;
     Ok(Entry {
@@ -139,10 +140,10 @@ fn reply_of<F: FlowOf>(
     if let Some(reply) = word_reply(value) {
         return Ok(reply);
     }
-    let (key, value) = only(value).ok_or(TextFault::NotText)?;
+    let (key, value) = only(value).ok_or(Fault::Cause(NotText))?;
     match ReplyKind::read(key) {
         Some(kind) => reply_by(alloc, p, cases, flow, kind, value),
-        None => Err(TextFault::NotText),
+        None => Err(Fault::Cause(NotText)),
     }
 }
 
@@ -172,7 +173,7 @@ fn reply_by<F: FlowOf>(
         ReplyKind::Work => Ok(Reply::Work(work_of(alloc, p, cases, value)?)),
         ReplyKind::WhatIf => Ok(Reply::WhatIf(cases_of(alloc, value)?)),
         ReplyKind::Denied => Ok(Reply::Denied(denial_of(alloc, p, cases, flow, value)?)),
-        _ => short_reply(kind, value).ok_or(TextFault::NotText),
+        _ => short_reply(kind, value).ok_or(Fault::Cause(NotText)),
     }
 }
 
@@ -206,7 +207,7 @@ fn done_of(value: &Value) -> Option<bool>
 fn opened_of(alloc: Global, p: &Policy, value: &Value) -> Result<Reply, TextFault>
     ensures { Reads (λ r. r) result (told.opened_read p.now (view value.now)) }
 {
-    let case = case_of(value).ok_or(TextFault::NotText)?;
+    let case = case_of(value).ok_or(Fault::Cause(NotText))?;
     let plan = plan_of(alloc, p, value)?;
     Ok(Reply::Opened { case, plan })
 }
@@ -214,8 +215,8 @@ fn opened_of(alloc: Global, p: &Policy, value: &Value) -> Result<Reply, TextFaul
 fn face_of(alloc: Global, p: &Policy, value: &Value) -> Result<Face, TextFault>
     ensures { Reads (λ face. face) result (told.face_read p.now (view value.now)) }
 {
-    let flow = flow_of(p, value).ok_or(TextFault::NotText)?;
-    let phase = phase_of(value).ok_or(TextFault::NotText)?;
+    let flow = flow_of(p, value).ok_or(Fault::Cause(NotText))?;
+    let phase = phase_of(value).ok_or(Fault::Cause(NotText))?;
     let states = states_of(alloc, p, value)?;
     Ok(Face {
         flow,

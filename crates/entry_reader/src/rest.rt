@@ -1,7 +1,8 @@
 //! A text that is guessed from its front. Nothing rests on what is taken from it, since the whole
 //! is written again and compared.
 
-use crate::TextFault;
+use crate::{NotText, TextFault};
+use basics::Fault;
 use memchr::memchr;
 use std::alloc::Global;
 use wf_names::Name;
@@ -31,7 +32,7 @@ impl<'t> Rest<'t> {
         if self.has(bytes) {
             Ok(())
         } else {
-            Err(TextFault::NotText)
+            Err(Fault::Cause(NotText))
         }
     }
 

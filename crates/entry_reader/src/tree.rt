@@ -4,14 +4,15 @@ ghost use Rattle.serde_json.specs.View.{view, items_view};
 ghost use Rattle.refutation_tree.specs.Tree.{Shape, Kids};
 ghost use Rattle.refutation_tree.specs.Laws.Views.{shape_of, branch_onto};
 ghost use Rattle.wire_json.specs.Trees.{tree_data};
-ghost use Rattle.entry_reader.specs.declared.fault.TextFault.TheVariants.{NotText};
+ghost use Rattle.entry_reader.specs.Fault.{not_text};
 ghost use Rattle.entry_reader.specs.Laws.Within.{IsTree};
 ghost use Rattle.entry_reader.specs.Reads.{Reads, ReadsOnto};
 ghost use Rattle.entry_reader.specs.Values as read;
 
-use crate::TextFault;
 use crate::names::know_names;
 use crate::parts::{only, pair_of, rule_of, step_of, user_of};
+use crate::{NotText, TextFault};
+use basics::Fault;
 use policy_book::Policy;
 use refutation_tree::{Branch, Branches, Kid, Tree};
 use serde_json::Value;
@@ -23,7 +24,7 @@ use wf_names::{FlowId, UserId};
 pub fn tree_of(alloc: Global, p: &Policy, f: FlowId, value: &Value) -> Result<Tree, TextFault>
     ensures tree { IfOk result (λ t. IsTree p.now f (shape_of t)
         × (tree_data p.now f (shape_of t) ≡ view value.now)) }
-    ensures none { IsErrOf result NotText → (t : Shape) → IsTree p.now f t
+    ensures none { IsErrOf result not_text → (t : Shape) → IsTree p.now f t
         → tree_data p.now f t ≢ view value.now }
 {
     know_names(p);
@@ -57,8 +58,8 @@ fn read_node(
 ) -> Result<Tree, TextFault>
     ensures { Reads shape_of result (read.node_read p.now f (view step.now) (view users.now)) }
 {
-    let step = step_of(p, f, step).ok_or(TextFault::NotText)?;
-    let items = users.as_array().ok_or(TextFault::NotText)?;
+    let step = step_of(p, f, step).ok_or(Fault::Cause(NotText))?;
+    let items = users.as_array().ok_or(Fault::Cause(NotText))?;
     Ok(Tree::Step(step, read_branches(alloc, p, f, items)?))
 }
 
@@ -86,10 +87,10 @@ fn read_branch(alloc: Global, p: &Policy, f: FlowId, value: &Value) -> Result<Br
         (read.kid_in p.now f (view value.now) rest) }
 {
     let Some((user, kid)) = pair_of(value) else {
-        return Err(TextFault::NotText);
+        return Err(Fault::Cause(NotText));
     };
     let Some(user) = user_of(p, user) else {
-        return Err(TextFault::NotText);
+        return Err(Fault::Cause(NotText));
     };
     match twin_of(p, kid) {
         Some(twin) => Ok(Branch {
@@ -135,7 +136,7 @@ fn are_node_keys(first: &str, second: &str) -> bool
 fn read_leaf(p: &Policy, f: FlowId, value: &Value) -> Result<Tree, TextFault>
     ensures { Reads shape_of result (read.lone_leaf p.now f (view value.now)) }
 {
-    leaf_of(p, f, value).ok_or(TextFault::NotText)
+    leaf_of(p, f, value).ok_or(Fault::Cause(NotText))
 }
 
 fn leaf_of(p: &Policy, f: FlowId, value: &Value) -> Option<Tree>

@@ -2,7 +2,8 @@
 ghost use Rattle.std.specs.Prelude.{Some};
 
 use crate::fixture::{Look, is_right};
-use entry_reader::{Place, TextFault, guess_place, read_plain, read_reply};
+use basics::Fault;
+use entry_reader::{NotText, Place, TextFault, guess_place, read_plain, read_reply};
 use fixtures::PAY;
 use policy_book::Policy;
 use std::alloc::{AllocError, Global};
@@ -148,8 +149,8 @@ fn is_plain(alloc: Global, p: &Policy, line: &str) -> Result<bool, AllocError> {
 fn is_line(alloc: Global, p: &Policy, line: &str) -> Result<bool, AllocError> {
     match read_reply(alloc, p, &OneFlow, &ask(), line.as_bytes()) {
         Ok(_) => Ok(true),
-        Err(TextFault::NotText) => Ok(false),
-        Err(TextFault::NoMemory) => Err(AllocError),
+        Err(Fault::Cause(NotText)) => Ok(false),
+        Err(Fault::NoMemory) => Err(AllocError),
     }
 }
 

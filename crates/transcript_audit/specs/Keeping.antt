@@ -18,8 +18,7 @@ use Rattle.wf_desk.specs.Desks.{served_jobs}
 use Rattle.wf_desk.specs.Docket.{IsNextPlace, entry_for}
 use Rattle.line_reader.specs.Laws.{AreInOrder}
 use Rattle.entry_reader.specs.declared.place.Place.{Place}
-use Rattle.entry_reader.specs.declared.fault.TextFault.{TextFault}
-use Rattle.entry_reader.specs.declared.fault.TextFault.TheVariants as text
+use Rattle.entry_reader.specs.declared.fault.NotText.{NotText}
 use Rattle.entry_reader.specs.Laws.Lines.{HasReply}
 use Rattle.transcript_audit.specs.declared.cursor.Cursor.{Cursor}
 use Rattle.transcript_audit.specs.declared.fault.AuditKind.TheVariants as kinds
@@ -125,9 +124,9 @@ again_in (reply.Again n place) = Some (n, place)
 again_in given = None
 
 -- what is wrong where a text was not read
-abbrev pub flaw_of_text : TextFault → Fault AuditKind
-flaw_of_text text.NotText = flaw.Cause kinds.Text
-flaw_of_text text.NoMemory = flaw.NoMemory
+abbrev pub flaw_of_text : Fault NotText → Fault AuditKind
+flaw_of_text (flaw.Cause _) = flaw.Cause kinds.Text
+flaw_of_text flaw.NoMemory = flaw.NoMemory
 
 -- the job at a place, if it is its lane's next one
 abbrev pub IsDueIf : AuditShape → Place → Option Job → Type 0

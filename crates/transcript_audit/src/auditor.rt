@@ -7,7 +7,7 @@ ghost use Rattle.wf_board.specs.Boards.{state_on};
 ghost use Rattle.wf_board.specs.Laws.Histories.{IsLegal};
 ghost use Rattle.wf_board.specs.Laws.States.{opening_state};
 ghost use Rattle.wf_desk.specs.Laws.Parts.{FillsPart};
-ghost use Rattle.entry_reader.specs.declared.fault.TextFault.TheVariants.{NotText};
+ghost use Rattle.entry_reader.specs.Fault.{not_text};
 ghost use Rattle.entry_reader.specs.Laws.Lines.{HasNoReply, HasReply};
 ghost use Rattle.entry_reader.specs.Places.{place_of_line};
 ghost use Rattle.wf_talk.specs.declared.reply.Reply.TheVariants as reply;
@@ -25,7 +25,7 @@ use crate::record::Record;
 use crate::verdict::verdict_for;
 use crate::{AuditFault, AuditKind};
 use basics::Fault;
-use entry_reader::{Place, TextFault, guess_place, read_place, read_plain, read_reply};
+use entry_reader::{NotText, Place, TextFault, guess_place, read_place, read_plain, read_reply};
 use policy_book::Policy;
 use std::alloc::{AllocError, Global};
 use std::marker::Model;
@@ -220,7 +220,7 @@ impl Auditor {
     fn reply(&self, alloc: Global, ask: &Ask, line: &[u8]) -> Result<Reply, TextFault>
         ensures reply { IfOk result (HasReply (state_now self.now).book.policy
             (flows_now self.now) ask.now line.now) }
-        ensures none { IsErrOf result NotText → HasNoReply (state_now self.now).book.policy
+        ensures none { IsErrOf result not_text → HasNoReply (state_now self.now).book.policy
             (flows_now self.now) ask.now line.now }
     {
         let flows = Flows {
@@ -318,12 +318,12 @@ impl Auditor {
 // The place that a line tells, where it ends with LF.
 fn told_place(alloc: Global, line: &[u8]) -> Result<Place, TextFault>
     ensures place { IfOk result (λ place. place_told line.now ≡ Some place) }
-    ensures none { IsErrOf result NotText → place_told line.now ≡ None }
+    ensures none { IsErrOf result not_text → place_told line.now ≡ None }
 {
     if is_ended(line) {
         read_place(alloc, line)
     } else {
-        Err(TextFault::NotText)
+        Err(Fault::Cause(NotText))
     }
 }
 

@@ -4,7 +4,7 @@ ghost use Rattle.transcript_audit.specs.Keeping.{flaw_of_text};
 
 use crate::AuditKind;
 use basics::Fault;
-use entry_reader::TextFault;
+use entry_reader::{NotText, TextFault};
 
 /// Why a line is not taken: what is wrong with it, or that an allocation was refused.
 pub(crate) type Flaw = Fault<AuditKind>;
@@ -14,7 +14,7 @@ pub(crate) fn flaw_of_text(fault: TextFault) -> Flaw
     ensures { result ≡ flaw_of_text fault }
 {
     match fault {
-        TextFault::NotText => Fault::Cause(AuditKind::Text),
-        TextFault::NoMemory => Fault::NoMemory,
+        Fault::Cause(NotText) => Fault::Cause(AuditKind::Text),
+        Fault::NoMemory => Fault::NoMemory,
     }
 }
