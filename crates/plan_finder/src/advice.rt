@@ -157,7 +157,7 @@ fn restrict_each(problem: &Problem, work: &mut Work, law: &Law, a: &Assign, s: u
     if law.step == s {
         restrict_last(problem, work, law, a, false);
     } else if let Some(v) = holder(a, law.step) {
-        keep_back(problem, work, law.over, v);
+        keep_ahead(problem, work, law.over.turned(), v);
     }
 }
 
@@ -254,19 +254,6 @@ fn keep_ahead(problem: &Problem, work: &mut Work, over: Over, u: u16) {
     }
 }
 
-// Those who are related to a user stay.
-fn keep_back(problem: &Problem, work: &mut Work, over: Over, v: u16) {
-    match over {
-        Over::Same => keep_only(work, v),
-        Over::Other => take_user(work.spare.row_mut(0), v),
-        Over::Declared(at, back) => {
-            if let Some(link) = problem.link(at, back) {
-                let _ = meet(work.spare.row_mut(0), link.back(v));
-            }
-        }
-    }
-}
-
 fn keep_only(work: &mut Work, u: u16) {
     let stays = has_user(work.spare.row(0), u);
     clear(work.spare.row_mut(0));
@@ -287,7 +274,7 @@ fn restrict_some(problem: &Problem, work: &mut Work, law: &Law, a: &Assign, s: u
     }
     let Some(v) = holder(a, law.step) else { return };
     if !some_related(problem, law, a, s, v) {
-        keep_back(problem, work, law.over, v);
+        keep_ahead(problem, work, law.over.turned(), v);
     }
 }
 

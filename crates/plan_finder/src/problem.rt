@@ -21,6 +21,17 @@ pub(crate) enum Over {
     Declared(u8, bool),
 }
 
+impl Over {
+    /// The relation read the other way round.
+    pub(crate) fn turned(self) -> Over {
+        match self {
+            Over::Same => Over::Same,
+            Over::Other => Over::Other,
+            Over::Declared(at, back) => Over::Declared(at, !back),
+        }
+    }
+}
+
 /// What a law asks of its group.
 #[derive(Clone, Copy)]
 pub(crate) enum Demand {

@@ -1,7 +1,6 @@
 -- Families that grow by a valid plan, and what was tried.
-use Rattle.std.proofs.Common.{◌≡◌, refl, sym, ap, ◌∙◌, subst, ℕ, ◌+◌, ◌<◌, ◌≤◌, true, false, ◌&&◌, ◌==◌, nat_lt, List, [], ◌∷◌, ◌++◌, length}
-use Rattle.std.proofs.Common.{Option, None, Some, append_assoc, take, arith, inl, inr}
-use Rattle.std.specs.Option.{is_none}
+use Rattle.std.proofs.Common.{◌≡◌, refl, sym, ap, ◌∙◌, subst, ℕ, ◌+◌, ◌<◌, ◌≤◌, true, ◌&&◌, ◌==◌, nat_lt, List, [], ◌∷◌, ◌++◌, length}
+use Rattle.std.proofs.Common.{append_assoc, arith, inl, inr}
 use Rattle.std.proofs.lemmas.Bool.{false≢true}
 use Rattle.std.proofs.lemmas.List.Elements.{All-push}
 use Rattle.basics.proofs.Booleans.{and_both, differ, eq_back, lt_back, or_cases, or_left, or_right}
@@ -16,7 +15,7 @@ use Rattle.certificate_check.proofs.Refuted.{refutes_soundly}
 use Rattle.resilience_check.specs.Left.{AreUsersInOrder, IsLeastAbsence, comes_before, is_less, problem_without}
 use Rattle.resilience_check.specs.Covering.{AreValidPlans, is_whole, leaves_some}
 use Rattle.resilience_check.specs.Lists.{Withstands}
-use Rattle.resilience_check.specs.Searches.{FoundWith, Grows, HasFoundLeast, HasFoundWith, FamilyGrows, HasNone, HasTriedAbsences, RefutesAbsence}
+use Rattle.resilience_check.specs.Searches.{Grows, HasFoundLeast, FamilyGrows, HasNone}
 use Rattle.resilience_check.proofs.Authority.{can_do_by, valid_is_whole, valid_with}
 use Rattle.resilience_check.proofs.Coverage.{ascends_from}
 use Rattle.resilience_check.proofs.Leaving.{leaves_alike, leaves_append}
@@ -56,10 +55,10 @@ pub found_from : (p : PolicyShape) (f : ℕ) (absent now : List ℕ) (k left les
     → u < length p.roster.users → less + 1 ≡ left →
     ((v : ℕ) → k ≤ v → v < u → (other : List ℕ) → AreUsersInOrder (v + 1) (length p.roster.users) other → length other + 1 ≡ left
     → leaves_some before (absent ++ (v ∷ other)) ≡ true) →
-    Grows before plans → HasFoundWith p f absent u less plans now tree → HasFoundLeast p f absent k left plans now tree
+    Grows before plans → HasFoundLeast p f (absent ++ u ∷ []) (u + 1) less plans now tree → HasFoundLeast p f absent k left plans now tree
 found_from p f absent now k left less u before plans tree low known one each grows found = record {
   more = u ∷ found.more;
-  is = found.is;
+  is = found.is ∙ append_assoc absent (u ∷ []) found.more;
   ascending = (low, known, found.ascending);
   count = let count = found.count in omega (arith, count, one);
   refuted = found.refuted;
@@ -75,7 +74,8 @@ found_from p f absent now k left less u before plans tree low known one each gro
           let both = and_both (v == u) (is_less other found.more) here in
           let same = eq_back v u both.0 in
           subst (λ x. leaves_some plans (absent ++ (x ∷ other)) ≡ true) (sym same)
-          (found.least other (subst (λ x. AreUsersInOrder (x + 1) (length p.roster.users) other) same ascending.2) (omega (arith, count, one)) both.1)
+          (subst (λ us. leaves_some plans us ≡ true) (append_assoc absent (u ∷ []) other)
+          (found.least other (subst (λ x. AreUsersInOrder (x + 1) (length p.roster.users) other) same ascending.2) (omega (arith, count, one)) both.1))
     ]
 
 -- each first user was tried
@@ -88,44 +88,6 @@ none_from n absent now k left end_ plans same some all each = record { same = sa
     tried [] ascending count = absurd (some (sym count))
     tried (v ∷ other) ascending count = each v ascending.0 (let below = ascending.1 in omega (arith, below, all)) other ascending.2
         (omega (arith, count))
-
--- what was found behind some users and u, as found behind the users
-pub found_behind : (p : PolicyShape) (f : ℕ) (absent now final : List ℕ) (u left : ℕ) (before after : List (List ℕ)) (found : Option Tree) →
-    HasTriedAbsences p f before (absent ++ u ∷ []) (u + 1) left after now found → (is_none found ≡ true → final ≡ absent)
-    → (is_none found ≡ false → final ≡ now) →
-    FamilyGrows p f before after × FoundWith p f absent u left after final found
-found_behind p f absent now final u left before after None tried cut kept = (
-  tried.0,
-  record {
-    same = cut refl;
-    each = λ other ascending count. subst (λ us. leaves_some after us ≡ true) (append_assoc absent (u ∷ []) other)
-        (tried.1.each other ascending count);
-  },
-)
-found_behind p f absent now final u left before after (Some tree) tried cut kept = (
-  tried.0,
-  record {
-    more = tried.1.more;
-    is = kept refl ∙ tried.1.is ∙ append_assoc absent (u ∷ []) tried.1.more;
-    ascending = tried.1.ascending;
-    count = tried.1.count;
-    refuted = subst (λ us. RefutesAbsence p f us tree) (sym (kept refl)) tried.1.refuted;
-    least = λ other ascending count less. subst (λ us. leaves_some after us ≡ true) (append_assoc absent (u ∷ []) other)
-        (tried.1.least other ascending count less);
-  },
-)
-
-taken : (xs ys : List ℕ) → take (length xs) (xs ++ ys) ≡ xs
-taken [] ys = refl
-taken (x ∷ xs) ys = ap (λ zs. x ∷ zs) (taken xs ys)
-
--- where nothing was found, what was put behind the users is cut off again
-pub cut_back : (absent : List ℕ) (u k left : ℕ) (p : PolicyShape) (f : ℕ) (before after : List (List ℕ)) (now : List ℕ) (found : Option Tree)
-    (count : ℕ) → count ≡ length absent →
-    HasTriedAbsences p f before (absent ++ u ∷ []) k left after now found → is_none found ≡ true → take count now ≡ absent
-cut_back absent u k left p f before after now None count is tried none =
-    ap (λ n. take n now) is ∙ ap (take (length absent)) tried.1.same ∙ taken absent (u ∷ [])
-cut_back absent u k left p f before after now (Some tree) count is tried none = absurd (false≢true none)
 
 -- an absence that was found after all shorter ones and all lesser ones of its length is the least
 pub least_by : (p : PolicyShape) (f t size : ℕ) (before plans : List (List ℕ)) (now : List ℕ) (tree : Tree) → size ≤ t

@@ -1,6 +1,6 @@
 -- Inside: how far the search for the least absence has come.
-use Rattle.std.specs.Prelude.{◌≡◌, ℕ, ◌+◌, true, not, ◌&&◌, ◌==◌, nat_lt, List}
-use Rattle.std.specs.Prelude.{◌∷◌, ◌++◌, length, Option, None, Some, IsTrue}
+use Rattle.std.specs.Prelude.{◌≡◌, ℕ, true, not, ◌&&◌, ◌==◌, nat_lt, List}
+use Rattle.std.specs.Prelude.{◌++◌, length, Option, None, Some, IsTrue}
 use Rattle.std.specs.FinSet as set
 use Rattle.basics.specs.Laws.Pairs.{Pairs}
 use Rattle.constraint_forms.specs.Assign.{no_users, no_steps}
@@ -57,36 +57,6 @@ abbrev pub HasTriedAbsences : PolicyShape → ℕ → List (List ℕ) → List �
     → Option Tree → Type 0
 HasTriedAbsences p f before absent k left after now found =
     FamilyGrows p f before after × Found p f absent k left after now found
-
--- the family has a whole plan for each absence of u and `left` more users behind u
-pub record HasNoneWith (n : ℕ) (absent : List ℕ) (u left : ℕ) (plans : List (List ℕ))
-    (now : List ℕ) : Type 0 where
-  pub same : now ≡ absent
-  pub each : (other : List ℕ) → AreUsersInOrder (u + 1) n other → length other ≡ left
-      → leaves_some plans (absent ++ (u ∷ other)) ≡ true
-
-pub record HasFoundWith (p : PolicyShape) (f : ℕ) (absent : List ℕ) (u left : ℕ)
-    (plans : List (List ℕ)) (now : List ℕ) (tree : Tree) : Type 0 where
-  pub more : List ℕ
-  pub is : now ≡ absent ++ (u ∷ more)
-  pub ascending : AreUsersInOrder (u + 1) (length p.roster.users) more
-  pub count : length more ≡ left
-  pub refuted : RefutesAbsence p f now tree
-  pub least : (other : List ℕ) → AreUsersInOrder (u + 1) (length p.roster.users) other
-      → length other ≡ left → is_less other more ≡ true
-      → leaves_some plans (absent ++ (u ∷ other)) ≡ true
-
-abbrev pub FoundWith : PolicyShape → ℕ → List ℕ → ℕ → ℕ → List (List ℕ) → List ℕ → Option Tree
-    → Type 0
-FoundWith p f absent u left plans now None =
-    HasNoneWith (length p.roster.users) absent u left plans now
-FoundWith p f absent u left plans now (Some tree) = HasFoundWith p f absent u left plans now tree
-
--- the same, of absences that begin with u
-abbrev pub HasTriedWith : PolicyShape → ℕ → List (List ℕ) → List ℕ → ℕ → ℕ → List (List ℕ)
-    → List ℕ → Option Tree → Type 0
-HasTriedWith p f before absent u left after now found =
-    FamilyGrows p f before after × FoundWith p f absent u left after now found
 
 -- one absence was tried: a tree refutes, or the family has a plan for it
 abbrev pub FoundOne : PolicyShape → ℕ → List ℕ → List (List ℕ) → Option Tree → Type 0

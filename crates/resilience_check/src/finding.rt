@@ -6,7 +6,7 @@ ghost use Rattle.wsp_solver.specs.Searches.{HasSolved};
 ghost use Rattle.resilience_check.specs.Left.{AreUsers, problem_without};
 ghost use Rattle.policy_book.specs.Course.{problem_in};
 ghost use Rattle.resilience_check.specs.Covering.{AreValidPlans};
-ghost use Rattle.resilience_check.specs.Searches.{HasTriedAbsences, HasTriedOne, HasTriedWith};
+ghost use Rattle.resilience_check.specs.Searches.{HasTriedAbsences, HasTriedOne};
 
 use crate::away::Away;
 use crate::covering::can_break;
@@ -21,7 +21,6 @@ use wsp_solver::{Outcome, solve};
 /// The first absence of `left` more users, numbered from `from` on, that leaves with those who are
 /// absent already no valid plan; they are put behind these, and a tree refutes what is left. Where
 /// there is none, the family comes to have a plan for each such absence.
-#[cycle(finding)]
 pub(crate) fn first_breaking(
     alloc: Global,
     course: &Course,
@@ -47,40 +46,15 @@ pub(crate) fn first_breaking(
     if left == 0 {
         return try_absence(alloc, course, family, absent);
     }
+    let count = absent.len();
     'users: for u in from..course.policy.roster().users().len() {
-        match with_user(alloc, course, family, absent, UserId(u), left - 1)? {
+        absent.push(UserId(u))?;
+        match first_breaking(alloc, course, family, absent, u + 1, left - 1)? {
             Some(tree) => return Ok(Some(tree)),
-            None => {}
+            None => absent.truncate(count),
         }
     }
     Ok(None)
-}
-
-// The same, of absences that begin with a user.
-#[cycle(finding)]
-fn with_user(
-    alloc: Global,
-    course: &Course,
-    family: &mut Plans,
-    absent: &mut Absent,
-    u: UserId,
-    left: u8,
-) -> Result<Option<Tree>, AllocError>
-    requires users { AreUsers (problem_in course.now).users absent.old }
-    requires user { u < (problem_in course.now).users }
-    requires room { u + 1 < 2 ^ 16 }
-    requires family { AreValidPlans (problem_in course.now) family.old }
-    ensures { IfOk result
-        (HasTriedWith course.now.policy.now course.now.number family.old absent.old
-        u left family.new absent.new) }
-{
-    let count = absent.len();
-    absent.push(u)?;
-    let found = first_breaking(alloc, course, family, absent, u.0 + 1, left)?;
-    if found.is_none() {
-        absent.truncate(count);
-    }
-    Ok(found)
 }
 
 // A tree that refutes what is left without some users; or a valid plan without them, in the family.
