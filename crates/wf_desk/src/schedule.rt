@@ -2,8 +2,8 @@
 ghost use Rattle.std.specs.Prelude.{◌≡◌, ◌<◌, ◌≤◌, ◌+◌, [], length, slice_set, vec_capacity};
 ghost use Rattle.std.specs.Prelude.{vec_len, IfOk, None, OnErr};
 ghost use Rattle.wf_names.specs.declared.limits.TheConstants.{LANE_LIMIT};
-ghost use Rattle.wf_desk.specs.Holding.{AreHeld, standing};
-ghost use Rattle.wf_desk.specs.Schedules.{AreEventsOf, HasDone, HasGoneOn, HasGrown};
+ghost use Rattle.wf_desk.specs.Holding.{CanTurn, HasTurned, standing};
+ghost use Rattle.wf_desk.specs.Schedules.{AreEventsOf, HasGoneOn, HasGrown};
 ghost use Rattle.wf_desk.specs.Schedules.{HasRunSchedule, held_by, lane_of, mark_of, no_tasks};
 
 use crate::{Desk, Outcome, Task, solve_task};
@@ -121,11 +121,8 @@ fn take_turn<V: Decider>(
     event: Event,
 ) -> Mark
     requires ready { V.ready decider.now }
-    requires lane { lane_of event < desk.old.lanes }
-    requires held { AreHeld desk.old held.old }
-    ensures done { HasDone (standing desk.old held.old) event result (standing desk.new held.new) }
-    ensures held { AreHeld desk.new held.new }
-    ensures grown { HasGrown desk.old desk.new }
+    requires can { CanTurn (standing desk.old held.old) (lane_of event) }
+    ensures { HasTurned (standing desk.old held.old) event result (standing desk.new held.new) }
 {
     match event {
         Event::Begin(lane) => begin(desk, alloc, decider, held, lane),
@@ -137,11 +134,9 @@ fn take_turn<V: Decider>(
 /// A lane takes a task, and a verdict on it is found.
 fn begin<V: Decider>(desk: &Desk, alloc: Global, decider: &V, held: &mut Held, lane: u8) -> Mark
     requires ready { V.ready decider.now }
-    requires lane { lane < desk.now.lanes }
-    requires held { AreHeld desk.now held.old }
-    ensures done { HasDone (standing desk.now held.old) (Event.Begin lane) result
+    requires can { CanTurn (standing desk.now held.old) lane }
+    ensures { HasTurned (standing desk.now held.old) (Event.Begin lane) result
         (standing desk.now held.new) }
-    ensures held { AreHeld desk.now held.new }
 {
     let _few = desk.lanes();
     let _sound = desk.journal();
@@ -186,12 +181,9 @@ fn commit<V: Decider>(
     lane: u8,
 ) -> Mark
     requires ready { V.ready decider.now }
-    requires lane { lane < desk.old.lanes }
-    requires held { AreHeld desk.old held.old }
-    ensures done { HasDone (standing desk.old held.old) (Event.Commit lane) result
+    requires can { CanTurn (standing desk.old held.old) lane }
+    ensures { HasTurned (standing desk.old held.old) (Event.Commit lane) result
         (standing desk.new held.new) }
-    ensures held { AreHeld desk.new held.new }
-    ensures grown { HasGrown desk.old desk.new }
 {
     let _few = desk.lanes();
     match take_held(held, lane) {
@@ -213,12 +205,9 @@ fn mark_of(outcome: Outcome) -> Mark
 /// A lane's next job is decided inside the turn.
 fn serve<V: Decider>(desk: &mut Desk, alloc: Global, decider: &V, held: &Held, lane: u8) -> Mark
     requires ready { V.ready decider.now }
-    requires lane { lane < desk.old.lanes }
-    requires held { AreHeld desk.old held.now }
-    ensures done { HasDone (standing desk.old held.now) (Event.Serve lane) result
+    requires can { CanTurn (standing desk.old held.now) lane }
+    ensures { HasTurned (standing desk.old held.now) (Event.Serve lane) result
         (standing desk.new held.now) }
-    ensures held { AreHeld desk.new held.now }
-    ensures grown { HasGrown desk.old desk.new }
 {
     let _ = held;
     if desk.serve_next(alloc, decider, lane) {

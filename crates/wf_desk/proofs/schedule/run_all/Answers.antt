@@ -18,12 +18,15 @@ events-init g c =
       room = refl;
     }
 
-pub take_turn-mark-requires-clause-lane : goal.take_turn-mark-requires-clause-lane
-take_turn-mark-requires-clause-lane g c =
+pub take_turn-mark-requires-clause-can : goal.take_turn-mark-requires-clause-can
+take_turn-mark-requires-clause-can g c =
     let events = c.args.events.now in
     let i = c.events.event-index in
-    subst (λ n. lane_of (get_or events i (Begin 0)) < n) (sym c.events.invariant.grown.lanes)
-    (lane_in c.args.desk.now.lanes events i (Begin 0) c.requires.lanes c.events-test.true)
+    record {
+      lane = subst (λ n. lane_of (get_or events i (Begin 0)) < n) (sym c.events.invariant.grown.lanes)
+          (lane_in c.args.desk.now.lanes events i (Begin 0) c.requires.lanes c.events-test.true);
+      held = c.events.invariant.held;
+    }
 
 pub events-preserved : goal.events-preserved
 events-preserved g c =
