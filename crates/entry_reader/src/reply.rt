@@ -42,11 +42,10 @@ pub fn read_reply<F: FlowOf>(
 {
     know_names(p);
     let entry = entry_of_line(alloc, p, cases, ask, text)?;
-    if is_written(alloc, p, &entry, text)? {
-        Ok(entry.reply)
-    } else {
-        Err(Fault::Cause(NotText))
+    if !is_written(alloc, p, &entry, text)? {
+        return Err(Fault::Cause(NotText));
     }
+    Ok(entry.reply)
 }
 
 /// Whether a text is that of an entry.
