@@ -22,17 +22,35 @@ pub struct Report {
     pub batch_ends: Ends,
 }
 
+impl Report {
+    /// The report of a session that ended with this fault, or with none: what was answered, what
+    /// was asked, and the ends of the batches.
+    pub fn new(fault: RunFault, entries: Journal, jobs: Jobs, batch_ends: Ends) -> Report
+        ensures status { result.status ≡ status_of fault }
+        ensures fault { result.fault ≡ fault }
+        ensures told { told_by result ≡
+            record { entries = entries.entries; jobs = jobs; batch_ends = batch_ends } }
+    {
+        Report {
+            status: fault.status(),
+            fault,
+            entries,
+            jobs,
+            batch_ends,
+        }
+    }
+}
+
 /// The report of a run without a session.
 pub fn bare_report(alloc: Global, fault: RunFault) -> Report
     ensures status { result.status ≡ status_of fault }
     ensures fault { result.fault ≡ fault }
     ensures told { told_by result ≡ nothing_told }
 {
-    Report {
-        status: fault.status(),
+    Report::new(
         fault,
-        entries: Journal::new(alloc),
-        jobs: Jobs::new(alloc),
-        batch_ends: Ends::new(alloc),
-    }
+        Journal::new(alloc),
+        Jobs::new(alloc),
+        Ends::new(alloc),
+    )
 }

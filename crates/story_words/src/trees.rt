@@ -21,6 +21,14 @@ pub(crate) fn push_tree(
     push_node(out, indent, held, tree)
 }
 
+// A step of a case in which steps are held so, with its branches in a tree.
+#[derive(Clone, Copy)]
+struct Choice<'a> {
+    held: &'a Held<'a>,
+    step: StepId,
+    branches: &'a [Branch],
+}
+
 // Adds what a tree says behind what stands in the line, and the lines below it.
 #[cycle(push_node)]
 fn push_node(
@@ -39,30 +47,23 @@ fn push_node(
             out.push_str(".\n")
         }
         Tree::Step(s, branches) => {
-            let branches = branches.as_slice();
-            push_choice(out, held, *s, branches)?;
+            let choice = Choice {
+                held,
+                step: *s,
+                branches: branches.as_slice(),
+            };
+            push_choice(out, &choice)?;
             out.push_str(".\n")?;
-            push_leaves(out, indent, held, *s, branches)?;
-            push_branches(out, indent, held, *s, branches)
+            push_leaves(out, indent, &choice)?;
+            'branches: for branch in branches.as_slice() {
+                push_branch(out, indent, held, *s, branch)?;
+            }
+            Ok(())
         }
     }
 }
 
-// Adds the branches that go on, or are told by another one.
-#[cycle(push_node)]
-fn push_branches(
-    out: &mut String,
-    indent: &str,
-    held: &Held<'_>,
-    s: StepId,
-    branches: &[Branch],
-) -> Result<(), AllocError> {
-    'branches: for branch in branches {
-        push_branch(out, indent, held, s, branch)?;
-    }
-    Ok(())
-}
-
+// Adds a branch that goes on, or is told by another one.
 #[cycle(push_node)]
 fn push_branch(
     out: &mut String,
@@ -102,18 +103,12 @@ fn push_twin(
 }
 
 // Adds a line for each rule that some branches break at once.
-fn push_leaves(
-    out: &mut String,
-    indent: &str,
-    held: &Held<'_>,
-    s: StepId,
-    branches: &[Branch],
-) -> Result<(), AllocError> {
+fn push_leaves(out: &mut String, indent: &str, choice: &Choice<'_>) -> Result<(), AllocError> {
     for k in 0..RULE_LIMIT {
-        let users = users_of(branches, Some(k as u8));
+        let users = users_of(choice.branches, Some(k as u8));
         if users.count() > 0 {
             say(out, &[indent, "- "])?;
-            push_leaf(out, held, s, k as u8, &users)?;
+            push_leaf(out, choice.held, choice.step, k as u8, &users)?;
             out.push_str(".\n")?;
         }
     }
@@ -157,15 +152,11 @@ fn users_of(branches: &[Branch], rule: Option<u8>) -> UserSet {
 }
 
 // Adds who alone can do a step.
-fn push_choice(
-    out: &mut String,
-    held: &Held<'_>,
-    s: StepId,
-    branches: &[Branch],
-) -> Result<(), AllocError> {
-    push_name(out, held.steps(), s.0 as u16)?;
+fn push_choice(out: &mut String, choice: &Choice<'_>) -> Result<(), AllocError> {
+    let held = choice.held;
+    push_name(out, held.steps(), choice.step.0 as u16)?;
     out.push_str(" can be done by ")?;
-    let users = users_of(branches, None);
+    let users = users_of(choice.branches, None);
     if users.count() == 0 {
         return out.push_str("nobody");
     }
@@ -194,21 +185,23 @@ pub(crate) fn push_short(out: &mut String, held: &Held<'_>, tree: &Tree) -> Resu
             out.push_str(". ")?;
             push_broken(out, held, *k, Breach::Is)
         }
-        Tree::Step(s, branches) => push_short_node(out, held, *s, branches.as_slice()),
+        Tree::Step(s, branches) => {
+            let choice = Choice {
+                held,
+                step: *s,
+                branches: branches.as_slice(),
+            };
+            push_short_node(out, &choice)
+        }
     }
 }
 
-// The same of a node, where all of its branches break one rule at once.
-fn push_short_node(
-    out: &mut String,
-    held: &Held<'_>,
-    s: StepId,
-    branches: &[Branch],
-) -> Result<(), AllocError> {
-    match branches {
+// The same of a step with its branches, where all of them break one rule at once.
+fn push_short_node(out: &mut String, choice: &Choice<'_>) -> Result<(), AllocError> {
+    match choice.branches {
         [] => {
             out.push_str(". ")?;
-            push_choice(out, held, s, branches)
+            push_choice(out, choice)
         }
         [
             Branch {
@@ -217,14 +210,14 @@ fn push_short_node(
             },
             ..
         ] => {
-            let users = users_of(branches, Some(*k));
-            if users.count() as usize != branches.len() {
+            let users = users_of(choice.branches, Some(*k));
+            if users.count() as usize != choice.branches.len() {
                 return Ok(());
             }
             out.push_str(". ")?;
-            push_choice(out, held, s, branches)?;
+            push_choice(out, choice)?;
             out.push_str(". ")?;
-            push_leaf(out, held, s, *k, &users)
+            push_leaf(out, choice.held, choice.step, *k, &users)
         }
         _ => Ok(()),
     }

@@ -97,13 +97,21 @@ finds_over : (A : PolicyShape → RunFault → List ℕ → Type 0) (file : List
     → OverPolicy A file (ending_of f) (finding_text f)
 finds_over A file p f gives h = rw (le-ltb POLICY_FILE_LIMIT (length file) gives.0, gives.1) h
 
-pub finds_file : (A : PolicyShape → RunFault → List ℕ → Type 0) (f : Filed) (p : PolicyShape) (result : Result Finding RunFault)
+finds_file : (A : PolicyShape → RunFault → List ℕ → Type 0) (f : Filed) (p : PolicyShape) (result : Result Finding RunFault)
     → GivesPolicy f (Ok p) → FindsAs (A p) result → FindsFile A f result
 finds_file A missing p result gives h = cc
 finds_file A untold p (Ok f) gives h = (gives.0, finds_over A gives.0 p f gives.1 h)
 finds_file A untold p (Err fault) gives h = answers_file A untold p (Err fault) gives (λ file read. h)
 finds_file A (told file) p (Ok f) gives h = finds_over A file p f gives h
 finds_file A (told file) p (Err fault) gives h = answers_file A (told file) p (Err fault) gives (λ file read. h)
+
+-- the requests are as they were before the policy was loaded
+pub finds_behind : (policy : Filed) (p : PolicyShape) (o : AuditOf) (requests : Filed) (i : Input) (result : Result Finding RunFault)
+    → GivesPolicy policy (Ok p) → o.requests ≡ requests → FindsAs (AuditsPolicy o i p) result
+    → FindsFile (AuditsPolicy (record { requests = requests; lanes = o.lanes; rounds = o.rounds }) i) policy result
+finds_behind policy p o requests i result gives kept h =
+    finds_file (AuditsPolicy (record { requests = requests; lanes = o.lanes; rounds = o.rounds }) i) policy p result gives
+    (subst (λ (x : Filed). FindsAs (AuditsPolicy (record { requests = x; lanes = o.lanes; rounds = o.rounds }) i p) result) kept h)
 
 finds_no_policy : (A : PolicyShape → RunFault → List ℕ → Type 0) (f : Filed) (fault : RunFault) → GivesPolicy f (Err fault) → IsLoadEnding fault →
     FindsFile A f (Err fault)

@@ -9,13 +9,12 @@ ghost use Rattle.wf_commands.specs.Load.{EndsTooLong};
 ghost use Rattle.transcript_commands.specs.Finding.{finding_text};
 ghost use Rattle.transcript_commands.specs.Run.{EndsFinding, IsOnLanes};
 ghost use Rattle.transcript_commands.specs.Audit.{AuditsPolicy, AuditsRun, ReadsAsAudit};
-ghost use Rattle.transcript_commands.specs.Steps.{FailsAs, FindsAs, FindsFile};
+ghost use Rattle.transcript_commands.specs.Steps.{FailsAs, FindsFile};
 
 use crate::auditing::audit_input;
 use crate::finding::Finding;
 use crate::jobs_file::load_jobs;
 use crate::laws::legal_is_exact;
-use policy_book::Policy;
 use run_record::{Report, RunFault, bare_report};
 use std::alloc::Global;
 use transcript_audit::{Auditor, know_session};
@@ -88,34 +87,10 @@ fn find<V: Decider, F: Shelf, S: Source>(
     ensures input { ReadsAsAudit (fault_in result) (S.left source.old) (S.left source.new) }
 {
     let p = load_policy(alloc, shelf, session.policy)?;
-    find_under(alloc, decider, p, session, shelf, source)
-}
-
-// What the audit finds of a session that begins with a policy.
-fn find_under<V: Decider, F: Shelf, S: Source>(
-    alloc: Global,
-    decider: &V,
-    policy: Policy,
-    session: AuditedSession,
-    shelf: &mut F,
-    source: &mut S,
-) -> Result<Finding, RunFault>
-    requires ready { V.ready decider.now }
-    requires lanes { IsOnLanes session.lanes }
-    ensures finds { FindsAs (AuditsPolicy (record {
-      requests = F.file shelf.old session.entry.requests.now;
-      lanes = session.entry.lanes;
-      rounds = session.entry.rounds;
-    }) (record { before = S.left source.old; after = S.left source.new }) policy) result }
-    ensures ends { EndsFinding (F.file shelf.old session.entry.requests.now) result }
-    ensures loads { CountsLoads (fault_in result) (F.faults shelf.old) (F.faults shelf.new) }
-    ensures reads { CountsReadsAlone (fault_in result) (S.faults source.old) (S.faults source.new) }
-    ensures input { ReadsAsAudit (fault_in result) (S.left source.old) (S.left source.new) }
-{
     let batch = load_jobs(alloc, shelf, session.requests, session.lanes)?;
-    know_session(&policy, session.rounds, &batch.jobs, &batch.ends);
+    know_session(&p, session.rounds, &batch.jobs, &batch.ends);
     legal_is_exact();
-    let auditor = Auditor::new(alloc, policy, batch.jobs, batch.ends, session.rounds)?;
+    let auditor = Auditor::new(alloc, p, batch.jobs, batch.ends, session.rounds)?;
     audit_input(alloc, decider, auditor, source)
 }
 

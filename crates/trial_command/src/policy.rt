@@ -10,11 +10,9 @@ use crate::named::named;
 use crate::people::{ADMIN, roster_of};
 use crate::related::relations_of;
 use crate::steps::{flow_of, rules_of};
-use constraint_forms::Rules;
 use policy_book::Policy;
 use std::alloc::{AllocError, Global};
 use wf_names::NameFault;
-use workflow_schema::Flow;
 
 /// The policy, whose roles are drawn.
 #[tactic(auto, using(crate::proofs::Peers::counts), unfolding(crate::specs::Policy::trial_policy))]
@@ -39,6 +37,7 @@ fn started(alloc: Global, draws: &mut Generator) -> Result<Policy, AllocError>
 }
 
 // Makes the workflow, and adds it to a policy without any.
+#[tactic(auto, using(crate::proofs::FlowFacts::flow_facts))]
 fn add_workflow(alloc: Global, policy: &mut Policy) -> Result<(), AllocError>
     requires roles { length policy.old.roster.roles ≡ 6 }
     requires related { length policy.old.relations ≡ 2 }
@@ -50,23 +49,7 @@ fn add_workflow(alloc: Global, policy: &mut Policy) -> Result<(), AllocError>
     }) }
 {
     let flow = flow_of(alloc)?;
-    add_flow(policy, flow, rules_of(alloc)?)
-}
-
-// Adds the workflow to a policy without any.
-#[tactic(auto, using(crate::proofs::FlowFacts::flow_facts))]
-fn add_flow(policy: &mut Policy, flow: Flow, rules: Rules) -> Result<(), AllocError>
-    requires flow { flow ≡ trial_flow }
-    requires rules { rules ≡ trial_rules }
-    requires roles { length policy.old.roster.roles ≡ 6 }
-    requires related { length policy.old.relations ≡ 2 }
-    requires unnamed { policy.old.flow_names ≡ [] }
-    requires bare { policy.old.flows ≡ [] }
-    ensures { OnOk result (policy.new ≡ record policy.old {
-      flow_names = flow_name ∷ [];
-      flows = record { flow = trial_flow; rules = trial_rules; retired = false } ∷ [];
-    }) }
-{
+    let rules = rules_of(alloc)?;
     match policy.add_flow(named("buy"), flow, rules) {
         Ok(_) => Ok(()),
         Err(NameFault::NoMemory) => Err(AllocError),

@@ -50,11 +50,5 @@ fn report_of(fault: RunFault, served: Served) -> Report
         jobs,
         batch_ends,
     } = served;
-    Report {
-        status: fault.status(),
-        fault,
-        entries,
-        jobs,
-        batch_ends,
-    }
+    Report::new(fault, entries, jobs, batch_ends)
 }

@@ -161,11 +161,5 @@ pub(crate) fn report_of(fault: RunFault, desk: Desk, told: Answered) -> Report
 {
     let (entries, jobs) = desk.into_told();
     let Answered { batch_ends } = told;
-    Report {
-        status: fault.status(),
-        fault,
-        entries,
-        jobs,
-        batch_ends,
-    }
+    Report::new(fault, entries, jobs, batch_ends)
 }
