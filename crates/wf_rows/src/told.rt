@@ -91,8 +91,7 @@ fn tells_over(
     wanted: Wanted<'_>,
 ) -> Result<bool, AllocError> {
     let mut sink = MemSink::new(alloc, ROOM, ROOM, Vec::new(alloc))?;
-    let mut outside = Outside::new(alloc, shelf, source, &mut sink);
-    let ended = run_alone(words, &mut outside);
+    let ended = run_alone(words, &mut Outside::new(alloc, shelf, source, &mut sink));
     Ok(ended.fault.status() as u64 == status && is_wanted(sink.bytes(), wanted))
 }
 
