@@ -1,3 +1,4 @@
 pub mod Fault
+pub mod Outside
 pub mod Report
 pub mod Laws

@@ -2,7 +2,9 @@
 #![tactic(auto)]
 
 mod fault;
+mod outside;
 mod report;
 
 pub use fault::{InputFault, RunFault};
+pub use outside::Outside;
 pub use report::{Report, bare_report};

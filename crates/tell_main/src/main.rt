@@ -6,7 +6,7 @@ use run_record::RunFault;
 use std::io::BufWriter;
 use std::process::ExitCode;
 use std::{env, io};
-use tell_run::{Ended, end, run_alone};
+use tell_run::{Ended, Outside, end, run_alone};
 use wf_system::{DiskShelf, StdinSource, StdoutSink, after_name, all_words};
 
 /// How many bytes of the output are kept back at most until they are let go.
@@ -22,11 +22,13 @@ fn main(rt: HostRuntime) -> ExitCode {
     };
     let ended = match all_words(rt.alloc(), env::args(&rt)) {
         Ok(words) => run_alone(
-            rt.alloc(),
             after_name(&words),
-            &mut DiskShelf::new(&rt),
-            &mut StdinSource::new(rt.reader()),
-            &mut StdoutSink::new(writer),
+            &mut Outside::new(
+                rt.alloc(),
+                &mut DiskShelf::new(&rt),
+                &mut StdinSource::new(rt.reader()),
+                &mut StdoutSink::new(writer),
+            ),
         ),
         Err(fault) => Ended {
             fault,

@@ -1,12 +1,13 @@
 -- What a run of the program comes to, by what it is asked to tell.
-use Rattle.std.specs.Prelude.{◌≡◌, ℕ, List, None}
+use Rattle.std.specs.Prelude.{◌≡◌, ℕ, List, Option, None}
 use Rattle.std.proofs.Common.{◌⊎◌}
 use Rattle.wf_outside.specs.Laws.Outside.{Filed}
 use Rattle.run_record.specs.declared.fault.RunFault.{RunFault}
 use Rattle.run_record.specs.declared.fault.RunFault.TheVariants.{Nothing, Usage, NoMemory}
 use Rattle.run_record.specs.Fault.{CountsLoads, CountsWrites}
 use Rattle.run_record.specs.Report.{nothing_told}
-use Rattle.run_record.specs.Laws.Run.{Run, Streams}
+use Rattle.run_record.specs.declared.outside.Outside.{Outside}
+use Rattle.run_record.specs.Laws.Run.{Run, streams_of}
 use Rattle.wf_commands.specs.Once.{Ends, RunsOnce}
 use Rattle.case_story.specs.Transcript.{Tells, TellsRun}
 use Rattle.tell_run.specs.declared.words.Asked.{Asked}
@@ -15,14 +16,15 @@ use Rattle.tell_run.specs.Words.{CanTell}
 use Rattle.tell_run.specs.Policy.{JudgesFiled}
 use Rattle.tell_run.specs.Why.{TellsWhy}
 
--- a run that tells nothing of a session of its own
-abbrev pub run_to : (List ℕ → Filed) → ℕ → ℕ → Streams → Streams → RunFault → Run
-run_to files loads loads_after before after fault = record {
-  files = files;
-  load_faults = loads;
-  load_faults_after = loads_after;
-  before = before;
-  after = after;
+-- a run over what it reaches, before and after, that tells nothing of a session of its own
+abbrev pub run_to : {F S K : Type 0} → (F → List ℕ → Filed) → (F → ℕ) → (S → Option (List ℕ))
+    → (S → ℕ) → (K → Option (List ℕ)) → (K → ℕ) → Outside F S K → Outside F S K → RunFault → Run
+run_to file load_faults left read_faults held write_faults o after fault = record {
+  files = file o.shelf.now;
+  load_faults = load_faults o.shelf.now;
+  load_faults_after = load_faults after.shelf.now;
+  before = streams_of left read_faults held write_faults o.source.now o.sink.now;
+  after = streams_of left read_faults held write_faults after.source.now after.sink.now;
   told = nothing_told;
   fault = fault;
 }

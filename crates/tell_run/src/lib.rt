@@ -11,3 +11,4 @@ mod words;
 
 pub use ended::{Ended, end};
 pub use run::run_alone;
+pub use run_record::Outside;

@@ -2,9 +2,10 @@
 ghost use Rattle.std.specs.Prelude.{◌≡◌, ◌<◌, ◌≤◌, ℕ, List, Ok, IfErr, IfOk, OnOk};
 ghost use Rattle.wf_names.specs.declared.limits.TheConstants.{LANE_LIMIT, POLICY_FILE_LIMIT};
 ghost use Rattle.wf_outside.specs.Laws.Outside.{with_bytes};
-ghost use Rattle.run_record.specs.Fault.{fault_in, status_of, CountsLoads, CountsReadsAlone};
+ghost use Rattle.run_record.specs.Fault.{fault_in, CountsLoads, CountsReadsAlone};
 ghost use Rattle.run_record.specs.Fault.{CountsWrites};
-ghost use Rattle.run_record.specs.Laws.Run.{run_of, streams_of};
+ghost use Rattle.run_record.specs.Report.{HasEnded};
+ghost use Rattle.run_record.specs.Laws.Run.{run_over};
 ghost use Rattle.wf_commands.specs.Load.{EndsTooLong};
 ghost use Rattle.transcript_commands.specs.Finding.{finding_text};
 ghost use Rattle.transcript_commands.specs.Run.{EndsFinding, IsOnLanes};
@@ -15,7 +16,7 @@ use crate::auditing::audit_input;
 use crate::finding::Finding;
 use crate::jobs_file::load_jobs;
 use crate::laws::legal_is_exact;
-use run_record::{Report, RunFault, bare_report};
+use run_record::{Outside, Report, RunFault, bare_report};
 use std::alloc::Global;
 use transcript_audit::{Auditor, know_session};
 use wf_board::Decider;
@@ -36,26 +37,21 @@ pub struct AuditedSession<'a> {
 /// Audits the transcript in the input: whether the session can have written it. Writes what is
 /// found.
 pub fn run_audit<V: Decider, F: Shelf, S: Source, K: Sink>(
-    alloc: Global,
     decider: &V,
     session: AuditedSession,
-    shelf: &mut F,
-    source: &mut S,
-    sink: &mut K,
+    outside: &mut Outside<'_, F, S, K>,
 ) -> Report
     requires ready { V.ready decider.now }
     requires some { 0 < session.lanes }
     requires lanes { session.lanes ≤ LANE_LIMIT }
-    ensures status { result.status ≡ status_of result.fault }
-    ensures usage { result.fault ≡ RunFault.Usage → ⊥ }
+    ensures ended { HasEnded outside.old outside.new result }
     ensures audits { AuditsRun session.entry.policy.now session.entry.requests.now
         session.entry.lanes session.entry.rounds (
-        run_of F.file F.faults shelf.old shelf.new
-        (streams_of S.left S.faults K.held K.faults source.old sink.old)
-        (streams_of S.left S.faults K.held K.faults source.new sink.new) result) }
+        run_over F.file F.faults S.left S.faults K.held K.faults outside.old outside.new result) }
 {
-    match find(alloc, decider, session, shelf, source) {
-        Ok(finding) => match tell(alloc, finding, sink) {
+    let alloc = outside.alloc;
+    match find(alloc, decider, session, outside.shelf, outside.source) {
+        Ok(finding) => match tell(alloc, finding, outside.sink) {
             Ok(()) => bare_report(alloc, finding.ending()),
             Err(fault) => bare_report(alloc, fault),
         },

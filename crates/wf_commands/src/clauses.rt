@@ -1,9 +1,9 @@
 //! The run that writes the clauses of a case.
 ghost use Rattle.std.specs.Prelude.{◌≡◌, ◌<◌, length, Some, IfErr, IfOk};
 ghost use Rattle.wf_names.specs.declared.limits.TheConstants.{LINE_LIMIT, POLICY_FILE_LIMIT};
-ghost use Rattle.run_record.specs.Fault.{fault_in, status_of, CountsLoads, CountsReadsAlone};
-ghost use Rattle.run_record.specs.Report.{nothing_told, told_by};
-ghost use Rattle.run_record.specs.Laws.Run.{run_of, streams_of};
+ghost use Rattle.run_record.specs.Fault.{fault_in, CountsLoads, CountsReadsAlone};
+ghost use Rattle.run_record.specs.Report.{nothing_told, told_by, HasEnded};
+ghost use Rattle.run_record.specs.Laws.Run.{run_over};
 ghost use Rattle.wf_commands.specs.Answer.{IsAnswerEnding, IsCommandEnding};
 ghost use Rattle.wf_commands.specs.Load.{EndsTooLong};
 ghost use Rattle.wf_commands.specs.Once.{ReadsInput};
@@ -17,30 +17,25 @@ use basics::Fault;
 use cnf_export::model_laws::satisfiable_is_completable;
 use cnf_export::{Encoder, write_clauses};
 use policy_book::{Course, Policy};
-use run_record::{Report, RunFault, bare_report};
+use run_record::{Outside, Report, RunFault, bare_report};
 use std::alloc::Global;
 use wf_outside::{Shelf, Sink, Source};
 
 /// Writes the clauses of the case in the input, for a workflow of the policy in a file. The text is
 /// written piece by piece, so that it is never whole in memory.
 pub fn run_clauses<F: Shelf, S: Source, K: Sink>(
-    alloc: Global,
     policy: &str,
     flow: &str,
-    shelf: &mut F,
-    source: &mut S,
-    sink: &mut K,
+    outside: &mut Outside<'_, F, S, K>,
 ) -> Report
-    ensures status { result.status ≡ status_of result.fault }
-    ensures usage { result.fault ≡ RunFault.Usage → ⊥ }
+    ensures ended { HasEnded outside.old outside.new result }
     ensures told { told_by result ≡ nothing_told }
     ensures writes { WritesClauses policy.now flow.now (
-        run_of F.file F.faults shelf.old shelf.new
-        (streams_of S.left S.faults K.held K.faults source.old sink.old)
-        (streams_of S.left S.faults K.held K.faults source.new sink.new) result) }
+        run_over F.file F.faults S.left S.faults K.held K.faults outside.old outside.new result) }
 {
-    match find_clauses(alloc, policy, flow, shelf, source) {
-        Ok(mut encoder) => match write_clauses(alloc, &mut encoder, sink) {
+    let alloc = outside.alloc;
+    match find_clauses(alloc, policy, flow, outside.shelf, outside.source) {
+        Ok(mut encoder) => match write_clauses(alloc, &mut encoder, outside.sink) {
             Ok(()) => bare_report(alloc, RunFault::Nothing),
             Err(Fault::Cause(_)) => bare_report(alloc, RunFault::Write),
             Err(Fault::NoMemory) => bare_report(alloc, RunFault::NoMemory),

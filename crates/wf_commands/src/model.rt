@@ -1,9 +1,9 @@
 //! The run that reads a model back.
 ghost use Rattle.std.specs.Prelude.{◌≡◌, Some, IfErr};
 ghost use Rattle.wf_names.specs.declared.limits.TheConstants.{LINE_LIMIT, POLICY_FILE_LIMIT};
-ghost use Rattle.run_record.specs.Fault.{fault_in, status_of, CountsLoads, CountsReadsAlone};
-ghost use Rattle.run_record.specs.Report.{nothing_told, told_by};
-ghost use Rattle.run_record.specs.Laws.Run.{run_of, streams_of};
+ghost use Rattle.run_record.specs.Fault.{fault_in, CountsLoads, CountsReadsAlone};
+ghost use Rattle.run_record.specs.Report.{nothing_told, told_by, HasEnded};
+ghost use Rattle.run_record.specs.Laws.Run.{run_over};
 ghost use Rattle.wf_commands.specs.Answer.{AnswersAs, AnswersFile, IsCommandEnding};
 ghost use Rattle.wf_commands.specs.Load.{EndsTooLong};
 ghost use Rattle.wf_commands.specs.Once.{ReadsInput};
@@ -15,31 +15,26 @@ use crate::encoding::take_case;
 use crate::model_file::MODEL_FILE_LIMIT;
 use crate::{Answer, find_flow, load_file, load_policy};
 use policy_book::{Course, Policy};
-use run_record::{Report, RunFault, bare_report};
+use run_record::{Outside, Report, RunFault, bare_report};
 use std::alloc::Global;
 use wf_outside::{Shelf, Sink, Source, put_and_flush};
 
 /// Reads the model in a file, for the case in the input and a workflow of the policy in another
 /// file, and writes the plan that it says, or the first clause that it does not satisfy.
 pub fn run_model<F: Shelf, S: Source, K: Sink>(
-    alloc: Global,
     policy: &str,
     flow: &str,
     model: &str,
-    shelf: &mut F,
-    source: &mut S,
-    sink: &mut K,
+    outside: &mut Outside<'_, F, S, K>,
 ) -> Report
-    ensures status { result.status ≡ status_of result.fault }
-    ensures usage { result.fault ≡ RunFault.Usage → ⊥ }
+    ensures ended { HasEnded outside.old outside.new result }
     ensures told { told_by result ≡ nothing_told }
     ensures reads { ReadsModelFile policy.now flow.now model.now (
-        run_of F.file F.faults shelf.old shelf.new
-        (streams_of S.left S.faults K.held K.faults source.old sink.old)
-        (streams_of S.left S.faults K.held K.faults source.new sink.new) result) }
+        run_over F.file F.faults S.left S.faults K.held K.faults outside.old outside.new result) }
 {
-    match find_reading(alloc, policy, flow, model, shelf, source) {
-        Ok(answer) => match put_and_flush(sink, answer.text.as_slice()) {
+    let alloc = outside.alloc;
+    match find_reading(alloc, policy, flow, model, outside.shelf, outside.source) {
+        Ok(answer) => match put_and_flush(outside.sink, answer.text.as_slice()) {
             Ok(()) => bare_report(alloc, answer.ending()),
             Err(_) => bare_report(alloc, RunFault::Write),
         },

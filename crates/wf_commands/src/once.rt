@@ -2,37 +2,33 @@
 //! answer is written.
 ghost use Rattle.std.specs.Prelude.{◌≡◌, None, IfErr};
 ghost use Rattle.wf_names.specs.declared.limits.TheConstants.{POLICY_FILE_LIMIT};
-ghost use Rattle.run_record.specs.Fault.{fault_in, status_of, CountsLoads, CountsReadsAlone};
-ghost use Rattle.run_record.specs.Laws.Run.{run_of, streams_of};
+ghost use Rattle.run_record.specs.Fault.{fault_in, CountsLoads, CountsReadsAlone};
+ghost use Rattle.run_record.specs.Report.{HasEnded};
+ghost use Rattle.run_record.specs.Laws.Run.{LeavesSource, run_over};
 ghost use Rattle.wf_commands.specs.Answer.{AnswersFile, IsCommandEnding};
 ghost use Rattle.wf_commands.specs.Load.{EndsTooLong};
 ghost use Rattle.wf_commands.specs.Once.{ReadsInput, RunsOnce};
 
 use crate::answer::{Answer, Answers};
 use crate::load::load_policy;
-use run_record::{Report, RunFault, bare_report};
+use run_record::{Outside, Report, RunFault, bare_report};
 use std::alloc::Global;
 use wf_outside::{Shelf, Sink, Source, put_and_flush};
 
 /// Runs a command that answers once about the policy in a file, and writes its answer.
 pub fn answer_once<A: Answers, F: Shelf, S: Source, K: Sink>(
-    alloc: Global,
     policy: &str,
     command: &A,
-    shelf: &mut F,
-    source: &mut S,
-    sink: &mut K,
+    outside: &mut Outside<'_, F, S, K>,
 ) -> Report
-    ensures status { result.status ≡ status_of result.fault }
-    ensures usage { result.fault ≡ RunFault.Usage → ⊥ }
+    ensures ended { HasEnded outside.old outside.new result }
     ensures answers { RunsOnce (A.limit command.now) policy.now (A.answers command.now) (
-        run_of F.file F.faults shelf.old shelf.new
-        (streams_of S.left S.faults K.held K.faults source.old sink.old)
-        (streams_of S.left S.faults K.held K.faults source.new sink.new) result) }
-    ensures untouched { A.limit command.now ≡ None → source.new ≡ source.old }
+        run_over F.file F.faults S.left S.faults K.held K.faults outside.old outside.new result) }
+    ensures untouched { A.limit command.now ≡ None → LeavesSource outside.old outside.new }
 {
-    match find_answer(alloc, policy, command, shelf, source) {
-        Ok(answer) => match put_and_flush(sink, answer.text.as_slice()) {
+    let alloc = outside.alloc;
+    match find_answer(alloc, policy, command, outside.shelf, outside.source) {
+        Ok(answer) => match put_and_flush(outside.sink, answer.text.as_slice()) {
             Ok(()) => bare_report(alloc, answer.ending()),
             Err(_) => bare_report(alloc, RunFault::Write),
         },

@@ -4,7 +4,7 @@ use crate::outside::words_of;
 use crate::row::{list, number, text};
 use fixtures::source_of;
 use std::alloc::{AllocError, Global};
-use tell_run::run_alone;
+use tell_run::{Outside, run_alone};
 use toml::Value;
 use wf_outside::{MemShelf, MemSink, MemSource};
 
@@ -91,7 +91,7 @@ fn tells_over(
     wanted: Wanted<'_>,
 ) -> Result<bool, AllocError> {
     let mut sink = MemSink::new(alloc, ROOM, ROOM, Vec::new(alloc))?;
-    let ended = run_alone(alloc, words, shelf, source, &mut sink);
+    let ended = run_alone(words, &mut Outside::new(alloc, shelf, source, &mut sink));
     Ok(ended.fault.status() as u64 == status && is_wanted(sink.bytes(), wanted))
 }
 

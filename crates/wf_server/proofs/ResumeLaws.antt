@@ -21,7 +21,9 @@ use Rattle.run_record.specs.declared.fault.RunFault.{RunFault}
 use Rattle.run_record.specs.declared.fault.RunFault.TheVariants as fault
 use Rattle.run_record.specs.Fault.{how_of, is_before_input, CountsLoads, CountsReads, CountsWrites}
 use Rattle.run_record.specs.Report.{Told, nothing_told}
-use Rattle.run_record.specs.Laws.Run.{Run, IsOrderly, IsUntouched, Streams}
+use Rattle.run_record.specs.declared.outside.Outside.{Outside}
+use Rattle.run_record.specs.declared.report.Report.{Report}
+use Rattle.run_record.specs.Laws.Run.{Run, IsOrderly, IsUntouched, Streams, run_of, run_over, streams_of}
 use Rattle.transcript_audit.specs.declared.fault.AuditKind.{AuditKind}
 use Rattle.transcript_commands.specs.Finding.{audit_fault_line}
 use Rattle.transcript_commands.specs.Resumed.{IsRefused, Session}
@@ -33,10 +35,10 @@ use Rattle.transcript_commands.specs.Laws.Begun.{BeginsBy, EndsBeginning, HasBeg
 use Rattle.transcript_commands.specs.Load.{FileNames, OverFiles}
 use Rattle.transcript_commands.proofs.Files.{files_goal, files_map}
 use Rattle.command_words.specs.Laws.Words.{AreOptions, Command, Options, may_repeat, resume, serve}
-use Rattle.wf_server.specs.Runs.{HasRun}
+use Rattle.wf_server.specs.Runs.{DoesBy, HasRun, IsServedOnce, is_on_threads, rounds_of}
 use Rattle.transcript_audit.proofs.Batches.{last_start}
 use Rattle.wf_server.specs.Sessions.{ReadsFor, Served, Setting, handed_in}
-use Rattle.wf_server.specs.Ways.{setting_of}
+use Rattle.wf_server.specs.Ways.{ServesOnce, setting_of}
 use Rattle.wf_server.specs.Batches.{Serves, AreInOrderFrom, HasAnsweredAll, IsServing, IsWriteEnding}
 use Rattle.wf_server.specs.Files.{FileTo, IsToldTo}
 use Rattle.wf_server.specs.Laws.Resuming.{CountsRefusal, EndsBy, RefusesAs, ResumesFrom, ResumesRun, TellsAs, setting_behind}
@@ -407,17 +409,38 @@ no_rounds : (b : Bool) (n : ℕ) → b ≡ true → (b && nat_lt 0 n) ≡ false 
 no_rounds true n is never = let none : nat_lt 0 n ≡ false = never in grind (arith, common_steps)
 no_rounds false n is never = absurd cc
 
--- on threads
-pub threaded : {A : Type 0} (command : Option Command) (names : FileNames) (options : Options) (r : Run) →
-    command ≡ Some (resume names.policy names.requests names.transcript options)
-    → nat_lt 1 options.lanes ≡ true → ((repeats : Bool) → (repeats ≡ false → A ⊎ (options.rounds ≡ 0)) → ResumesRun names options repeats r) →
-    HasRun (may_repeat command) command r
-threaded command names options r is lanes resumes =
-    subst (λ c. HasRun (may_repeat c) c r) (sym is)
-    (inr (resumes (nat_lt 1 options.lanes && nat_lt 0 options.rounds) (λ never. inr (no_rounds (nat_lt 1 options.lanes) options.rounds lanes never))))
+no_rounds_of : (command : Command) → is_on_threads command ≡ true → may_repeat (Some command) ≡ false → rounds_of command ≡ 0
+no_rounds_of (serve policy options) lanes never = no_rounds (nat_lt 1 options.lanes) options.rounds lanes never
+no_rounds_of (resume policy requests transcript options) lanes never = no_rounds (nat_lt 1 options.lanes) options.rounds lanes never
+no_rounds_of command lanes never = cc
 
--- and the session of a policy answers each request once
-pub served_once : {A : Type 0} (command : Option Command) (policy : List ℕ) (options : Options) → command ≡ Some (serve policy options)
-    → nat_lt 1 options.lanes ≡ true → (options.rounds ≡ 0 → A) → may_repeat command ≡ false → A
-served_once command policy options is lanes once never =
-    once (no_rounds (nat_lt 1 options.lanes) options.rounds lanes (ap may_repeat (sym is) ∙ never))
+-- on threads
+pub threaded : {Leaves : DeskShape → DeskShape → Type 0} (given : Option Command) (command : Command) (r : Run) → given ≡ Some command →
+    is_on_threads command ≡ true → DoesBy Leaves command r → HasRun (may_repeat given) given r
+threaded given command r is lanes does =
+    subst (λ c. HasRun (may_repeat c) c r) (sym is) (inr (does (may_repeat (Some command)) (λ never. inr (no_rounds_of command lanes never))))
+
+pub threaded_once : {A : Type 0} {Leaves : DeskShape → DeskShape → Type 0} (given : Option Command) (command : Command) → given ≡ Some command →
+    is_on_threads command ≡ true → (IsServedOnce Leaves command → A) → may_repeat given ≡ false → A
+threaded_once given command is lanes once never = once (inr (no_rounds_of command lanes (ap may_repeat (sym is) ∙ never)))
+
+-- by turns
+pub turned : {Leaves : DeskShape → DeskShape → Type 0} (repeats : Bool) (given : Option Command) (command : Command) (r : Run) →
+    given ≡ Some command → ServesOnce Leaves → DoesBy Leaves command r → HasRun repeats given r
+turned repeats given command r is once does = subst (λ c. HasRun repeats c r) (sym is) (inr (does repeats (λ never. inl once)))
+
+-- over the shelf, the source and the sink that are reached
+pub reached : {F S K : Type 0} (P : Run → Type 0) (file : F → List ℕ → Filed) (loads : F → ℕ) (left : S → Option (List ℕ)) (reads : S → ℕ)
+    (held : K → Option (List ℕ)) (writes : K → ℕ) (o after : Outside F S K) (report : Report) (f f₁ : F) (s s₁ : S) (k k₁ : K)
+    → o.shelf.now ≡ f → after.shelf.now ≡ f₁ → o.source.now ≡ s → after.source.now ≡ s₁ → o.sink.now ≡ k → after.sink.now ≡ k₁
+    → P (run_over file loads left reads held writes o after report)
+    → P (run_of file loads f f₁ (streams_of left reads held writes s k) (streams_of left reads held writes s₁ k₁) report)
+reached {F} {S} {K} P file loads left reads held writes o after report f f₁ s s₁ k k₁ shelf shelf₁ source source₁ sink sink₁ h =
+    let streams = streams_of left reads held writes in
+    let run = λ (a b : F) (c d : S) (x y : K). P (run_of file loads a b (streams c x) (streams d y) report) in
+    subst (λ a. run a f₁ s s₁ k k₁) shelf
+    (subst (λ b. run o.shelf.now b s s₁ k k₁) shelf₁
+    (subst (λ c. run o.shelf.now after.shelf.now c s₁ k k₁) source
+    (subst (λ d. run o.shelf.now after.shelf.now o.source.now d k k₁) source₁
+    (subst (λ x. run o.shelf.now after.shelf.now o.source.now after.source.now x k₁) sink
+    (subst (λ y. run o.shelf.now after.shelf.now o.source.now after.source.now o.sink.now y) sink₁ h)))))

@@ -2,8 +2,8 @@
 ghost use Rattle.std.specs.Prelude.{◌≡◌, ◌<◌, Bool, false, ℕ, List, length};
 ghost use Rattle.std.proofs.Common.{◌⊎◌};
 ghost use Rattle.run_record.specs.Fault.{status_of, CountsWrites};
-ghost use Rattle.run_record.specs.Report.{nothing_told, told_by};
-ghost use Rattle.run_record.specs.Laws.Run.{run_of, streams_of};
+ghost use Rattle.run_record.specs.Report.{nothing_told, told_by, HasEnded};
+ghost use Rattle.run_record.specs.Laws.Run.{run_over, streams_of};
 ghost use Rattle.wf_board.specs.Laws.States.{opening_state};
 ghost use Rattle.wf_board.specs.Laws.Histories.{state_after};
 ghost use Rattle.entry_reader.specs.Named.{HasNames};
@@ -28,7 +28,7 @@ use crate::way::Way;
 use case_views::PlainDecider;
 use entry_laws::lines_fit;
 use line_reader::jobs_stay_named;
-use run_record::{Report, RunFault, bare_report};
+use run_record::{Outside, Report, RunFault, bare_report};
 use std::alloc::Global;
 use transcript_audit::AuditKind;
 use transcript_commands::{Beginning, Earlier, Refusal, begin, fault_text};
@@ -39,29 +39,24 @@ use wf_outside::{Shelf, Sink, Source, put_and_flush};
 /// Takes up the transcript of an earlier session, answers the requests that have no entry, and then
 /// those in the input, in a way of serving.
 pub(crate) fn run_resume<F: Shelf, S: Source, K: Sink, W: Way>(
-    alloc: Global,
     way: &W,
     earlier: Earlier,
-    shelf: &mut F,
-    source: &mut S,
-    sink: &mut K,
+    outside: &mut Outside<'_, F, S, K>,
 ) -> Report
     requires way { W.ready way.now }
     requires options { AreOptions (options_by earlier) }
-    ensures status { result.status ≡ status_of result.fault }
-    ensures usage { result.fault ≡ RunFault.Usage → ⊥ }
+    ensures ended { HasEnded outside.old outside.new result }
     ensures resumes { (repeats : Bool) →
         (repeats ≡ false → ServesOnce (W.leaves way.now) ⊎ (earlier.entry.rounds ≡ 0)) →
         ResumesRun (names_in earlier.entry) (options_by earlier.entry) repeats (
-        run_of F.file F.faults shelf.old shelf.new
-        (streams_of S.left S.faults K.held K.faults source.old sink.old)
-        (streams_of S.left S.faults K.held K.faults source.new sink.new) result) }
+        run_over F.file F.faults S.left S.faults K.held K.faults outside.old outside.new result) }
 {
+    let alloc = outside.alloc;
     lines_fit();
     jobs_stay_named();
-    match begin(alloc, &PlainDecider, earlier, shelf) {
-        Ok(beginning) => go_on(alloc, way, beginning, source, sink),
-        Err(refusal) => refuse(alloc, refusal, sink),
+    match begin(alloc, &PlainDecider, earlier, outside.shelf) {
+        Ok(beginning) => go_on(alloc, way, beginning, outside.source, outside.sink),
+        Err(refusal) => refuse(alloc, refusal, outside.sink),
     }
 }
 

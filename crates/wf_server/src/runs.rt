@@ -1,22 +1,22 @@
 //! The top calls: one run of the program over a source, a sink and a shelf, with threads or alone.
-ghost use Rattle.std.specs.Prelude.{◌≡◌, ◌<◌, Bool, map, nat_lt, string_bytes, None, Some, IfErr};
-ghost use Rattle.std.specs.Prelude.{IfOk, false, true};
-ghost use Rattle.run_record.specs.Fault.{status_of};
-ghost use Rattle.run_record.specs.Report.{told_by};
-ghost use Rattle.run_record.specs.Laws.Run.{run_of, streams_of};
+ghost use Rattle.std.specs.Prelude.{◌≡◌, ◌<◌, None, Some, IfErr, IfOk, false, true};
+ghost use Rattle.run_record.specs.Report.{told_by, HasEnded};
+ghost use Rattle.run_record.specs.Laws.Run.{LeavesSource, run_of, run_over, streams_of};
 ghost use Rattle.wf_board.specs.Laws.Histories.{AreAnsweredOnce};
 ghost use Rattle.wf_desk.specs.Desks.{AreOfLanes, IsDone};
 ghost use Rattle.wf_desk.specs.Schedules.{HasGrown};
 ghost use Rattle.command_words.specs.Command.{asked, CanServe};
-ghost use Rattle.command_words.specs.Laws.Words.{command_of, may_repeat, reads_input};
-ghost use Rattle.wf_server.specs.Runs.{Does, HasRun, IsWordsEnding, is_of_policy, takes_up};
+ghost use Rattle.command_words.specs.Laws.Words.{may_repeat, reads_input};
+ghost use Rattle.wf_server.specs.Runs.{command_meant, DoesAlone, DoesBy, HasEndedBy, HasRun};
+ghost use Rattle.wf_server.specs.Runs.{IsServedOnce, IsWordsEnding, is_of_policy, is_on_threads};
+ghost use Rattle.wf_server.specs.Runs.{takes_up};
 
 use crate::going_on::run_resume;
 use crate::serve::run_serve;
-use crate::way::{ByTurns, OnLanes};
+use crate::way::{ByTurns, OnLanes, Way};
 use case_views::{CachingDecider, PlainDecider, SpreadDecider, VerdictCache};
-use command_words::{Command, Options, read_words};
-use run_record::{Report, RunFault, bare_report};
+use command_words::{Command, read_words};
+use run_record::{Outside, Report, RunFault, bare_report};
 use std::alloc::Global;
 use std::sync::Wait;
 use std::thread::Threads;
@@ -42,17 +42,14 @@ pub fn run<R: Threads + Wait + Sync, F: Shelf, S: Source, K: Sink, G: Gate + Syn
     source: &mut S,
     sink: &mut K,
 ) -> Report
-    ensures status { result.status ≡ status_of result.fault }
-    ensures usage { result.fault ≡ RunFault.Usage → command_of (map string_bytes words.now) ≡ None }
-    ensures does { HasRun (may_repeat (command_of (map string_bytes words.now)))
-        (command_of (map string_bytes words.now)) (
+    ensures ended { HasEndedBy (command_meant words.now) result }
+    ensures does { HasRun (may_repeat (command_meant words.now)) (command_meant words.now) (
         run_of F.file F.faults shelf.old shelf.new
         (streams_of S.left S.faults K.held K.faults source.old sink.old)
         (streams_of S.left S.faults K.held K.faults source.new sink.new) result) }
-    ensures untouched { reads_input (command_of (map string_bytes words.now)) ≡ false
-        → source.new ≡ source.old }
-    ensures once { takes_up (command_of (map string_bytes words.now)) ≡ false
-        → may_repeat (command_of (map string_bytes words.now)) ≡ false
+    ensures untouched { reads_input (command_meant words.now) ≡ false → source.new ≡ source.old }
+    ensures once { takes_up (command_meant words.now) ≡ false
+        → may_repeat (command_meant words.now) ≡ false
         → AreAnsweredOnce (told_by result).entries }
 {
     let found = VerdictCache::new(alloc);
@@ -67,28 +64,10 @@ pub fn run<R: Threads + Wait + Sync, F: Shelf, S: Source, K: Sink, G: Gate + Syn
         rt,
         serve: &on_lanes,
     };
+    let mut outside = Outside::new(alloc, shelf, source, sink);
     match read_command(alloc, words) {
-        Ok(Command::Serve { policy, options }) if on_threads(&options) => {
-            run_serve(alloc, &way, policy, options, shelf, source, sink)
-        }
-        Ok(
-            Command::Resume {
-                policy,
-                requests,
-                transcript,
-                options,
-            },
-        ) if on_threads(&options) => {
-            let earlier = Earlier {
-                policy,
-                requests,
-                transcript,
-                lanes: options.lanes,
-                rounds: options.rounds,
-            };
-            run_resume(alloc, &way, earlier, shelf, source, sink)
-        }
-        Ok(other) => run_command(alloc, other, shelf, source, sink),
+        Ok(command) if is_on_threads(&command) => run_command(&way, command, &mut outside),
+        Ok(command) => run_command(&ByTurns::new(alloc), command, &mut outside),
         Err(fault) => bare_report(alloc, fault),
     }
 }
@@ -102,36 +81,38 @@ pub fn run_alone<F: Shelf, S: Source, K: Sink>(
     source: &mut S,
     sink: &mut K,
 ) -> Report
-    ensures status { result.status ≡ status_of result.fault }
-    ensures usage { result.fault ≡ RunFault.Usage → command_of (map string_bytes words.now) ≡ None }
-    ensures does { HasRun false (command_of (map string_bytes words.now)) (
+    ensures ended { HasEndedBy (command_meant words.now) result }
+    ensures does { HasRun false (command_meant words.now) (
         run_of F.file F.faults shelf.old shelf.new
         (streams_of S.left S.faults K.held K.faults source.old sink.old)
         (streams_of S.left S.faults K.held K.faults source.new sink.new) result) }
-    ensures untouched { reads_input (command_of (map string_bytes words.now)) ≡ false
-        → source.new ≡ source.old }
-    ensures once { takes_up (command_of (map string_bytes words.now)) ≡ false
+    ensures untouched { reads_input (command_meant words.now) ≡ false → source.new ≡ source.old }
+    ensures once { takes_up (command_meant words.now) ≡ false
         → AreAnsweredOnce (told_by result).entries }
 {
+    let mut outside = Outside::new(alloc, shelf, source, sink);
     match read_command(alloc, words) {
-        Ok(command) => run_command(alloc, command, shelf, source, sink),
+        Ok(command) => run_command(&ByTurns::new(alloc), command, &mut outside),
         Err(fault) => bare_report(alloc, fault),
     }
 }
 
-// Whether each lane of a session runs on a thread: where there are two or more.
-fn on_threads(options: &Options) -> bool
-    ensures { result ≡ nat_lt 1 options.now.lanes }
+// Whether each lane of a command's session runs on a thread: where there are two or more.
+fn is_on_threads(command: &Command<'_>) -> bool
+    ensures { result ≡ is_on_threads (asked command.now) }
 {
-    options.lanes > 1
+    match command {
+        Command::Serve { options, .. } | Command::Resume { options, .. } => options.lanes > 1,
+        _ => false,
+    }
 }
 
 // The command that the words are; a usage fault where they are none.
 fn read_command<'a>(alloc: Global, words: &'a [String]) -> Result<Command<'a>, RunFault>
-    ensures command { IfOk result (λ c. command_of (map string_bytes words.now) ≡ Some (asked c)) }
+    ensures command { IfOk result (λ c. command_meant words.now ≡ Some (asked c)) }
     ensures served { IfOk result CanServe }
     ensures none { IfErr result (λ fault. fault ≡ RunFault.Usage
-        → command_of (map string_bytes words.now) ≡ None) }
+        → command_meant words.now ≡ None) }
     ensures fault { IfErr result IsWordsEnding }
 {
     match read_words(alloc, words)? {
@@ -140,30 +121,25 @@ fn read_command<'a>(alloc: Global, words: &'a [String]) -> Result<Command<'a>, R
     }
 }
 
-// Runs a command alone.
-fn run_command<F: Shelf, S: Source, K: Sink>(
-    alloc: Global,
+// Runs a command; its session, if it has one that is served, in a way of serving.
+fn run_command<F: Shelf, S: Source, K: Sink, W: Way>(
+    way: &W,
     command: Command,
-    shelf: &mut F,
-    source: &mut S,
-    sink: &mut K,
+    outside: &mut Outside<'_, F, S, K>,
 ) -> Report
-    requires { CanServe command }
-    ensures status { result.status ≡ status_of result.fault }
-    ensures usage { result.fault ≡ RunFault.Usage → ⊥ }
-    ensures does { (repeats : Bool) → Does repeats (Some (asked command.entry)) (
-        run_of F.file F.faults shelf.old shelf.new
-        (streams_of S.left S.faults K.held K.faults source.old sink.old)
-        (streams_of S.left S.faults K.held K.faults source.new sink.new) result) }
-    ensures untouched { reads_input (Some (asked command.entry)) ≡ false → source.new ≡ source.old }
+    requires way { W.ready way.now }
+    requires served { CanServe command }
+    ensures ended { HasEnded outside.old outside.new result }
+    ensures does { DoesBy (W.leaves way.now) (asked command.entry) (run_over F.file F.faults
+        S.left S.faults K.held K.faults outside.old outside.new result) }
+    ensures untouched { reads_input (Some (asked command.entry)) ≡ false
+        → LeavesSource outside.old outside.new }
     ensures once { takes_up (Some (asked command.entry)) ≡ false
+        → IsServedOnce (W.leaves way.now) (asked command.entry)
         → AreAnsweredOnce (told_by result).entries }
 {
     match command {
-        Command::Serve { policy, options } => {
-            let turns = ByTurns::new(alloc);
-            run_serve(alloc, &turns, policy, options, shelf, source, sink)
-        }
+        Command::Serve { policy, options } => run_serve(way, policy, options, outside),
         Command::Audit {
             policy,
             requests,
@@ -175,7 +151,7 @@ fn run_command<F: Shelf, S: Source, K: Sink>(
                 lanes: options.lanes,
                 rounds: options.rounds,
             };
-            run_audit(alloc, &PlainDecider, session, shelf, source, sink)
+            run_audit(&PlainDecider, session, outside)
         }
         Command::Resume {
             policy,
@@ -190,60 +166,45 @@ fn run_command<F: Shelf, S: Source, K: Sink>(
                 lanes: options.lanes,
                 rounds: options.rounds,
             };
-            let turns = ByTurns::new(alloc);
-            run_resume(alloc, &turns, earlier, shelf, source, sink)
+            run_resume(way, earlier, outside)
         }
-        Command::Trial { seed } => run_trial(alloc, &PlainDecider, seed, sink),
-        other => run_once(alloc, other, shelf, source, sink),
+        Command::Trial { seed } => run_trial(outside.alloc, &PlainDecider, seed, outside.sink),
+        other => run_once(other, outside),
     }
 }
 
 // Runs a command that is about a policy alone, with what may be in the input.
-fn run_once<F: Shelf, S: Source, K: Sink>(
-    alloc: Global,
-    command: Command,
-    shelf: &mut F,
-    source: &mut S,
-    sink: &mut K,
-) -> Report
+fn run_once<F: Shelf, S: Source, K: Sink>(command: Command, outside: Outside<'_, F, S, K>) -> Report
     requires { is_of_policy (asked command) ≡ true }
-    ensures status { result.status ≡ status_of result.fault }
-    ensures usage { result.fault ≡ RunFault.Usage → ⊥ }
-    ensures does { (repeats : Bool) → Does repeats (Some (asked command.entry)) (
-        run_of F.file F.faults shelf.old shelf.new
-        (streams_of S.left S.faults K.held K.faults source.old sink.old)
-        (streams_of S.left S.faults K.held K.faults source.new sink.new) result) }
-    ensures untouched { reads_input (Some (asked command.entry)) ≡ false → source.new ≡ source.old }
+    ensures ended { HasEnded outside.old outside.new result }
+    ensures does { DoesAlone (asked command.entry) (run_over F.file F.faults S.left S.faults
+        K.held K.faults outside.old outside.new result) }
+    ensures untouched { reads_input (Some (asked command.entry)) ≡ false
+        → LeavesSource outside.old outside.new }
     ensures once { AreAnsweredOnce (told_by result).entries }
 {
     match command {
-        Command::Plan { policy, flow } => {
-            answer_once(alloc, policy, &PlanCommand { flow }, shelf, source, sink)
-        }
-        Command::Show { policy } => {
-            answer_once(alloc, policy, &ShowCommand, shelf, source, sink)
-        }
-        Command::Solve { policy } => {
-            answer_once(alloc, policy, &SolveCommand, shelf, source, sink)
-        }
+        Command::Plan { policy, flow } => { answer_once(policy, &PlanCommand { flow }, outside) }
+        Command::Show { policy } => { answer_once(policy, &ShowCommand, outside) }
+        Command::Solve { policy } => { answer_once(policy, &SolveCommand, outside) }
         Command::Resilience {
             policy,
             flow,
             absences,
         } => {
             let command = ResilienceCommand { flow, absences };
-            answer_once(alloc, policy, &command, shelf, source, sink)
+            answer_once(policy, &command, outside)
         }
         Command::Cnf {
             policy,
             flow,
             model: None,
-        } => run_clauses(alloc, policy, flow, shelf, source, sink),
+        } => run_clauses(policy, flow, outside),
         Command::Cnf {
             policy,
             flow,
             model: Some(model),
-        } => run_model(alloc, policy, flow, model, shelf, source, sink),
+        } => run_model(policy, flow, model, outside),
         _ => unreachable!(),
     }
 }

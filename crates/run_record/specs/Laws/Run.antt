@@ -4,6 +4,7 @@ use Rattle.wf_outside.specs.Laws.Outside.{Filed, told, missing, untold}
 use Rattle.run_record.specs.declared.fault.RunFault.{RunFault}
 use Rattle.run_record.specs.declared.fault.RunFault.TheVariants.{Load}
 use Rattle.run_record.specs.Fault.{is_before_input, CountsLoads, CountsReads, CountsWrites}
+use Rattle.run_record.specs.declared.outside.Outside.{Outside}
 use Rattle.run_record.specs.declared.report.Report.{Report}
 use Rattle.run_record.specs.Report.{Told, nothing_told, told_by}
 
@@ -50,6 +51,18 @@ run_of file faults shelf shelf_after before after report = record {
   told = told_by report;
   fault = report.fault;
 }
+
+-- the same run over what it reaches, before and after
+abbrev pub run_over : {F S K : Type 0} → (F → List ℕ → Filed) → (F → ℕ) → (S → Option (List ℕ))
+    → (S → ℕ) → (K → Option (List ℕ)) → (K → ℕ) → Outside F S K → Outside F S K → Report → Run
+run_over file load_faults left read_faults held write_faults o after report =
+    run_of file load_faults o.shelf.now after.shelf.now
+    (streams_of left read_faults held write_faults o.source.now o.sink.now)
+    (streams_of left read_faults held write_faults after.source.now after.sink.now) report
+
+-- the source is left as it was
+abbrev pub LeavesSource : {F S K : Type 0} → Outside F S K → Outside F S K → Type 0
+LeavesSource o after = after.source.now ≡ o.source.now
 
 -- nothing is read, written or told
 pub record IsUntouched (r : Run) : Type 0 where

@@ -31,7 +31,7 @@ returns-in-Err-Failed-clause-writes g c =
 
 pub returns-in-Ok-clause-writes : goal.returns-in-Ok-clause-writes
 returns-in-Ok-clause-writes g c =
-    inr (broken_off c.args.policy.now (λ p. ClausesAsked p c.args.flow.now (g.S.Source.left c.args.source.now)) c.in-Ok.encoder _
+    inr (broken_off c.args.policy.now (λ p. ClausesAsked p c.args.flow.now (g.S.Source.left c.args.outside.now.source.now)) c.in-Ok.encoder _
     (record {
       given = c.in-Ok.ensures.clauses;
       named = c.in-Ok.ensures.named;

@@ -8,7 +8,7 @@ use Rattle.wf_commands.proofs.model.run_model.Goals as goal
 
 pub returns-in-Ok-put_and_flush-clause-reads : goal.returns-in-Ok-put_and_flush-clause-reads
 returns-in-Ok-put_and_flush-clause-reads g c =
-    let filed = g.F.Shelf.file c.args.shelf.now c.args.model.now in
+    let filed = g.F.Shelf.file c.args.outside.now.shelf.now c.args.model.now in
     record {
       once = with_answer (Some LINE_LIMIT) c.args.policy.now (λ seen p. ModelAsked p c.args.flow.now filed seen) c.in-Ok.answer _
           (record {
@@ -26,7 +26,7 @@ returns-in-Ok-put_and_flush-clause-reads g c =
 
 pub returns-in-Ok-clause-reads : goal.returns-in-Ok-clause-reads
 returns-in-Ok-clause-reads g c =
-    let filed = g.F.Shelf.file c.args.shelf.now c.args.model.now in
+    let filed = g.F.Shelf.file c.args.outside.now.shelf.now c.args.model.now in
     record {
       once = with_part (Some LINE_LIMIT) c.args.policy.now (λ seen p. ModelAsked p c.args.flow.now filed seen) c.in-Ok.answer _
           (record {
@@ -38,7 +38,7 @@ returns-in-Ok-clause-reads g c =
             untold = c.bare_report-in-Err-put_and_flush.ensures.told;
           })
           c.bare_report-in-Err-put_and_flush.ensures.fault
-          (subst (λ (text : List ℕ). HasPart (g.K.Sink.held c.args.sink.now) (g.K.Sink.held c.put_and_flush.new.sink) text) c.as_slice.ensures.value
+          (subst (λ (text : List ℕ). HasPart (g.K.Sink.held c.args.outside.now.sink.now) (g.K.Sink.held c.put_and_flush.new.sink) text) c.as_slice.ensures.value
           c.in-Err-put_and_flush.ensures.part)
           c.in-Err-put_and_flush.ensures.rose;
       without = model_stays filed _ c.in-Ok.ensures.without;
@@ -46,7 +46,7 @@ returns-in-Ok-clause-reads g c =
 
 pub returns-clause-reads : goal.returns-clause-reads
 returns-clause-reads g c =
-    let filed = g.F.Shelf.file c.args.shelf.now c.args.model.now in
+    let filed = g.F.Shelf.file c.args.outside.now.shelf.now c.args.model.now in
     rw (c.bare_report-in-Err.ensures.fault, c.bare_report-in-Err.ensures.told)
     (record {
       once = without_answer (Some LINE_LIMIT) c.args.policy.now

@@ -1,5 +1,6 @@
-use Rattle.std.proofs.Common.{List, ℕ, refl, sym, subst, ◌∙◌}
+use Rattle.std.proofs.Common.{List, ℕ, ap, refl, sym, subst, ◌∙◌}
 use Rattle.wf_outside.specs.Laws.Outside.{HasPart}
+use Rattle.run_record.specs.Fault.{status_of}
 use Rattle.wf_commands.proofs.Endings.{answered_usage, unanswered_usage}
 use Rattle.wf_commands.proofs.Runs.{with_answer, with_part, without_answer}
 use Rattle.wf_commands.proofs.once.answer_once.Goals as goal
@@ -32,7 +33,7 @@ returns-in-Ok-clause-answers g c =
       untold = c.bare_report-in-Err-put_and_flush.ensures.told;
     })
     c.bare_report-in-Err-put_and_flush.ensures.fault
-    (subst (λ (text : List ℕ). HasPart (g.K.Sink.held c.args.sink.now) (g.K.Sink.held c.put_and_flush.new.sink) text) c.as_slice.ensures.value
+    (subst (λ (text : List ℕ). HasPart (g.K.Sink.held c.args.outside.now.sink.now) (g.K.Sink.held c.put_and_flush.new.sink) text) c.as_slice.ensures.value
     c.in-Err-put_and_flush.ensures.part)
     c.in-Err-put_and_flush.ensures.rose
 
@@ -43,9 +44,12 @@ returns-clause-answers g c =
     c.in-Err.ensures.ending c.in-Err.ensures.named c.in-Err.ensures.loads c.in-Err.ensures.reads c.in-Err.ensures.input
     (record { output = refl; writes = refl; untold = refl }))
 
-pub returns-in-Ok-put_and_flush-clause-usage : goal.returns-in-Ok-put_and_flush-clause-usage
-returns-in-Ok-put_and_flush-clause-usage g c =
-    λ is. answered_usage c.in-Ok.answer.found (sym (c.bare_report.ensures.fault ∙ c.ending.ensures) ∙ is)
+pub returns-in-Ok-put_and_flush-clause-ended : goal.returns-in-Ok-put_and_flush-clause-ended
+returns-in-Ok-put_and_flush-clause-ended g c = record {
+  status = c.bare_report.ensures.status ∙ sym (ap status_of c.bare_report.ensures.fault);
+  usage = λ is. answered_usage c.in-Ok.answer.found (sym (c.bare_report.ensures.fault ∙ c.ending.ensures) ∙ is);
+  same = record { shelf = refl; source = refl; sink = refl };
+}
 
 pub returns-in-Ok-put_and_flush-clause-untouched : goal.returns-in-Ok-put_and_flush-clause-untouched
 returns-in-Ok-put_and_flush-clause-untouched g c = c.in-Ok.ensures.untouched
@@ -53,9 +57,12 @@ returns-in-Ok-put_and_flush-clause-untouched g c = c.in-Ok.ensures.untouched
 pub returns-in-Ok-clause-untouched : goal.returns-in-Ok-clause-untouched
 returns-in-Ok-clause-untouched g c = c.in-Ok.ensures.untouched
 
-pub returns-clause-usage : goal.returns-clause-usage
-returns-clause-usage g c =
-    λ is. unanswered_usage _ c.in-Err.ensures.ending (sym c.bare_report-in-Err.ensures.fault ∙ is)
+pub returns-clause-ended : goal.returns-clause-ended
+returns-clause-ended g c = record {
+  status = c.bare_report-in-Err.ensures.status ∙ sym (ap status_of c.bare_report-in-Err.ensures.fault);
+  usage = λ is. unanswered_usage _ c.in-Err.ensures.ending (sym c.bare_report-in-Err.ensures.fault ∙ is);
+  same = record { shelf = refl; source = refl; sink = refl };
+}
 
 pub returns-clause-untouched : goal.returns-clause-untouched
 returns-clause-untouched g c = c.in-Err.ensures.untouched

@@ -15,12 +15,12 @@ begin-requires-clause-within g c = record {
 pub go_on-requires-clause-some : goal.go_on-requires-clause-some
 go_on-requires-clause-some g c =
     let names : FileNames = names_in c.args.earlier in
-    lanes_there (g.F.Shelf.file c.args.shelf.now) names (options_by c.args.earlier) c.in-Ok.beginning c.requires.options.some c.in-Ok.ensures.begins
+    lanes_there (g.F.Shelf.file c.args.outside.now.shelf.now) names (options_by c.args.earlier) c.in-Ok.beginning c.requires.options.some c.in-Ok.ensures.begins
 
 pub go_on-requires-clause-begun : goal.go_on-requires-clause-begun
 go_on-requires-clause-begun g c =
     let names : FileNames = names_in c.args.earlier in
-    begun_there (g.F.Shelf.file c.args.shelf.now) names (options_by c.args.earlier) c.in-Ok.beginning c.in-Ok.ensures.begins
+    begun_there (g.F.Shelf.file c.args.outside.now.shelf.now) names (options_by c.args.earlier) c.in-Ok.beginning c.in-Ok.ensures.begins
 
 pub returns-in-Ok-clause-resumes : goal.returns-in-Ok-clause-resumes
 returns-in-Ok-clause-resumes g c repeats once =
@@ -34,11 +34,11 @@ returns-in-Ok-clause-resumes g c repeats once =
     ])
     c.in-Ok.ensures.begins
 
-pub returns-in-Ok-clause-usage : goal.returns-in-Ok-clause-usage
-returns-in-Ok-clause-usage g c is =
+pub returns-in-Ok-clause-ended : goal.returns-in-Ok-clause-ended
+returns-in-Ok-clause-ended g c =
     let names : FileNames = names_in c.args.earlier in
-    let h = begun_there (g.F.Shelf.file c.args.shelf.now) names (options_by c.args.earlier) c.in-Ok.beginning c.in-Ok.ensures.begins in
-    served_usage _ _ _ _ _ _ _ (c.go_on.ensures.served h.0 h.1.0 h.1.1.0 h.1.1.1) is
+    let h = begun_there (g.F.Shelf.file c.args.outside.now.shelf.now) names (options_by c.args.earlier) c.in-Ok.beginning c.in-Ok.ensures.begins in
+    record { status = c.go_on.ensures.status; usage = served_usage _ _ _ _ _ _ _ (c.go_on.ensures.served h.0 h.1.0 h.1.1.0 h.1.1.1) }
 
 pub returns-in-Err-clause-resumes : goal.returns-in-Err-clause-resumes
 returns-in-Err-clause-resumes g c repeats once =
@@ -47,5 +47,8 @@ returns-in-Err-clause-resumes g c repeats once =
     c.in-Err.ensures.loads
     c.refuse.ensures.refuses c.refuse.ensures.counts c.in-Err.ensures.begins
 
-pub returns-in-Err-clause-usage : goal.returns-in-Err-clause-usage
-returns-in-Err-clause-usage g c is = refused_usage c.in-Err.refusal _ _ _ c.in-Err.ensures.ending c.refuse.ensures.refuses is
+pub returns-in-Err-clause-ended : goal.returns-in-Err-clause-ended
+returns-in-Err-clause-ended g c = record {
+  status = c.refuse.ensures.status;
+  usage = refused_usage c.in-Err.refusal _ _ _ c.in-Err.ensures.ending c.refuse.ensures.refuses;
+}

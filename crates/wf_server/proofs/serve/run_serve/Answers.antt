@@ -1,5 +1,7 @@
-use Rattle.std.proofs.Common.{refl, sym, subst}
+use Rattle.std.proofs.Common.{ap, refl, sym, subst, ◌∙◌}
+use Rattle.run_record.specs.Fault.{status_of}
 use Rattle.run_record.specs.Report.{Told}
+use Rattle.wf_commands.specs.Load.{IsLoadEnding}
 use Rattle.wf_board.specs.Laws.Histories.{AreAnsweredOnce}
 use Rattle.wf_board.specs.Laws.States.{opening_state}
 use Rattle.wf_server.proofs.WayLaws.{once_legal}
@@ -10,7 +12,7 @@ use Rattle.wf_server.proofs.serve.run_serve.Goals as goal
 pub returns-in-Ok-clause-serves : goal.returns-in-Ok-clause-serves
 returns-in-Ok-clause-serves g c = record {
   within = c.requires.options;
-  serves = is_served (g.F.Shelf.file c.args.shelf.now c.args.policy.now) c.in-Ok.p (options_in c.args.options) _ c.in-Ok.ensures.policy
+  serves = is_served (g.F.Shelf.file c.args.outside.now.shelf.now c.args.policy.now) c.in-Ok.p (options_in c.args.options) _ c.in-Ok.ensures.policy
       c.in-Ok.ensures.sound c.serve_policy.ensures.served.served c.serve_policy.ensures.served.wants c.serve_policy.ensures.served.fits;
   orderly = record {
     early = λ e. let late = c.serve_policy.ensures.late in cc;
@@ -24,6 +26,18 @@ pub returns-in-Err-clause-serves : goal.returns-in-Err-clause-serves
 returns-in-Err-clause-serves g c =
     refused_run c.args.policy.now (options_in c.args.options) _ c.in-Err.fault c.bare_report.ensures.fault c.in-Err.ensures.policy c.in-Err.ensures.ending
     (record { unread = refl; unwritten = refl; untold = c.bare_report.ensures.told }) c.in-Err.ensures.loads refl refl c.requires.options
+
+pub returns-in-Ok-clause-ended : goal.returns-in-Ok-clause-ended
+returns-in-Ok-clause-ended g c = record {
+  status = c.serve_policy.ensures.status;
+  usage = λ is. let late = c.serve_policy.ensures.late in cc;
+}
+
+pub returns-in-Err-clause-ended : goal.returns-in-Err-clause-ended
+returns-in-Err-clause-ended g c = record {
+  status = c.bare_report.ensures.status ∙ sym (ap status_of c.bare_report.ensures.fault);
+  usage = λ is. subst IsLoadEnding (sym c.bare_report.ensures.fault ∙ is) c.in-Err.ensures.ending;
+}
 
 pub returns-in-Err-clause-once : goal.returns-in-Err-clause-once
 returns-in-Err-clause-once g c serves = subst (λ (t : Told). AreAnsweredOnce t.entries) (sym c.bare_report.ensures.told) tt
