@@ -23,8 +23,8 @@ pub(crate) fn push_tree(
 
 // A step of a case in which steps are held so, with its branches in a tree.
 #[derive(Clone, Copy)]
-struct Choice<'a> {
-    held: &'a Held<'a>,
+struct Choice<'a, 'p> {
+    held: &'a Held<'p>,
     step: StepId,
     branches: &'a [Branch],
 }
@@ -47,23 +47,35 @@ fn push_node(
             out.push_str(".\n")
         }
         Tree::Step(s, branches) => {
+            let branches = branches.as_slice();
             let choice = Choice {
                 held,
                 step: *s,
-                branches: branches.as_slice(),
+                branches,
             };
             push_choice(out, &choice)?;
             out.push_str(".\n")?;
             push_leaves(out, indent, &choice)?;
-            'branches: for branch in branches.as_slice() {
-                push_branch(out, indent, held, *s, branch)?;
-            }
-            Ok(())
+            push_branches(out, indent, held, *s, branches)
         }
     }
 }
 
-// Adds a branch that goes on, or is told by another one.
+// Adds the branches that go on, or are told by another one.
+#[cycle(push_node)]
+fn push_branches(
+    out: &mut String,
+    indent: &str,
+    held: &Held<'_>,
+    s: StepId,
+    branches: &[Branch],
+) -> Result<(), AllocError> {
+    'branches: for branch in branches {
+        push_branch(out, indent, held, s, branch)?;
+    }
+    Ok(())
+}
+
 #[cycle(push_node)]
 fn push_branch(
     out: &mut String,
@@ -103,7 +115,7 @@ fn push_twin(
 }
 
 // Adds a line for each rule that some branches break at once.
-fn push_leaves(out: &mut String, indent: &str, choice: &Choice<'_>) -> Result<(), AllocError> {
+fn push_leaves(out: &mut String, indent: &str, choice: &Choice<'_, '_>) -> Result<(), AllocError> {
     for k in 0..RULE_LIMIT {
         let users = users_of(choice.branches, Some(k as u8));
         if users.count() > 0 {
@@ -152,7 +164,7 @@ fn users_of(branches: &[Branch], rule: Option<u8>) -> UserSet {
 }
 
 // Adds who alone can do a step.
-fn push_choice(out: &mut String, choice: &Choice<'_>) -> Result<(), AllocError> {
+fn push_choice(out: &mut String, choice: &Choice<'_, '_>) -> Result<(), AllocError> {
     let held = choice.held;
     push_name(out, held.steps(), choice.step.0 as u16)?;
     out.push_str(" can be done by ")?;
@@ -197,7 +209,7 @@ pub(crate) fn push_short(out: &mut String, held: &Held<'_>, tree: &Tree) -> Resu
 }
 
 // The same of a step with its branches, where all of them break one rule at once.
-fn push_short_node(out: &mut String, choice: &Choice<'_>) -> Result<(), AllocError> {
+fn push_short_node(out: &mut String, choice: &Choice<'_, '_>) -> Result<(), AllocError> {
     match choice.branches {
         [] => {
             out.push_str(". ")?;
