@@ -174,7 +174,10 @@ fn run_command<F: Shelf, S: Source, K: Sink, W: Way>(
 }
 
 // Runs a command that is about a policy alone, with what may be in the input.
-fn run_once<F: Shelf, S: Source, K: Sink>(command: Command, outside: Outside<'_, F, S, K>) -> Report
+fn run_once<F: Shelf, S: Source, K: Sink>(
+    command: Command,
+    outside: &mut Outside<'_, F, S, K>,
+) -> Report
     requires { is_of_policy (asked command) ≡ true }
     ensures ended { HasEnded outside.old outside.new result }
     ensures does { DoesAlone (asked command.entry) (run_over F.file F.faults S.left S.faults
