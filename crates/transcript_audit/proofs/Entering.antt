@@ -27,6 +27,7 @@ use Rattle.wf_desk.proofs.DocketLaws.{next_lane, rest_from}
 use Rattle.wire_json.specs.Replies.{entry_text}
 use Rattle.entry_reader.specs.Laws.Lines.{entry_at}
 use Rattle.entry_laws.proofs.Entries.{text_stays}
+use Rattle.transcript_audit.specs.declared.fault.AuditKind.{AuditKind}
 use Rattle.transcript_audit.specs.declared.fault.AuditKind.TheVariants as kinds
 use Rattle.basics.specs.declared.fault.Fault.{Fault}
 use Rattle.basics.specs.declared.fault.Fault.TheVariants as flaw

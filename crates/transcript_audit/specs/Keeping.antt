@@ -21,6 +21,7 @@ use Rattle.entry_reader.specs.declared.place.Place.{Place}
 use Rattle.entry_reader.specs.declared.fault.NotText.{NotText}
 use Rattle.entry_reader.specs.Laws.Lines.{HasReply}
 use Rattle.transcript_audit.specs.declared.cursor.Cursor.{Cursor}
+use Rattle.transcript_audit.specs.declared.fault.AuditKind.{AuditKind}
 use Rattle.transcript_audit.specs.declared.fault.AuditKind.TheVariants as kinds
 use Rattle.basics.specs.declared.fault.Fault.{Fault}
 use Rattle.basics.specs.declared.fault.Fault.TheVariants as flaw

@@ -12,9 +12,9 @@ pub add-requires-clause-next : goal.add-requires-clause-next
 add-requires-clause-next g c =
     subst (λ a. ComesNext a (entry_next a c.args.job.now c.args.reply)) (sym (c.reserve.ensures.same ∙ c.self.view_is))
     (step_next c.args.self.now c.self.inside.board c.args.job.now c.args.reply (c.self.invariant ∙ ap state_now c.self.view_is) c.requires.next
-    (sym c.again_in.ensures ∙ c.in-None.is) c.in_ok-admit-in-None.ensures.step)
+    (sym c.again_in.ensures ∙ c.in-None.is) c.in-Ok.ensures.step)
 
-pub invariant_of-self-in-None : goal.invariant_of-self-in-None
-invariant_of-self-in-None g c =
+pub invariant_of-self-in-Ok : goal.invariant_of-self-in-Ok
+invariant_of-self-in-Ok g c =
     state_next c.reserve.new.self.audit c.self.inside.board (state_on c.admit.new.self) c.args.job.now c.args.reply
-    (c.self.invariant ∙ ap state_now (sym c.reserve.ensures.same)) c.in_ok-admit-in-None.ensures.next ∙ ap state_now (sym c.add.ensures)
+    (c.self.invariant ∙ ap state_now (sym c.reserve.ensures.same)) c.in-Ok.ensures.next ∙ ap state_now (sym c.add.ensures)
