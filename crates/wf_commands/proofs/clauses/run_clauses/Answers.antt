@@ -1,4 +1,4 @@
-use Rattle.std.proofs.Common.{refl, inl, inr}
+use Rattle.std.proofs.Common.{Err, ap, refl, inl, inr}
 use Rattle.wf_commands.specs.CnfAnswers.{ClausesAsked}
 use Rattle.wf_commands.proofs.CnfRuns.{all_written, broken_off, none_written, part_written}
 use Rattle.wf_commands.proofs.clauses.run_clauses.Goals as goal
@@ -16,8 +16,8 @@ returns-in-Ok-write_clauses-clause-writes g c =
     })
     c.bare_report.ensures.fault c.in-Ok-write_clauses.ensures.all c.in-Ok-write_clauses.ensures.stays)
 
-pub returns-in-Err-Failed-clause-writes : goal.returns-in-Err-Failed-clause-writes
-returns-in-Err-Failed-clause-writes g c =
+pub returns-in-Err-Cause-clause-writes : goal.returns-in-Err-Cause-clause-writes
+returns-in-Err-Cause-clause-writes g c =
     inl (part_written c.args.policy.now (λ seen p. ClausesAsked p c.args.flow.now seen) c.in-Ok.encoder _
     (record {
       given = c.in-Ok.ensures.clauses;
@@ -25,9 +25,9 @@ returns-in-Err-Failed-clause-writes g c =
       loads = c.in-Ok.ensures.loads;
       reads = c.in-Ok.ensures.reads;
       input = c.in-Ok.ensures.input;
-      untold = c.bare_report-in-Err-Failed.ensures.told;
+      untold = c.bare_report-in-Err-Cause.ensures.told;
     })
-    c.bare_report-in-Err-Failed.ensures.fault c.in-Err-Failed.ensures.part (c.in-Err-Failed.ensures.rose (let is = c.in-Err-Failed.field-0-is in cc)))
+    c.bare_report-in-Err-Cause.ensures.fault c.in-Err-Cause.ensures.part (c.in-Err-Cause.ensures.rose (ap Err c.in-Err-Cause.field-0-is)))
 
 pub returns-in-Ok-clause-writes : goal.returns-in-Ok-clause-writes
 returns-in-Ok-clause-writes g c =
