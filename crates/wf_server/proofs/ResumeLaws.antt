@@ -424,6 +424,11 @@ pub threaded_once : {A : Type 0} {Leaves : DeskShape → DeskShape → Type 0} (
     is_on_threads command ≡ true → (IsServedOnce Leaves command → A) → may_repeat given ≡ false → A
 threaded_once given command is lanes once never = once (inr (no_rounds_of command lanes (ap may_repeat (sym is) ∙ never)))
 
+-- by the command that the words are
+pub meant : (given : Option Command) (command : Command) (r : Run) → given ≡ Some command → HasRun (may_repeat (Some command)) (Some command) r →
+    HasRun (may_repeat given) given r
+meant given command r is does = subst (λ c. HasRun (may_repeat c) c r) (sym is) does
+
 -- by turns
 pub turned : {Leaves : DeskShape → DeskShape → Type 0} (repeats : Bool) (given : Option Command) (command : Command) (r : Run) →
     given ≡ Some command → ServesOnce Leaves → DoesBy Leaves command r → HasRun repeats given r

@@ -1,6 +1,7 @@
 -- A run of the program: what its words make it do.
 use Rattle.std.specs.Prelude.{◌≡◌, ℕ, Bool, true, false, List, map, nat_lt, Option, None, Some}
 use Rattle.std.specs.Prelude.{String, string_bytes}
+use Rattle.std.proofs.Common.{Global}
 use Rattle.std.proofs.Common.{◌⊎◌}
 use Rattle.run_record.specs.declared.fault.RunFault.{RunFault}
 use Rattle.run_record.specs.declared.fault.RunFault.TheVariants.{NoMemory, Usage}
@@ -76,7 +77,7 @@ abbrev pub LacksWords : Run → Type 0
 LacksWords r = IsOrderly r × (IsUntouched r × (r.fault ≡ NoMemory))
 
 -- the command that the words are, if they are one
-abbrev pub command_meant : List String → Option Command
+abbrev pub command_meant : List (String Global) → Option Command
 command_meant words = command_of (map string_bytes words)
 
 -- a run has ended with the status of its ending, which is that the words are no command only where

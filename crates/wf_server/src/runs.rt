@@ -52,6 +52,34 @@ pub fn run<R: Threads + Wait + Sync, F: Shelf, S: Source, K: Sink, G: Gate + Syn
         → may_repeat (command_meant words.now) ≡ false
         → AreAnsweredOnce (told_by result).entries }
 {
+    let mut outside = Outside::new(alloc, shelf, source, sink);
+    match read_command(alloc, words) {
+        Ok(command) if is_on_threads(&command) => run_on_lanes(rt, gate, command, &mut outside),
+        Ok(command) => run_command(&ByTurns::new(alloc), command, &mut outside),
+        Err(fault) => bare_report(alloc, fault),
+    }
+}
+
+// Runs a command with each lane of its session on a thread of its own, if it has one that is
+// served.
+fn run_on_lanes<R: Threads + Wait + Sync, F: Shelf, S: Source, K: Sink, G: Gate + Sync>(
+    rt: &R,
+    gate: &G,
+    command: Command,
+    outside: &mut Outside<'_, F, S, K>,
+) -> Report
+    requires served { CanServe command }
+    requires lanes { is_on_threads (asked command) ≡ true }
+    ensures ended { HasEnded outside.old outside.new result }
+    ensures does { HasRun (may_repeat (Some (asked command.entry))) (Some (asked command.entry))
+        (run_over F.file F.faults S.left S.faults K.held K.faults outside.old outside.new result) }
+    ensures untouched { reads_input (Some (asked command.entry)) ≡ false
+        → LeavesSource outside.old outside.new }
+    ensures once { takes_up (Some (asked command.entry)) ≡ false
+        → may_repeat (Some (asked command.entry)) ≡ false
+        → AreAnsweredOnce (told_by result).entries }
+{
+    let alloc = outside.alloc;
     let found = VerdictCache::new(alloc);
     let on_lanes = |desk: Desk| -> Desk
         requires { (0 < desk.lanes) × AreOfLanes desk.lanes desk.jobs }
@@ -64,12 +92,7 @@ pub fn run<R: Threads + Wait + Sync, F: Shelf, S: Source, K: Sink, G: Gate + Syn
         rt,
         serve: &on_lanes,
     };
-    let mut outside = Outside::new(alloc, shelf, source, sink);
-    match read_command(alloc, words) {
-        Ok(command) if is_on_threads(&command) => run_command(&way, command, &mut outside),
-        Ok(command) => run_command(&ByTurns::new(alloc), command, &mut outside),
-        Err(fault) => bare_report(alloc, fault),
-    }
+    run_command(&way, command, outside)
 }
 
 /// Runs the command that the words are, which are those after the program's name. It always

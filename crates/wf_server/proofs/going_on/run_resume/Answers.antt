@@ -38,7 +38,11 @@ pub returns-in-Ok-clause-ended : goal.returns-in-Ok-clause-ended
 returns-in-Ok-clause-ended g c =
     let names : FileNames = names_in c.args.earlier in
     let h = begun_there (g.F.Shelf.file c.args.outside.now.shelf.now) names (options_by c.args.earlier) c.in-Ok.beginning c.in-Ok.ensures.begins in
-    record { status = c.go_on.ensures.status; usage = served_usage _ _ _ _ _ _ _ (c.go_on.ensures.served h.0 h.1.0 h.1.1.0 h.1.1.1) }
+    record {
+      status = c.go_on.ensures.status;
+      usage = served_usage _ _ _ _ _ _ _ (c.go_on.ensures.served h.0 h.1.0 h.1.1.0 h.1.1.1);
+      same = record { shelf = refl; source = refl; sink = refl };
+    }
 
 pub returns-in-Err-clause-resumes : goal.returns-in-Err-clause-resumes
 returns-in-Err-clause-resumes g c repeats once =
@@ -51,4 +55,5 @@ pub returns-in-Err-clause-ended : goal.returns-in-Err-clause-ended
 returns-in-Err-clause-ended g c = record {
   status = c.refuse.ensures.status;
   usage = refused_usage c.in-Err.refusal _ _ _ c.in-Err.ensures.ending c.refuse.ensures.refuses;
+  same = record { shelf = refl; source = refl; sink = refl };
 }

@@ -1,5 +1,6 @@
 use Rattle.std.proofs.Common.{ap, refl, sym, subst, ◌∙◌}
-use Rattle.run_record.specs.Fault.{status_of}
+use Rattle.std.proofs.lemmas.Bool.{false≢true}
+use Rattle.run_record.specs.Fault.{is_before_input, status_of}
 use Rattle.run_record.specs.Report.{Told}
 use Rattle.wf_commands.specs.Load.{IsLoadEnding}
 use Rattle.wf_board.specs.Laws.Histories.{AreAnsweredOnce}
@@ -30,13 +31,15 @@ returns-in-Err-clause-serves g c =
 pub returns-in-Ok-clause-ended : goal.returns-in-Ok-clause-ended
 returns-in-Ok-clause-ended g c = record {
   status = c.serve_policy.ensures.status;
-  usage = λ is. let late = c.serve_policy.ensures.late in cc;
+  usage = λ is. false≢true (sym c.serve_policy.ensures.late ∙ ap is_before_input is);
+  same = record { shelf = refl; source = refl; sink = refl };
 }
 
 pub returns-in-Err-clause-ended : goal.returns-in-Err-clause-ended
 returns-in-Err-clause-ended g c = record {
   status = c.bare_report.ensures.status ∙ sym (ap status_of c.bare_report.ensures.fault);
   usage = λ is. subst IsLoadEnding (sym c.bare_report.ensures.fault ∙ is) c.in-Err.ensures.ending;
+  same = record { shelf = refl; source = refl; sink = refl };
 }
 
 pub returns-in-Err-clause-once : goal.returns-in-Err-clause-once
