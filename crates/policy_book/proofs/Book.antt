@@ -1,5 +1,5 @@
 -- What a policy keeps, with what is kept beside.
-use Rattle.std.proofs.Common.{◌≡◌, ℕ, ◌<◌, ◌++◌, List, length, take, slice_index_or, slice_set, refl, sym, ap, subst, ◌∙◌, arith}
+use Rattle.std.proofs.Common.{◌≡◌, ℕ, ◌<◌, ◌++◌, List, length, take, slice_index_or, slice_set, sym, ap, subst, ◌∙◌, arith}
 use Rattle.std.proofs.lemmas.List.{get_or_default}
 use Rattle.std.proofs.Math.Seq.{take-append_seam}
 use Rattle.basics.specs.Laws.Pairs.{AllPairs, Pairs}
@@ -13,7 +13,7 @@ use Rattle.policy_book.specs.Policies.{flow_at, no_workflow}
 use Rattle.policy_book.specs.Laws.Facts.{IsSoundWorkflow}
 use Rattle.policy_book.specs.Stored.{shape_of}
 use Rattle.policy_book.specs.Duties.{AreSettled, DutyShape, IsBook, may_do}
-use Rattle.policy_book.proofs.Keeping.{sound_at, stored_with_flow, stored_with_members, stored_with_pairs}
+use Rattle.policy_book.proofs.Keeping.{sound_at, stored_with_flow, stored_with_pairs}
 use Rattle.policy_book.proofs.Rows.{DiffersAt, PermitsAt, kept_settled, kept_with_permits}
 
 -- what was written into a whole list
@@ -25,23 +25,14 @@ book_settled : (roster : RosterShape) (m : Pairs) (rs : List RelationShape) (nam
     (ds es : List DutyShape)
     → IsBook roster rs names flows admin ds → DiffersAt u r roster (record roster { members = m }) → AreSettled (record roster { members = m }) flows u r ds es
     → IsBook (record roster { members = m }) rs names flows admin es
-book_settled roster m rs names flows admin u r ds es old differs settled = record {
-  stored = stored_with_members roster rs names flows admin old.stored m;
-  kept = kept_settled roster (record roster { members = m }) flows u r ds es refl differs old.kept settled;
-}
+book_settled roster m rs names flows admin u r ds es old differs settled = grind (arith, kept_settled)
 
 -- the book after a change of one user's roles, as it is written into lists that were seen under other names
 pub book_after : (roster after : RosterShape) (m : Pairs) (rs : List RelationShape) (names : Table) (flows ws : List WorkflowShape) (admin u r n : ℕ)
     (ds old new rest : List DutyShape)
     → after ≡ record roster { members = m } → ws ≡ flows → old ≡ ds → AreSettled after ws u r old new → length old ≡ n
     → IsBook roster rs names flows admin ds → DiffersAt u r roster (record roster { members = m }) → IsBook after rs names flows admin (take n (new ++ rest))
-book_after roster after m rs names flows ws admin u r n ds old new rest changed seen there settled long book differs =
-    let now : AreSettled (record roster { members = m }) flows u r ds new =
-    subst (λ (x : RosterShape). AreSettled x flows u r ds new) changed
-    (subst (λ (xs : List WorkflowShape). AreSettled after xs u r ds new) seen
-    (subst (λ (xs : List DutyShape). AreSettled after ws u r xs new) there settled)) in
-    subst (λ (xs : List DutyShape). IsBook after rs names flows admin xs) (sym (whole n new rest (settled.count ∙ long)))
-    (subst (λ (x : RosterShape). IsBook x rs names flows admin new) (sym changed) (book_settled roster m rs names flows admin u r ds new book differs now))
+book_after roster after m rs names flows ws admin u r n ds old new rest changed seen there settled long book differs = grind (arith, whole, book_settled)
 
 -- other permissions for one step of a workflow, whose row is made anew
 pub book_with_permits : (p : PolicyShape) (roster : RosterShape) (rs : List RelationShape) (names : Table) (flows : List WorkflowShape) (admin : ℕ)

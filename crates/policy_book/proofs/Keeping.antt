@@ -1,12 +1,12 @@
 -- What a policy keeps under each of its changes.
-use Rattle.std.proofs.Common.{◌≡◌, ◌≢◌, ℕ, ◌+◌, ◌<◌, ◌≤◌, true, false, List, [], ◌∷◌, ◌++◌, length, Option, Some, None, ◌⊎◌, inl, inr, refl, sym, ap, subst}
+use Rattle.std.proofs.Common.{◌≡◌, ◌≢◌, ℕ, ◌+◌, ◌<◌, ◌≤◌, true, false, List, [], ◌∷◌, ◌++◌, length, Option, Some, ◌⊎◌, inl, inr, refl, sym, ap, subst}
 use Rattle.std.proofs.Common.{◌∙◌, arith, length-append}
 use Prim.Native.Nat.{zero, suc}
 use Rattle.std.specs.Prelude.{slice_index_or, slice_set}
 use Rattle.std.specs.FinSet as set
 use Rattle.basics.specs.Laws.Pairs.{Pairs, AllPairs, pair_cmp}
 use Rattle.basics.specs.PairLaws.{pair_cmp_total, pair_cmp-IsAntisymmetric, either_inserted, was_there}
-use Rattle.user_relations.specs.Laws.Relations.{RelationShape, RelationKind, listed, complement, kind_of, with_kind, change_kind, pairs_of, listed_pairs}
+use Rattle.user_relations.specs.Laws.Relations.{RelationShape, RelationKind, listed, kind_of, with_kind, change_kind, pairs_of, listed_pairs}
 use Rattle.std.proofs.lemmas.List.{get_or_default, get_or-set_same, get_or-set_other, get_or_append_left, get_or_push}
 use Rattle.std.proofs.Math.ListN.{length-set}
 use Rattle.std.proofs.lemmas.Bool.Decides.{eqb_tells}
@@ -32,11 +32,7 @@ changed_at (r ∷ rs) (suc n) (suc m) kind = changed_at rs n m kind
 
 kind_changed : (rs : List RelationShape) (rho sigma : ℕ) (kind : RelationKind) → (kind_of (with_kind rs rho kind) sigma ≡ kind_of rs sigma) ⊎
     (kind_of (with_kind rs rho kind) sigma ≡ Some kind)
-kind_changed rs zero sigma kind = inl refl
-kind_changed rs (suc zero) sigma kind = inl refl
-kind_changed rs (suc (suc n)) zero kind = inl refl
-kind_changed rs (suc (suc n)) (suc zero) kind = inl refl
-kind_changed rs (suc (suc n)) (suc (suc m)) kind = changed_at rs n m kind
+kind_changed rs rho sigma kind = grind (arith, changed_at)
 
 length-change : (rs : List RelationShape) (n : ℕ) (kind : RelationKind) → length (change_kind rs n kind) ≡ length rs
 length-change [] n kind = refl
@@ -45,9 +41,7 @@ length-change (r ∷ rs) (suc n) kind = ap (λ k. suc k) (length-change rs n kin
 
 -- a change of kind leaves as many relations
 pub length-with_kind : (rs : List RelationShape) (rho : ℕ) (kind : RelationKind) → length (with_kind rs rho kind) ≡ length rs
-length-with_kind rs zero kind = refl
-length-with_kind rs (suc zero) kind = refl
-length-with_kind rs (suc (suc n)) kind = length-change rs n kind
+length-with_kind rs rho kind = grind (arith, length-change)
 
 -- of no pairs anything is true
 none_of_users : (n : ℕ) → AllPairs (λ u v. (u < n) × (v < n)) set.empty
@@ -62,18 +56,12 @@ below_or_at a n h = elim (nat_eq_or a n) [ inl e ↦ inr e | inr ne ↦ inl (ome
 -- where the new pairs are of users, all pairs are
 pub of_users_with : (n : ℕ) (rs : List RelationShape) (rho : ℕ) (pairs : Pairs) → AreOfUsers n rs → AllPairs (λ u v. (u < n) × (v < n)) pairs →
     AreOfUsers n (with_kind rs rho (listed pairs))
-of_users_with n rs rho pairs old new sigma found e =
-    elim (kind_changed rs rho sigma (listed pairs)) [
-      | inl same ↦ old sigma found (sym same ∙ e)
-      | inr other ↦ let both : pairs ≡ found = cc in subst (λ (s : Pairs). AllPairs (λ u v. (u < n) × (v < n)) s) both new
-    ]
+of_users_with n rs rho pairs old new = grind (arith, kind_changed)
 
 -- the pairs of a kind of relation, given what is known of those that it lists
 listed_of_users : (n : ℕ) (kind : Option RelationKind) → ((pairs : Pairs) → kind ≡ Some (listed pairs) → AllPairs (λ u v. (u < n) × (v < n)) pairs) →
     AllPairs (λ u v. (u < n) × (v < n)) (listed_pairs kind)
-listed_of_users n None old = none_of_users n
-listed_of_users n (Some (listed pairs)) old = old pairs refl
-listed_of_users n (Some (complement m)) old = none_of_users n
+listed_of_users n kind old = grind (arith, none_of_users)
 
 -- the pairs of a relation are of users
 pub pairs_of_users : (n : ℕ) (rs : List RelationShape) (rho : ℕ) → AreOfUsers n rs → AllPairs (λ u v. (u < n) × (v < n)) (pairs_of rs rho)

@@ -1,5 +1,5 @@
 -- What is kept of who is authorised, under each change of a policy.
-use Rattle.std.proofs.Common.{◌≡◌, ◌≢◌, ℕ, zero, suc, ◌+◌, ◌<◌, ◌≤◌, Bool, true, false, not, ◌&&◌, ◌||◌, ◌==◌, List, [], ◌∷◌, ◌++◌, length, if◌then◌else◌}
+use Rattle.std.proofs.Common.{◌≡◌, ◌≢◌, ℕ, zero, suc, ◌<◌, ◌≤◌, Bool, true, false, not, ◌&&◌, ◌||◌, ◌==◌, List, [], ◌∷◌, ◌++◌, length, if◌then◌else◌}
 use Rattle.std.proofs.Common.{slice_index_or, slice_set, inl, inr, refl, sym, ap, subst, ◌∙◌, arith, length-append}
 use Rattle.std.specs.FinSet as set
 use Rattle.std.specs.Ordering.{eq_by_cmp}
@@ -17,7 +17,7 @@ use Rattle.constraint_forms.specs.Assign.{is_member, no_steps}
 use Rattle.constraint_forms.proofs.Members.{none_member}
 use Rattle.policy_book.specs.Laws.Shapes.{WorkflowShape}
 use Rattle.policy_book.specs.Policies.{any_below, no_workflow}
-use Rattle.policy_book.specs.Duties.{steps_below, row_has, steps_in, set_at, AreGathered, may_do, DutyShape, AreDuties, no_duties, duties_at, AreKept}
+use Rattle.policy_book.specs.Duties.{steps_below, row_has, steps_in, AreGathered, may_do, DutyShape, AreDuties, no_duties, duties_at, AreKept}
 use Rattle.policy_book.specs.Duties.{IsSettled, AreSettled, AreGrown}
 use Rattle.policy_book.proofs.Counting.{any_below-some}
 use Rattle.policy_book.proofs.Keeping.{below_or_at}
@@ -27,26 +27,16 @@ use Rattle.policy_book.proofs.Keeping.{below_or_at}
 -- tests that agree pass the same steps
 pub steps_same : (n : ℕ) (f g : ℕ → Bool) → ((s : ℕ) → s < n → f s ≡ g s) → steps_below n f ≡ steps_below n g
 steps_same zero f g same = refl
-steps_same (suc n) f g same =
-    ap (λ b. if b then slice_set (steps_below n f) n true else steps_below n f) (same n (omega arith))
-    ∙ ap (λ d. if g n then slice_set d n true else d) (steps_same n f g (λ s below. same s (omega (arith, below))))
+steps_same (suc n) f g same = grind (arith, (steps_same n f g (λ s below. same s (omega (arith, below)))))
 
 steps_length : (n : ℕ) (f : ℕ → Bool) → length (steps_below n f) ≡ STEP_LIMIT
 unfolding no_steps
 steps_length zero f = length-replicate STEP_LIMIT false
-steps_length (suc n) f = at (f n) (steps_length n f)
-  where
-    at : (b : Bool) → length (steps_below n f) ≡ STEP_LIMIT → length (if b then slice_set (steps_below n f) n true else steps_below n f) ≡ STEP_LIMIT
-    at true long = length-set (steps_below n f) n true ∙ long
-    at false long = long
+steps_length (suc n) f = grind (arith, length-set, (steps_length n f))
 
 steps_beyond : (n t : ℕ) (f : ℕ → Bool) → n ≤ t → is_member (steps_below n f) t ≡ false
 steps_beyond zero t f past = none_member t
-steps_beyond (suc n) t f past = at (f n) (λ e. absurd (omega (arith, e, past))) (steps_beyond n t f (omega (arith, past)))
-  where
-    at : (b : Bool) → t ≢ n → is_member (steps_below n f) t ≡ false → is_member (if b then slice_set (steps_below n f) n true else steps_below n f) t ≡ false
-    at true apart before = get_or-set_other (steps_below n f) n t true false apart ∙ before
-    at false apart before = before
+steps_beyond (suc n) t f past = grind (arith, get_or-set_other, (steps_beyond n t f (omega (arith, past))))
 
 -- a step below n is a member where it passes
 pub steps_member : (n t : ℕ) (f : ℕ → Bool) → n ≤ STEP_LIMIT → t < n → is_member (steps_below n f) t ≡ f t
@@ -68,8 +58,7 @@ steps_member (suc n) t f few below = elim (below_or_at t n (omega (arith, below)
 
 -- a row put in place of another one
 row_put : (rows : List (List ℕ)) (s t u : ℕ) (row : List ℕ) → s < length rows → t ≡ s → row_has (slice_set rows s row) t u ≡ has_user row u
-row_put rows s t u row within here =
-    ap (λ (n : ℕ). has_user (slice_index_or (slice_set rows s row) n []) u) here ∙ ap (λ (w : List ℕ). has_user w u) (get_or-set_same rows s row [] within)
+row_put rows s t u row within here = grind (arith, get_or-set_same)
 
 row_left : (rows : List (List ℕ)) (s t u : ℕ) (row : List ℕ) → t ≢ s → row_has (slice_set rows s row) t u ≡ row_has rows t u
 row_left rows s t u row apart = ap (λ (w : List ℕ). has_user w u) (get_or-set_other rows s t row [] apart)
@@ -77,70 +66,33 @@ row_left rows s t u row apart = ap (λ (w : List ℕ). has_user w u) (get_or-set
 -- who is in one row as before is in the same rows
 pub same_gathered : (rows : List (List ℕ)) (s u : ℕ) (before : List ℕ) → s < length rows → row_has rows s u ≡ has_user before u → steps_in
     (slice_set rows s before) u ≡ steps_in rows u
-same_gathered rows s u before within same =
-    steps_same (length (slice_set rows s before)) (λ t. row_has (slice_set rows s before) t u) (λ t. row_has rows t u) (λ t _. elim (cases_eq t s) [
-      | inl here ↦ row_put rows s t u before within here ∙ sym same ∙ ap (λ (n : ℕ). row_has rows n u) (sym here)
-      | inr apart ↦ row_left rows s t u before apart
-    ])
-    ∙ ap (λ (n : ℕ). steps_below n (λ t. row_has rows t u)) (length-set rows s before)
+same_gathered rows s u before within same = grind (arith, steps_same, cases_eq, row_put, row_left, length-set)
 
 -- a row that is put back
 pub put_back : (rows : List (List ℕ)) (s : ℕ) (row before : List ℕ) (sets : List (List Bool)) → s < length rows → before ≡ slice_index_or rows s [] →
     AreGathered rows sets
     → AreGathered (slice_set (slice_set rows s row) s before) sets
-put_back rows s row before sets within was gathered u below =
-    let long : length (slice_set (slice_set rows s row) s before) ≡ length rows = length-set (slice_set rows s row) s before ∙ length-set rows s row in
-    gathered u below
-    ∙ sym (
-    steps_same (length (slice_set (slice_set rows s row) s before)) (λ t. row_has (slice_set (slice_set rows s row) s before) t u) (λ t. row_has rows t u)
-    (λ t _. elim (cases_eq t s) [
-      | inl here ↦
-          row_put (slice_set rows s row) s t u before (omega (arith, within, length-set rows s row)) here
-          ∙ ap (λ (w : List ℕ). has_user w u) was ∙ ap (λ (n : ℕ). row_has rows n u) (sym here)
-      | inr apart ↦ row_left (slice_set rows s row) s t u before apart ∙ row_left rows s t u row apart
-    ])
-    ∙ ap (λ (n : ℕ). steps_below n (λ t. row_has rows t u)) long
-    )
+put_back rows s row before sets within was gathered = grind (arith, length-set, steps_same, cases_eq, row_put, row_left)
 
 -- rows that differ in one user, whose set is gathered again
 pub gathered_again : (before after : List (List ℕ)) (u : ℕ) (sets : List (List Bool)) → length after ≡ length before
     → ((s v : ℕ) → s < length before → v ≢ u → row_has after s v ≡ row_has before s v) → AreGathered before sets →
     AreGathered after (slice_set sets u (steps_in after u))
-gathered_again before after u sets long same gathered v below =
-    let within : v < length sets = omega (arith, below, length-set sets u (steps_in after u)) in
-    elim (cases_eq v u) [
-      | inl here ↦
-          (let place : u < length sets = omega (arith, here, within) in
-          ap (set_at (slice_set sets u (steps_in after u))) here ∙ get_or-set_same sets u (steps_in after u) no_steps place ∙ ap (steps_in after) (sym here))
-      | inr apart ↦
-          get_or-set_other sets u v (steps_in after u) no_steps apart ∙ gathered v within
-          ∙ sym (
-          steps_same (length after) (λ s. row_has after s v) (λ s. row_has before s v) (λ s h. same s v (omega (arith, h, long)) apart)
-          ∙ ap (λ (n : ℕ). steps_below n (λ s. row_has before s v)) long
-          )
-    ]
+gathered_again before after u sets long same gathered = grind (arith, length-set, cases_eq, get_or-set_same, get_or-set_other, steps_same)
 
 -- rows in which a user was put right
 pub gathered_settled : (roster : RosterShape) (flow : FlowShape) (u r : ℕ) (before after : List (List ℕ)) (sets : List (List Bool)) →
     IsSettled roster flow u r before after → AreGathered before sets
     → AreGathered after (slice_set sets u (steps_in after u))
-gathered_settled roster flow u r before after sets settled gathered =
-    gathered_again before after u sets settled.count
-    (λ s v below apart. settled.each s v below ∙
-    ap (λ b. if b && set.contains flow.permits (r, s) then may_do roster flow s v else row_has before s v) (eq_other v u apart)) gathered
+gathered_settled roster flow u r before after sets settled gathered = grind (arith, gathered_again, eq_other)
 
 -- a user who is put right in a row where the role is permitted
 pub settled_row : (permitted : Bool) (may : ℕ → Bool) (u v : ℕ) (old : Bool) → permitted ≡ true →
     (if v == u then may u else old) ≡ (if v == u && permitted then may v else old)
-settled_row false may u v old h = absurd (cc)
-settled_row true may u v old h = elim (bool_cases (v == u)) [
-  | inl same ↦ ap (λ b. if b then may u else old) same ∙ ap may (sym (eq_back v u same)) ∙ sym (ap (λ b. if b && true then may v else old) same)
-  | inr other ↦ ap (λ b. if b then may u else old) other ∙ sym (ap (λ b. if b && true then may v else old) other)
-]
+settled_row permitted may u v old h = grind (arith, bool_cases, eq_back)
 
 pub unsettled_row : (permitted : Bool) (may : ℕ → Bool) (u v : ℕ) (old : Bool) → permitted ≡ false → old ≡ (if v == u && permitted then may v else old)
-unsettled_row true may u v old h = absurd (cc)
-unsettled_row false may u v old h = sym (ap (λ b. if b then may v else old) (and-false (v == u)))
+unsettled_row permitted may u v old h = grind (arith, and-false)
 
 -- ---- who is authorised
 
@@ -179,16 +131,7 @@ DiffersAt u r before after =
 
 members_matter : (u r : ℕ) (roster : RosterShape) (m : Pairs) → ((q : ℕ × ℕ) → q ≢ (u, r) → set.contains m q ≡ set.contains roster.members q) →
     DiffersAt u r roster (record roster { members = m })
-members_matter u r roster m others flow s v apart =
-    any_below-same (length roster.roles) (λ k. set.contains m (v, k) && set.contains flow.permits (k, s))
-    (λ k. set.contains roster.members (v, k) && set.contains flow.permits (k, s)) (λ k.
-    elim (bool_cases (set.contains flow.permits (k, s))) [
-      | inl given ↦ ap (λ b. b && set.contains flow.permits (k, s)) (others (v, k) (λ e.
-          apart (ap (λ (p : ℕ × ℕ). p.0) e) (ap (λ (n : ℕ). set.contains flow.permits (n, s)) (sym (ap (λ (p : ℕ × ℕ). p.1) e)) ∙ given)))
-      | inr free ↦
-          ap (λ b. set.contains m (v, k) && b) free ∙ and-false (set.contains m (v, k))
-          ∙ sym (ap (λ b. set.contains roster.members (v, k) && b) free ∙ and-false (set.contains roster.members (v, k)))
-    ])
+members_matter u r roster m others = grind (arith, any_below-same, bool_cases, and-false)
 
 pub enrolled_differs : (u r : ℕ) (roster : RosterShape) → DiffersAt u r roster (record roster { members = set.insert roster.members (u, r) })
 enrolled_differs u r roster = members_matter u r roster (set.insert roster.members (u, r)) (λ q apart. inserted_other roster.members (u, r) q apart)
@@ -208,150 +151,55 @@ forbidden_at flow r s q t apart = removed_other flow.permits (r, s) (q, t) (λ e
 
 others_may : (roster : RosterShape) (flow : FlowShape) (permits : Pairs) (s t v : ℕ) → PermitsAt s flow permits → t ≢ s →
     may_do roster (record flow { permits = permits }) t v ≡ may_do roster flow t v
-others_may roster flow permits s t v same apart =
-    any_below-same (length roster.roles) (λ k. set.contains roster.members (v, k) && set.contains permits (k, t))
-    (λ k. set.contains roster.members (v, k) && set.contains flow.permits (k, t))
-    (λ k. ap (λ b. set.contains roster.members (v, k) && b) (same k t apart))
+others_may roster flow permits s t v same apart = grind (arith, any_below-same)
 
 -- ---- what is kept of each workflow
 
 duties_settled : (before after : RosterShape) (flow : FlowShape) (u r : ℕ) (d e : DutyShape) → after.users ≡ before.users → DiffersAt u r before after →
     AreDuties before flow d
     → e.users ≡ d.users → IsSettled after flow u r d.rows e.rows → AreDuties after flow e
-duties_settled before after flow u r d e people differs old many settled =
-    let as_many : length after.users ≡ length before.users = ap (λ (xs : List (List ℕ)). length xs) people in
-    record {
-      count = settled.count ∙ old.count;
-      each = λ s v below.
-          let place : s < length d.rows = omega (arith, below, settled.count) in
-          settled.each s v place
-          ∙ elim (bool_cases (v == u && set.contains flow.permits (r, s))) [
-            | inl here ↦ ap (λ b. if b then may_do after flow s v else row_has d.rows s v) here
-            | inr other ↦
-                ap (λ b. if b then may_do after flow s v else row_has d.rows s v) other ∙ old.each s v place
-                ∙ sym (differs flow s v (λ same permitted. let both : (v == u && set.contains flow.permits (r, s)) ≡ true =
-                ap (λ b. b && set.contains flow.permits (r, s)) (eq_is v u same) ∙ permitted in differ _ both other))
-          ];
-      users = omega (arith, as_many, many, old.users);
-    }
+duties_settled before after flow u r d e people differs old many settled = grind (arith, bool_cases, eq_is, differ)
 
 -- after a change of one user's roles
 pub kept_settled : (before after : RosterShape) (flows : List WorkflowShape) (u r : ℕ) (ds es : List DutyShape) → after.users ≡ before.users →
     DiffersAt u r before after
     → AreKept before flows ds → AreSettled after flows u r ds es → AreKept after flows es
-kept_settled before after flows u r ds es people differs old settled = record {
-  count = settled.count ∙ old.count;
-  each = λ f below.
-      duties_settled before after (slice_index_or flows f no_workflow).flow u r (duties_at ds f) (duties_at es f) people differs (old.each f below)
-      (settled.users f) (settled.each f below);
-}
+kept_settled before after flows u r ds es people differs old settled = grind (arith, duties_settled)
 
 -- with sets for more users
 pub kept_grown : (roster : RosterShape) (flows : List WorkflowShape) (ds es : List DutyShape) → AreKept roster flows ds → AreGrown ds es →
     AreKept roster flows es
-kept_grown roster flows ds es old grown = record {
-  count = grown.count ∙ old.count;
-  each = λ f below.
-      let kept = old.each f below in
-      let same : (duties_at es f).rows ≡ (duties_at ds f).rows = grown.rows f in
-      let long : length (duties_at es f).rows ≡ length (duties_at ds f).rows = ap (λ (rows : List (List ℕ)). length rows) same in
-      record {
-        count = long ∙ kept.count;
-        each = λ s u place. ap (λ (rows : List (List ℕ)). row_has rows s u) same ∙ kept.each s u (omega (arith, place, long));
-        users = omega (arith, kept.users, grown.users f);
-      };
-}
+kept_grown roster flows ds es old grown = grind arith
 
 -- with one user more, where there is room for the user's sets
 pub kept_with_user : (roster : RosterShape) (name : List ℕ) (flows : List WorkflowShape) (ds : List DutyShape) → AreKept roster flows ds
     → ((f : ℕ) → f < length ds → length roster.users < (duties_at ds f).users) → AreKept (record roster { users = roster.users ++ name ∷ [] }) flows ds
-kept_with_user roster name flows ds old room =
-    let longer : length (roster.users ++ name ∷ []) ≡ length roster.users + 1 = length-append roster.users (name ∷ []) in
-    record {
-      count = old.count;
-      each = λ f below.
-          let kept = old.each f below in
-          record { count = kept.count; each = kept.each; users = omega (arith, longer, room f (omega (arith, below, old.count))) };
-    }
+kept_with_user roster name flows ds old room = grind (arith, length-append)
 
 -- with another workflow at a number, for which nothing else is right
 pub kept_with_flow : (roster : RosterShape) (flows : List WorkflowShape) (ds : List DutyShape) (f : ℕ) (w : WorkflowShape) (d : DutyShape) →
     f < length flows → AreKept roster flows ds
     → AreDuties roster w.flow d → AreKept roster (slice_set flows f w) (slice_set ds f d)
-kept_with_flow roster flows ds f w d within old new =
-    let long : length (slice_set flows f w) ≡ length flows = length-set flows f w in
-    let place : f < length ds = omega (arith, within, old.count) in
-    record {
-      count = length-set ds f d ∙ old.count ∙ sym long;
-      each = λ g below. elim (cases_eq g f) [
-        | inl here ↦
-            subst (λ (n : ℕ). AreDuties roster (slice_index_or (slice_set flows f w) n no_workflow).flow (duties_at (slice_set ds f d) n)) (sym here)
-            (subst (λ (x : DutyShape). AreDuties roster (slice_index_or (slice_set flows f w) f no_workflow).flow x)
-            (sym (get_or-set_same ds f d no_duties place))
-            (subst (λ (x : WorkflowShape). AreDuties roster x.flow d) (sym (get_or-set_same flows f w no_workflow within)) new))
-        | inr apart ↦
-            subst (λ (x : DutyShape). AreDuties roster (slice_index_or (slice_set flows f w) g no_workflow).flow x)
-            (sym (get_or-set_other ds f g d no_duties apart))
-            (subst (λ (x : WorkflowShape). AreDuties roster x.flow (duties_at ds g)) (sym (get_or-set_other flows f g w no_workflow apart))
-            (old.each g (omega (arith, below, long))))
-      ];
-    }
+kept_with_flow roster flows ds f w d within old new = grind (arith, length-set, cases_eq, get_or-set_same, get_or-set_other)
 
 -- with a workflow that has the same steps and permissions
 pub kept_with_same : (roster : RosterShape) (flows : List WorkflowShape) (ds : List DutyShape) (f : ℕ) (w : WorkflowShape) → f < length flows →
     AreKept roster flows ds
     → w.flow ≡ (slice_index_or flows f no_workflow).flow → AreKept roster (slice_set flows f w) ds
-kept_with_same roster flows ds f w within old same =
-    let long : length (slice_set flows f w) ≡ length flows = length-set flows f w in
-    record {
-      count = old.count ∙ sym long;
-      each = λ g below.
-          let there : g < length flows = omega (arith, below, long) in
-          subst (λ (x : FlowShape). AreDuties roster x (duties_at ds g)) (sym (elim (cases_eq g f) [
-            | inl here ↦
-                ap (λ (n : ℕ). (slice_index_or (slice_set flows f w) n no_workflow).flow) here ∙
-                ap (λ (x : WorkflowShape). x.flow) (get_or-set_same flows f w no_workflow within) ∙ same
-                ∙ ap (λ (n : ℕ). (slice_index_or flows n no_workflow).flow) (sym here)
-            | inr apart ↦ ap (λ (x : WorkflowShape). x.flow) (get_or-set_other flows f g w no_workflow apart)
-          ])) (old.each g there);
-    }
+kept_with_same roster flows ds f w within old same = grind (arith, length-set, cases_eq, get_or-set_same, get_or-set_other)
 
 -- with one workflow more
 pub kept_with_more : (roster : RosterShape) (flows : List WorkflowShape) (ds : List DutyShape) (w : WorkflowShape) (d : DutyShape) →
     AreKept roster flows ds → AreDuties roster w.flow d
     → AreKept roster (flows ++ w ∷ []) (ds ++ d ∷ [])
-kept_with_more roster flows ds w d old new =
-    let longer : length (flows ++ w ∷ []) ≡ length flows + 1 = length-append flows (w ∷ []) in
-    let kept_longer : length (ds ++ d ∷ []) ≡ length ds + 1 = length-append ds (d ∷ []) in
-    record {
-      count = omega (arith, longer, kept_longer, old.count);
-      each = λ g below. elim (below_or_at g (length flows) (omega (arith, longer, below))) [
-        | inl before ↦
-            subst (λ (x : DutyShape). AreDuties roster (slice_index_or (flows ++ w ∷ []) g no_workflow).flow x)
-            (sym (get_or_append_left ds (d ∷ []) no_duties g (omega (arith, before, old.count))))
-            (subst (λ (x : WorkflowShape). AreDuties roster x.flow (duties_at ds g)) (sym (get_or_append_left flows (w ∷ []) no_workflow g before))
-            (old.each g before))
-        | inr last ↦
-            subst (λ (x : DutyShape). AreDuties roster (slice_index_or (flows ++ w ∷ []) g no_workflow).flow x)
-            (sym (get_or_push ds d no_duties g (old.count ∙ sym last)))
-            (subst (λ (x : WorkflowShape). AreDuties roster x.flow d) (sym (get_or_push flows w no_workflow g (sym last))) new)
-      ];
-    }
+kept_with_more roster flows ds w d old new = grind (arith, length-append, below_or_at, get_or_append_left, get_or_push)
 
 -- what is kept of a workflow, with other permissions for one step and that step's row made anew
 pub duties_with_row : (roster : RosterShape) (flow : FlowShape) (permits : Pairs) (s : ℕ) (row : List ℕ) (d : DutyShape) → s < length d.rows →
     AreDuties roster flow d → PermitsAt s flow permits
     → ((u : ℕ) → has_user row u ≡ may_do roster (record flow { permits = permits }) s u) →
     AreDuties roster (record flow { permits = permits }) (record d { rows = slice_set d.rows s row })
-duties_with_row roster flow permits s row d within old same new = record {
-  count = length-set d.rows s row ∙ old.count;
-  each = λ t u below. elim (cases_eq t s) [
-    | inl here ↦ row_put d.rows s t u row within here ∙ new u ∙ ap (λ (n : ℕ). may_do roster (record flow { permits = permits }) n u) (sym here)
-    | inr apart ↦ row_left d.rows s t u row apart ∙ old.each t u (omega (arith, below, length-set d.rows s row)) ∙
-        sym (others_may roster flow permits s t u same apart)
-  ];
-  users = old.users;
-}
+duties_with_row roster flow permits s row d within old same new = grind (arith, length-set, cases_eq, row_put, row_left, others_may)
 
 -- the same in a policy's workflows
 pub kept_with_permits : (roster : RosterShape) (flows : List WorkflowShape) (ds : List DutyShape) (f s : ℕ) (w : WorkflowShape) (d : DutyShape)

@@ -1,6 +1,6 @@
 -- The pairs of rows, and how they change with a row.
-use Rattle.std.proofs.Common.{◌≡◌, ℕ, ◌<◌, ◌≤◌, ◌%◌, inl, inr, Bool, true, false, not, ◌&&◌, ◌||◌, nat_eq, nat_lt, List, [], length, cond, slice_index_or}
-use Rattle.std.proofs.Common.{slice_set, replicate, refl, sym, ap, ◌∙◌, arith, get_or-set_same, get_or-set_other}
+use Rattle.std.proofs.Common.{◌≡◌, ℕ, ◌<◌, ◌≤◌, ◌%◌, Bool, true, false, not, ◌&&◌, ◌||◌, nat_eq, nat_lt, List, [], length, cond}
+use Rattle.std.proofs.Common.{slice_set, replicate, sym, ap, ◌∙◌, arith, get_or-set_same, get_or-set_other}
 use Rattle.std.specs.FinSet as sets
 use Rattle.std.proofs.lemmas.Bool.{cases_eq, cases_lt, eq-eqb, ne_eqb, eqb-true, lt-ltb}
 use Rattle.std.proofs.lemmas.List.{get_or-replicate, get_or_past, length-replicate}
@@ -15,10 +15,7 @@ no_user_in_none u = ap (λ b. nat_eq b 1) (bit_at-zero (u % 64))
 
 -- rows of one set without users have none
 pub none_in_copies : (n : ℕ) (w : List ℕ) → ((v : ℕ) → has_user w v ≡ false) → (u r : ℕ) → role_row_has (replicate n w) u r ≡ false
-none_in_copies n w none u r = elim (cases_lt r n) [
-  | inl within ↦ ap (λ row. has_user row u) (get_or-replicate n r w [] within) ∙ none u
-  | inr past ↦ ap (λ row. has_user row u) (get_or_past (replicate n w) r [] (omega (arith, length-replicate n w, past))) ∙ no_user_in_none u
-]
+none_in_copies n w none u r = grind (arith, cases_lt, get_or-replicate, get_or_past, length-replicate, no_user_in_none)
 
 pub none_within_limits : (rows : List (List ℕ)) → ((u r : ℕ) → role_row_has rows u r ≡ false) → AreWithinLimits rows
 none_within_limits rows none = record { each = λ u r here. absurd (let no = none u r in cc) }
@@ -30,27 +27,13 @@ memberships_of-none rows none = set_of_none (role_row_has rows) USER_LIMIT ROLE_
 -- with another row for one role, the rows have what they had elsewhere
 with_row : (rows : List (List ℕ)) (r : ℕ) (w : List ℕ) → r < length rows → (x y : ℕ)
     → role_row_has (slice_set rows r w) x y ≡ cond (nat_eq y r) (has_user w x) (role_row_has rows x y)
-with_row rows r w within x y = elim (cases_eq y r) [
-  | inl e ↦
-      ap (λ i. has_user (slice_index_or (slice_set rows r w) i []) x) e
-      ∙ ap (λ row. has_user row x) (get_or-set_same rows r w [] within)
-      ∙ sym (ap (λ b. cond b (has_user w x) (role_row_has rows x y)) (eq-eqb y r e))
-  | inr ne ↦
-      ap (λ row. has_user row x) (get_or-set_other rows r y w [] ne)
-      ∙ sym (ap (λ b. cond b (has_user w x) (role_row_has rows x y)) (ne_eqb y r ne))
-]
+with_row rows r w within x y = grind (arith, cases_eq, get_or-set_same, eq-eqb, get_or-set_other, ne_eqb)
 
 one_more : (a b h old : Bool) → (b ≡ true → h ≡ old) → cond b (a || h) old ≡ ((a && b) || old)
-one_more true true h old same = refl
-one_more true false h old same = refl
-one_more false true h old same = same refl
-one_more false false h old same = refl
+one_more a b h old same = grind arith
 
 one_less : (a b h old : Bool) → (b ≡ true → h ≡ old) → cond b (not a && h) old ≡ (not (a && b) && old)
-one_less true true h old same = refl
-one_less true false h old same = refl
-one_less false true h old same = same refl
-one_less false false h old same = refl
+one_less a b h old same = grind arith
 
 at_itself : (rows : List (List ℕ)) (r x y : ℕ) → nat_eq y r ≡ true → role_row_has rows x r ≡ role_row_has rows x y
 at_itself rows r x y e = ap (λ i. role_row_has rows x i) (sym (eqb-true y r e))
@@ -74,10 +57,7 @@ memberships_of-remove rows u r w within less =
     one_less (nat_eq x u) (nat_eq y r) (role_row_has rows x r) (role_row_has rows x y) (at_itself rows r x y))
 
 both_hold : (p q h : Bool) → (h ≡ true → (p ≡ true) × (q ≡ true)) → (p && (q && h)) ≡ h
-both_hold p q true hold = let both = hold refl in λ i. both.0 i && (both.1 i && true)
-both_hold true true false hold = refl
-both_hold true false false hold = refl
-both_hold false q false hold = refl
+both_hold p q h hold = grind arith
 
 -- the pairs have one where its row does
 pub memberships_of-has : (rows : List (List ℕ)) (u r : ℕ) → AreWithinLimits rows → sets.contains (memberships_of rows) (u, r) ≡ role_row_has rows u r
@@ -89,5 +69,4 @@ memberships_of-has rows u r within =
 
 -- and none where there is no row
 pub memberships_of-past : (rows : List (List ℕ)) (u r : ℕ) → AreWithinLimits rows → length rows ≤ r → sets.contains (memberships_of rows) (u, r) ≡ false
-memberships_of-past rows u r within past =
-    memberships_of-has rows u r within ∙ ap (λ row. has_user row u) (get_or_past rows r [] past) ∙ no_user_in_none u
+memberships_of-past rows u r within past = grind (arith, memberships_of-has, get_or_past, no_user_in_none)

@@ -1,6 +1,6 @@
 -- Every change leaves a roster sound.
 use Rattle.std.proofs.Common.{◌≡◌, ℕ, ◌<◌, ◌≤◌, List, [], length, arith}
-use Rattle.std.specs.Prelude.{Result, Ok, Err, OnOk, OnErr}
+use Rattle.std.specs.Prelude.{Result, OnOk, OnErr}
 use Rattle.std.specs.FinSet as set
 use Rattle.basics.specs.Laws.Pairs.{Pairs, AllPairs}
 use Rattle.basics.specs.PairLaws.{all_empty}
@@ -15,5 +15,4 @@ sound_new roles few = record { users = omega arith; roles = few; members = all_e
 pub sound_members : (roster : RosterShape) (made m : Pairs) (result : Result (Unit {0}) RosterFault)
     → AllPairs (λ u r. (u < length roster.users) × (r < length roster.roles)) made → OnOk result (m ≡ made) → OnErr result (m ≡ roster.members) →
     IsSoundRoster roster → IsSoundRoster (record roster { members = m })
-sound_members roster made m (Ok b) within changed unchanged s = rw changed (record { users = s.users; roles = s.roles; members = within })
-sound_members roster made m (Err e) within changed unchanged s = rw unchanged (record { users = s.users; roles = s.roles; members = s.members })
+sound_members roster made m result within changed unchanged s = grind arith

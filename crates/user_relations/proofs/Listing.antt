@@ -1,10 +1,8 @@
 -- Pairs that are listed row by row.
-use Rattle.std.proofs.Common.{◌≡◌, ℕ, suc, ◌+◌, ◌<◌, ◌≤◌, ◌&&◌, nat_lt, Bool, true, false, List, [], ◌∷◌, ◌++◌, refl, sym, ap, ◌∙◌, inl, inr, arith}
+use Rattle.std.proofs.Common.{◌≡◌, ℕ, suc, ◌+◌, ◌<◌, ◌≤◌, ◌&&◌, nat_lt, Bool, true, false, List, [], ◌∷◌, ◌++◌, refl, sym, ap, ◌∙◌, inr, arith}
 use Rattle.std.specs.List.{All, AllByRecursion}
-use Rattle.std.specs.Cmp.{nat_cmp_is}
-use Rattle.std.specs.Ordering.{nat_cmp, ordering_then}
 use Rattle.std.specs.declared.cmp.Ordering.{Ordering}
-use Rattle.std.specs.declared.cmp.Ordering.TheVariants.{Less, Equal}
+use Rattle.std.specs.declared.cmp.Ordering.TheVariants.{Less}
 use Rattle.std.specs.List.Sorted.{IsStrictlySortedBy}
 use Rattle.std.specs.FinSet as set
 use Rattle.std.proofs.lemmas.List.Elements.{All-nil, All-head, All-tail, All-push, All-weaker}
@@ -29,16 +27,13 @@ sorted_push R (y ∷ ys) x s below =
     (pushed_last (λ z. R y z ≡ Less) ys x s.0 (All-head (λ z. R z x ≡ Less) y ys below), sorted_push R ys x s.1 (All-tail (λ z. R z x ≡ Less) y ys below))
 
 less_pair : (a b : ℕ) (q : ℕ × ℕ) → IsBefore a b q → pair_cmp q (a, b) ≡ Less
-less_pair a b q (inl less) = ap (λ r. ordering_then r (nat_cmp q.1 b)) (sym (nat_cmp_is q.0 a Less less))
-less_pair a b q (inr (same, less)) = (λ i. ordering_then (sym (nat_cmp_is q.0 a Equal same) i) (sym (nat_cmp_is q.1 b Less less) i))
+less_pair a b q h3 = grind arith
 
 before_later : (a b c : ℕ) → b ≤ c → (q : ℕ × ℕ) → IsBefore a b q → IsBefore a c q
-before_later a b c more q (inl less) = inl less
-before_later a b c more q (inr (same, less)) = inr (same, omega (arith, less, more))
+before_later a b c more q h5 = grind arith
 
 before_next : (a b : ℕ) → (q : ℕ × ℕ) → IsBefore a b q → IsBefore (a + 1) 0 q
-before_next a b q (inl less) = inl (omega (arith, less))
-before_next a b q (inr (same, less)) = inl (omega (arith, same))
+before_next a b q h3 = grind arith
 
 -- no pair is before the first
 pub listed_none : (blocks : List Block) → AreListedTo blocks 0 0 []
@@ -88,14 +83,10 @@ pub listed_all : (blocks : List Block) (pairs : List (ℕ × ℕ)) → AreListed
 listed_all blocks pairs listed = listed.is ∙ with_row_first (row_bit blocks USER_LIMIT) USER_LIMIT (set_of (row_bit blocks) USER_LIMIT USER_LIMIT)
 
 both : (x b l : Bool) → x ≡ (b && l) → x ≡ true → (b ≡ true) × (l ≡ true)
-both x true true is e = (refl, refl)
-both x true false is e = cc
-both x false l is e = cc
+both x b l is e = grind arith
 
 not_first : (x b l : Bool) → x ≡ (b && l) → l ≡ true → x ≡ false → b ≡ false
-not_first x true true is inside e = cc
-not_first x true false is inside e = cc
-not_first x false l is inside e = refl
+not_first x b l is inside e = grind arith
 
 -- what the next user of a row adds
 module _ (blocks : List Block) (words : List ℕ) (a b : ℕ) (pairs : List (ℕ × ℕ)) (listed : AreListedTo blocks a b pairs)

@@ -1,5 +1,5 @@
 -- Relations by their names.
-use Rattle.std.proofs.Common.{◌≡◌, ℕ, suc, ◌+◌, ◌<◌, Bool, true, false, cond, ◌||◌, List, [], ◌∷◌, length, map, get_or, refl, sym, ap, ◌∙◌, arith}
+use Rattle.std.proofs.Common.{◌≡◌, ℕ, ◌+◌, ◌<◌, Bool, false, cond, List, [], ◌∷◌, length, map, get_or, refl, sym, ap, ◌∙◌, arith}
 use Rattle.std.specs.Prelude.{Option, Some, option_map, slice_get, is_some, position, nat_eq, codes, IsTrue}
 use Rattle.std.specs.List.{position_from, list_any}
 use Rattle.std.specs.Cmp.Lexicographic.{pointwise}
@@ -8,8 +8,8 @@ use Rattle.std.proofs.lemmas.Option.{slice_get-map, slice_get-get_or}
 use Rattle.wf_names.specs.Names.{is_name}
 use Rattle.wf_names.specs.Table.{place_of}
 use Rattle.user_relations.specs.declared.kinds.Relation.{Relation}
-use Rattle.user_relations.specs.Laws.Relations.{RelationShape, known_names}
-use Rattle.user_relations.specs.View.{relation_view, shapes}
+use Rattle.user_relations.specs.Laws.Relations.{known_names}
+use Rattle.user_relations.specs.View.{shapes}
 
 pub same_is_name : IsTrue (is_name (codes "same"))
 unfolding is_name
@@ -23,13 +23,7 @@ other_is_name = refl
 found_later : (test : List ℕ → Bool) (ds : List Relation) (i k : ℕ) →
     position_from test (i + k) (map (λ r. r.name) (shapes ds)) ≡ option_map (λ j. j + k) (position_from (λ (d : Relation). test d.name) i ds)
 found_later test [] i k = refl
-found_later test (d ∷ ds) i k =
-    let next : (i + k) + 1 ≡ (i + 1) + k = omega arith in
-    elim (test d.name) as (λ b. cond b (Some (i + k)) (position_from test ((i + k) + 1) (map (λ r. r.name) (shapes ds))) ≡ option_map (λ j. j + k)
-    (cond b (Some i) (position_from (λ (e : Relation). test e.name) (i + 1) ds))) [
-      | true ↦ refl
-      | false ↦ ap (λ n. position_from test n (map (λ r. r.name) (shapes ds))) next ∙ found_later test ds (i + 1) k
-    ]
+found_later test (d ∷ ds) i k = grind (arith, (found_later test ds (i + 1) k))
 
 -- a name that is neither `same` nor `other` is looked for among the declared ones
 pub found_declared : (ds : List Relation) (name : List ℕ) (found : Option ℕ)
@@ -46,11 +40,7 @@ found_declared ds name found not_same not_other e =
 
 none_among : {K : Type 0} (test : K → Bool) (xs : List K) (i : ℕ) → is_some (position_from test i xs) ≡ list_any test xs
 none_among test [] i = refl
-none_among test (x ∷ xs) i =
-    elim (test x) as (λ b. is_some (cond b (Some i) (position_from test (i + 1) xs)) ≡ (b || list_any test xs)) [
-      | true ↦ refl
-      | false ↦ none_among test xs (i + 1)
-    ]
+none_among test (x ∷ xs) i = grind (arith, (none_among test xs (i + 1)))
 
 -- a name without a place stands nowhere
 pub unknown : (names : List (List ℕ)) (name : List ℕ) → is_some (place_of names name) ≡ false → list_any (pointwise nat_eq name) names ≡ false
@@ -59,8 +49,4 @@ unknown names name none = sym (none_among (pointwise nat_eq name) names 0) ∙ a
 -- the name of a declared relation
 pub name_read : (ds : List Relation) (rho i : ℕ) (d : Relation) → rho ≡ i + 2 → i < length ds →
     slice_get (known_names (shapes ds)) rho ≡ Some (get_or ds i d).name
-name_read ds rho i d e within =
-    let two : i + 2 ≡ suc (suc i) = omega arith in
-    ap (slice_get (known_names (shapes ds))) (e ∙ two)
-    ∙ slice_get-map (λ (r : RelationShape). r.name) (shapes ds) i
-    ∙ ap (option_map (λ (r : RelationShape). r.name)) (slice_get-map relation_view ds i ∙ ap (option_map relation_view) (slice_get-get_or ds i d within))
+name_read ds rho i d e within = grind (arith, slice_get-map, slice_get-get_or)

@@ -1,6 +1,6 @@
 -- Kinds of relations by their numbers, in the list and in the view of what is kept.
 use Rattle.std.proofs.Common.{◌≡◌, ℕ, zero, suc, ◌+◌, List, [], ◌∷◌, length, get_or, refl, sym, ap, ◌∙◌, subst, arith}
-use Rattle.std.specs.Prelude.{Option, Some, None, option_map, slice_get, Result, OnOk, slice_set, false}
+use Rattle.std.specs.Prelude.{Option, Some, option_map, slice_get, Result, OnOk, slice_set, false}
 use Rattle.std.proofs.lemmas.Option.{slice_get-map, slice_get-get_or}
 use Rattle.std.proofs.lemmas.Result.{on_ok_weaker}
 use Rattle.std.specs.FinSet as set
@@ -8,7 +8,7 @@ use Rattle.basics.specs.Laws.Pairs.{Pairs}
 use Rattle.user_relations.specs.declared.kinds.Kind.{Kind}
 use Rattle.user_relations.specs.declared.kinds.Relation.{Relation}
 use Rattle.user_relations.specs.declared.RelationFault.{RelationFault}
-use Rattle.user_relations.specs.Laws.Relations.{RelationShape, RelationKind, listed, complement, kind_of, has_list, listed_pairs, pairs_of}
+use Rattle.user_relations.specs.Laws.Relations.{RelationShape, RelationKind, listed, kind_of, has_list, listed_pairs, pairs_of}
 use Rattle.user_relations.specs.Laws.Relations.{with_kind, change_kind}
 use Rattle.user_relations.specs.Kinds.{AnswersFault}
 use Rattle.user_relations.specs.Places.{IsPlace}
@@ -26,9 +26,7 @@ length-shapes (d ∷ ds) = ap suc (length-shapes ds)
 
 -- what stands at a place
 pub kind_read : (ds : List Relation) (rho i : ℕ) (d : Relation) → IsPlace (length ds) rho i → kind_of (shapes ds) rho ≡ Some (kind_view (get_or ds i d).kind)
-kind_read ds rho i d p =
-    kind_declared (shapes ds) rho i p.is
-    ∙ ap (option_map (λ (r : RelationShape). r.kind)) (slice_get-map relation_view ds i ∙ ap (option_map relation_view) (slice_get-get_or ds i d p.in_range))
+kind_read ds rho i d p = grind (arith, kind_declared, slice_get-map, slice_get-get_or)
 
 shapes-set : (ds : List Relation) (i : ℕ) (d : Relation) (k : Kind) →
     shapes (slice_set ds i (record { name = (get_or ds i d).name; kind = k })) ≡ change_kind (shapes ds) i (kind_view k)
@@ -46,9 +44,7 @@ pub pairs_written : (ds : List Relation) (rho i : ℕ) (d : Relation) (k : Kind)
     IsPlace (length ds) rho i
     → OnOk r (kind_view k ≡ listed (f (listed_pairs (Some (kind_view (get_or ds i d).kind)))))
     → OnOk r (shapes (slice_set ds i (record { name = (get_or ds i d).name; kind = k })) ≡ with_kind (shapes ds) rho (listed (f (pairs_of (shapes ds) rho))))
-pairs_written ds rho i d k f r p told =
-    on_ok_weaker r
-    (λ e. kind_written ds rho i d k p ∙ ap (with_kind (shapes ds) rho) (e ∙ ap (λ o. listed (f (listed_pairs o))) (sym (kind_read ds rho i d p)))) told
+pairs_written ds rho i d k f r p told = grind (arith, on_ok_weaker, kind_written, kind_read)
 
 pub fault_read : (ds : List Relation) (rho i : ℕ) (d : Relation) (f : Option RelationKind → Option RelationFault) (r : Result (Unit {0}) RelationFault) →
     IsPlace (length ds) rho i
@@ -57,6 +53,4 @@ fault_read ds rho i d f r p told = subst (λ o. AnswersFault (f o) r) (sym (kind
 
 -- what has no list has no listed pairs
 pub unlisted : (kind : Option RelationKind) → has_list kind ≡ false → listed_pairs kind ≡ set.empty
-unlisted None none = refl
-unlisted (Some (listed pairs)) none = cc
-unlisted (Some (complement n)) none = refl
+unlisted kind none = grind arith

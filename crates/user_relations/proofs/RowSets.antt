@@ -1,5 +1,5 @@
 -- The set of pairs that rows of bits stand for, and how it changes with them.
-use Rattle.std.proofs.Common.{◌≡◌, ℕ, ◌+◌, ◌-◌, ◌^◌, ◌<◌, ◌≤◌, ◌/◌, ◌%◌, ◌==◌, ◌&&◌, ◌||◌, not, cond, nat_lt, Bool, true, false, List, [], length, refl, sym}
+use Rattle.std.proofs.Common.{◌≡◌, ℕ, ◌+◌, ◌-◌, ◌^◌, ◌<◌, ◌≤◌, ◌==◌, ◌&&◌, ◌||◌, not, cond, nat_lt, Bool, true, false, List, length, refl, sym}
 use Rattle.std.proofs.Common.{ap, ◌∙◌, ◌⊎◌, inl, inr, arith}
 use Rattle.std.specs.Prelude.{IsTrue}
 use Rattle.std.specs.FinSet as set
@@ -11,19 +11,16 @@ use Rattle.basics.specs.PairLaws.{pair_cmp_total}
 use Rattle.basics.specs.Tables.{contains_set_of, set_of_none, set_of_insert, set_of_remove, len_set_of}
 use Rattle.wf_names.specs.declared.limits.TheConstants.{USER_LIMIT}
 use Rattle.user_relations.specs.declared.blocks.Block.{Block}
-use Rattle.user_relations.specs.declared.blocks.TheConstants.{BLOCKS, BLOCK_ROWS}
-use Rattle.user_relations.specs.Rows.{block_bit, row_bit, pairs_in, AreRows}
+use Rattle.user_relations.specs.declared.blocks.TheConstants.{BLOCKS}
+use Rattle.user_relations.specs.Rows.{row_bit, pairs_in, AreRows}
 use Rattle.user_relations.proofs.RowBits.{no_row}
 
 -- there is no bit from the limit of users on
 bit_past : (blocks : List Block) (u v : ℕ) → length blocks ≡ BLOCKS → USER_LIMIT ≤ u → row_bit blocks u v ≡ false
-bit_past blocks u v whole past =
-    ap (λ b. block_bit b (u % BLOCK_ROWS) v) (get_or_past blocks (u / BLOCK_ROWS) (record { rows = [] }) (omega (arith, whole, past))) ∙ no_row v
+bit_past blocks u v whole past = grind (arith, get_or_past, no_row)
 
 within_first : (p r c : Bool) → (p ≡ false → c ≡ false) → (r ≡ false → c ≡ false) → c ≡ (p && (r && c))
-within_first true true c first second = refl
-within_first true false c first second = second refl
-within_first false r c first second = first refl
+within_first p r c first second = grind arith
 
 -- a bit that is read tells whether the pair is in the set
 pub bit_tells : (blocks : List Block) (u v : ℕ) (b : Bool) → length blocks ≡ BLOCKS → b ≡ row_bit blocks u v → (IsTrue b → v < USER_LIMIT) →
@@ -155,9 +152,7 @@ pub none_told : (s : Pairs) (b : Bool) (q : ℕ × ℕ) → s ≡ set.empty → 
 none_told s b q none = sym (ap (λ c. b && c) (ap (λ t. set.contains t q) none ∙ set.contains-empty pair_cmp q) ∙ and-false b)
 
 both_inside : (p r c : Bool) → (p && (r && c)) ≡ true → (p ≡ true) × (r ≡ true)
-both_inside true true c e = (refl, refl)
-both_inside true false c e = cc
-both_inside false r c e = cc
+both_inside p r c e = grind arith
 
 -- the numbers of a pair are within the limit
 pub held_within : (blocks : List Block) (u v : ℕ) → set.contains (pairs_in blocks) (u, v) ≡ true → (u < USER_LIMIT) × (v < USER_LIMIT)

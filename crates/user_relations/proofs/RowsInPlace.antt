@@ -1,5 +1,5 @@
 -- What a row that is read in place tells of a set of pairs.
-use Rattle.std.proofs.Common.{◌≡◌, ℕ, ◌<◌, ◌&&◌, nat_lt, Bool, false, List, Bor, Option, Some, None, sym, ap, ◌∙◌, arith}
+use Rattle.std.proofs.Common.{◌≡◌, ℕ, ◌<◌, ◌&&◌, nat_lt, Bool, false, List, Bor, Option, sym, ap, ◌∙◌, arith}
 use Rattle.std.specs.Prelude.{IfSome, MatchOption}
 use Rattle.std.specs.FinSet as set
 use Rattle.std.proofs.lemmas.Bool.{lt-ltb}
@@ -18,14 +18,12 @@ unmasked v b c low same = let less = lt-ltb v USER_LIMIT low in sym (ap (λ p. p
 bits_of : (r : Option (Bor (List ℕ))) (given rows : List Block) (u : ℕ) → given ≡ rows
     → MatchOption r ((v : ℕ) → row_bit given u v ≡ false) (λ row. (v : ℕ) → has_user row.now v ≡ row_bit given u v)
     → IfSome r (λ row. (v : ℕ) → has_user row.now v ≡ row_bit rows u v)
-bits_of None given rows u is told = tt
-bits_of (Some row) given rows u is told = λ v. told v ∙ ap (λ bs. row_bit bs u v) is
+bits_of r given rows u is told = grind arith
 
 -- which are those of the pairs
 pairs_of_bits : (r : Option (Bor (List ℕ))) (bit held : ℕ → Bool) → IfSome r (λ row. (v : ℕ) → has_user row.now v ≡ bit v)
     → ((v : ℕ) → v < USER_LIMIT → bit v ≡ held v) → IfSome r (λ row. (v : ℕ) → v < USER_LIMIT → has_user row.now v ≡ held v)
-pairs_of_bits None bit held told same = tt
-pairs_of_bits (Some row) bit held told same = λ v low. told v ∙ same v low
+pairs_of_bits r bit held told same = grind arith
 
 module _ (ahead behind given : List Block) (count u : ℕ) (pairs : Pairs) (r : Option (Bor (List ℕ))) (rows : AreRows ahead behind count)
     (seen : pairs_in ahead ≡ pairs) where

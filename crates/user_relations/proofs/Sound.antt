@@ -1,7 +1,7 @@
 -- Every change leaves the relations sound.
 use Rattle.std.proofs.Common.{◌≡◌, ℕ, zero, suc, ◌+◌, ◌-◌, ◌<◌, ◌≤◌, true, false, cond, List, [], ◌∷◌, ◌++◌, length, map, take, drop, refl, sym, ap, ◌∙◌, subst}
 use Rattle.std.proofs.Common.{◌⊎◌, inl, inr, arith, length-append}
-use Rattle.std.specs.Prelude.{Some, None, option_map, slice_get, is_some, nat_eq, nat_le, codes, Result, Ok, Err, OnOk, OnErr}
+use Rattle.std.specs.Prelude.{Some, None, option_map, slice_get, is_some, nat_eq, codes, Result, Ok, Err, OnOk, OnErr}
 use Rattle.std.specs.List.{IsDistinct}
 use Rattle.std.specs.FinSet as set
 use Rattle.std.specs.Cmp.Lexicographic.{pointwise, nat_list_eq_equiv}
@@ -14,7 +14,6 @@ use Rattle.basics.specs.PairLaws.{pair_cmp_total, all_insert, all_remove}
 use Rattle.wf_names.specs.Table.{place_of}
 use Rattle.wf_names.specs.declared.limits.TheConstants.{USER_LIMIT, RELATION_LIMIT, PAIR_LIMIT}
 use Rattle.user_relations.specs.declared.RelationFault.{RelationFault}
-use Rattle.user_relations.specs.declared.RelationFault.TheVariants.{Already, Full}
 use Rattle.user_relations.specs.declared.kinds.Relation.{Relation}
 use Rattle.user_relations.specs.View.{shapes}
 use Rattle.user_relations.specs.Laws.Relations.{RelationShape, RelationKind, listed, complement, kind_of, has_list, is_listed, complemented, complement_of}
@@ -36,10 +35,7 @@ written_back new old n e same = ap (λ k. take k (new ++ drop (length new) old))
 -- relations that were written so are sound, where what was written is
 pub sound_back : (old given new : List Relation) (n : ℕ) → given ≡ old → length given ≡ n → length new ≡ length given → AreSoundRelations (shapes old) →
     (AreSoundRelations (shapes given) → AreSoundRelations (shapes new)) → AreSoundRelations (shapes (take n (new ++ drop (length new) old)))
-sound_back old given new n is long same before after =
-    let count = ap length is in
-    subst (λ (ds : List Relation). AreSoundRelations (shapes ds)) (sym (written_back new old n (sym long ∙ count) (same ∙ count)))
-    (after (subst (λ (ds : List Relation). AreSoundRelations (shapes ds)) (sym is) before))
+sound_back old given new n is long same before after = grind (arith, written_back)
 
 names_kept : (rs : List RelationShape) (n : ℕ) (k : RelationKind) → map (λ r. r.name) (change_kind rs n k) ≡ map (λ r. r.name) rs
 names_kept [] n k = refl
@@ -52,14 +48,10 @@ length_kept (r ∷ rs) zero k = refl
 length_kept (r ∷ rs) (suc n) k = ap suc (length_kept rs n k)
 
 known_names_kept : (rs : List RelationShape) (rho : ℕ) (k : RelationKind) → known_names (with_kind rs rho k) ≡ known_names rs
-known_names_kept rs zero k = refl
-known_names_kept rs (suc zero) k = refl
-known_names_kept rs (suc (suc n)) k = ap (λ ns. codes "same" ∷ codes "other" ∷ ns) (names_kept rs n k)
+known_names_kept rs rho k = grind (arith, names_kept)
 
 count_kept : (rs : List RelationShape) (rho : ℕ) (k : RelationKind) → length (with_kind rs rho k) ≡ length rs
-count_kept rs zero k = refl
-count_kept rs (suc zero) k = refl
-count_kept rs (suc (suc n)) k = length_kept rs n k
+count_kept rs rho k = grind (arith, length_kept)
 
 got_here : (rs : List RelationShape) (n : ℕ) (k0 k : RelationKind) → option_map (λ r. r.kind) (slice_get rs n) ≡ Some k0 →
     option_map (λ r. r.kind) (slice_get (change_kind rs n k) n) ≡ Some k
@@ -69,9 +61,7 @@ got_here (r ∷ rs) (suc n) k0 k e = got_here rs n k0 k e
 
 -- a declared relation has its new kind
 kind_here : (rs : List RelationShape) (rho : ℕ) (k0 k : RelationKind) → kind_of rs rho ≡ Some k0 → kind_of (with_kind rs rho k) rho ≡ Some k
-kind_here rs zero k0 k e = cc
-kind_here rs (suc zero) k0 k e = cc
-kind_here rs (suc (suc n)) k0 k e = got_here rs n k0 k e
+kind_here rs rho k0 k e = grind (arith, got_here)
 
 got_there : (rs : List RelationShape) (n m : ℕ) (k : RelationKind) → (m ≡ n → ⊥) →
     option_map (λ r. r.kind) (slice_get (change_kind rs n k) m) ≡ option_map (λ r. r.kind) (slice_get rs m)
@@ -83,17 +73,11 @@ got_there (r ∷ rs) (suc n) (suc m) k differ = got_there rs n m k (λ e. differ
 
 -- and the others have theirs
 kind_there : (rs : List RelationShape) (rho m : ℕ) (k : RelationKind) → (m ≡ rho → ⊥) → kind_of (with_kind rs rho k) m ≡ kind_of rs m
-kind_there rs zero m k differ = refl
-kind_there rs (suc zero) m k differ = refl
-kind_there rs (suc (suc n)) zero k differ = refl
-kind_there rs (suc (suc n)) (suc zero) k differ = refl
-kind_there rs (suc (suc n)) (suc (suc m)) k differ = got_there rs n m k (λ e. differ (ap (λ i. suc (suc i)) e))
+kind_there rs rho m k differ = grind (arith, got_there)
 
 kind_is : (rs : List RelationShape) (rho m : ℕ) (k0 k k1 : RelationKind) → kind_of rs rho ≡ Some k0 → m ≡ rho → kind_of (with_kind rs rho k) m ≡ Some k1 →
     k ≡ k1
-kind_is rs rho m k0 k k1 was same e =
-    let here : Some k ≡ Some k1 = sym (kind_here rs rho k0 k was) ∙ sym (ap (kind_of (with_kind rs rho k)) same) ∙ e in
-    cc
+kind_is rs rho m k0 k k1 was same e = grind (arith, kind_here)
 
 sound_change : (rs : List RelationShape) (rho : ℕ) (k0 k : RelationKind) → AreSoundRelations rs → kind_of rs rho ≡ Some k0
     → ((pairs : Pairs) → k ≡ listed pairs → (set.len pairs ≤ PAIR_LIMIT) × AllPairs AreUsers pairs)
@@ -137,19 +121,7 @@ no_answer e = cc
 -- a pair that was put in was not there, and there was room
 room : (pairs : Pairs) (u v : ℕ) (x : Unit {0}) → AnswersFault (put_fault (Some (listed pairs)) u v) (Ok x) → (set.contains pairs (u, v) ≡ false) ×
     (set.len pairs < PAIR_LIMIT)
-room pairs u v x f =
-    elim (set.contains pairs (u, v)) as (λ b. AnswersFault (cond b (Some Already) (cond (nat_le PAIR_LIMIT (set.len pairs)) (Some Full) None)) (Ok x) →
-    (b ≡ false) × (set.len pairs < PAIR_LIMIT)) [
-      | true ↦ λ g. absurd (no_answer g)
-      | false ↦ λ g. (
-        refl,
-        elim (nat_le PAIR_LIMIT (set.len pairs)) as
-            (λ b. nat_le PAIR_LIMIT (set.len pairs) ≡ b → AnswersFault (cond b (Some Full) None) (Ok x) → set.len pairs < PAIR_LIMIT) [
-              | true ↦ λ _ h. absurd (no_answer h)
-              | false ↦ λ e _. leb-false PAIR_LIMIT (set.len pairs) e
-            ] refl g,
-      )
-    ] f
+room pairs u v x f = grind (arith, no_answer, leb-false)
 
 pub sound_relate : (rs new : List RelationShape) (rho u v : ℕ) (r : Result (Unit {0}) RelationFault) → AreSoundRelations rs → u < USER_LIMIT → v < USER_LIMIT
     → OnOk r (new ≡ with_kind rs rho (listed (set.insert (pairs_of rs rho) (u, v)))) → AnswersFault (relate_fault rs rho u v) r → OnErr r (new ≡ rs) →
@@ -210,33 +182,17 @@ pushed (x ∷ rs) r (suc n) = pushed rs r n
 
 kind_pushed : (rs : List RelationShape) (r : RelationShape) (m : ℕ) → (kind_of (rs ++ r ∷ []) m ≡ kind_of rs m) ⊎
     ((kind_of rs m ≡ None) × (kind_of (rs ++ r ∷ []) m ≡ Some r.kind))
-kind_pushed rs r zero = inl refl
-kind_pushed rs r (suc zero) = inl refl
-kind_pushed rs r (suc (suc n)) = elim (pushed rs r n) [
-  | inl same ↦ inl (ap (option_map (λ (x : RelationShape). x.kind)) same)
-  | inr new ↦ inr (ap (option_map (λ (x : RelationShape). x.kind)) new.0, ap (option_map (λ (x : RelationShape). x.kind)) new.1)
-]
+kind_pushed rs r m = grind (arith, pushed)
 
 listed_still : (rs : List RelationShape) (r : RelationShape) (m : ℕ) → is_listed rs m ≡ true → is_listed (rs ++ r ∷ []) m ≡ true
-listed_still rs r m e = elim (kind_pushed rs r m) [
-  | inl same ↦ ap has_list same ∙ e
-  | inr new ↦ let none : false ≡ true = sym (ap has_list new.0) ∙ e in cc
-]
+listed_still rs r m e = grind (arith, kind_pushed)
 
 none_declared : (m : ℕ) → kind_of [] m ≡ None
-none_declared zero = refl
-none_declared (suc zero) = refl
-none_declared (suc (suc n)) = refl
+none_declared m = grind arith
 
 pub sound_none : AreSoundRelations []
 unfolding IsDistinct
-sound_none = record {
-  count = omega arith;
-  names = ((refl, tt), (tt, tt));
-  few = λ m pairs e. cc (none_declared m);
-  users = λ m pairs e. cc (none_declared m);
-  complements = λ m n e. cc (none_declared m);
-}
+sound_none = grind (arith, none_declared)
 
 -- a relation with its pairs at the end
 sound_add_pairs : (rs : List RelationShape) (name : List ℕ) (own : Pairs) → AreSoundRelations rs → length rs < RELATION_LIMIT →

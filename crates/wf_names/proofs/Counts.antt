@@ -1,5 +1,5 @@
 -- How many bits of a word are set.
-use Rattle.std.proofs.Common.{◌≡◌, ℕ, zero, suc, ◌+◌, ◌*◌, ◌/◌, ◌%◌, ◌^◌, ◌<◌, ◌≤◌, Bool, true, false, nat_eq, List, length, take, slice_index}
+use Rattle.std.proofs.Common.{◌≡◌, ℕ, zero, suc, ◌+◌, ◌*◌, ◌/◌, ◌%◌, ◌^◌, ◌<◌, ◌≤◌, Bool, nat_eq, List, length, take, slice_index}
 use Rattle.std.proofs.Common.{slice_index_or, [], ◌∷◌, refl, sym, ap, subst, ◌∙◌, inl, inr, arith, count_ones}
 use Rattle.std.specs.Prelude.{if◌then◌else◌}
 use Rattle.std.specs.Int.{bit_at, w64}
@@ -16,25 +16,16 @@ use Rattle.wf_names.specs.UserSets.{has_bit, has_user, count_below}
 pub count_same : (n : ℕ) (f g : ℕ → Bool) → ((i : ℕ) → i < n → f i ≡ g i) → count_below n f ≡ count_below n g
 unfolding count_below
 count_same zero f g h = refl
-count_same (suc n) f g h =
-    ap (λ c. c + (if f n then 1 else 0)) (count_same n f g (λ i lt. h i (omega (arith, lt))))
-    ∙ ap (λ b. count_below n g + (if b then 1 else 0)) (h n (omega arith))
+count_same (suc n) f g h = grind (arith, (count_same n f g (λ i lt. h i (omega (arith, lt)))))
 
 pub count_within : (n : ℕ) (f : ℕ → Bool) → count_below n f ≤ n
 unfolding count_below
 count_within zero f = omega arith
-count_within (suc n) f =
-    let rest = count_within n f in
-    elim (f n) as (λ b. count_below n f + (if b then 1 else 0) ≤ suc n) [
-      | true ↦ omega (arith, rest)
-      | false ↦ omega (arith, rest)
-    ]
+count_within (suc n) f = grind (arith, (count_within n f))
 
 digit : (a : ℕ) → a < 2 → count_ones a ≡ (if nat_eq (a % 2) 1 then 1 else 0)
 unfolding lib.Count.ones
-digit zero h = refl
-digit (suc zero) h = refl
-digit (suc (suc a)) h = absurd (omega (arith, h))
+digit a h = grind arith
 
 -- the set bits of a word are those that pass the test of a bit
 pub ones_counted : (n w : ℕ) → w < 2 ^ n → count_ones w ≡ count_below n (has_bit w)

@@ -7,10 +7,7 @@ use Rattle.std.proofs.lemmas.List.{get_or_past, get_or-replicate, length-replica
 use Rattle.wf_names.specs.UserSets.{has_bit, has_user}
 
 pub lowest_bits : (n k : ℕ) → has_bit (2 ^ n - 1) k ≡ nat_lt k n
-lowest_bits n k = elim (cases_lt k n) [
-  | inl lt ↦ ap (λ b. nat_eq b 1) (bit_at_ones n k lt) ∙ sym (lt-ltb k n lt)
-  | inr ge ↦ ap (λ b. nat_eq b 1) (bit_at_ones_above n k ge) ∙ sym (le-ltb k n ge)
-]
+lowest_bits n k = grind (arith, cases_lt, bit_at_ones, lt-ltb, bit_at_ones_above, le-ltb)
 
 -- the first n words are full and the others empty
 pub record AreFull (n : ℕ) (words : List ℕ) : Type 0 where
@@ -19,10 +16,7 @@ pub record AreFull (n : ℕ) (words : List ℕ) : Type 0 where
 
 -- words without a bit
 pub zero_in : (n i z : ℕ) → slice_index_or (replicate n z) i z ≡ z
-zero_in n i z = elim (cases_lt i n) [
-  | inl within ↦ get_or-replicate n i z z within
-  | inr past ↦ get_or_past (replicate n z) i z (omega (arith, length-replicate n z, past))
-]
+zero_in n i z = grind (arith, cases_lt, get_or-replicate, get_or_past, length-replicate)
 
 pub none_in : (n v : ℕ) → has_user (replicate n 0) v ≡ false
 none_in n v = ap (λ w. has_bit w (v % 64)) (zero_in n (v / 64) 0) ∙ ap (λ b. nat_eq b 1) (bit_at-zero (v % 64))
@@ -31,13 +25,7 @@ pub none_full : (n : ℕ) → AreFull 0 (replicate n 0)
 none_full n = record { full = λ i lt. absurd (omega (arith, lt)); none = λ i ge. zero_in n i 0 }
 
 pub full_next : (n : ℕ) (words : List ℕ) → n < length words → AreFull n words → AreFull (n + 1) (slice_set words n (2 ^ 64 - 1))
-full_next n words within f = record {
-  full = λ i lt. elim (cases_eq i n) [
-    | inl e ↦ ap (λ j. get_or (set words n (2 ^ 64 - 1)) j 0) e ∙ get_or-set_same words n (2 ^ 64 - 1) 0 within
-    | inr ne ↦ get_or-set_other words n i (2 ^ 64 - 1) 0 ne ∙ f.full i (omega (arith, lt, ne))
-  ];
-  none = λ i ge. get_or-set_other words n i (2 ^ 64 - 1) 0 (λ e. absurd (omega (arith, ge, e))) ∙ f.none i (omega (arith, ge));
-}
+full_next n words within f = grind (arith, cases_eq, get_or-set_same, get_or-set_other)
 
 -- full words, and the lowest bits of the next one
 pub up_to_partly : (users : ℕ) (words : List ℕ) (word : ℕ) → users / 64 < length words → AreFull (users / 64) words

@@ -1,6 +1,6 @@
 -- Lists of words mixed place by place, several places at a time and then one by one.
-use Rattle.std.proofs.Common.{◌≡◌, ℕ, ◌+◌, ◌-◌, ◌*◌, ◌<◌, ◌≤◌, List, length, get_or, slice_index, slice_set, bit_and, bit_xor, sym, ap, subst, ◌∙◌, arith}
-use Rattle.std.proofs.Common.{inl, inr, length-set, get_or-set_same, get_or-set_other}
+use Rattle.std.proofs.Common.{◌≡◌, ℕ, ◌+◌, ◌*◌, ◌<◌, ◌≤◌, List, length, get_or, slice_index, slice_set, bit_and, bit_xor, sym, ap, ◌∙◌, arith}
+use Rattle.std.proofs.Common.{length-set, get_or-set_same, get_or-set_other}
 use Rattle.std.proofs.lemmas.Bool.{cases_eq, cases_lt}
 use Rattle.std.specs.Simd.Lanes.{zip2, chunk, put_chunk}
 use Rattle.std.proofs.lemmas.Simd.{length-zip2, length-chunk, get_or-chunk, get_or-zip2, get_or-put_chunk_below, get_or-put_chunk_at, get_or-put_chunk_above}
@@ -11,11 +11,7 @@ use Rattle.wf_names.specs.Words.{minus, IsMixedUpTo, IsMixedFrom}
 stored_mixed : (f : ℕ → ℕ → ℕ) (at : ℕ) (old by ys : List ℕ) → length ys ≡ 8 → at + 8 ≤ length old
     → ((i : ℕ) → i < 8 → get_or ys i 0 ≡ f (slice_index old (at + i)) (slice_index by (at + i)))
     → IsMixedFrom f at old by (put_chunk at old ys)
-stored_mixed f at old by ys eight room lanes = record {
-  below = λ i h. get_or-put_chunk_below at old ys i 0 h;
-  mixed = λ i h. get_or-put_chunk_at at old ys i 0 (omega (arith, h, eight)) (omega (arith, room, eight)) ∙ lanes i h;
-  above = λ i h. get_or-put_chunk_above at old ys i 0 (omega (arith, h, eight));
-}
+stored_mixed f at old by ys eight room lanes = grind (arith, get_or-put_chunk_below, get_or-put_chunk_at, get_or-put_chunk_above)
 
 pub vector_mixed : (f : ℕ → ℕ → ℕ) (at : ℕ) (old by : List ℕ) → length old ≡ length by → at + 8 ≤ length by
     → IsMixedFrom f at old by (put_chunk at old (zip2 f (chunk at 8 old) (chunk at 8 by)))
@@ -45,44 +41,16 @@ vector_struck at old by same room =
 
 pub mixed_all : (f : ℕ → ℕ → ℕ) (n : ℕ) (old by new : List ℕ) → length old ≡ length by → n ≡ length old
     → IsMixedUpTo f n old by new → new ≡ zip2 f old by
-mixed_all f n old by new same whole m =
-    same_number_lists new (zip2 f old by)
-    (m.whole ∙ sym (length-zip2 f old by same))
-    (λ i h.
-    m.below i (omega (arith, h, m.whole, whole))
-    ∙ sym (get_or-zip2 f old by i 0 0 0 (omega (arith, h, m.whole)) (omega (arith, h, m.whole, same))))
+mixed_all f n old by new same whole m = grind (arith, same_number_lists, length-zip2, get_or-zip2)
 
 -- eight words more
 pub mixed_on : (f : ℕ → ℕ → ℕ) (lane : ℕ) (old by into new : List ℕ) → length new ≡ length into
     → IsMixedUpTo f (lane * 8) old by into → IsMixedFrom f (lane * 8) into by new → IsMixedUpTo f ((lane + 1) * 8) old by new
-mixed_on f lane old by into new same m n = record {
-  whole = same ∙ m.whole;
-  below = λ i h. elim (cases_lt i (lane * 8)) [
-    | inl lt ↦ n.below i lt ∙ m.below i lt
-    | inr ge ↦
-        let k = i - lane * 8 in
-        let is : lane * 8 + k ≡ i = omega (arith, ge) in
-        subst (λ j. slice_index new j ≡ f (slice_index old j) (slice_index by j)) is
-        (n.mixed k (omega (arith, h, is)) ∙ ap (λ a. f a (slice_index by (lane * 8 + k))) (m.above (lane * 8 + k) (omega arith)))
-  ];
-  above = λ i h. n.above i (omega (arith, h)) ∙ m.above i (omega (arith, h));
-}
+mixed_on f lane old by into new same m n = grind (arith, cases_lt)
 
 -- one word more
 pub mixed_next : (f : ℕ → ℕ → ℕ) (n : ℕ) (old by into : List ℕ) → n < length into → IsMixedUpTo f n old by into
     → IsMixedUpTo f (n + 1) old by (slice_set into n (f (slice_index into n) (slice_index by n)))
-mixed_next f n old by into within m =
-    let x = f (slice_index into n) (slice_index by n) in
-    record {
-      whole = length-set into n x ∙ m.whole;
-      below = λ i h. elim (cases_eq i n) [
-        | inl e ↦
-            ap (slice_index (slice_set into n x)) e ∙ get_or-set_same into n x 0 within
-            ∙ ap (λ a. f a (slice_index by n)) (m.above n (omega arith))
-            ∙ ap (λ j. f (slice_index old j) (slice_index by j)) (sym e)
-        | inr ne ↦ get_or-set_other into n i x 0 ne ∙ m.below i (omega (arith, h, ne))
-      ];
-      above = λ i h. get_or-set_other into n i x 0 (λ e. absurd (omega (arith, h, e))) ∙ m.above i (omega (arith, h));
-    }
+mixed_next f n old by into within m = grind (arith, length-set, cases_eq, get_or-set_same, get_or-set_other)
 
 pub ruleset mixing = (mixed_on, mixed_next, mixed_all)

@@ -1,5 +1,5 @@
 -- The least set bit of a word and the least user of a set, from a place on.
-use Rattle.std.proofs.Common.{◌≡◌, ℕ, ◌+◌, ◌-◌, ◌*◌, ◌/◌, ◌%◌, ◌^◌, ◌<◌, ◌≤◌, false, nat_eq, List, length, slice_index, sym, ap, ap₂, ◌∙◌, inl, inr, arith}
+use Rattle.std.proofs.Common.{◌≡◌, ℕ, ◌+◌, ◌-◌, ◌*◌, ◌/◌, ◌%◌, ◌^◌, ◌<◌, ◌≤◌, false, nat_eq, List, length, slice_index, sym, ap, ◌∙◌, inl, inr, arith}
 use Rattle.std.specs.Int.{bit_at, w64, trailing_zeros}
 use Rattle.std.proofs.lemmas.Nat.{shr-shr, shr_le}
 use Rattle.std.proofs.lemmas.Nat.Bits.{bit_at-zero, bit_at_above, bit_at-trailing_zeros}
@@ -42,30 +42,12 @@ NobodyBefore words from i = (v : ℕ) → from ≤ v → v / 64 < i → has_user
 -- ... and nobody is in the word there
 pub nobody_on : (words : List ℕ) (from i low : ℕ) → ((k : ℕ) → low ≤ k → has_bit (slice_index words i) k ≡ false)
     → ((v : ℕ) → from ≤ v → v / 64 ≡ i → low ≤ v % 64) → NobodyBefore words from i → NobodyBefore words from (i + 1)
-nobody_on words from i low none lows before v above below =
-    elim (cases_lt (v / 64) i) [
-      | inl lt ↦ before v above lt
-      | inr ge ↦
-          let here : v / 64 ≡ i = omega (arith, below, ge) in
-          ap (λ j. has_bit (slice_index words j) (v % 64)) here ∙ none (v % 64) (lows v above here)
-    ]
+nobody_on words from i low none lows before = grind (arith, cases_lt)
 
 -- ... and the first in the word there
 pub next_at : (words : List ℕ) (from i low bit : ℕ) → IsBitFrom (slice_index words i) low bit → ((v : ℕ) → from ≤ v → v / 64 ≡ i → low ≤ v % 64)
     → NobodyBefore words from i → from ≤ i * 64 + bit → IsNextIn words from (i * 64 + bit)
-next_at words from i low bit first lows before from_on =
-    let word : (i * 64 + bit) / 64 ≡ i = omega (arith, first.within) in
-    let place : (i * 64 + bit) % 64 ≡ bit = omega (arith, first.within) in
-    record {
-      from_on = from_on;
-      member = ap₂ (λ j k. has_bit (slice_index words j) k) word place ∙ first.set;
-      least = λ v above lt. elim (cases_lt (v / 64) i) [
-        | inl earlier ↦ before v above earlier
-        | inr ge ↦
-            let here : v / 64 ≡ i = omega (arith, first.within, lt, ge) in
-            ap (λ j. has_bit (slice_index words j) (v % 64)) here ∙ first.least (v % 64) (lows v above here) (omega (arith, lt, here))
-      ];
-    }
+next_at words from i low bit first lows before from_on = grind (arith, cases_lt)
 
 pub nobody_past : (words : List ℕ) (v : ℕ) → length words ≤ v / 64 → has_user words v ≡ false
 nobody_past words v past = ap (λ w. has_bit w (v % 64)) (get_or_past words (v / 64) 0 past) ∙ ap (λ b. nat_eq b 1) (bit_at-zero (v % 64))

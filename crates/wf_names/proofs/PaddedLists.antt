@@ -17,8 +17,4 @@ put_first {X} limit blank xs cells e short =
 
 -- blank cells keep a list of blanks of any length
 pub all_blank : {X : Type 0} (limit : ℕ) (blank : X) (len : ℕ) → len ≤ limit → IsPadded limit blank (replicate limit blank) len
-all_blank limit blank len h = record {
-  fits = h;
-  whole = length-replicate limit blank;
-  rest = drop-replicate len limit blank;
-}
+all_blank limit blank len h = grind (arith, length-replicate, drop-replicate)

@@ -1,7 +1,7 @@
 -- The place of a name among distinct names.
-use Rattle.std.proofs.Common.{IsTrue, ◌≡◌, ℕ, true, false, List, [], ◌∷◌, length, Some, sym, subst, ◌∙◌, arith}
+use Rattle.std.proofs.Common.{IsTrue, ◌≡◌, ℕ, true, false, List, [], ◌∷◌, Some, sym, subst, ◌∙◌, arith}
 use Prim.Native.Nat.{zero, suc}
-use Rattle.std.specs.Prelude.{slice_get, nat_eq, nat_lt}
+use Rattle.std.specs.Prelude.{slice_get, nat_eq}
 use Rattle.std.specs.List.{All, IsDistinct, AllByRecursion, position_or_len}
 use Rattle.std.specs.Cmp.Lexicographic.{pointwise, nat_list_eq_equiv}
 use Rattle.std.proofs.lemmas.Bool.{lt-ltb}
@@ -34,14 +34,8 @@ first_place (x ∷ xs) (suc n) k h e =
 -- a name stands at one place alone
 pub place_of-name : (names : List (List ℕ)) (n : ℕ) (name : List ℕ) → IsDistinct (pointwise nat_eq) names → slice_get names n ≡ Some name →
     place_of names name ≡ Some n
-place_of-name names n name h e =
-    let here : position_or_len (pointwise nat_eq name) names ≡ n = first_place names n name h e in
-    let below : nat_lt n (length names) ≡ true = lt-ltb n (length names) (slice_get_within names n name e) in
-    rw (here, below)
+place_of-name names n name h e = grind (arith, first_place, lt-ltb, slice_get_within)
 
 -- distinct names, each of a name's form
 pub are_names : (names : List (List ℕ)) → IsDistinct (pointwise nat_eq) names → All (λ name. IsTrue (is_name name)) names → AreNames names
-are_names names distinct named = record {
-  form = λ n name e. subst (λ (x : List ℕ). IsTrue (is_name x)) (get_or_from_slice_get names n name [] e) (named n [] (slice_get_within names n name e));
-  alone = λ n name e. place_of-name names n name distinct e;
-}
+are_names names distinct named = grind (arith, get_or_from_slice_get, slice_get_within, place_of-name)

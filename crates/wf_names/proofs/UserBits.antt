@@ -1,8 +1,8 @@
 -- How the users of a set change with its words.
-use Rattle.std.proofs.Common.{◌≡◌, ℕ, min, max, ◌+◌, ◌*◌, ◌/◌, ◌%◌, ◌^◌, ◌<◌, ◌≤◌, Bool, true, false, not, ◌&&◌, ◌||◌, nat_eq, List, length}
-use Rattle.std.proofs.Common.{get_or, set, slice_index_or, slice_set, cond, refl, sym, ap, subst, ◌∙◌, inl, inr, arith, bit_and, bit_or, get_or-set_same}
+use Rattle.std.proofs.Common.{◌≡◌, ℕ, min, max, ◌+◌, ◌*◌, ◌/◌, ◌%◌, ◌^◌, ◌<◌, Bool, true, false, not, ◌&&◌, ◌||◌, nat_eq, List, length}
+use Rattle.std.proofs.Common.{slice_index_or, slice_set, cond, refl, ap, ◌∙◌, arith, bit_and, bit_or, get_or-set_same}
 use Rattle.std.proofs.Common.{get_or-set_other}
-use Rattle.std.specs.Int.{bit_at, bit_not, w64}
+use Rattle.std.specs.Int.{bit_not, w64}
 use Rattle.std.proofs.lemmas.Nat.Bits.{bit_at_set_same, bit_at_set_other, bit_at_clear_same, bit_at_clear_other, bit_at_and, bit_at_or, bit_at_xor, bit_at-lt}
 use Rattle.std.proofs.lemmas.Nat.Bits.{bit_at-zero}
 use Rattle.std.proofs.lemmas.Bool.{cases_eq, cases_lt, eq-eqb, ne_eqb}
@@ -18,33 +18,13 @@ use mir.Val.{bits}
 word_changed : (words : List ℕ) (u v x : ℕ) (b : Bool) → u / 64 < length words → has_bit x (u % 64) ≡ b
     → ((k : ℕ) → k < 64 → (k ≡ u % 64 → ⊥) → has_bit x k ≡ has_bit (slice_index_or words (u / 64) 0) k)
     → has_user (slice_set words (u / 64) x) v ≡ cond (nat_eq v u) b (has_user words v)
-word_changed words u v x b within own others =
-    elim (cases_eq (v / 64) (u / 64)) [
-      | inl e ↦
-          (let word : slice_index_or (slice_set words (u / 64) x) (v / 64) 0 ≡ x
-          = ap (λ i. get_or (set words (u / 64) x) i 0) e ∙ get_or-set_same words (u / 64) x 0 within in
-          ap (λ w. has_bit w (v % 64)) word
-          ∙ elim (cases_eq (v % 64) (u % 64)) [
-            | inl f ↦
-                (let same : v ≡ u = omega arith in
-                ap (λ k. has_bit x k) f ∙ own ∙ sym (ap (λ t. cond t b (has_user words v)) (eq-eqb v u same)))
-            | inr ne ↦
-                others (v % 64) (omega arith) ne
-                ∙ ap (λ i. has_bit (slice_index_or words i 0) (v % 64)) (sym e)
-                ∙ sym (ap (λ t. cond t b (has_user words v)) (ne_eqb v u (λ s. ne (ap (λ n. n % 64) s))))
-          ])
-      | inr ne ↦
-          ap (λ w. has_bit w (v % 64)) (get_or-set_other words (u / 64) (v / 64) x 0 ne)
-          ∙ sym (ap (λ t. cond t b (has_user words v)) (ne_eqb v u (λ s. ne (ap (λ n. n / 64) s))))
-    ]
+word_changed words u v x b within own others = grind (arith, cases_eq, get_or-set_same, eq-eqb, ne_eqb, get_or-set_other)
 
 cond_or : (t h : Bool) → cond t true h ≡ (t || h)
-cond_or true h = refl
-cond_or false h = refl
+cond_or t h = grind arith
 
 cond_and : (t h : Bool) → cond t false h ≡ (not t && h)
-cond_and true h = refl
-cond_and false h = refl
+cond_and t h = grind arith
 
 -- to set the bit of a user puts the user in
 pub put_in : (words : List ℕ) (u v : ℕ) → u / 64 < length words
@@ -85,9 +65,7 @@ bit_of_either : (a b k : ℕ) → has_bit (bit_or a b) k ≡ (has_bit a k || has
 bit_of_either a b k = ap (λ x. nat_eq x 1) (bit_at_or a b k) ∙ some_bit _ _ (bit_at-lt a k) (bit_at-lt b k)
 
 bit_of_minus : (a b k : ℕ) → has_bit (minus a b) k ≡ (has_bit a k && not (has_bit b k))
-bit_of_minus a b k =
-    ap (λ x. nat_eq x 1) (bit_at_xor a (bit_and a b) k ∙ ap (λ y. (bit_at a k + y) % 2) (bit_at_and a b k))
-    ∙ own_bit _ _ (bit_at-lt a k) (bit_at-lt b k)
+bit_of_minus a b k = grind (arith, bit_at_xor, bit_at_and, own_bit, bit_at-lt)
 
 -- a set whose words are mixed with those of another one, bit by bit
 mixed_users : (f : ℕ → ℕ → ℕ) (g : Bool → Bool → Bool) (xs ys : List ℕ) (v : ℕ) → length xs ≡ length ys
@@ -95,17 +73,7 @@ mixed_users : (f : ℕ → ℕ → ℕ) (g : Bool → Bool → Bool) (xs ys : Li
     → ((i : ℕ) → has_bit (f (slice_index_or xs i 0) (slice_index_or ys i 0)) (v % 64) ≡ g (has_bit (slice_index_or xs i 0) (v % 64))
     (has_bit (slice_index_or ys i 0) (v % 64)))
     → has_user (zip2 f xs ys) v ≡ g (has_user xs v) (has_user ys v)
-mixed_users f g xs ys v same none bits =
-    elim (cases_lt (v / 64) (length xs)) [
-      | inl lt ↦ ap (λ w. has_bit w (v % 64)) (get_or-zip2 f xs ys (v / 64) 0 0 0 lt (subst (λ n. v / 64 < n) same lt)) ∙ bits (v / 64)
-      | inr ge ↦
-          (let nobody = ap (λ x. nat_eq x 1) (bit_at-zero (v % 64)) in
-          let past : length (zip2 f xs ys) ≤ v / 64 = subst (λ n. n ≤ v / 64) (sym (length-zip2 f xs ys same)) ge in
-          ap (λ w. has_bit w (v % 64)) (get_or_past (zip2 f xs ys) (v / 64) 0 past) ∙ nobody
-          ∙ sym (ap (λ w. g (has_bit w (v % 64)) (has_user ys v)) (get_or_past xs (v / 64) 0 ge)
-          ∙ ap (λ w. g (has_bit 0 (v % 64)) (has_bit w (v % 64))) (get_or_past ys (v / 64) 0 (subst (λ n. n ≤ v / 64) same ge))
-          ∙ ap (λ t. g t t) nobody ∙ none))
-    ]
+mixed_users f g xs ys v same none bits = grind (arith, cases_lt, get_or-zip2, bit_at-zero, length-zip2, get_or_past)
 
 pub met_users : (xs ys : List ℕ) (v : ℕ) → length xs ≡ length ys → has_user (zip2 bit_and xs ys) v ≡ (has_user xs v && has_user ys v)
 met_users xs ys v same = mixed_users bit_and (λ a b. a && b) xs ys v same refl (λ i. bit_of_both _ _ (v % 64))

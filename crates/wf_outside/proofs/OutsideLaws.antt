@@ -1,5 +1,5 @@
 -- How what was taken and what was put composes over several calls.
-use Rattle.std.proofs.Common.{◌≡◌, ℕ, ◌+◌, ◌-◌, ◌<◌, ◌≤◌, List, [], ◌++◌, length, take, drop, Option, None, Some, IfSome, Ok, Err, refl, sym, ◌∙◌, ap, subst}
+use Rattle.std.proofs.Common.{◌≡◌, ℕ, ◌+◌, ◌-◌, ◌<◌, ◌≤◌, List, [], ◌++◌, length, take, drop, Option, Some, IfSome, Ok, Err, sym, ◌∙◌, ap}
 use Rattle.std.proofs.Common.{arith, append_assoc}
 use Rattle.std.proofs.lemmas.Grind.{common_steps}
 use Rattle.std.proofs.lemmas.List.{take-append-drop, append-nil, take-append-le, length-append, length-take, take_rest}
@@ -10,14 +10,12 @@ use Rattle.wf_outside.specs.Laws.Outside.{with_bytes, bytes_before, HasTaken, Is
 -- no bytes are taken where nothing changed
 pub nothing_taken : (left : Option (List ℕ)) → HasTaken left left []
 unfolding bytes_before
-nothing_taken None = refl
-nothing_taken (Some left) = refl
+nothing_taken left = grind arith
 
 -- bytes in front of more in front of what is left
 pub more_before : (bytes more : List ℕ) (left : Option (List ℕ)) → bytes_before bytes (bytes_before more left) ≡ bytes_before (bytes ++ more) left
 unfolding bytes_before
-more_before bytes more None = refl
-more_before bytes more (Some left) = ap Some (sym (append_assoc bytes more left))
+more_before bytes more left = grind (arith, append_assoc)
 
 -- bytes, and then more
 pub more_taken : (before middle after : Option (List ℕ)) (bytes more : List ℕ)
@@ -27,14 +25,12 @@ more_taken before middle after bytes more first second = first ∙ ap (bytes_bef
 -- nothing is put where nothing changed
 pub nothing_put : (held : Option (List ℕ)) → with_bytes held [] ≡ held
 unfolding with_bytes
-nothing_put None = refl
-nothing_put (Some held) = ap Some (append-nil held)
+nothing_put held = grind (arith, append-nil)
 
 -- bytes, and then more
 pub more_put : (held : Option (List ℕ)) (bytes more : List ℕ) → with_bytes (with_bytes held bytes) more ≡ with_bytes held (bytes ++ more)
 unfolding with_bytes
-more_put None bytes more = refl
-more_put (Some held) bytes more = ap Some (append_assoc held bytes more)
+more_put held bytes more = grind (arith, append_assoc)
 
 -- none of the bytes is a prefix of them
 pub part_none : (held : Option (List ℕ)) (bytes : List ℕ) → HasPart held held bytes
@@ -46,12 +42,7 @@ part_all held bytes = record { count = length bytes; within = omega arith; held 
 
 -- a prefix of the bytes is one of the bytes with more behind them
 pub part_first : (before after : Option (List ℕ)) (bytes more : List ℕ) → HasPart before after bytes → HasPart before after (bytes ++ more)
-part_first before after bytes more part =
-    record {
-      count = part.count;
-      within = let h = part.within in omega (arith, length-append bytes more);
-      held = rw (take-append-le part.count bytes more part.within) part.held;
-    }
+part_first before after bytes more part = grind (arith, length-append, take-append-le)
 
 -- all of the bytes, and then a prefix of more, is a prefix of both together
 pub part_second : (before after : Option (List ℕ)) (bytes more : List ℕ) → HasPart (with_bytes before bytes) after more → HasPart before after (bytes ++ more)
@@ -67,34 +58,27 @@ pub put_on : (held middle after : Option (List ℕ)) (bytes : List ℕ) (done co
     → middle ≡ with_bytes held (take done bytes)
     → after ≡ with_bytes middle (take count (take (length bytes - done) (drop done bytes)))
     → after ≡ with_bytes held (take (done + count) bytes)
-put_on held middle after bytes done count so_far now =
-    let rest : after ≡ with_bytes middle (take count (drop done bytes)) = rw take_rest at now in
-    rest ∙ ap (λ h. with_bytes h (take count (drop done bytes))) so_far ∙ more_put held (take done bytes) (take count (drop done bytes)) ∙
-    ap (with_bytes held) (sym (take-add done count bytes))
+put_on held middle after bytes done count so_far now = grind (arith, take_rest, more_put, take-add)
 
 whole_within : (left : Option (List ℕ)) (bytes : List ℕ) (limit : ℕ) → IsAtEnd left → length bytes ≤ limit →
     IfSome (bytes_before bytes left) (λ content. ReadsAll content limit (Ok bytes))
 unfolding bytes_before
-whole_within None bytes limit ended within = tt
-whole_within (Some left) bytes limit ended within = rw (ended, append-nil bytes) (refl, within)
+whole_within left bytes limit ended within = grind (arith, append-nil)
 
 more_than : (left : Option (List ℕ)) (bytes : List ℕ) (limit : ℕ) → limit < length bytes →
     IfSome (bytes_before bytes left) (λ content. ReadsAll content limit (Err TooLong))
 unfolding bytes_before
-more_than None bytes limit above = tt
-more_than (Some left) bytes limit above = omega (arith, length-append bytes left)
+more_than left bytes limit above = grind (arith, length-append)
 
 -- all of what a source told, read up to its end
 pub reads_whole : (before after : Option (List ℕ)) (bytes : List ℕ) (limit : ℕ)
     → HasTaken before after bytes → IsAtEnd after → length bytes ≤ limit → IfSome before (λ content. ReadsAll content limit (Ok bytes))
-reads_whole before after bytes limit taken ended within =
-    subst (λ (left : Option (List ℕ)). IfSome left (λ content. ReadsAll content limit (Ok bytes))) (sym taken) (whole_within after bytes limit ended within)
+reads_whole before after bytes limit taken ended within = grind (arith, whole_within)
 
 -- more than the limit of what a source told
 pub reads_more : (before after : Option (List ℕ)) (bytes : List ℕ) (limit : ℕ)
     → HasTaken before after bytes → limit < length bytes → IfSome before (λ content. ReadsAll content limit (Err TooLong))
-reads_more before after bytes limit taken above =
-    subst (λ (left : Option (List ℕ)). IfSome left (λ content. ReadsAll content limit (Err TooLong))) (sym taken) (more_than after bytes limit above)
+reads_more before after bytes limit taken above = grind (arith, more_than)
 
 -- nothing is at most anything
 pub nothing_at_most : (left : Option (List ℕ)) (most : ℕ) → HasTakenAtMost left left most
@@ -102,8 +86,7 @@ nothing_at_most left most = record { bytes = []; taken = nothing_taken left; wit
 
 -- at most so many, and so at most more
 pub at_most_more : (before after : Option (List ℕ)) (most more : ℕ) → HasTakenAtMost before after most → most ≤ more → HasTakenAtMost before after more
-at_most_more before after most more taken le =
-    record { bytes = taken.bytes; taken = taken.taken; within = let h = taken.within in omega arith }
+at_most_more before after most more taken le = grind arith
 
 -- bytes, and then the front of a buffer
 pub front_at_most : (before middle after : Option (List ℕ)) (bytes buf : List ℕ) (count room : ℕ)
@@ -119,6 +102,4 @@ front_at_most before middle after bytes buf count room first second le =
 pub front_taken : (left rest old new : List ℕ) (count : ℕ)
     → new ≡ take count left ++ drop count old → rest ≡ drop count left → count ≤ length left → HasTaken (Some left) (Some rest) (take count new)
 unfolding bytes_before
-front_taken left rest old new count front after le =
-    let shown : take count (take count left ++ drop count old) ≡ take count left = grind (arith, common_steps) in
-    rw (front, after, shown, take-append-drop) refl
+front_taken left rest old new count front after le = grind (arith, common_steps, take-append-drop)

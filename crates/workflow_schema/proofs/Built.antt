@@ -52,9 +52,7 @@ listed_within m n ps h = record { each = λ a b found. all_of (λ (p : ℕ × �
 
 -- a workflow's steps are below the limit
 pub order_below : (n : ℕ) (order : Pairs) → is_count n ≡ true → AllPairs (λ s t. (s < n) × (t < n)) order → AllPairs (λ _ t. t < STEP_LIMIT) order
-order_below n order count within = record {
-  each = λ a b found. let second = (within.each a b found).1 in let few = few_steps n count in omega (arith, second, few);
-}
+order_below n order count within = grind (arith, few_steps)
 
 pub built_flow : (steps : List (List ℕ)) (order : Pairs) (later roles : List ℕ) →
     is_count (length steps) ≡ true →
@@ -63,8 +61,4 @@ pub built_flow : (steps : List (List ℕ)) (order : Pairs) (later roles : List �
     AllPairs (λ r s. (r < ROLE_LIMIT) × (s < length steps)) (permitted_by roles) →
     length roles ≡ STEP_LIMIT →
     IsStoredFlow steps order later roles
-built_flow steps order later roles count orders closed permitted whole = record {
-  flow = record { counted = count; orders = orders; acyclic = closed.acyclic; permitted = permitted };
-  closed = closed.closed;
-  rows = whole;
-}
+built_flow steps order later roles count orders closed permitted whole = grind arith

@@ -17,21 +17,13 @@ few_steps n h = le_back n STEP_LIMIT (and_both (nat_lt 0 n) (nat_le n STEP_LIMIT
 -- the test of the closed table tells the chains
 pub tells_chains : (f : FlowShape) (s t : ℕ) (answer : Bool) → IsFlow f → answer ≡ is_before f.order s t → (IsTrue answer → Precedes f.order s t) ×
     (Precedes f.order s t → IsTrue answer)
-tells_chains f s t answer kept is =
-    let below : (a b : ℕ) → set.contains f.order (a, b) ≡ true → b < STEP_LIMIT =
-    λ a b found. let e = (kept.orders.each a b found).1 in let few = few_steps (length f.steps) kept.counted in omega arith
-    in
-    (λ h. before_is_chain f.order s t (sym is ∙ h), λ r. is ∙ chain_is_before f.order s t below r)
+tells_chains f s t answer kept is = grind (arith, few_steps, before_is_chain, chain_is_before)
 
 -- other permissions of steps of the workflow to roles
 keeps_rows : (steps : List (List ℕ)) (order : Pairs) (later old rows : List ℕ) → IsStoredFlow steps order later old →
     ((r s : ℕ) → set.contains (permitted_by rows) (r, s) ≡ true → (r < ROLE_LIMIT) × (s < length steps)) → length rows ≡ length old →
     IsStoredFlow steps order later rows
-keeps_rows steps order later old rows kept known whole = record {
-  flow = record { counted = kept.flow.counted; orders = kept.flow.orders; acyclic = kept.flow.acyclic; permitted = record { each = known } };
-  closed = kept.closed;
-  rows = whole ∙ kept.rows;
-}
+keeps_rows steps order later old rows kept known whole = grind arith
 
 pub keeps_permitted :
     (steps : List (List ℕ)) (order : Pairs) (later old rows : List ℕ) (r s : ℕ) → IsStoredFlow steps order later old →

@@ -1,11 +1,10 @@
 -- Lists of pairs, read from their ends.
 use Rattle.std.proofs.Common.{◌≡◌, ℕ, zero, suc, ◌+◌, ◌<◌, true, false, ◌&&◌, ◌||◌, nat_eq, List, [], ◌∷◌, length, drop, get_or, refl, sym, ap, subst, ◌∙◌}
-use Rattle.std.proofs.Common.{add-one, drop-cons, replicate}
+use Rattle.std.proofs.Common.{add-one, drop-cons, replicate, arith}
 use Rattle.std.proofs.lemmas.List.{get_or_default}
 use Rattle.std.specs.FinSet as set
 use Rattle.std.specs.Ordering.{eq_by_cmp, is_eq, nat_cmp, ordering_then}
 use Rattle.std.specs.declared.cmp.Ordering.{Ordering}
-use Rattle.std.specs.declared.cmp.Ordering.TheVariants.{Less, Equal, Greater}
 use Rattle.std.specs.Cmp.{unsigned_tied}
 use Rattle.workflow_schema.specs.Tables.{is_set, table_has}
 use Rattle.workflow_schema.proofs.Words.{is_set-zero}
@@ -35,9 +34,7 @@ drop-end [] = refl
 drop-end (p ∷ ps) = drop-end ps
 
 then_equal : (x y : Ordering) → is_eq (ordering_then x y) ≡ (is_eq x && is_eq y)
-then_equal Less y = refl
-then_equal Equal y = refl
-then_equal Greater y = refl
+then_equal x y = grind arith
 
 tied : (a b : ℕ) → is_eq (nat_cmp a b) ≡ nat_eq a b
 tied a b = unsigned_tied a b

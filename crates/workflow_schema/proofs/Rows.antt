@@ -1,6 +1,6 @@
 -- What the flags of tables are after a step of the code.
-use Rattle.std.proofs.Common.{◌≡◌, ℕ, ◌+◌, ◌<◌, ◌≤◌, inl, inr, Bool, true, false, not, ◌&&◌, ◌||◌, nat_eq, nat_lt, List, length, get_or, set, refl, sym}
-use Rattle.std.proofs.Common.{ap, subst, ◌∙◌, add-one, get_or-set_same, get_or-set_other}
+use Rattle.std.proofs.Common.{◌≡◌, ℕ, ◌+◌, ◌<◌, ◌≤◌, Bool, false, not, ◌&&◌, ◌||◌, nat_eq, nat_lt, List, length, get_or, set, refl, arith}
+use Rattle.std.proofs.Common.{ap, ◌∙◌, add-one, get_or-set_same, get_or-set_other}
 use Rattle.std.proofs.Math.Nat.{le_trans}
 use Rattle.std.proofs.lemmas.List.{get_or_past}
 use Rattle.std.proofs.lemmas.Bool.{cases_eq}
@@ -14,30 +14,12 @@ table_past rows a b h = ap (λ w. is_set w b) (get_or_past rows a 0 h) ∙ is_se
 -- a row is replaced by one that differs in one flag
 pub flag_set : (rows : List ℕ) (row bit word : ℕ) → row < length rows → ((b : ℕ) → is_set word b ≡ (nat_eq b bit || is_set (get_or rows row 0) b)) →
     (a b : ℕ) → table_has (set rows row word) a b ≡ ((nat_eq a row && nat_eq b bit) || table_has rows a b)
-flag_set rows row bit word h is a b =
-    elim (cases_eq a row) [
-      | inl e ↦
-          subst (λ c. table_has (set rows row word) c b ≡ ((nat_eq c row && nat_eq b bit) || table_has rows c b)) (sym e)
-          (ap (λ w. is_set w b) (get_or-set_same rows row word 0 h) ∙ is b
-          ∙ sym (ap (λ t. (t && nat_eq b bit) || table_has rows row b) (eq_same row)))
-      | inr ne ↦
-          ap (λ w. is_set w b) (get_or-set_other rows row a word 0 ne)
-          ∙ sym (ap (λ t. (t && nat_eq b bit) || table_has rows a b) (eq_other a row ne))
-    ]
+flag_set rows row bit word h is a b = grind (arith, cases_eq, get_or-set_same, eq_same, get_or-set_other, eq_other)
 
 pub flag_cleared : (rows : List ℕ) (row bit word : ℕ) →
     row < length rows → ((b : ℕ) → is_set word b ≡ (not (nat_eq b bit) && is_set (get_or rows row 0) b)) → (a b : ℕ) →
     table_has (set rows row word) a b ≡ (not (nat_eq a row && nat_eq b bit) && table_has rows a b)
-flag_cleared rows row bit word h is a b =
-    elim (cases_eq a row) [
-      | inl e ↦
-          subst (λ c. table_has (set rows row word) c b ≡ (not (nat_eq c row && nat_eq b bit) && table_has rows c b)) (sym e)
-          (ap (λ w. is_set w b) (get_or-set_same rows row word 0 h) ∙ is b
-          ∙ sym (ap (λ t. not (t && nat_eq b bit) && table_has rows row b) (eq_same row)))
-      | inr ne ↦
-          ap (λ w. is_set w b) (get_or-set_other rows row a word 0 ne)
-          ∙ sym (ap (λ t. not (t && nat_eq b bit) && table_has rows a b) (eq_other a row ne))
-    ]
+flag_cleared rows row bit word h is a b = grind (arith, cases_eq, get_or-set_same, eq_same, get_or-set_other, eq_other)
 
 -- a table in which the rows before a place are joined through row k
 abbrev pub joined_before : List ℕ → ℕ → ℕ → ℕ → ℕ → Bool
@@ -51,23 +33,10 @@ join_none old k a b place h = ap (λ t. table_has old a b || (t && (table_has ol
 
 pub join_end : (old rows : List ℕ) (k place : ℕ) → length rows ≤ place → AreJoined old rows k place → (a b : ℕ) →
     table_has rows a b ≡ (table_has old a b || (table_has old a k && table_has old k b))
-join_end old rows k place h joined a b =
-    joined a b
-    ∙ elim (nat_lt a place) as (λ t. nat_lt a place ≡ t →
-    (table_has old a b || (t && (table_has old a k && table_has old k b))) ≡ (table_has old a b || (table_has old a k && table_has old k b))) [
-      | true ↦ λ e. refl
-      | false ↦ λ e.
-          let past : place ≤ a = lt_back_no a place e in
-          let none : table_has old a k ≡ false = sym (join_none old k a k place past) ∙ sym (joined a k) ∙ table_past rows a k (le_trans h past) in
-          sym (ap (λ t. table_has old a b || (t && table_has old k b)) none)
-    ] refl
+join_end old rows k place h joined a b = grind (arith, lt_back_no, join_none, table_past, le_trans)
 
 pub own_none : (rows : List ℕ) (n : ℕ) → length rows ≤ n → ((a : ℕ) → a < n → table_has rows a a ≡ false) → (a : ℕ) → table_has rows a a ≡ false
-own_none rows n h below a =
-    elim (nat_lt a n) as (λ t. nat_lt a n ≡ t → table_has rows a a ≡ false) [
-      | true ↦ λ e. below a (lt_back a n e)
-      | false ↦ λ e. table_past rows a a (le_trans h (lt_back_no a n e))
-    ] refl
+own_none rows n h below a = grind (arith, lt_back, table_past, le_trans, lt_back_no)
 
 -- ---- closing a table
 
@@ -83,5 +52,4 @@ pub close_step :
     ((a b : ℕ) → table_has rows a b ≡ (table_has old a b || (table_has old a k && table_has old k b))) →
     AreClosed next rows (k + 1)
 unfolding leads
-close_step next old rows k closed is a b =
-    rw (add-one k) (is a b ∙ (λ i. closed a b i || (closed a k i && closed k b i)))
+close_step next old rows k closed is = grind (arith, add-one)

@@ -1,5 +1,5 @@
 -- A table as the set of its pairs, (row, bit) or (bit, row).
-use Rattle.std.proofs.Common.{◌≡◌, ℕ, true, false, not, ◌&&◌, ◌||◌, nat_eq, nat_lt, List, length, get_or, refl, sym, ap, ◌∙◌, replicate}
+use Rattle.std.proofs.Common.{◌≡◌, ℕ, not, ◌&&◌, ◌||◌, nat_eq, nat_lt, List, length, get_or, sym, ap, ◌∙◌, replicate, arith, rules}
 use Rattle.std.specs.FinSet as set
 use Rattle.basics.specs.Laws.Pairs.{Pairs, pair_cmp}
 use Rattle.basics.specs.PairLaws.{pair_cmp_total, pair_cmp-IsAntisymmetric}
@@ -13,10 +13,7 @@ use Rattle.workflow_schema.proofs.PairLists.{eq_pair, contains-one_more, no_flag
 
 -- only rows that are there have flags
 row_cut : (rows : List ℕ) (s t : ℕ) → (nat_lt s (length rows) && table_has rows s t) ≡ table_has rows s t
-row_cut rows s t = elim (nat_lt s (length rows)) as (λ b. nat_lt s (length rows) ≡ b → (b && table_has rows s t) ≡ table_has rows s t) [
-  | true ↦ λ e. refl
-  | false ↦ λ e. sym (table_past rows s t (lt_back_no s (length rows) e))
-] refl
+row_cut rows s t = grind (arith, table_past, lt_back_no)
 
 pub pairs_in-has : (rows : List ℕ) (s t : ℕ) → set.contains (pairs_in rows) (s, t) ≡ table_has rows s t
 unfolding pairs_in
@@ -44,11 +41,7 @@ pairs_in-none n = pairs_in-is (replicate n 0) set.empty (λ s t. no_flags n s t 
 
 pub pairs_in-with : (old rows : List ℕ) (s t : ℕ) → ((a b : ℕ) → table_has rows a b ≡ ((nat_eq a s && nat_eq b t) || table_has old a b)) →
     pairs_in rows ≡ set.insert (pairs_in old) (s, t)
-pairs_in-with old rows s t h =
-    pairs_in-is rows _ (λ a b.
-    h a b
-    ∙ ap (λ x. (nat_eq a s && nat_eq b t) || x) (sym (pairs_in-has old a b))
-    ∙ sym (contains-one_more (pairs_in old) s t a b))
+pairs_in-with old rows s t h = search (rules, arith, pairs_in-is, pairs_in-has, contains-one_more)
 
 pub permitted_by-is : (rows : List ℕ) (pairs : Pairs) → ((s r : ℕ) → table_has rows s r ≡ set.contains pairs (r, s)) → permitted_by rows ≡ pairs
 permitted_by-is rows pairs h = same_pairs (permitted_by rows) pairs (λ r s. permitted_by-has rows r s ∙ h s r)
@@ -58,11 +51,7 @@ permitted_by-none n = permitted_by-is (replicate n 0) set.empty (λ s r. no_flag
 
 pub permitted_by-with : (old rows : List ℕ) (r s : ℕ) → ((a b : ℕ) → table_has rows a b ≡ ((nat_eq a s && nat_eq b r) || table_has old a b)) →
     permitted_by rows ≡ set.insert (permitted_by old) (r, s)
-permitted_by-with old rows r s h =
-    permitted_by-is rows _ (λ a b.
-    h a b
-    ∙ (λ i. and_swap (nat_eq a s) (nat_eq b r) i || sym (permitted_by-has old b a) i)
-    ∙ sym (contains-one_more (permitted_by old) r s b a))
+permitted_by-with old rows r s h = search (rules, arith, permitted_by-is, and_swap, permitted_by-has, contains-one_more)
 
 pub permitted_by-without : (old rows : List ℕ) (r s : ℕ) → ((a b : ℕ) → table_has rows a b ≡ (not (nat_eq a s && nat_eq b r) && table_has old a b)) →
     permitted_by rows ≡ set.remove (permitted_by old) (r, s)

@@ -1,5 +1,5 @@
 -- What the bits of words are after a step of the code.
-use Rattle.std.proofs.Common.{◌≡◌, ℕ, zero, suc, ◌*◌, ◌/◌, ◌%◌, ◌^◌, max, ◌<◌, ◌≤◌, inl, inr, false, not, ◌&&◌, ◌||◌, nat_eq, nat_lt, refl, sym, ap, subst, ◌∙◌}
+use Rattle.std.proofs.Common.{◌≡◌, ℕ, ◌*◌, ◌/◌, ◌%◌, ◌^◌, max, ◌<◌, ◌≤◌, inl, inr, false, not, ◌&&◌, ◌||◌, nat_eq, nat_lt, sym, ap, subst, ◌∙◌}
 use Rattle.std.proofs.Common.{arith, bit_and, bit_or}
 use Rattle.std.specs.Int.{bit_at, bit_not, w64}
 use Rattle.std.proofs.lemmas.Nat.Bits.{bit_at-lt, bit_at_or, bit_at-zero, shr_and_one, bit_at_set_same, bit_at_set_other, bit_at_clear_same, bit_at_clear_other}
@@ -10,19 +10,11 @@ use Rattle.basics.proofs.Booleans.{and_or, and_same, and-false, twice_and, eq_sa
 use mir.Val.{bits}
 
 or_test : (x y : ℕ) → x < 2 → y < 2 → nat_eq (max x y) 1 ≡ (nat_eq x 1 || nat_eq y 1)
-or_test zero zero h i = refl
-or_test zero (suc zero) h i = refl
-or_test (suc zero) zero h i = refl
-or_test (suc zero) (suc zero) h i = refl
-or_test (suc (suc x)) y h i = absurd (omega arith)
-or_test x (suc (suc y)) h i = absurd (omega arith)
+or_test x y h i = grind arith
 
 pub is_set-or : (a b i : ℕ) → is_set (bit_or a b) i ≡ (is_set a i || is_set b i)
 unfolding is_set
-is_set-or a b i =
-    ap (λ n. nat_lt i WORD_BITS && nat_eq n 1) (bit_at_or a b i)
-    ∙ ap (λ t. nat_lt i WORD_BITS && t) (or_test (bit_at a i) (bit_at b i) (bit_at-lt a i) (bit_at-lt b i))
-    ∙ and_or (nat_lt i WORD_BITS) (nat_eq (bit_at a i) 1) (nat_eq (bit_at b i) 1)
+is_set-or a b i = grind (arith, bit_at_or, or_test, bit_at-lt, and_or)
 
 pub is_set-zero : (i : ℕ) → is_set 0 i ≡ false
 unfolding is_set
@@ -31,8 +23,7 @@ is_set-zero i = ap (λ n. nat_lt i WORD_BITS && nat_eq n 1) (bit_at-zero i) ∙ 
 -- the test of the code tells the bit
 pub is_set-tested : (w i : ℕ) → i < WORD_BITS → nat_eq (bit_and (w / 2 ^ i) 1) 1 ≡ is_set w i
 unfolding is_set
-is_set-tested w i h =
-    ap (λ n. nat_eq n 1) (shr_and_one w i) ∙ sym (ap (λ l. l && nat_eq (bit_at w i) 1) (lt_yes i WORD_BITS h))
+is_set-tested w i h = grind (arith, shr_and_one, lt_yes)
 
 pub is_set-past : (w i : ℕ) → WORD_BITS ≤ i → is_set w i ≡ false
 unfolding is_set

@@ -1,4 +1,4 @@
-use Rattle.std.proofs.Common.{◌≡◌, ℕ, Bool, List, false, sym, ◌∙◌, ap, nat_eq}
+use Rattle.std.proofs.Common.{◌≡◌, ℕ, Bool, List, false, sym, ◌∙◌, ap, nat_eq, arith}
 use Rattle.std.specs.Cmp.Lexicographic.{pointwise}
 use Rattle.user_relations.proofs.Named.{same_is_name, other_is_name, found_declared}
 use Rattle.user_relations.proofs.kinds.find.Goals as goal
@@ -14,11 +14,7 @@ not_known : (name known text : List ℕ) (same : Bool) → known ≡ text → sa
 not_known name known text same is told other = ap (pointwise nat_eq name) (sym is) ∙ sym told ∙ other
 
 pub returns-in-Some-clause-place : goal.returns-in-Some-clause-place
-returns-in-Some-clause-place c =
-    sym (found_declared c.args.declared.now c.args.name.now _ (not_known _ _ _ _ c.known_name.ensures c.eq.ensures c.if-eq.false)
-    (not_known _ _ _ _ c.known_name-2.ensures c.eq-2.ensures c.if-eq-2.false) c.in-Some.ensures.place)
+returns-in-Some-clause-place c = grind (arith, found_declared, not_known)
 
 pub returns-in-None-clause-place : goal.returns-in-None-clause-place
-returns-in-None-clause-place c =
-    sym (found_declared c.args.declared.now c.args.name.now _ (not_known _ _ _ _ c.known_name.ensures c.eq.ensures c.if-eq.false)
-    (not_known _ _ _ _ c.known_name-2.ensures c.eq-2.ensures c.if-eq-2.false) c.in-None.ensures.place)
+returns-in-None-clause-place c = grind (arith, found_declared, not_known)

@@ -10,6 +10,4 @@ pub known_name-requires-in-1 : goal.known_name-requires-in-1
 known_name-requires-in-1 c = other_is_name
 
 pub returns-in_default : goal.returns-in_default
-returns-in_default c =
-    name_read c.args.declared.now c.args.rho _ c.index-declared-rho.result
-    (omega (arith, c.rho.view_is)) (omega (arith, c.rho.view_is, length-shapes c.args.declared.now))
+returns-in_default c = grind (arith, name_read, length-shapes)

@@ -1,4 +1,4 @@
-use Rattle.std.proofs.Common.{◌≡◌, ◌≤◌, List, ℕ, length, replicate, ap, sym, ◌∙◌, arith}
+use Rattle.std.proofs.Common.{◌≡◌, List, ℕ, length, replicate, ap, ◌∙◌, arith}
 use Rattle.std.proofs.lemmas.List.{length-replicate, length-take-le}
 use Rattle.wf_names.specs.declared.limits.TheConstants.{NAME_LIMIT}
 use Rattle.wf_names.proofs.NameForms.{name_length, cells_stored}
@@ -8,21 +8,13 @@ cells_long : (cells : List ℕ) → cells ≡ replicate NAME_LIMIT 0 → length 
 cells_long cells e = ap length e ∙ length-replicate {A = ℕ} NAME_LIMIT 0
 
 pub slice_bounds-cells-end : goal.slice_bounds-cells-end
-slice_bounds-cells-end c =
-    let long = cells_long c.blank-cells.result c.blank-cells.ensures in
-    omega (arith, name_length c.args.bytes.now c.requires, long)
+slice_bounds-cells-end c = grind (arith, cells_long, name_length)
 
 pub slice_bounds-copy_from_slice-end : goal.slice_bounds-copy_from_slice-end
-slice_bounds-copy_from_slice-end c =
-    let long = cells_long c.blank-cells.result c.blank-cells.ensures in
-    let h : length c.args.bytes.now ≤ length c.blank-cells.result = omega (arith, name_length c.args.bytes.now c.requires, long) in
-    sym (length-take-le (length c.args.bytes.now) c.blank-cells.result h)
+slice_bounds-copy_from_slice-end c = grind (arith, cells_long, name_length, length-take-le)
 
 pub copy_from_slice-requires : goal.copy_from_slice-requires
-copy_from_slice-requires c =
-    let long = cells_long c.blank-cells.result c.blank-cells.ensures in
-    let h : length c.args.bytes.now ≤ length c.blank-cells.result = omega (arith, name_length c.args.bytes.now c.requires, long) in
-    length-take-le (length c.args.bytes.now) c.blank-cells.result h
+copy_from_slice-requires c = grind (arith, cells_long, name_length, length-take-le)
 
 pub invariant_of-result : goal.invariant_of-result
 invariant_of-result c =

@@ -1,15 +1,10 @@
-use Rattle.std.proofs.Common.{◌-◌, ◌||◌, nat_eq, refl, sym, ◌∙◌, arith}
-use Rattle.wf_names.specs.declared.limits.TheConstants.{STEP_LIMIT}
+use Rattle.std.proofs.Common.{◌-◌, ◌||◌, nat_eq, sym, ◌∙◌, arith, rules}
 use Rattle.basics.proofs.Booleans.{and_swap}
 use Rattle.workflow_schema.proofs.PairLists.{flags_start, twice_start, found_twice, not_twice, with_pair}
 use Rattle.workflow_schema.proofs.lists.permit_table.Goals as goal
 
 pub pairs-init : goal.pairs-init
-pairs-init c = record {
-  whole = refl;
-  single = twice_start c.args.permits.now;
-  same = λ a b. flags_start STEP_LIMIT c.args.permits.now a b _;
-}
+pairs-init c = search (rules, arith, twice_start, flags_start)
 
 pub returns-then-has_flag : goal.returns-then-has_flag
 returns-then-has_flag c =

@@ -1,9 +1,7 @@
-use Rattle.std.proofs.Common.{get_or}
+use Rattle.std.proofs.Common.{arith}
 use Rattle.workflow_schema.proofs.Words.{is_set-with}
 use Rattle.workflow_schema.proofs.Rows.{flag_set}
 use Rattle.workflow_schema.proofs.table.set_flag.Goals as goal
 
 pub returns : goal.returns
-returns c =
-    let rows = c.args.rows.now in
-    flag_set rows c.args.row c.args.bit _ c.requires.row_in (λ b. is_set-with (get_or rows c.args.row 0) c.args.bit b c.requires.bit_in)
+returns c = grind (arith, flag_set, is_set-with)

@@ -7,15 +7,7 @@ use Rattle.policy_book.proofs.policy.Policy.add_user.Goals as goal
 use Rattle.policy_book.proofs.policy.Policy.add_user.Goals.{in-Ok-add_user, in-Err}
 
 pub invariant_of-self : goal.invariant_of-self
-invariant_of-self c =
-    let roster = c.self.inside.roster in
-    let flows = c.self.inside.flows.items in
-    let duties = c.self.inside.duties.items in
-    let new = c.make_room.new.duties in
-    let grown : AreGrown duties new = subst (λ (ds : List DutyShape). AreGrown ds new) c.deref_mut.ensures.value c.make_room.ensures.grown in
-    subst (λ (ds : List DutyShape). IsBook roster c.self.inside.relations c.self.inside.names flows c.self.inside.admin ds)
-    (sym (whole c.self.inside.duties.len new _ (c.make_room.ensures.grown.count ∙ c.deref_mut.ensures.len)))
-    (record { stored = c.self.invariant.stored; kept = kept_grown roster flows duties new c.self.invariant.kept grown })
+invariant_of-self c = grind (arith, whole, kept_grown)
 
 pub invariant_of-self-2 : goal.invariant_of-self-2
 invariant_of-self-2 c =

@@ -8,14 +8,10 @@ use Rattle.policy_book.proofs.policy.Policy.relate.Goals as goal
 use Rattle.policy_book.proofs.policy.Policy.relate.Goals.{in-Ok, in-Err}
 
 pub relate-requires-clause-first : goal.relate-requires-clause-first
-relate-requires-clause-first c =
-    let same = ap (λ (p : PolicyShape). length p.roster.users) c.self.view_is in
-    omega (arith, same, c.requires.first, c.self.invariant.stored.sound.users)
+relate-requires-clause-first c = grind arith
 
 pub relate-requires-clause-second : goal.relate-requires-clause-second
-relate-requires-clause-second c =
-    let same = ap (λ (p : PolicyShape). length p.roster.users) c.self.view_is in
-    omega (arith, same, c.requires.second, c.self.invariant.stored.sound.users)
+relate-requires-clause-second c = grind arith
 
 pub invariant_of-self : goal.invariant_of-self
 invariant_of-self c =

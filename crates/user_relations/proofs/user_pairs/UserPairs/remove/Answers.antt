@@ -14,15 +14,10 @@ returns-then-not-has-clause-removed c =
     sym (remove_absent pair_cmp_total pair_cmp-IsAntisymmetric c.args.self.now (c.args.u, c.args.v) (sym c.has.ensures ∙ c.if-not-has.true))
 
 pub write-requires-clause-users : goal.write-requires-clause-users
-write-requires-clause-users c =
-    held_within
-    c.self.inside.ahead.items c.args.u c.args.v (ap (λ s. set.contains s (c.args.u, c.args.v)) c.self.view_is ∙ sym c.has.ensures ∙ c.if-not-has.false)
+write-requires-clause-users c = grind (arith, held_within)
 
 pub overflow_sub-self : goal.overflow_sub-self
-overflow_sub-self c =
-    let here = ap (λ s. set.contains s (c.args.u, c.args.v)) c.self.view_is ∙ sym c.has.ensures ∙ c.if-not-has.false in
-    let some = some_pair (pairs_in c.self.inside.ahead.items) (c.args.u, c.args.v) here in
-    omega (arith, some, c.self.invariant.counted)
+overflow_sub-self c = grind (arith, some_pair)
 
 pub invariant_of-self-2 : goal.invariant_of-self-2
 invariant_of-self-2 c =

@@ -14,15 +14,10 @@ invariant_of-self c =
     (omega (arith, c.clear_flag.auto.rows))
 
 pub returns-clause-forbidden : goal.returns-clause-forbidden
-returns-clause-forbidden c =
-    rw (← c.self.view_is, ← c.s.view_is, ← c.r.view_is)
-    (ap (λ (p : Pairs). record { steps = c.self.inside.frame.steps.names; order = c.self.inside.frame.order; permits = p })
-    (permitted_by-without c.self.inside.roles c.clear_flag.new.rows c.r.inside.0 c.s.inside.0 c.clear_flag.ensures))
+returns-clause-forbidden c = grind (arith, permitted_by-without)
 
 pub returns-clause-changed : goal.returns-clause-changed
-returns-clause-changed c =
-    rw (← c.self.view_is, ← c.s.view_is, ← c.r.view_is)
-    (c.has_flag-held.ensures ∙ sym (permitted_by-has c.self.inside.roles c.r.inside.0 c.s.inside.0))
+returns-clause-changed c = grind (arith, permitted_by-has)
 
 pub returns-clause-unchanged : goal.returns-clause-unchanged
 returns-clause-unchanged c h =

@@ -1,4 +1,4 @@
-use Rattle.std.proofs.Common.{length, not, ◌∙◌, sym, ap, arith}
+use Rattle.std.proofs.Common.{length, ◌∙◌, sym, ap, arith}
 use Rattle.basics.specs.Laws.Pairs.{Pairs}
 use Rattle.basics.specs.PairLaws.{pair_cmp_total, pair_cmp-IsAntisymmetric, insert_held}
 use Rattle.workflow_schema.specs.Tables.{permitted_by}
@@ -18,15 +18,10 @@ invariant_of-self c =
     (omega (arith, c.set_flag.auto.rows))
 
 pub returns-clause-permitted : goal.returns-clause-permitted
-returns-clause-permitted c =
-    rw (← c.self.view_is, ← c.s.view_is, ← c.r.view_is)
-    (ap (λ (p : Pairs). record { steps = c.self.inside.frame.steps.names; order = c.self.inside.frame.order; permits = p })
-    (permitted_by-with c.self.inside.roles c.set_flag.new.rows c.r.inside.0 c.s.inside.0 c.set_flag.ensures))
+returns-clause-permitted c = grind (arith, permitted_by-with)
 
 pub returns-clause-changed : goal.returns-clause-changed
-returns-clause-changed c =
-    rw (← c.self.view_is, ← c.s.view_is, ← c.r.view_is)
-    (ap not (c.has_flag-held.ensures ∙ sym (permitted_by-has c.self.inside.roles c.r.inside.0 c.s.inside.0)))
+returns-clause-changed c = grind (arith, permitted_by-has)
 
 pub returns-clause-unchanged : goal.returns-clause-unchanged
 returns-clause-unchanged c h =

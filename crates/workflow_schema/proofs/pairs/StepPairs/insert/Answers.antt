@@ -1,4 +1,4 @@
-use Rattle.std.proofs.Common.{not, ◌∙◌, sym, ap, arith}
+use Rattle.std.proofs.Common.{◌∙◌, sym, arith}
 use Rattle.basics.specs.PairLaws.{pair_cmp_total, pair_cmp-IsAntisymmetric, insert_held}
 use Rattle.basics.proofs.Booleans.{not_false}
 use Rattle.workflow_schema.specs.Tables.{pairs_in}
@@ -9,14 +9,10 @@ pub invariant_of-self : goal.invariant_of-self
 invariant_of-self c = omega (arith, c.self.invariant, c.set_flag.auto.rows)
 
 pub returns-clause-added : goal.returns-clause-added
-returns-clause-added c =
-    rw (← c.self.view_is, ← c.s.view_is, ← c.t.view_is)
-    (pairs_in-with c.self.inside.rows c.set_flag.new.rows c.s.inside.0 c.t.inside.0 c.set_flag.ensures)
+returns-clause-added c = grind (arith, pairs_in-with)
 
 pub returns-clause-fresh : goal.returns-clause-fresh
-returns-clause-fresh c =
-    rw (← c.self.view_is, ← c.s.view_is, ← c.t.view_is)
-    (ap not (c.has_flag-held.ensures ∙ sym (pairs_in-has c.self.inside.rows c.s.inside.0 c.t.inside.0)))
+returns-clause-fresh c = grind (arith, pairs_in-has)
 
 pub returns-clause-unchanged : goal.returns-clause-unchanged
 returns-clause-unchanged c h =
