@@ -46,22 +46,14 @@ pub written_more :
     k < length xs → length blank ≡ length xs → s ≡ k → x ≡ get_or xs k x → y ≡ f x →
     before ≡ map f (take k xs) ++ drop k blank → after ≡ slice_set before s y →
     after ≡ map f (take (k + 1) xs) ++ drop (k + 1) blank
-written_more f xs blank before after k s x y h same at there is so_far set =
-    let next : suc k ≡ k + 1 = omega arith in
-    subst (λ n. after ≡ map f (take n xs) ++ drop n blank) next
-    (set
-    ∙ (λ i. slice_set (so_far i) (at i) ((is ∙ ap f there) i))
-    ∙ next_written f xs blank k x h (sym same))
+written_more f xs blank before after k s x y h same at there is so_far set = grind (arith, next_written)
 
 pub there_more :
     {X Y : Type 0} (f : X → Y) (xs : List X) (blank before after : List Y) (k : ℕ) (x : X) (e : Y) →
     k < length xs → length blank ≡ length xs → x ≡ get_or xs k x → get_or blank k e ≡ f x →
     before ≡ map f (take k xs) ++ drop k blank → after ≡ before →
     after ≡ map f (take (k + 1) xs) ++ drop (k + 1) blank
-there_more f xs blank before after k x e h same there is so_far kept =
-    let next : suc k ≡ k + 1 = omega arith in
-    subst (λ n. after ≡ map f (take n xs) ++ drop n blank) next
-    (kept ∙ so_far ∙ next_there f xs blank k x e h (sym same) (is ∙ ap f there))
+there_more f xs blank before after k x e h same there is so_far kept = grind (arith, next_there)
 
 -- a case's steps with one of them finished
 pub kept_finished :

@@ -1,12 +1,12 @@
 -- Who has which step of a case, and how that changes with a step's state.
-use Rattle.std.proofs.Common.{◌≡◌, ◌≤◌, ℕ, zero, suc, ◌-◌, ◌<◌, true, false, List, [], ◌∷◌, ◌++◌, length, map, replicate, slice_index_or, slice_set, get_or}
-use Rattle.std.proofs.Common.{None, Some, refl, sym, ap, ◌∙◌}
+use Rattle.std.proofs.Common.{◌≡◌, ◌≤◌, ℕ, zero, suc, ◌<◌, true, false, List, [], ◌∷◌, ◌++◌, length, map, replicate, slice_index_or, slice_set, get_or}
+use Rattle.std.proofs.Common.{None, Some, refl, sym, ap, ◌∙◌, arith}
 use Rattle.std.proofs.lemmas.List.{map-set, set-append_left, length-set, take-replicate}
 use Rattle.std.proofs.Math.Seq.{map-set_same}
 use Rattle.std.proofs.Math.ListN.{get_or-map}
 use Rattle.wf_names.specs.declared.limits.TheConstants.{STEP_LIMIT}
 use Rattle.wf_names.specs.declared.states.StepState.{StepState}
-use Rattle.wf_names.specs.declared.states.StepState.TheVariants.{Free, Held, Finished}
+use Rattle.wf_names.specs.declared.states.StepState.TheVariants.{Free, Held}
 use Rattle.wf_names.specs.States.{is_held, is_finished, user_of}
 use Rattle.constraint_forms.specs.Assign.{is_member, no_steps, no_users, user_at}
 use Rattle.wf_names.specs.Padded.{padded, padded-take}
@@ -32,8 +32,7 @@ all_steps-at states s = filled_at states _ s Free
 
 all_steps-set : (states : List StepState) (s : ℕ) (x : StepState) → s < length states → all_steps (slice_set states s x) ≡ slice_set (all_steps states) s x
 unfolding padded
-all_steps-set states s x h =
-    (λ i. slice_set states s x ++ replicate (STEP_LIMIT - length-set states s x i) Free) ∙ sym (set-append_left states _ s x h)
+all_steps-set states s x h = grind (arith, length-set, set-append_left)
 
 -- the user of a step
 pub assigned_of-at : (c : CaseShape) (s : ℕ) → user_at (assigned_of c) s ≡ user_of (state_at c s)
@@ -50,9 +49,7 @@ assigned_of-set c s x h = ap (map user_of) (all_steps-set c.states s x h) ∙ ma
 -- a step changes and keeps its user
 pub assigned_of-same : (c : CaseShape) (s : ℕ) (x : StepState) → s < length c.states → user_of x ≡ user_of (state_at c s) →
     assigned_of (with_state c s x) ≡ assigned_of c
-assigned_of-same c s x h same =
-    ap (map user_of) (all_steps-set c.states s x h)
-    ∙ map-set_same user_of (all_steps c.states) s x Free (same ∙ ap user_of (sym (all_steps-at c.states s)))
+assigned_of-same c s x h same = grind (arith, all_steps-set, map-set_same, all_steps-at)
 
 pub finished_of-set : (c : CaseShape) (s : ℕ) (x : StepState) → s < length c.states →
     finished_of (with_state c s x) ≡ slice_set (finished_of c) s (is_finished x)
@@ -60,24 +57,16 @@ finished_of-set c s x h = ap (map is_finished) (all_steps-set c.states s x h) �
 
 pub finished_of-same : (c : CaseShape) (s : ℕ) (x : StepState) → s < length c.states → is_finished x ≡ is_finished (state_at c s) →
     finished_of (with_state c s x) ≡ finished_of c
-finished_of-same c s x h same =
-    ap (map is_finished) (all_steps-set c.states s x h)
-    ∙ map-set_same is_finished (all_steps c.states) s x Free (same ∙ ap is_finished (sym (all_steps-at c.states s)))
+finished_of-same c s x h same = grind (arith, all_steps-set, map-set_same, all_steps-at)
 
 held_unfinished : (x : StepState) → is_held x ≡ true → false ≡ is_finished x
-held_unfinished Free h = cc
-held_unfinished (Held u) h = refl
-held_unfinished (Finished u) h = cc
+held_unfinished x h = grind arith
 
 keeps_user : (x : StepState) → user_of (as_finished x) ≡ user_of x
-keeps_user Free = refl
-keeps_user (Held u) = refl
-keeps_user (Finished u) = refl
+keeps_user x = grind arith
 
 held_finishes : (x : StepState) → is_held x ≡ true → is_finished (as_finished x) ≡ true
-held_finishes Free h = cc
-held_finishes (Held u) h = refl
-held_finishes (Finished u) h = cc
+held_finishes x h = grind arith
 
 -- a claim gives a free step to a user, and finishes nothing
 pub assigned_of-hold : (c : CaseShape) (s u : ℕ) → s < length c.states → assigned_of (with_state c s (Held u)) ≡ slice_set (assigned_of c) s (Some u)
@@ -98,9 +87,7 @@ pub assigned_of-finish : (c : CaseShape) (s : ℕ) → is_held (state_at c s) �
 assigned_of-finish c s held = assigned_of-same c s (as_finished (state_at c s)) (held_within c.states s held) (keeps_user (state_at c s))
 
 pub finished_of-finish : (c : CaseShape) (s : ℕ) → is_held (state_at c s) ≡ true → finished_of (finished_case c s) ≡ slice_set (finished_of c) s true
-finished_of-finish c s held =
-    finished_of-set c s (as_finished (state_at c s)) (held_within c.states s held)
-    ∙ ap (slice_set (finished_of c) s) (held_finishes (state_at c s) held)
+finished_of-finish c s held = grind (arith, finished_of-set, held_within, held_finishes)
 
 all_steps-free : (n : ℕ) → n ≤ STEP_LIMIT → all_steps (replicate n Free) ≡ replicate STEP_LIMIT Free
 all_steps-free n h =

@@ -1,6 +1,6 @@
 -- The search for a step that comes before another and is not finished.
-use Rattle.std.proofs.Common.{◌≡◌, ℕ, suc, ◌+◌, ◌<◌, Bool, true, false, not, ◌&&◌, ◌⊎◌, List, length, drop, slice_index_or, Option, Some, if◌then◌else◌, refl}
-use Rattle.std.proofs.Common.{sym, subst, ◌∙◌, arith, inl, inr}
+use Rattle.std.proofs.Common.{◌≡◌, ℕ, suc, ◌+◌, ◌<◌, Bool, true, false, not, ◌&&◌, ◌⊎◌, List, length, drop, slice_index_or, Option, Some, if◌then◌else◌}
+use Rattle.std.proofs.Common.{sym, subst, ◌∙◌, arith}
 use Rattle.std.proofs.Math.Seq.{drop-cons}
 use Rattle.std.proofs.lemmas.Bool.{cases_eq}
 use Rattle.basics.specs.Laws.Pairs.{Pairs}
@@ -14,15 +14,10 @@ use Rattle.case_record.specs.Order.{first_missing_from}
 searched : (order : Pairs) (s t : ℕ) (states : List StepState) (b : Bool) → t < length states →
     (is_before order t s && not (is_finished (slice_index_or states t Free))) ≡ b →
     first_missing_from order s t (drop t states) ≡ (if b then Some t else first_missing_from order s (t + 1) (drop (suc t) states))
-searched order s t states b h is =
-    rw (drop-cons states t Free h) (λ i. if is i then Some t else first_missing_from order s (t + 1) (drop (suc t) states))
+searched order s t states b h is = grind (arith, drop-cons)
 
 test_fails : (a b : Bool) → (a ≡ false) ⊎ (b ≡ true) → (a && not b) ≡ false
-test_fails true b (inl h) = cc
-test_fails false b (inl h) = refl
-test_fails true true (inr h) = refl
-test_fails true false (inr h) = cc
-test_fails false b (inr h) = refl
+test_fails a b h2 = grind arith
 
 -- a step that does not come before, or is finished, is passed over
 pub passed_over :
@@ -37,7 +32,4 @@ passed_over order s t states goal h either so_far =
 
 -- what is known below t and at t is known below t + 1
 pub one_more : (P : ℕ → Type 0) (t : ℕ) → ((r : ℕ) → r < t → P r) → P t → (r : ℕ) → r < t + 1 → P r
-one_more P t below here r h = elim (cases_eq r t) [
-  | inl e ↦ subst P (sym e) here
-  | inr differ ↦ below r (omega (arith, h, differ))
-]
+one_more P t below here r h = grind (arith, cases_eq)

@@ -19,15 +19,11 @@ length-flags_of (suc n) w = ap suc (length-flags_of n (w / 2))
 pub flags_of-at : (n w i : ℕ) (d : Bool) → i < n → get_or (flags_of n w) i d ≡ nat_eq (bit_at w i) 1
 unfolding flags_of
 flags_of-at zero w i d h = absurd (omega arith)
-flags_of-at (suc n) w zero d h = ap (λ b. nat_eq b 1) (sym (bit_at_lowest w))
-flags_of-at (suc n) w (suc i) d h =
-    flags_of-at n (w / 2) i d (omega arith) ∙ ap (λ b. nat_eq b 1) (sym (bit_at-suc w i))
+flags_of-at (suc n) w i d h = grind (arith, bit_at_lowest, bit_at-suc, (flags_of-at n))
 
 get_or-replicate_same : (n i : ℕ) → get_or (replicate n false) i false ≡ false
-get_or-replicate_same zero zero = refl
-get_or-replicate_same zero (suc i) = refl
-get_or-replicate_same (suc n) zero = refl
-get_or-replicate_same (suc n) (suc i) = get_or-replicate_same n i
+get_or-replicate_same zero i = grind arith
+get_or-replicate_same (suc n) i = grind (arith, (get_or-replicate_same n))
 
 pub flags_of-zero : (n : ℕ) → flags_of n 0 ≡ replicate n false
 unfolding flags_of
@@ -70,11 +66,7 @@ flags_of-with n w i h small =
 
 -- no bit from the limit on is set
 pub set_fits : (n w i : ℕ) → i < n → i < 32 → w < 2 ^ n → bit_or w (1 * 2 ^ i % 2 ^ bits w32) < 2 ^ n
-set_fits n w i h small fits =
-    let power : 2 ^ i < 2 ^ n = pow-lt h in
-    let whole : 2 ^ i < 2 ^ 32 = pow-lt small in
-    let kept : 1 * 2 ^ i % 2 ^ 32 ≡ 2 ^ i = omega arith in
-    or_lt n w _ fits (subst (λ x. x < 2 ^ n) (sym kept) power)
+set_fits n w i h small fits = grind (arith, pow-lt, or_lt)
 
 -- words with equal flags are told apart by the flags
 pub same_words : (n x y : ℕ) (a b : List Bool) (r : Bool) → flags_of n x ≡ a → flags_of n y ≡ b → x < 2 ^ n → y < 2 ^ n → r ≡ nat_eq x y →

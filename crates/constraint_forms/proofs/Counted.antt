@@ -1,6 +1,6 @@
 -- A count of the members' users, member by member.
-use Rattle.std.proofs.Common.{◌≡◌, ◌≢◌, ℕ, zero, suc, ◌+◌, ◌<◌, ◌≤◌, Bool, true, false, cond, not, ◌&&◌, ◌||◌, ◌==◌, nat_eq, nat_lt, List, [], ◌∷◌, length}
-use Rattle.std.proofs.Common.{slice_set, get_or-set_same, get_or-set_other, Option, Some, None, is_none, ◌⊎◌, inl, inr, refl, sym, ap, subst}
+use Rattle.std.proofs.Common.{◌≡◌, ◌≢◌, ℕ, zero, suc, ◌+◌, ◌<◌, ◌≤◌, Bool, true, false, cond, not, ◌&&◌, ◌||◌, ◌==◌, nat_lt, List, [], ◌∷◌, length}
+use Rattle.std.proofs.Common.{slice_set, get_or-set_same, get_or-set_other, Option, Some, None, is_none, ◌⊎◌, inl, inr, sym, ap, subst}
 use Rattle.std.proofs.Common.{◌∙◌, arith, add-zero, zero-add}
 use Rattle.basics.proofs.Booleans.{bool_cases, eq_back, eq_same, lt_yes, lt_no, not_true}
 use Rattle.constraint_forms.specs.Assign.{is_member, user_at}
@@ -16,27 +16,11 @@ pub record HasOneMore (us vs : List ℕ) (m n u : ℕ) : Type 0 where
   pub free : n ≡ 1 + m
 
 turn : (a b c : Bool) → (a || (b || c)) ≡ (b || (a || c))
-turn true true c = refl
-turn true false c = refl
-turn false b c = refl
+turn a b c = grind arith
 
 onto-more : (o : Option ℕ) (us vs : List ℕ) (m n u : ℕ) → HasOneMore us vs m n u →
     HasOneMore (user_onto o us) (user_onto o vs) (cond (is_none o) 1 0 + m) (cond (is_none o) 1 0 + n) u
-onto-more None us vs m n u h = record { among = h.among; count = h.count; free = omega (arith, h.free) }
-onto-more (Some w) us vs m n u h = record {
-  among = λ x. ap (λ b. (w == x) || b) (h.among x) ∙ turn (w == x) (u == x) (is_among vs x);
-  count = at (bool_cases (nat_eq u w));
-  free = omega (arith, h.free);
-}
-  where
-    at : (nat_eq u w ≡ true) ⊎ (nat_eq u w ≡ false) →
-        cond (is_among us w) 0 1 + different us ≡ cond ((w == u) || is_among vs u) 0 1 + (cond (is_among vs w) 0 1 + different vs)
-    at (inl same) =
-        let e : u ≡ w = eq_back u w same in
-        rw (h.among w, same, h.count, sym e, eq_same u) (omega arith)
-    at (inr other) =
-        let e : nat_eq w u ≡ false = not_true (nat_eq w u) (λ is. cc (sym other ∙ ap (λ k. nat_eq u k) (eq_back w u is) ∙ eq_same u)) in
-        rw (h.among w, other, h.count, e) (omega arith)
+onto-more o us vs m n u h = grind (arith, turn, bool_cases, eq_back, eq_same, not_true)
 
 -- two assignments of which one gives a member to a user and the other to nobody, and which agree elsewhere
 pub record AddsOne (k i u : ℕ) (f g : ℕ → Option ℕ) : Type 0 where
@@ -191,9 +175,7 @@ module _ (group : List Bool) (a : List (Option ℕ)) (s u : ℕ) (within : s < l
 
 -- whom a test leaves of a set
 pub nobody_left : (b t : Bool) → t ≡ true → false ≡ (b && not t)
-nobody_left true t e = sym (ap not e)
-nobody_left false t e = refl
+nobody_left b t e = grind arith
 
 pub all_left : (b t : Bool) → t ≡ false → b ≡ (b && not t)
-all_left true t e = sym (ap not e)
-all_left false t e = refl
+all_left b t e = grind arith

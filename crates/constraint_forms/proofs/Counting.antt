@@ -1,6 +1,6 @@
 -- How many users a set's members have.
 use Rattle.std.proofs.Common.{◌≡◌, ◌≢◌, ℕ, zero, suc, ◌+◌, ◌≤◌, Bool, true, false, cond, not, ◌||◌, ◌==◌, nat_eq, nat_lt, nat_le, List, [], ◌∷◌}
-use Rattle.std.proofs.Common.{Option, Some, None, is_none, ◌⊎◌, inl, inr, refl, sym, ap, subst, ◌∙◌, arith, add-zero, zero-add}
+use Rattle.std.proofs.Common.{Option, Some, is_none, ◌⊎◌, inl, inr, refl, sym, ap, subst, ◌∙◌, arith, add-zero, zero-add}
 use Rattle.std.specs.Bool.{IsTrue}
 use Rattle.basics.proofs.Booleans.{bool_cases, eq_back, eq_same, lt_back, lt_yes, not_true, or_cases, or_left, or_right}
 use Rattle.constraint_forms.specs.Assign.{is_member}
@@ -19,46 +19,17 @@ without u (v ∷ vs) = cond (v == u) (without u vs) (v ∷ without u vs)
 left_among : (u : ℕ) (vs : List ℕ) (w : ℕ) → w ≢ u → IsTrue (is_among vs w) → IsTrue (is_among (without u vs) w)
 unfolding without
 left_among u [] w ne h = h
-left_among u (v ∷ vs) w ne h = at (bool_cases (nat_eq v u)) (or_cases (nat_eq v w) (is_among vs w) h) (left_among u vs w ne)
-  where
-    at : (nat_eq v u ≡ true) ⊎ (nat_eq v u ≡ false) → (nat_eq v w ≡ true) ⊎ (is_among vs w ≡ true) →
-        (IsTrue (is_among vs w) → IsTrue (is_among (without u vs) w)) →
-        IsTrue (is_among (cond (v == u) (without u vs) (v ∷ without u vs)) w)
-    at (inl same) (inl here) rest = absurd (ne (sym (eq_back v w here) ∙ eq_back v u same))
-    at (inl same) (inr later) rest = rw same (rest later)
-    at (inr other) (inl here) rest = rw other (or_left (nat_eq v w) (is_among (without u vs) w) here)
-    at (inr other) (inr later) rest = rw other (or_right (nat_eq v w) (is_among (without u vs) w) (rest later))
+left_among u (v ∷ vs) w ne h = grind (arith, bool_cases, or_cases, eq_back, or_left, or_right, (left_among u vs w ne))
 
 still_among : (u : ℕ) (vs : List ℕ) (v : ℕ) → v ≢ u → is_among (without u vs) v ≡ is_among vs v
 unfolding without
 still_among u [] v ne = refl
-still_among u (w ∷ vs) v ne = at (bool_cases (nat_eq w u)) (still_among u vs v ne)
-  where
-    at : (nat_eq w u ≡ true) ⊎ (nat_eq w u ≡ false) → is_among (without u vs) v ≡ is_among vs v →
-        is_among (cond (w == u) (without u vs) (w ∷ without u vs)) v ≡ ((w == v) || is_among vs v)
-    at (inl same) rest = rw (same, not_true (nat_eq w v) (λ e. ne (sym (eq_back w v e) ∙ eq_back w u same))) rest
-    at (inr other) rest = rw other (ap (λ b. (w == v) || b) rest)
+still_among u (w ∷ vs) v ne = grind (arith, bool_cases, not_true, eq_back, (still_among u vs v ne))
 
 different-without : (u : ℕ) (vs : List ℕ) → different vs ≡ cond (is_among vs u) 1 0 + different (without u vs)
 unfolding without
 different-without u [] = refl
-different-without u (v ∷ vs) = at (bool_cases (nat_eq v u)) (different-without u vs)
-  where
-    one : (b : Bool) (d e : ℕ) → d ≡ cond b 1 0 + e → cond b 0 1 + d ≡ 1 + e
-    one true d e h = omega (arith, h)
-    one false d e h = omega (arith, h)
-
-    more : (b c d e : ℕ) → d ≡ c + e → b + d ≡ c + (b + e)
-    more b c d e h = omega (arith, h)
-
-    at : (nat_eq v u ≡ true) ⊎ (nat_eq v u ≡ false) → different vs ≡ cond (is_among vs u) 1 0 + different (without u vs) →
-        cond (is_among vs v) 0 1 + different vs ≡ cond ((v == u) || is_among vs u) 1 0 + different (cond (v == u) (without u vs) (v ∷ without u vs))
-    at (inl same) rest =
-        let first = ap (λ n. cond (is_among vs n) 0 1 + different vs) (eq_back v u same) in
-        first ∙ rw same (one (is_among vs u) (different vs) (different (without u vs)) rest)
-    at (inr other) rest =
-        let there = still_among u vs v (λ e. cc (sym other ∙ ap (λ n. nat_eq n u) e ∙ eq_same u)) in
-        rw (other, there) (more (cond (is_among vs v) 0 1) (cond (is_among vs u) 1 0) (different vs) (different (without u vs)) rest)
+different-without u (v ∷ vs) = grind (arith, bool_cases, eq_back, still_among, eq_same, (different-without u vs))
 
 -- of fewer users fewer are different
 pub different-le : (us vs : List ℕ) → AreAmong us vs → different us ≤ different vs
@@ -84,13 +55,7 @@ abbrev KeepsUser : Option ℕ → Option ℕ → Type 0
 KeepsUser o p = (x : ℕ) → o ≡ Some x → p ≡ Some x
 
 onto-among : (o p : Option ℕ) (us vs : List ℕ) → KeepsUser o p → AreAmong us vs → AreAmong (user_onto o us) (user_onto p vs)
-onto-among None None us vs h sub = sub
-onto-among None (Some y) us vs h sub = λ w i. or_right (nat_eq y w) (is_among vs w) (sub w i)
-onto-among (Some x) p us vs h sub = rw (h x refl) (λ w i. at w (or_cases (nat_eq x w) (is_among us w) i))
-  where
-    at : (w : ℕ) → (nat_eq x w ≡ true) ⊎ (is_among us w ≡ true) → ((x == w) || is_among vs w) ≡ true
-    at w (inl here) = or_left (nat_eq x w) (is_among vs w) here
-    at w (inr later) = or_right (nat_eq x w) (is_among vs w) (sub w later)
+onto-among o p us vs h sub = grind (arith, or_right, or_cases, or_left)
 
 pub users_from-more : (a b : ℕ → Option ℕ) → ((s u : ℕ) → a s ≡ Some u → b s ≡ Some u) → (k : ℕ) (bs : List Bool) →
     AreAmong (users_from k bs a) (users_from k bs b)
@@ -100,28 +65,13 @@ users_from-more a b h k (false ∷ bs) = users_from-more a b h (k + 1) bs
 
 step-le : (o p : Option ℕ) (us vs : List ℕ) (m n : ℕ) → KeepsUser o p → AreAmong us vs → different vs + n ≤ different us + m →
     different (user_onto p vs) + (cond (is_none p) 1 0 + n) ≤ different (user_onto o us) + (cond (is_none o) 1 0 + m)
-step-le None None us vs m n h sub e = omega (arith, e)
-step-le None (Some y) us vs m n h sub e = at (bool_cases (is_among vs y))
-  where
-    at : (is_among vs y ≡ true) ⊎ (is_among vs y ≡ false) → (cond (is_among vs y) 0 1 + different vs) + (0 + n) ≤ different us + (1 + m)
-    at (inl is) = rw is (omega (arith, e))
-    at (inr is) = rw is (omega (arith, e))
-step-le (Some x) p us vs m n h sub e = rw (h x refl) (at (bool_cases (is_among us x)) (bool_cases (is_among vs x)))
-  where
-    at : (is_among us x ≡ true) ⊎ (is_among us x ≡ false) → (is_among vs x ≡ true) ⊎ (is_among vs x ≡ false) →
-        (cond (is_among vs x) 0 1 + different vs) + (0 + n) ≤ (cond (is_among us x) 0 1 + different us) + (0 + m)
-    at (inl i) (inl j) = rw (i, j) (omega (arith, e))
-    at (inl i) (inr j) = absurd (cc (sym j ∙ sub x i))
-    at (inr i) (inl j) = rw (i, j) (omega (arith, e))
-    at (inr i) (inr j) = rw (i, j) (omega (arith, e))
+step-le o p us vs m n h sub e = grind (arith, bool_cases)
 
 -- an extension gives no more users than free members could get
 pub reach-le : (a b : ℕ → Option ℕ) → ((s u : ℕ) → a s ≡ Some u → b s ≡ Some u) → (k : ℕ) (bs : List Bool) →
     different (users_from k bs b) + free_from k bs b ≤ different (users_from k bs a) + free_from k bs a
 reach-le a b h k [] = omega arith
-reach-le a b h k (true ∷ bs) =
-    step-le (a k) (b k) (users_from (k + 1) bs a) (users_from (k + 1) bs b) (free_from (k + 1) bs a) (free_from (k + 1) bs b) (h k)
-    (users_from-more a b h (k + 1) bs) (reach-le a b h (k + 1) bs)
+reach-le a b h k (true ∷ bs) = grind (arith, step-le, users_from-more, (reach-le a b h (k + 1) bs))
 reach-le a b h k (false ∷ bs) = reach-le a b h (k + 1) bs
 
 -- of a total assignment no member is free
@@ -185,8 +135,7 @@ different-same f g k (false ∷ bs) h = different-same f g (k + 1) bs (join-afte
 
 pub different-alike : (f g : ℕ → ℕ) (bs : List Bool) → ((i j : ℕ) → IsTrue (is_member bs i) → IsTrue (is_member bs j) → (f i == f j) ≡ (g i == g j)) →
     different (users_from 0 bs (λ s. Some (f s))) ≡ different (users_from 0 bs (λ s. Some (g s)))
-different-alike f g bs h = different-same f g 0 bs (λ i j s t.
-    subst (λ n. (f (0 + i) == f n) ≡ (g (0 + i) == g n)) (sym (zero-add j)) (subst (λ n. (f n == f j) ≡ (g n == g j)) (sym (zero-add i)) (h i j s t)))
+different-alike f g bs h = grind (arith, different-same, zero-add)
 
 -- ---- tests of counts
 

@@ -14,16 +14,11 @@ use Rattle.constraint_forms.proofs.Bits.{flags_of-at, has_no_flag}
 
 -- a flag is false where its bit is not set
 unset : (n w s : ℕ) → bit_at w s ≡ 0 → slice_index_or (flags_of n w) s false ≡ false
-unset n w s h = elim (cases_lt s n) [
-  | inl lt ↦ flags_of-at n w s false lt ∙ ap (λ b. nat_eq b 1) h
-  | inr ge ↦ has_no_flag n w s ge
-]
+unset n w s h = grind (arith, cases_lt, flags_of-at, has_no_flag)
 
 -- a bit from a place on, by the rest of the word
 bit_from : (w k s : ℕ) → k ≤ s → bit_at w s ≡ bit_at (w / 2 ^ k) (s - k)
-bit_from w k s h =
-    let is : k + (s - k) ≡ s = omega (arith, h) in
-    ap (bit_at w) (sym is) ∙ sym (shifted w k (s - k))
+bit_from w k s h = grind (arith, shifted)
 
 -- where nothing is left of a word, no flag is set from there on
 pub none_from : (n w k : ℕ) → w / 2 ^ k ≡ 0 → (s : ℕ) → k ≤ s → slice_index_or (flags_of n w) s false ≡ false
@@ -50,13 +45,4 @@ next_from w k fits some =
 -- the flags of either word
 pub flags_of-or : (n v w s : ℕ) →
     slice_index_or (flags_of n (bit_or v w)) s false ≡ (slice_index_or (flags_of n v) s false || slice_index_or (flags_of n w) s false)
-flags_of-or n v w s = elim (cases_lt s n) [
-  | inl lt ↦
-      flags_of-at n (bit_or v w) s false lt ∙ ap (λ b. nat_eq b 1) (bit_at_or v w s)
-      ∙ some_bit _ _ (bit_at-lt v s) (bit_at-lt w s)
-      ∙ sym (ap (λ b. b || slice_index_or (flags_of n w) s false) (flags_of-at n v s false lt) ∙
-      ap (λ b. nat_eq (bit_at v s) 1 || b) (flags_of-at n w s false lt))
-  | inr ge ↦
-      has_no_flag n (bit_or v w) s ge
-      ∙ sym (ap (λ b. b || slice_index_or (flags_of n w) s false) (has_no_flag n v s ge) ∙ has_no_flag n w s ge)
-]
+flags_of-or n v w s = grind (arith, cases_lt, flags_of-at, bit_at_or, some_bit, bit_at-lt, has_no_flag)

@@ -1,6 +1,6 @@
 -- Whom a pair of steps leaves of the users who could be given a step.
 use Rattle.std.proofs.Common.{◌≡◌, ◌≢◌, ℕ, ◌+◌, ◌<◌, ◌≤◌, Bool, true, false, not, ◌&&◌, ◌||◌, nat_eq, nat_lt, List, length, slice_set, Option, Some, None}
-use Rattle.std.proofs.Common.{is_some, get_or-set_same, get_or-set_other, refl, sym, ap, ap₂, subst, ◌∙◌, ◌⊎◌, inl, inr, arith}
+use Rattle.std.proofs.Common.{is_some, get_or-set_same, get_or-set_other, sym, ap, ap₂, subst, ◌∙◌, ◌⊎◌, inl, inr, arith}
 use Rattle.basics.proofs.Booleans.{and_same, bool_cases, differ, eq_back, eq_is, lt_yes, not_true, or-false, or_right}
 use Rattle.constraint_forms.specs.Assign.{user_at}
 use Rattle.constraint_forms.specs.Kept.{are_unrelated_with}
@@ -13,26 +13,20 @@ step_in a s n h e = omega (arith, h, e)
 -- ---- a relation that is read as it is, or the other way round
 
 twice_not : (b : Bool) → b ≡ not (not b)
-twice_not true = refl
-twice_not false = refl
+twice_not b = grind arith
 
 self_related : (related : Relating) (rho u : ℕ) (back : Bool) → related rho u u ≡ not (not (turned back related rho u u))
-self_related related rho u true = twice_not (related rho u u)
-self_related related rho u false = twice_not (related rho u u)
+self_related related rho u back = grind (arith, twice_not)
 
 -- the users who stay are those who are related to v
 pub stay_before : (related : Relating) (rho users u v : ℕ) (b t : Bool) → (b ≡ true → u < users) → t ≡ (nat_lt u users && related rho u v) →
     (b && t) ≡ (b && not (are_unrelated related rho (Some u) (Some v)))
-stay_before related rho users u v b t below is =
-    and_same b t _ (λ e. is ∙ ap (λ l. l && related rho u v) (lt_yes u users (below e)) ∙ twice_not (related rho u v))
+stay_before related rho users u v b t below is = grind (arith, and_same, lt_yes, twice_not)
 
 -- read the other way round, the two change places
 pub other_way : (related : Relating) (back : Bool) (rho u : ℕ) (o : Option ℕ) →
     are_unrelated (turned (not back) related) rho (Some u) o ≡ are_unrelated (turned back related) rho o (Some u)
-other_way related true rho u (Some v) = refl
-other_way related true rho u None = refl
-other_way related false rho u (Some v) = refl
-other_way related false rho u None = refl
+other_way related back rho u o = grind arith
 
 -- ---- with a step given to a user
 
@@ -84,14 +78,10 @@ module _ (old before after passes : ℕ → Bool) (n : ℕ) (done : (v : ℕ) �
   one_ahead v from = others v (λ e. absurd (omega (arith, from, e))) ∙ ahead v (omega (arith, from))
 
 pub kept_if : (b t : Bool) → t ≡ true → b ≡ (b && t)
-kept_if true t e = sym e
-kept_if false t e = refl
+kept_if b t e = grind arith
 
 pub out_before : (b t : Bool) → b ≡ false → b ≡ (b && t)
-out_before true t e = absurd (cc)
-out_before false t e = refl
+out_before b t e = grind arith
 
 pub taken_out : (m b t : Bool) → m ≡ true → t ≡ false → (not m && b) ≡ (b && t)
-taken_out true true t e f = sym f
-taken_out true false t e f = refl
-taken_out false b t e f = absurd (cc)
+taken_out m b t e f = grind arith

@@ -1,5 +1,5 @@
 -- What is said of the members of a set from one on, where only the members are looked at.
-use Rattle.std.proofs.Common.{◌≡◌, ℕ, zero, suc, ◌+◌, ◌-◌, ◌<◌, ◌≤◌, Bool, true, false, not, cond, ◌&&◌, ◌||◌, List, [], ◌∷◌, Option, Some, None, is_none}
+use Rattle.std.proofs.Common.{◌≡◌, ℕ, zero, suc, ◌+◌, ◌-◌, ◌<◌, ◌≤◌, Bool, true, false, not, cond, ◌&&◌, ◌||◌, List, [], ◌∷◌, Option, is_none}
 use Rattle.std.proofs.Common.{is_some, length, drop, refl, sym, ap, ◌∙◌, arith}
 use Rattle.std.proofs.lemmas.List.{drop_all}
 use Rattle.wf_names.specs.declared.limits.TheConstants.{STEP_LIMIT}
@@ -15,15 +15,8 @@ PassesOver walk = (k : ℕ) (bs : List Bool) → walk k (false ∷ bs) ≡ walk 
 -- the members from a step on are those from a later one on, where there is none between
 passed : {X : Type 0} (walk : ℕ → List Bool → X) → PassesOver walk → (group : List Bool) (from n : ℕ) → from + n ≤ length group
     → ((t : ℕ) → from ≤ t → t < from + n → is_member group t ≡ false) → walk from (drop from group) ≡ walk (from + n) (drop (from + n) group)
-passed walk over group from zero within none =
-    let same : from ≡ from + zero = omega arith in
-    ap (λ k. walk k (drop k group)) same
-passed walk over group from (suc n) within none =
-    let next : from + n + 1 ≡ from + suc n = omega arith in
-    passed walk over group from n (omega (arith, within)) (λ t h lt. none t h (omega (arith, lt)))
-    ∙ ap (walk (from + n)) (next_flag group (from + n) false (omega (arith, within)) (none (from + n) (omega arith) (omega arith)))
-    ∙ over (from + n) (drop (from + n + 1) group)
-    ∙ ap (λ k. walk k (drop k group)) next
+passed walk over group from zero within none = grind arith
+passed walk over group from (suc n) within none = grind (arith, next_flag, (passed walk over group from n))
 
 -- the next member comes first
 pub next_walked : {X : Type 0} (walk : ℕ → List Bool → X) → PassesOver walk → (group : List Bool) (from s : ℕ) → length group ≡ STEP_LIMIT
@@ -78,16 +71,10 @@ free_end f = none_walked (λ k bs. free_from k bs f) (λ k bs. refl)
 
 -- a user before others counts where the user is not among them
 pub different_onto : (o : Option ℕ) (us : List ℕ) → different (user_onto o us) ≡ cond (counts_before o us) 1 0 + different us
-different_onto None us = omega arith
-different_onto (Some u) us = counted (is_among us u)
-  where
-    counted : (b : Bool) → cond b 0 1 + different us ≡ cond (not b) 1 0 + different us
-    counted true = refl
-    counted false = refl
+different_onto o us = grind arith
 
 pub among_onto : (o : Option ℕ) (us : List ℕ) (u : ℕ) → is_among (user_onto o us) u ≡ (is_among (user_onto o []) u || is_among us u)
-among_onto None us u = refl
-among_onto (Some v) us u = grind arith
+among_onto o us u = grind arith
 
 -- ---- what a loop over the members knows, from one member to the next
 
@@ -114,22 +101,15 @@ all_go p group from s n left len next same holds before =
     ∙ sym (all_next p group from s len next ∙ ap (λ b. b && all_from (s + 1) (drop (s + 1) group) p) holds) ∙ before
 
 pub none_of : (o : Option ℕ) (b : Bool) → is_some o ≡ not b → b ≡ is_none o
-none_of None true h = refl
-none_of None false h = absurd (cc)
-none_of (Some u) true h = absurd (cc)
-none_of (Some u) false h = refl
+none_of o b h = grind arith
 
 pub at_most_one : (b : Bool) → cond b 1 0 ≤ 1
-at_most_one true = omega arith
-at_most_one false = omega arith
+at_most_one b = grind arith
 
 pub free_go : (f : ℕ → Option ℕ) (group : List Bool) (from s n count count' left : ℕ) (b : Bool) → length group ≡ STEP_LIMIT → IsNextStep group from s → n ≡ s
     → b ≡ is_none (f s) → count' ≡ count + cond b 1 0 → count + free_from from (drop from group) f ≡ left →
     count' + free_from (n + 1) (drop (n + 1) group) f ≡ left
-free_go f group from s n count count' left b len next same is more before =
-    let rest = ap (λ k. free_from (k + 1) (drop (k + 1) group) f) same in
-    let first = free_next f group from s len next ∙ ap (λ t. cond t 1 0 + free_from (s + 1) (drop (s + 1) group) f) (sym is) in
-    omega (arith, rest, first, more, before)
+free_go f group from s n count count' left b len next same is more before = grind (arith, free_next)
 
 pub users_go : (f : ℕ → Option ℕ) (group : List Bool) (from s n count count' left : ℕ) (b : Bool) → length group ≡ STEP_LIMIT → IsNextStep group from s → n ≡ s
     → b ≡ counts_before (f s) (users_from (s + 1) (drop (s + 1) group) f) → count' ≡ count + cond b 1 0
@@ -159,58 +139,38 @@ among_go f group from s n u left len next same fails before =
     ∙ sym (among_next f group from s u len next ∙ ap (λ b. b || is_among (users_from (s + 1) (drop (s + 1) group) f) u) fails) ∙ before
 
 moved : (r b o : Bool) → (r || (b || o)) ≡ ((b || r) || o)
-moved true true o = refl
-moved true false o = refl
-moved false true o = refl
-moved false false o = refl
+moved r b o = grind arith
 
 -- the users of the members so far are in a set
 pub put_go : (f : ℕ → Option ℕ) (group : List Bool) (from s n u : ℕ) (old new left : Bool) → length group ≡ STEP_LIMIT → IsNextStep group from s → n ≡ s
     → new ≡ (is_among (user_onto (f s) []) u || old) → (is_among (users_from from (drop from group) f) u || old) ≡ left
     → (is_among (users_from (n + 1) (drop (n + 1) group) f) u || new) ≡ left
-put_go f group from s n u old new left len next same now before =
-    let rest = is_among (users_from (s + 1) (drop (s + 1) group) f) u in
-    ap (λ k. is_among (users_from (k + 1) (drop (k + 1) group) f) u || new) same
-    ∙ ap (λ b. rest || b) now ∙ moved rest (is_among (user_onto (f s) []) u) old
-    ∙ ap (λ b. b || old) (sym (among_next f group from s u len next)) ∙ before
+put_go f group from s n u old new left len next same now before = grind (arith, moved, among_next)
 
 -- none of the members may pass: a member who does not takes nobody out
 pub any_left : (p : ℕ → Bool) (group : List Bool) (from x n : ℕ) (s s' left : Bool) → length group ≡ STEP_LIMIT → IsNextStep group from x → n ≡ x
     → s' ≡ (s && not (p x)) → (s && not (any_from from (drop from group) p)) ≡ left → (s' && not (any_from (n + 1) (drop (n + 1) group) p)) ≡ left
-any_left p group from x n s s' left len next same now before =
-    let rest = any_from (x + 1) (drop (x + 1) group) p in
-    ap (λ k. s' && not (any_from (k + 1) (drop (k + 1) group) p)) same
-    ∙ ap (λ b. b && not rest) now ∙ one_less s (p x) rest
-    ∙ ap (λ b. s && not b) (sym (any_next p group from x len next)) ∙ before
+any_left p group from x n s s' left len next same now before = grind (arith, one_less, any_next)
 
 whole : (s : Bool) → s ≡ (s && not false)
-whole true = refl
-whole false = refl
+whole s = grind arith
 
 pub any_left_end : (p : ℕ → Bool) (group : List Bool) (from : ℕ) (s left : Bool) → length group ≡ STEP_LIMIT → from ≤ STEP_LIMIT
     → ((t : ℕ) → from ≤ t → is_member group t ≡ false) → (s && not (any_from from (drop from group) p)) ≡ left → s ≡ left
-any_left_end p group from s left len below none before =
-    whole s ∙ ap (λ b. s && not b) (sym (any_end p group from len below none)) ∙ before
+any_left_end p group from s left len below none before = grind (arith, whole, any_end)
 
 -- some member may not pass: those whom one lets stay are put together
 pub all_left : (p : ℕ → Bool) (group : List Bool) (from x n : ℕ) (k k' s left : Bool) → length group ≡ STEP_LIMIT → IsNextStep group from x → n ≡ x
     → k' ≡ (k || (s && not (p x))) → (k || (s && not (all_from from (drop from group) p))) ≡ left →
     (k' || (s && not (all_from (n + 1) (drop (n + 1) group) p))) ≡ left
-all_left p group from x n k k' s left len next same now before =
-    let rest = all_from (x + 1) (drop (x + 1) group) p in
-    ap (λ m. k' || (s && not (all_from (m + 1) (drop (m + 1) group) p))) same
-    ∙ ap (λ b. b || (s && not rest)) now ∙ one_more k s (p x) rest
-    ∙ ap (λ b. k || (s && not b)) (sym (all_next p group from x len next)) ∙ before
+all_left p group from x n k k' s left len next same now before = grind (arith, one_more, all_next)
 
 nobody : (k s : Bool) → k ≡ (k || (s && not true))
-nobody true s = refl
-nobody false true = refl
-nobody false false = refl
+nobody k s = grind arith
 
 pub all_left_end : (p : ℕ → Bool) (group : List Bool) (from : ℕ) (k s left : Bool) → length group ≡ STEP_LIMIT → from ≤ STEP_LIMIT
     → ((t : ℕ) → from ≤ t → is_member group t ≡ false) → (k || (s && not (all_from from (drop from group) p))) ≡ left → k ≡ left
-all_left_end p group from k s left len below none before =
-    nobody k s ∙ ap (λ b. k || (s && not b)) (sym (all_end p group from len below none)) ∙ before
+all_left_end p group from k s left len below none before = grind (arith, nobody, all_end)
 
 pub ruleset any_walk = (any_end, any_go, any_stop)
 

@@ -5,11 +5,9 @@ use Rattle.refutation_tree.specs.Tree.{Kids, no_kids, tree_kid, twin_kid, joined
 use Rattle.refutation_tree.specs.Laws.Views.{branch_onto, kid_onto, kids_of_items}
 use Rattle.refutation_tree.specs.declared.tree.Branch.{Branch}
 use Rattle.refutation_tree.specs.declared.tree.Kid.{Kid}
-use Rattle.refutation_tree.specs.declared.tree.Kid.TheVariants.{Tree as Tree_kid, Twin}
 
 pub kid_onto-joined : (kid : Kid) (u : ℕ) (kids rest : Kids) → joined (kid_onto kid u kids) rest ≡ kid_onto kid u (joined kids rest)
-kid_onto-joined (Tree_kid t) u kids rest = refl
-kid_onto-joined (Twin v) u kids rest = refl
+kid_onto-joined kid u kids rest = grind arith
 
 -- a branch at the end of a list
 pub kids_of_items-push : (bs : List Branch) (b : Branch) → kids_of_items (bs ++ b ∷ []) ≡ joined (kids_of_items bs) (branch_onto b no_kids)
@@ -27,8 +25,7 @@ joined-none (tree_kid u t a) = ap (tree_kid u t) (joined-none a)
 joined-none (twin_kid u v a) = ap (twin_kid u v) (joined-none a)
 
 kid_onto-count : (kid : Kid) (u : ℕ) (rest : Kids) → kid_count (kid_onto kid u rest) ≡ kid_count rest + 1
-kid_onto-count (Tree_kid t) u rest = refl
-kid_onto-count (Twin v) u rest = refl
+kid_onto-count kid u rest = grind arith
 
 -- as many branches as the list has
 pub kid_count-items : (bs : List Branch) → kid_count (kids_of_items bs) ≡ length bs
@@ -36,8 +33,7 @@ kid_count-items [] = refl
 kid_count-items (b ∷ bs) = omega (arith, kid_onto-count b.kid b.user (kids_of_items bs), kid_count-items bs)
 
 kid_onto-from : (kid : Kid) (u i : ℕ) (rest : Kids) → kids_from (suc i) (kid_onto kid u rest) ≡ kids_from i rest
-kid_onto-from (Tree_kid t) u i rest = refl
-kid_onto-from (Twin v) u i rest = refl
+kid_onto-from kid u i rest = grind arith
 
 -- the branches from a place on
 pub kids_from-items : (i : ℕ) (bs : List Branch) → kids_from i (kids_of_items bs) ≡ kids_of_items (drop i bs)
@@ -51,8 +47,7 @@ pub kids_of_items-drop : (bs : List Branch) (i : ℕ) (b : Branch) → i < lengt
 kids_of_items-drop bs i b below is = ap kids_of_items (drop_more bs i b below) ∙ ap (λ x. branch_onto x (kids_of_items (drop (i + 1) bs))) (sym is)
 
 kid_onto-nodes : (kid : Kid) (u : ℕ) (rest : Kids) → nodes_of_kids (kid_onto kid u rest) ≡ nodes_of_kids (kid_onto kid u no_kids) + nodes_of_kids rest
-kid_onto-nodes (Tree_kid t) u rest = omega arith
-kid_onto-nodes (Twin v) u rest = omega arith
+kid_onto-nodes kid u rest = grind arith
 
 pub nodes-drop : (bs : List Branch) (i : ℕ) (b : Branch) → i < length bs → b ≡ get_or bs i b →
     nodes_of_kids (kids_of_items (drop i bs)) ≡ nodes_of_kids (branch_onto b no_kids) + nodes_of_kids (kids_of_items (drop (i + 1) bs))

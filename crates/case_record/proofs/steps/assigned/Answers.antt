@@ -1,4 +1,4 @@
-use Rattle.std.proofs.Common.{arith, sym, None, Some, ◌∙◌}
+use Rattle.std.proofs.Common.{arith, sym, None, ◌∙◌}
 use Rattle.wf_names.specs.States.{user_of}
 use Rattle.case_record.proofs.Changes.{written_more, there_more}
 use Rattle.case_record.proofs.steps.assigned.Goals as goal

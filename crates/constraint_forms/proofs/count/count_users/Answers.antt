@@ -1,18 +1,14 @@
-use Rattle.std.proofs.Common.{◌≡◌, ◌+◌, cond, sym, ap, ◌∙◌, arith}
+use Rattle.std.proofs.Common.{◌≡◌, ◌+◌, cond, arith}
 use Rattle.constraint_forms.specs.Assign.{user_at}
 use Rattle.constraint_forms.proofs.Walking.{at_most_one, users_go}
 use Rattle.constraint_forms.proofs.count.count_users.Goals as goal
-use Rattle.constraint_forms.proofs.count.count_users.Goals.{then-is_last, else-is_last}
 
 pub members-preserved : goal.members-preserved
 members-preserved c =
     let count = c.members.count in
     let here = c.is_last.result in
     let next = c.in-Some.ensures.next in
-    let more : c.if-is_last.count ≡ count + cond here 1 0 = elim c.if-is_last.branch [
-      | then-is_last w ↦ w.count-is ∙ ap (λ b. count + cond b 1 0) (sym w.if-is_last.true)
-      | else-is_last w ↦ w.count-is ∙ sym (ap (λ b. count + cond b 1 0) w.if-is_last.false ∙ omega arith)
-    ] in
+    let more : c.if-is_last.count ≡ count + cond here 1 0 = grind arith in
     record {
       below = omega (arith, next.within, c.member.view_is);
       few = omega (arith, more, at_most_one here, c.members.invariant.few, next.from_on, c.member.view_is);

@@ -12,10 +12,7 @@ use Rattle.constraint_forms.proofs.kept.keep_at_least.Goals.{else-count-limit-2-
 counted : (group : List Bool) (a o : List (Option ℕ)) (s n m : ℕ) → o ≡ slice_set a s None → n ≡ different (users_from 0 group (user_at o)) →
     m ≡ free_from 0 group (user_at o) →
     different (users_from 0 group (user_at (slice_set a s None))) + free_from 0 group (user_at (slice_set a s None)) ≡ n + m
-counted group a o s n m e is free =
-    let d = is ∙ ap (λ x. different (users_from 0 group (user_at x))) e in
-    let f = free ∙ ap (λ x. free_from 0 group (user_at x)) e in
-    omega (arith, d, f)
+counted group a o s n m e is free = grind arith
 
 pub returns-then-count-limit : goal.returns-then-count-limit
 returns-then-count-limit c = λ u.

@@ -1,4 +1,4 @@
-use Rattle.std.proofs.Common.{◌∙◌, ◌≡◌, Bool, true, false, is_some, not, ◌&&◌, ◌||◌, refl, sym, ap, ap₂}
+use Rattle.std.proofs.Common.{◌∙◌, ◌≡◌, Bool, true, false, is_some, not, ◌&&◌, ◌||◌, sym, ap, ap₂, arith}
 use Rattle.basics.proofs.Booleans.{or_left, or_right}
 use Rattle.wf_names.specs.UserSets.{has_user}
 use Rattle.constraint_forms.proofs.Related.{is_given, step_in}
@@ -7,8 +7,7 @@ use Rattle.constraint_forms.proofs.kept.keep_related_to_some.Goals.{then-is_some
 
 -- what is asked of all the members alone, or of none
 no_members : (b t all : Bool) → t ≡ false → b ≡ (b && not (t && all))
-no_members true t all is = sym (ap (λ x. not (x && all)) is)
-no_members false t all is = refl
+no_members b t all is = grind arith
 
 of_members : (b t all : Bool) → t ≡ true → (b && not all) ≡ (b && not (t && all))
 of_members b t all is = sym (ap (λ x. b && not (x && all)) is)

@@ -1,5 +1,4 @@
-use Rattle.std.proofs.Common.{◌≡◌, ℕ, Bool, List, Option, Some, not, ◌&&◌, slice_set}
-use Rattle.wf_names.specs.UserSets.{has_user}
+use Rattle.std.proofs.Common.{◌≡◌, ℕ, Bool, List, Option, Some, not, ◌&&◌, slice_set, arith}
 use Rattle.constraint_forms.specs.Assign.{user_at}
 use Rattle.constraint_forms.specs.Rules.{Relating, is_falsified}
 use Rattle.constraint_forms.specs.declared.rule.Rule.{Rule}
@@ -12,29 +11,22 @@ by_form : (related : Relating) (rule form : Rule) (a : List (Option ℕ)) (s : �
 by_form related rule form a s old new is kept = rw is kept
 
 pub returns-in-Pair : goal.returns-in-Pair
-returns-in-Pair g c =
-    by_form (g.R.Holds.related c.args.rows.now) _ _ c.args.a.now c.args.s (has_user c.args.set.now) _ c.in-Pair.is c.keep_related.ensures
+returns-in-Pair g c = grind (arith, by_form)
 
 pub returns-in-AllOf : goal.returns-in-AllOf
-returns-in-AllOf g c =
-    by_form (g.R.Holds.related c.args.rows.now) _ _ c.args.a.now c.args.s (has_user c.args.set.now) _ c.in-AllOf.is c.keep_related_to_all.ensures
+returns-in-AllOf g c = grind (arith, by_form)
 
 pub returns-in-SomeOf : goal.returns-in-SomeOf
-returns-in-SomeOf g c =
-    by_form (g.R.Holds.related c.args.rows.now) _ _ c.args.a.now c.args.s (has_user c.args.set.now) _ c.in-SomeOf.is c.keep_related_to_some.ensures
+returns-in-SomeOf g c = grind (arith, by_form)
 
 pub returns-in-AtMost : goal.returns-in-AtMost
-returns-in-AtMost g c =
-    by_form (g.R.Holds.related c.args.rows.now) _ _ c.args.a.now c.args.s (has_user c.args.set.now) _ c.in-AtMost.is c.keep_at_most.ensures
+returns-in-AtMost g c = grind (arith, by_form)
 
 pub returns-in-AllTo : goal.returns-in-AllTo
-returns-in-AllTo g c =
-    by_form (g.R.Holds.related c.args.rows.now) _ _ c.args.a.now c.args.s (has_user c.args.set.now) _ c.in-AllTo.is c.keep_related_to_all-in-AllTo.ensures
+returns-in-AllTo g c = grind (arith, by_form)
 
 pub returns-in-SomeTo : goal.returns-in-SomeTo
-returns-in-SomeTo g c =
-    by_form (g.R.Holds.related c.args.rows.now) _ _ c.args.a.now c.args.s (has_user c.args.set.now) _ c.in-SomeTo.is c.keep_related_to_some-in-SomeTo.ensures
+returns-in-SomeTo g c = grind (arith, by_form)
 
 pub returns-in-AtLeast : goal.returns-in-AtLeast
-returns-in-AtLeast g c =
-    by_form (g.R.Holds.related c.args.rows.now) _ _ c.args.a.now c.args.s (has_user c.args.set.now) _ c.in-AtLeast.is c.keep_at_least.ensures
+returns-in-AtLeast g c = grind (arith, by_form)

@@ -1,20 +1,11 @@
-use Rattle.std.proofs.Common.{ap, ◌∙◌, ◌<◌, length, take}
-use Rattle.wf_names.specs.declared.states.StepState.TheVariants.{Held}
+use Rattle.std.proofs.Common.{ap, ◌∙◌, arith}
 use Rattle.case_record.specs.Cases.{assigned_of, finished_of}
 use Rattle.case_record.proofs.Laws.{assigned_of-hold, finished_of-hold}
 use Rattle.case_record.proofs.Changes.{kept_changed}
 use Rattle.case_record.proofs.case.Case.hold.Goals as goal
 
 pub returns-clause-held : goal.returns-clause-held
-returns-clause-held c =
-    let below : c.args.s < length (take c.self.inside.steps c.self.inside.cells) = rw (← c.self.view_is) at c.requires.step in
-    rw (← c.self.view_is, c.s.view_is)
-    (λ i. record {
-      flow = c.self.inside.flow;
-      states =
-          kept_changed c.self.inside.cells c.self.inside.steps c.args.s (Held c.args.u) below c.self.invariant i;
-      phase = c.self.inside.phase;
-    })
+returns-clause-held c = grind (arith, kept_changed)
 
 pub returns-clause-assigned : goal.returns-clause-assigned
 returns-clause-assigned c = ap assigned_of (returns-clause-held c) ∙ assigned_of-hold c.args.self.now c.args.s c.args.u c.requires.step

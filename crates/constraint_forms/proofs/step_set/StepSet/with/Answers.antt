@@ -4,13 +4,10 @@ use Rattle.constraint_forms.proofs.Bits.{length-flags_of, set_fits, flags_of-wit
 use Rattle.constraint_forms.proofs.step_set.StepSet.with.Goals as goal
 
 pub invariant_of-result : goal.invariant_of-result
-invariant_of-result c =
-    set_fits STEP_LIMIT c.self.inside.bits c.s.inside.0 (omega (arith, c.s.view_is, c.requires)) (omega (arith, c.s.view_is, c.requires)) c.self.invariant
+invariant_of-result c = grind (arith, set_fits)
 
 pub returns-clause-value : goal.returns-clause-value
-returns-clause-value c =
-    rw (← c.self.view_is, ← c.s.view_is)
-    (flags_of-with STEP_LIMIT c.self.inside.bits c.s.inside.0 (omega (arith, c.s.view_is, c.requires)) (omega (arith, c.s.view_is, c.requires)))
+returns-clause-value c = grind (arith, flags_of-with)
 
 pub returns-clause-len : goal.returns-clause-len
 returns-clause-len c = rw (← c.self.view_is) (length-flags_of STEP_LIMIT c.self.inside.bits)

@@ -1,4 +1,4 @@
-use Rattle.std.proofs.Common.{Bor, Option, None, Some, MatchOption, IfSome, is_some, ltb, get_or, arith, ◌≡◌, ◌≤◌, ◌+◌, MatchOption, ℕ, ◌<◌, length, List, sym}
+use Rattle.std.proofs.Common.{Bor, Option, MatchOption, IfSome, is_some, ltb, get_or, arith, ◌≡◌, ◌≤◌, ◌+◌, MatchOption, ℕ, length, List, sym}
 use Rattle.std.proofs.Common.{ap, ◌∙◌}
 use Rattle.refutation_tree.specs.Tree.{Kids, kid_count, kids_from}
 use Rattle.refutation_tree.specs.Laws.Views.{branch_onto, kids_of_items}
@@ -9,13 +9,7 @@ use Rattle.refutation_tree.proofs.tree.Branches.get.Goals as goal
 
 found : (kids : Kids) (bs : List Branch) → kids ≡ kids_of_items bs → (i : ℕ) (r : Option (Bor Branch)) → is_some r ≡ ltb i (length bs) →
     IfSome r (λ x. x.now ≡ get_or bs i x.now) → MatchOption r (kid_count kids ≤ i) (λ b. kids_from i kids ≡ branch_onto b.now (kids_from (i + 1) kids))
-found kids bs are i None past here =
-    let passed : length bs ≤ i = grind (arith, nat_tests) in
-    omega (arith, ap kid_count are ∙ kid_count-items bs)
-found kids bs are i (Some b) within here =
-    let below : i < length bs = grind (arith, nat_tests) in
-    ap (kids_from i) are ∙ kids_from-items i bs ∙ kids_of_items-drop bs i b.now below here ∙
-    ap (branch_onto b.now) (sym (ap (kids_from (i + 1)) are ∙ kids_from-items (i + 1) bs))
+found kids bs are i r past here = grind (arith, nat_tests, kid_count-items, kids_from-items, kids_of_items-drop)
 
 pub returns : goal.returns
 returns c =
