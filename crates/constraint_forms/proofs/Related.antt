@@ -1,6 +1,6 @@
 -- Whom a pair of steps leaves of the users who could be given a step.
-use Rattle.std.proofs.Common.{◌≡◌, ◌≢◌, ℕ, ◌+◌, ◌<◌, ◌≤◌, Bool, true, false, not, ◌&&◌, ◌||◌, nat_eq, nat_lt, List, length, slice_set, Option, Some, None}
-use Rattle.std.proofs.Common.{is_some, get_or-set_same, get_or-set_other, sym, ap, ap₂, subst, ◌∙◌, ◌⊎◌, inl, inr, arith}
+use Rattle.std.proofs.Common.{◌≡◌, ℕ, ◌<◌, Bool, true, false, not, ◌&&◌, ◌||◌, nat_eq, nat_lt, List, length, slice_set, Option, Some, None}
+use Rattle.std.proofs.Common.{is_some, get_or-set_same, get_or-set_other, sym, ap, ap₂, ◌∙◌, ◌⊎◌, inl, inr, arith}
 use Rattle.basics.proofs.Booleans.{and_same, bool_cases, differ, eq_back, eq_is, lt_yes, not_true, or-false, or_right}
 use Rattle.constraint_forms.specs.Assign.{user_at}
 use Rattle.constraint_forms.specs.Kept.{are_unrelated_with}
@@ -59,23 +59,6 @@ module _ (a : List (Option ℕ)) (s u : ℕ) (within : s < length a) where
           ap is_some (at_other x (sym other)) ∙ sym (ap (λ b. is_some (user_at a x) || b) is ∙ or-false (is_some (user_at a x)))
 
 -- ---- user by user
-
--- those before n are kept where they pass, and n is looked at now
-module _ (old before after passes : ℕ → Bool) (n : ℕ) (done : (v : ℕ) → v < n → before v ≡ (old v && passes v)) (ahead : (v : ℕ) → n ≤ v → before v ≡ old v)
-    (others : (v : ℕ) → v ≢ n → after v ≡ before v) where
-  pub one_done : after n ≡ (before n && passes n) → (v : ℕ) → v < n + 1 → after v ≡ (old v && passes v)
-  one_done here v below = at (bool_cases (nat_eq v n))
-    where
-      at : (nat_eq v n ≡ true) ⊎ (nat_eq v n ≡ false) → after v ≡ (old v && passes v)
-      at (inl is) =
-          let same : n ≡ v = sym (eq_back v n is) in
-          subst (λ m. after m ≡ (old m && passes m)) same (here ∙ ap (λ b. b && passes n) (ahead n (omega arith)))
-      at (inr is) =
-          let other : v ≢ n = λ e. differ (nat_eq v n) (eq_is v n e) is in
-          others v other ∙ done v (omega (arith, below, other))
-
-  pub one_ahead : (v : ℕ) → n + 1 ≤ v → after v ≡ old v
-  one_ahead v from = others v (λ e. absurd (omega (arith, from, e))) ∙ ahead v (omega (arith, from))
 
 pub kept_if : (b t : Bool) → t ≡ true → b ≡ (b && t)
 kept_if b t e = grind arith
