@@ -1,8 +1,8 @@
 -- The numbers that stand in a view, the seat at which each stands, and what a call reads of a lane.
-use Rattle.std.proofs.Common.{◌≡◌, ◌≢◌, ◌⊎◌, ℕ, zero, suc, eqb, cond, List, [], ◌∷◌, sym, refl, ap, ◌∙◌, inl, inr, ⊎_elim, arith, eq-eqb, ne_eqb, Option, Some}
+use Rattle.std.proofs.Common.{◌≡◌, ◌≢◌, ◌⊎◌, ℕ, eqb, cond, List, [], ◌∷◌, ap, inl, inr, arith, eq-eqb, ne_eqb, Option, Some}
 use Rattle.std.proofs.Common.{None, IsSome, IfSome, Bool, true, false, subst}
 use Rattle.std.specs.List.{Contains}
-use Rattle.std.proofs.lemmas.List.Elements.{Contains-append_left, Contains-append_right, Contains-append_cases}
+use Rattle.std.proofs.lemmas.List.Elements.{Contains-append_left, Contains-append_right}
 use Rattle.turn_table.specs.Table.{brought}
 
 -- the seat at which a number stands, once those at the seat from stand at the seat to
@@ -26,8 +26,7 @@ pub placed_miss : (made to : ℕ) (owner : ℕ → ℕ) (n : ℕ) → n ≢ made
 placed_miss made to owner n ne = ap (λ b. cond b to (owner n)) (ne_eqb n made ne)
 
 only : (m n : ℕ) → Contains (m ∷ []) n → m ≡ n
-only m n (zero, lt, e) = e
-only m n (suc k, lt, e) = absurd (omega arith)
+only m n h2 = grind arith
 
 pub brought_has : (o : Option ℕ) (joined : List ℕ) (n : ℕ) → (o ≡ Some n) ⊎ Contains joined n → Contains (brought o joined) n
 brought_has None joined n (inl e) = cc
@@ -36,23 +35,20 @@ brought_has (Some m) joined n (inl e) = Contains-append_left (m ∷ []) joined n
 brought_has (Some m) joined n (inr h) = Contains-append_right (m ∷ []) joined n h
 
 pub brought_from : (o : Option ℕ) (joined : List ℕ) (n : ℕ) → Contains (brought o joined) n → (o ≡ Some n) ⊎ Contains joined n
-brought_from None joined n h = inr h
-brought_from (Some m) joined n h = ⊎_elim (λ a. inl (ap Some (only m n a))) (λ b. inr b) (Contains-append_cases (m ∷ []) joined n h)
+brought_from o joined n h = grind (arith, only)
 
 pub contains_none : (n : ℕ) → Contains [] n → ⊥
 contains_none n (k, lt, e) = omega arith
 
 -- a lane's number, if it has one
 pub some_of : (o : Option ℕ) → IsSome o → (n : ℕ) × (o ≡ Some n)
-some_of None h = cc
-some_of (Some n) h = (n, refl)
+some_of o h = grind arith
 
 pub at_some : (P : ℕ → Type 0) (o : Option ℕ) (n : ℕ) → o ≡ Some n → IfSome o P → P n
 at_some P o n e h = subst (λ x. IfSome x P) e h
 
 pub if_numbered : (P : ℕ → Type 0) (o : Option ℕ) → ((n : ℕ) → o ≡ Some n → P n) → IfSome o P
-if_numbered P None h = tt
-if_numbered P (Some n) h = h n refl
+if_numbered P o h = grind arith
 
 -- a lane without the value need have no number
 pub outside : (o : Option ℕ) → false ≡ true → IsSome o
@@ -60,5 +56,4 @@ outside o e = cc
 
 -- only a lane with a number has the value out
 pub inside : (out : Bool) (o : Option ℕ) → (out ≡ true → IsSome o) → o ≡ None → out ≡ false
-inside false o h e = refl
-inside true o h e = let s = some_of o (h refl) in let bad : None ≡ Some s.0 = sym e ∙ s.1 in cc
+inside out o h e = grind (arith, some_of)

@@ -38,19 +38,7 @@ module _ {V : Type 0} where
       ))
       (λ ne. (h.0, set_else vs id j w ne ∙ h.1, h.2))
 
-abbrev first_item : {S : Type 0} → S → List (ℕ × S) → S
-first_item x [] = x
-first_item x (y ∷ ys) = y.1
-
 module _ {S V : Type 0} where
   -- a seat that took a slot has it before all others, with the value that it found
   pub slot_in_hand : (me : Me S V) (w : V) (x : S) (xs : List (ℕ × S)) → me ≡ (w, (0, x) ∷ xs) → me.1 ≡ (0, x) ∷ rest me.1
   slot_in_hand me w x xs e = ap (λ m. m.1) e ∙ ap (λ l. (0, x) ∷ l) (sym (ap (λ m. rest m.1) e))
-
-  pub same_item : (me : Me S V) (w : V) (x y : S) (xs ys : List (ℕ × S)) → me ≡ (w, (0, x) ∷ xs) → me.1 ≡ (0, y) ∷ ys → y ≡ x
-  same_item me w x y xs ys e f = ap (first_item x) (sym f ∙ ap (λ m. m.1) e)
-
-  -- after the slot's one exchange, a seat that had just that slot has it with the other value
-  pub slot_filled : (before noted after : Me S V) (w : V) (x y : S) → before.1 ≡ (0, x) ∷ [] → noted ≡ (w, before.1) →
-      after ≡ (noted.0, (0, y) ∷ rest noted.1) → after ≡ (w, (0, y) ∷ [])
-  slot_filled before noted after w x y slots note give = give ∙ (ap (λ m. (m.0, (0, y) ∷ rest m.1)) note ∙ ap (λ l. (w, (0, y) ∷ rest l)) slots)

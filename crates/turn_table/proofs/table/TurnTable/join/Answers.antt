@@ -1,4 +1,4 @@
-use Rattle.std.proofs.Common.{◌≡◌, false, IsSome, ◌++◌, rules, ap, ◌∙◌, sym, subst}
+use Rattle.std.proofs.Common.{◌≡◌, false, ◌++◌, rules, ap, ◌∙◌, sym, subst, arith}
 use Rattle.std.specs.List.{Contains}
 use Rattle.std.proofs.lemmas.List.Elements.{Contains-append_left, Contains-append_right}
 use Rattle.turn_table.specs.Table.{brought}
@@ -41,15 +41,7 @@ numbers : (g : _) (c : After-load g) →
 numbers g c = ap (λ m. m.0.joined) (both g c)
 
 pub invariant_of-into : goal.invariant_of-into
-invariant_of-into g c =
-    let me = both g (goal.at.invariant_of-into g c).After-load in
-    let before = c.into.invariant in
-    record {
-      live = ap (λ m. m.0.live) me ∙ before.live;
-      slots = ap (λ m. m.1) me ∙ before.slots;
-      hold = ap (λ m. m.0.hold) me ∙ before.hold;
-      numbered = λ out. subst IsSome (sym (ap (λ m. m.0.number) me)) (before.numbered out);
-    }
+invariant_of-into g c = grind (arith, both)
 
 pub returns-clause-into : goal.returns-clause-into
 returns-clause-into g c =
