@@ -8,21 +8,16 @@ use Rattle.wf_names.specs.declared.limits.TheConstants.{OPEN_CASE_LIMIT, CASE_LI
 use Rattle.std.specs.List.{list_all}
 use Rattle.wf_names.specs.States.{is_done, is_finished, is_live}
 use Rattle.wf_names.specs.declared.states.Phase.{Phase}
-use Rattle.wf_names.specs.declared.states.Phase.TheVariants.{Live, Done, Withdrawn}
+use Rattle.wf_names.specs.declared.states.Phase.TheVariants.{Done}
 use Rattle.case_record.specs.Cases.{CaseShape, as_finished, is_open, state_at}
 use Rattle.grant_table.specs.declared.rows.Row.{Row}
 use Rattle.grant_table.specs.Cases.{CasesShape, case_at, case_in, change_row, finished_row, is_open_case, ones, open_count, plan_of, row_at}
 use Rattle.grant_table.specs.Cases.{with_row}
 use Rattle.grant_table.specs.Kept.{AreNumberedBelow, ArePlannedWhileOpen, AscendFrom, IsSoundTable}
 
-abbrev or_else : Row → Option Row → Row
-or_else d None = d
-or_else d (Some r) = r
-
 row_is : (n : ℕ) (x : Row) (rest : Option Row) (r : Row) (b : Bool) → nat_eq x.number n ≡ b → (if b then Some x else rest) ≡ Some r →
     ((nat_eq x.number n ≡ true) × (x ≡ r)) ⊎ ((nat_eq x.number n ≡ false) × (rest ≡ Some r))
-row_is n x rest r true e h = inl (e, ap (or_else x) h)
-row_is n x rest r false e h = inr (e, h)
+row_is n x rest r b e h = grind arith
 
 -- the row with a number is the first one or stands in the rest
 row_case : (n : ℕ) (x : Row) (xs : List Row) (r : Row) → row_at n (x ∷ xs) ≡ Some r → ((nat_eq x.number n ≡ true) × (x ≡ r)) ⊎
@@ -104,19 +99,7 @@ pub kept_put :
     (ever live live' : ℕ) (rows : List Row) (new : Row) (ended : Bool) → IsSoundTable rows ever live →
     IsSomeAnd (row_at new.number rows) (λ r. ones r ≡ ones new + cond ended 1 0) → is_some new.plan ≡ is_open new.case →
     live' + cond ended 1 0 ≡ live → IsSoundTable (change_row new.number (λ _. new) rows) ever live'
-kept_put ever live live' rows new ended kept there planned left = kept_at (row_at new.number rows) refl there
-  where
-    kept_at : (o : Option Row) → row_at new.number rows ≡ o → IsSomeAnd o (λ r. ones r ≡ ones new + cond ended 1 0) →
-        IsSoundTable (change_row new.number (λ _. new) rows) ever live'
-    kept_at None h counts = absurd counts
-    kept_at (Some r) h counts = record {
-      ascend = ascend_changed 0 new.number rows r new kept.ascend h refl;
-      below = below_changed ever new.number rows r new kept.below h refl;
-      planned = planned_changed new.number rows r new kept.planned h planned;
-      counted = omega (arith, count_changed new.number rows r new h, kept.counted, counts, left);
-      few = omega (arith, kept.few, left);
-      limit = kept.limit;
-    }
+kept_put ever live live' rows new ended kept there planned left = grind (arith, ascend_changed, below_changed, planned_changed, counted, count_changed)
 
 -- an open case ends only where there is one
 pub counts_one : (ever live : ℕ) (rows : List Row) (new : Row) (ended : Bool) → IsSoundTable rows ever live →
@@ -137,9 +120,7 @@ put_rows n rows r new f h is same =
 -- a row with the number of one that is there finds that one
 pub there_again : (P : Row → Type 0) (n : ℕ) (rows : List Row) (r new : Row) → row_at n rows ≡ Some r → new.number ≡ r.number → P r →
     IsSomeAnd (row_at new.number rows) P
-there_again P n rows r new h same holds =
-    let number : new.number ≡ n = same ∙ row_number n rows r h in
-    subst (λ o. IsSomeAnd o P) (sym h ∙ (λ i. row_at (sym number i) rows)) holds
+there_again P n rows r new h same holds = grind (arith, row_number)
 
 -- what is known of the case with a number is known of its row
 pub known : (P : CaseShape → Type 0) (n : ℕ) (rows : List Row) (r : Row) → row_at n rows ≡ Some r → IsSomeAnd (case_in n rows) P → P r.case
@@ -166,17 +147,7 @@ count_added (r ∷ rs) new = omega (arith, count_added rs new, counted r rs, cou
 pub kept_added :
     (ever live : ℕ) (rows : List Row) (new : Row) → IsSoundTable rows ever live → new.number ≡ ever → is_open new.case ≡ true → is_some new.plan ≡ true →
     live < OPEN_CASE_LIMIT → ever < CASE_LIMIT → IsSoundTable (rows ++ new ∷ []) (ever + 1) (live + 1)
-kept_added ever live rows new kept same open_case plan few limit =
-    let below : AreNumberedBelow new.number rows = subst (λ m. AreNumberedBelow m rows) (sym same) kept.below in
-    let one : ◌≡◌ {A = ℕ} (ones new) 1 = ap (λ b. cond b 1 0) open_case in
-    record {
-      ascend = ascend_added 0 rows new kept.ascend below (omega arith);
-      below = subst (λ m. AreNumberedBelow (m + 1) (rows ++ new ∷ [])) same (below_added rows new below);
-      planned = planned_added rows new kept.planned (plan ∙ sym open_case);
-      counted = omega (arith, count_added rows new, kept.counted, one);
-      few = omega (arith, few);
-      limit = omega (arith, limit);
-    }
+kept_added ever live rows new kept same open_case plan few limit = grind (arith, ascend_added, below_added, planned_added, counted, count_added)
 
 -- a table with one row changed
 pub table_put : (t : CasesShape) (n : ℕ) (r new : Row) (f : Row → Row) → row_at n t.rows ≡ Some r → new ≡ f r → (f r).number ≡ r.number →
@@ -186,10 +157,7 @@ table_put t n r new f h is same = λ i. record { rows = put_rows n t.rows r new 
 -- an open case ends where its last step is finished
 phase_counts : (phase : Phase) (b : Bool) → is_live phase ≡ true →
     cond (is_live phase) 1 0 ≡ (cond (is_live (if b then Done else phase)) 1 0 + cond (is_done (if b then Done else phase)) 1 0)
-phase_counts Live true h = omega arith
-phase_counts Live false h = omega arith
-phase_counts Done b h = cc
-phase_counts Withdrawn b h = cc
+phase_counts phase b h = grind arith
 
 pub finish_counts : (s : ℕ) (r : Row) → is_open r.case ≡ true → ones r ≡ ones (finished_row s r) + cond (is_done (finished_row s r).case.phase) 1 0
 finish_counts s r h = phase_counts r.case.phase (list_all is_finished (slice_set r.case.states s (as_finished (state_at r.case s)))) h
@@ -197,16 +165,8 @@ finish_counts s r h = phase_counts r.case.phase (list_all is_finished (slice_set
 -- the case with a number after a change
 pub case_changed : (P : CaseShape → Type 0) (t : CasesShape) (n : ℕ) (r new : Row) → row_at n t.rows ≡ Some r → new.number ≡ r.number → P new.case →
     IsSomeAnd (case_at (with_row t new.number (λ _. new)) n) P
-case_changed P t n r new h same holds =
-    let number : new.number ≡ n = same ∙ row_number n t.rows r h in
-    let found : row_at n (change_row new.number (λ _. new) t.rows) ≡ Some new =
-    subst (λ m. row_at n (change_row m (λ _. new) t.rows) ≡ Some new) (sym number) (row_changed n t.rows r new h number) in
-    subst (λ o. IsSomeAnd (option_map (λ (y : Row). y.case) o) P) (sym found) holds
+case_changed P t n r new h same holds = grind (arith, row_number, row_changed)
 
 -- a plan is kept for the case with a number exactly where it is open
 pub planned_case : (n : ℕ) (rows : List Row) → ArePlannedWhileOpen rows → is_some (plan_of (row_at n rows)) ≡ is_open_case (case_in n rows)
-planned_case n rows planned = at_row (row_at n rows) refl
-  where
-    at_row : (o : Option Row) → row_at n rows ≡ o → is_some (plan_of o) ≡ is_open_case (option_map (λ (r : Row). r.case) o)
-    at_row None h = refl
-    at_row (Some r) h = planned_at n rows r planned h
+planned_case n rows planned = grind (arith, planned_at)

@@ -1,6 +1,6 @@
 -- The next open case is the least.
-use Rattle.std.proofs.Common.{◌≡◌, ℕ, ◌+◌, ◌<◌, ◌≤◌, Bool, true, false, ◌&&◌, inl, inr, nat_eq, nat_le, List, [], ◌∷◌, Option, None, Some, MatchOption, refl}
-use Rattle.std.proofs.Common.{sym, ap, subst, ◌∙◌, arith}
+use Rattle.std.proofs.Common.{◌≡◌, ℕ, ◌+◌, ◌<◌, ◌≤◌, Bool, true, false, ◌&&◌, nat_eq, nat_le, List, [], ◌∷◌, Option, None, Some, MatchOption, refl}
+use Rattle.std.proofs.Common.{sym, ap, subst, arith}
 use Rattle.std.specs.Option.{option_map}
 use Rattle.case_record.specs.Cases.{is_open}
 use Rattle.grant_table.specs.declared.rows.Row.{Row}
@@ -29,47 +29,26 @@ none_open low n rows order h = ap (λ o. is_open_case (option_map (λ (r : Row).
 
 -- a row that the search passes over is not open, or below
 passed : (low m : ℕ) (r : Row) (rs : List Row) → (nat_le low r.number && is_open r.case) ≡ false → low ≤ m → open_in m rs ≡ false → open_in m (r ∷ rs) ≡ false
-passed low m r rs test h rest = elim (bool_cases (nat_eq r.number m)) [
-  | inl hit ↦ open_here m r rs hit ∙ second_false _ _ test (le_yes low r.number (omega (arith, eq_back r.number m hit, h)))
-  | inr miss ↦ open_there m r rs miss ∙ rest
-]
+passed low m r rs test h rest = grind (arith, bool_cases, open_here, second_false, le_yes, eq_back, open_there)
 
 -- an open case of the rest is not the first
 beyond : (n : ℕ) (r : Row) (rs : List Row) → AscendFrom (r.number + 1) rs → open_in n rs ≡ true → open_in n (r ∷ rs) ≡ true
-beyond n r rs order h = elim (bool_cases (nat_eq r.number n)) [
-  | inl hit ↦ absurd (differ _ h (none_open (r.number + 1) n rs order (omega (arith, eq_back r.number n hit))))
-  | inr miss ↦ open_there n r rs miss ∙ h
-]
+beyond n r rs order h = grind (arith, bool_cases, differ, none_open, eq_back, open_there)
 
 longer : (low : ℕ) (r : Row) (rs : List Row) (o : Option ℕ) → AscendFrom (r.number + 1) rs → (nat_le low r.number && is_open r.case) ≡ false →
     MatchOption o ((m : ℕ) → low ≤ m → open_in m rs ≡ false) (λ n. IsLeast rs low n) →
     MatchOption o ((m : ℕ) → low ≤ m → open_in m (r ∷ rs) ≡ false) (λ n. IsLeast (r ∷ rs) low n)
-longer low r rs None order test h = λ m above. passed low m r rs test above (h m above)
-longer low r rs (Some n) order test h = record {
-  known = h.known;
-  open_case = beyond n r rs order h.open_case;
-  least = λ m above below. passed low m r rs test above (h.least m above below);
-}
+longer low r rs o order test h = grind (arith, passed, beyond)
 
 means : (b low : ℕ) (rows : List Row) → AscendFrom b rows →
     MatchOption (next_open low rows) ((m : ℕ) → low ≤ m → open_in m rows ≡ false) (λ n. IsLeast rows low n)
 means b low [] order = λ m above. refl
-means b low (r ∷ rs) order = elim (bool_cases (nat_le low r.number && is_open r.case)) [
-  | inl hit ↦
-      let parts = and_both _ _ hit in
-      let least : IsLeast (r ∷ rs) low r.number = record {
-        known = le_back low r.number parts.0;
-        open_case = open_here r.number r rs (eq_is r.number r.number refl) ∙ parts.1;
-        least = λ m above below. open_there m r rs (eq_above r.number m below) ∙ none_open (r.number + 1) m rs order.1 (omega (arith, below));
-      } in
-      rw hit least
-  | inr miss ↦ rw miss (longer low r rs (next_open low rs) order.1 miss (means (r.number + 1) low rs order.1))
-]
+means b low (r ∷ rs) order =
+    grind (arith, bool_cases, and_both, le_back, open_here, eq_is, open_there, eq_above, none_open, longer, (means (r.number + 1) low rs order.1))
 
 by_table : (t : CasesShape) (low : ℕ) (o : Option ℕ) → MatchOption o ((m : ℕ) → low ≤ m → open_in m t.rows ≡ false) (λ n. IsLeast t.rows low n) →
     MatchOption o ((m : ℕ) → low ≤ m → open_in m t.rows ≡ false) (λ n. IsNextOpen t low n)
-by_table t low None h = h
-by_table t low (Some n) h = record { known = h.known; open_case = h.open_case; least = h.least }
+by_table t low o h = grind arith
 
 pub next_open-means : (t : CasesShape) (low : ℕ) → AscendFrom 0 t.rows →
     MatchOption (next_open low t.rows) ((m : ℕ) → low ≤ m → is_open_case (case_in m t.rows) ≡ false) (λ n. IsNextOpen t low n)

@@ -1,10 +1,10 @@
 -- The ended cases in front of the open ones are passed over.
-use Rattle.std.proofs.Common.{◌≡◌, ℕ, zero, suc, ◌+◌, ◌<◌, ◌≤◌, false, cond, inl, inr, nat_eq, nat_le, ◌&&◌, List, [], ◌∷◌, ◌++◌, length, take, drop, Option}
-use Rattle.std.proofs.Common.{None, Some, IsSomeAnd, get_or, refl, sym, ap, ◌∙◌, arith}
+use Rattle.std.proofs.Common.{◌≡◌, ℕ, zero, suc, ◌+◌, ◌<◌, ◌≤◌, false, cond, inl, inr, nat_eq, nat_le, List, [], ◌∷◌, ◌++◌, length, take, drop}
+use Rattle.std.proofs.Common.{IsSomeAnd, get_or, refl, sym, ap, ◌∙◌, arith}
 use Rattle.basics.proofs.Booleans.{and-false, bool_cases}
 use Rattle.basics.proofs.Lists.{take_next}
 use Rattle.grant_table.specs.declared.rows.Row.{Row}
-use Rattle.grant_table.specs.Cases.{change_row, is_open_row, next_open, ones, open_count, open_rows, replanned, replanned_row, row_at}
+use Rattle.grant_table.specs.Cases.{change_row, is_open_row, next_open, ones, open_count, open_rows, replanned, row_at}
 use Rattle.grant_table.specs.Kept.{ArePassed, AscendFrom, IsKeptTable, IsSoundTable}
 use Rattle.grant_table.proofs.Counts.{counted}
 use Rattle.grant_table.proofs.Keeping.{count_added}
@@ -13,12 +13,7 @@ use Rattle.grant_table.proofs.Replanning.{replanned_closed, replanned_open}
 
 -- the first of rows of which none is open is not open
 pub closed_first : (n : ℕ) (r : Row) (rs : List Row) → open_count (take (suc n) (r ∷ rs)) ≡ 0 → is_open_row r ≡ false
-closed_first n r rs none = elim (bool_cases (is_open_row r)) [
-  | inl hit ↦
-      let one : ◌≡◌ {A = ℕ} (ones r) 1 = ap (λ b. cond b 1 0) hit in
-      absurd (omega (arith, none, one, counted r (take n rs)))
-  | inr miss ↦ miss
-]
+closed_first n r rs none = grind (arith, bool_cases, counted)
 
 pub closed_rest : (n : ℕ) (r : Row) (rs : List Row) → open_count (take (suc n) (r ∷ rs)) ≡ 0 → open_count (take n rs) ≡ 0
 closed_rest n r rs none = omega (arith, none, counted r (take n rs))
@@ -62,10 +57,7 @@ taken_all (suc i) [] h = refl
 taken_all (suc i) (r ∷ rs) h = ap (λ xs. r ∷ xs) (taken_all i rs (omega (arith, h)))
 
 pub all_passed : (rows : List Row) (i : ℕ) → length rows ≤ i → open_count (take i rows) ≡ 0 → ArePassed rows (length rows)
-all_passed rows i past none = record {
-  ended = ap open_count (taken_all (length rows) rows (omega arith) ∙ sym (taken_all i rows past)) ∙ none;
-  within = omega arith;
-}
+all_passed rows i past none = grind (arith, taken_all)
 
 -- ---- what changes the rows
 
@@ -79,10 +71,7 @@ longer_by_one [] new = omega arith
 longer_by_one (r ∷ rs) new = omega (arith, longer_by_one rs new)
 
 pub passed_added : (first : ℕ) (rows : List Row) (new : Row) → ArePassed rows first → ArePassed (rows ++ new ∷ []) first
-passed_added first rows new passed = record {
-  ended = ap open_count (taken_added first rows new passed.within) ∙ passed.ended;
-  within = omega (arith, passed.within, longer_by_one rows new);
-}
+passed_added first rows new passed = grind (arith, taken_added, longer_by_one)
 
 put_counts : (n : ℕ) (rows : List Row) (new : Row) (more : ℕ) → open_count (take n rows) ≡ 0 →
     IsSomeAnd (row_at new.number rows) (λ r. ones r ≡ ones new + more)
@@ -102,45 +91,28 @@ put_counts (suc n) (r ∷ rs) new more none there = elim (bool_cases (nat_eq r.n
 
 same_length : (n : ℕ) (rows : List Row) (new : Row) → length (change_row n (λ _. new) rows) ≡ length rows
 same_length n [] new = refl
-same_length n (r ∷ rs) new = elim (bool_cases (nat_eq r.number n)) [
-  | inl hit ↦ rw hit refl
-  | inr miss ↦ rw miss (ap suc (same_length n rs new))
-]
+same_length n (r ∷ rs) new = grind (arith, bool_cases, (same_length n rs new))
 
 pub passed_put : (first : ℕ) (rows : List Row) (new : Row) (more : ℕ) → ArePassed rows first →
     IsSomeAnd (row_at new.number rows) (λ r. ones r ≡ ones new + more)
     → ArePassed (change_row new.number (λ _. new) rows) first
-passed_put first rows new more passed there = record {
-  ended = put_counts first rows new more passed.ended there;
-  within = omega (arith, passed.within, same_length new.number rows new);
-}
+passed_put first rows new more passed there = grind (arith, put_counts, same_length)
 
 replanned_counts : (n : ℕ) (rows : List Row) (plans : List (List ℕ)) → open_count (take n (replanned rows plans)) ≡ open_count (take n rows)
 replanned_counts zero rows plans = refl
 replanned_counts (suc n) [] plans = refl
 replanned_counts (suc n) (r ∷ rs) [] = refl
-replanned_counts (suc n) (r ∷ rs) (plan ∷ plans) = elim (bool_cases (is_open_row r)) [
-  | inl live ↦
-      ap (λ xs. open_count (take (suc n) xs)) (replanned_open r rs plan plans live)
-      ∙ omega (arith, counted (replanned_row plan r) (take n (replanned rs plans)), counted r (take n rs), replanned_counts n rs plans)
-  | inr closed ↦
-      ap (λ xs. open_count (take (suc n) xs)) (replanned_closed r rs (plan ∷ plans) closed)
-      ∙ omega (arith, counted r (take n (replanned rs (plan ∷ plans))), counted r (take n rs), replanned_counts n rs (plan ∷ plans))
-]
+replanned_counts (suc n) (r ∷ rs) (plan ∷ plans) =
+    grind (arith, bool_cases, replanned_open, counted, replanned_closed, (replanned_counts n rs plans), (replanned_counts n rs (plan ∷ plans)))
 
 replanned_length : (rows : List Row) (plans : List (List ℕ)) → length (replanned rows plans) ≡ length rows
 replanned_length [] plans = refl
 replanned_length (r ∷ rs) [] = refl
-replanned_length (r ∷ rs) (plan ∷ plans) = elim (bool_cases (is_open_row r)) [
-  | inl live ↦ ap length (replanned_open r rs plan plans live) ∙ ap suc (replanned_length rs plans)
-  | inr closed ↦ ap length (replanned_closed r rs (plan ∷ plans) closed) ∙ ap suc (replanned_length rs (plan ∷ plans))
-]
+replanned_length (r ∷ rs) (plan ∷ plans) =
+    grind (arith, bool_cases, replanned_open, replanned_closed, (replanned_length rs plans), (replanned_length rs (plan ∷ plans)))
 
 pub passed_replanned : (first : ℕ) (rows : List Row) (plans : List (List ℕ)) → ArePassed rows first → ArePassed (replanned rows plans) first
-passed_replanned first rows plans passed = record {
-  ended = replanned_counts first rows plans ∙ passed.ended;
-  within = omega (arith, passed.within, replanned_length rows plans);
-}
+passed_replanned first rows plans passed = grind (arith, replanned_counts, replanned_length)
 
 -- ---- tables of which none is known to have ended
 

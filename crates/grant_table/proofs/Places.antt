@@ -1,6 +1,6 @@
 -- Where the row with a number stands in ascending rows.
 use Rattle.std.proofs.Common.{◌≡◌, ℕ, zero, suc, ◌+◌, ◌<◌, ◌≤◌, Bool, true, false, cond, nat_lt, nat_le, List, [], ◌∷◌, length, drop, get_or, slice_index_or}
-use Rattle.std.proofs.Common.{slice_get, slice_set, Option, None, Some, refl, sym, ap, subst, ◌∙◌, arith}
+use Rattle.std.proofs.Common.{slice_get, slice_set, Option, None, Some, refl, ap, arith}
 use Rattle.std.specs.List.{prefix_len, AllWithin}
 use Rattle.std.specs.List.Sorted.{IsPartitionedBy}
 use Rattle.std.proofs.Math.Seq.{drop-cons}
@@ -36,12 +36,10 @@ partitioned low n (r ∷ rs) order (suc i) zero d up h later = absurd (omega ari
 partitioned low n (r ∷ rs) order (suc i) (suc j) d up h later = partitioned (r.number + 1) n rs order.1 i j d (omega arith) (omega arith) later
 
 next_prefix : (i m : ℕ) (b : Bool) → suc i ≡ cond b (1 + m) 0 → (b ≡ true) × (i ≡ m)
-next_prefix i m true e = (refl, omega arith)
-next_prefix i m false e = absurd (omega arith)
+next_prefix i m b e = grind arith
 
 no_prefix : (m : ℕ) (b : Bool) → zero ≡ cond b (1 + m) 0 → b ≡ false
-no_prefix m true e = absurd (omega arith)
-no_prefix m false e = refl
+no_prefix m b e = grind arith
 
 pub place_found : (n : ℕ) (rows : List Row) (i : ℕ) (d : Row) → i ≡ prefix_len (λ (r : Row). nat_lt r.number n) rows → i < length rows →
     (slice_index_or rows i d).number ≡ n → IsRowPlace n rows i
@@ -56,9 +54,7 @@ pub stands_place : (low n : ℕ) (rows : List Row) (i : ℕ) (d : Row) → Ascen
     IsRowPlace n rows i
 stands_place low n [] i d order h is = absurd (omega (arith, h))
 stands_place low n (r ∷ rs) zero d order h is = eq_is _ _ is
-stands_place low n (r ∷ rs) (suc i) d order h is =
-    let above = low_bound (r.number + 1) rs i d order.1 (omega (arith, h)) in
-    (eq_below _ _ (omega (arith, above, is)), stands_place (r.number + 1) n rs i d order.1 (omega (arith, h)) is)
+stands_place low n (r ∷ rs) (suc i) d order h is = grind (arith, low_bound, eq_below, (stands_place (r.number + 1) n rs i d order.1 (omega (arith, h)) is))
 
 pub none_below : (low n : ℕ) (rows : List Row) → AscendFrom low rows → n < low → row_at n rows ≡ None
 none_below low n [] order h = refl
@@ -113,28 +109,16 @@ later_next n (r ∷ rs) (suc i) e =
     rw (not_from r.number n (lt_back _ _ next.0)) (later_next n rs i next.1)
 
 pub taken_off : (rows : List Row) (i : ℕ) (row : Row) → i < length rows → row ≡ get_or rows i row → drop i rows ≡ row ∷ drop (i + 1) rows
-taken_off rows i row h is =
-    let same : suc i ≡ i + 1 = omega arith in
-    drop-cons rows i row h ∙ (λ k. sym is k ∷ drop (same k) rows)
+taken_off rows i row h is = grind (arith, drop-cons)
 
 pub next_ascend : (n : ℕ) (rows : List Row) (i : ℕ) (row : Row) → i < length rows → row ≡ get_or rows i row → AscendFrom n (drop i rows) →
     AscendFrom n (drop (i + 1) rows)
-next_ascend n rows i row h is order =
-    let both = subst (AscendFrom n) (taken_off rows i row h is) order in
-    ascend_from_less (row.number + 1) n _ (omega (arith, both.0)) both.1
+next_ascend n rows i row h is order = grind (arith, taken_off, ascend_from_less)
 
 pub next_passed : (n : ℕ) (rows : List Row) (i : ℕ) (row : Row) (goal : Option ℕ) → i < length rows → row ≡ get_or rows i row → AscendFrom n (drop i rows) →
     is_live row.case.phase ≡ false → next_open n (drop i rows) ≡ goal → next_open n (drop (i + 1) rows) ≡ goal
-next_passed n rows i row goal h is order closed so_far =
-    let cons = taken_off rows i row h is in
-    let both = subst (AscendFrom n) cons order in
-    let skipped : next_open n (row ∷ drop (i + 1) rows) ≡ next_open n (drop (i + 1) rows) = rw (is_from row.number n both.0, closed) refl in
-    sym (ap (next_open n) cons ∙ skipped) ∙ so_far
+next_passed n rows i row goal h is order closed so_far = grind (arith, taken_off, is_from)
 
 pub next_found : (n : ℕ) (rows : List Row) (i : ℕ) (row : Row) (goal : Option ℕ) → i < length rows → row ≡ get_or rows i row → AscendFrom n (drop i rows) →
     is_live row.case.phase ≡ true → next_open n (drop i rows) ≡ goal → Some row.number ≡ goal
-next_found n rows i row goal h is order live so_far =
-    let cons = taken_off rows i row h is in
-    let both = subst (AscendFrom n) cons order in
-    let here : next_open n (row ∷ drop (i + 1) rows) ≡ Some row.number = rw (is_from row.number n both.0, live) refl in
-    sym (ap (next_open n) cons ∙ here) ∙ so_far
+next_found n rows i row goal h is order live so_far = grind (arith, taken_off, is_from)

@@ -1,5 +1,5 @@
 -- How the open cases of a table get other plans.
-use Rattle.std.proofs.Common.{◌≡◌, ℕ, suc, ◌+◌, ◌<◌, ◌≤◌, true, false, inl, inr, List, [], ◌∷◌, ◌++◌, length, take, drop, get_or, slice_set, refl, sym, ap, ◌∙◌}
+use Rattle.std.proofs.Common.{◌≡◌, ℕ, ◌+◌, ◌<◌, ◌≤◌, true, false, List, [], ◌∷◌, ◌++◌, length, take, drop, get_or, slice_set, refl, sym, ap, ◌∙◌}
 use Rattle.std.proofs.Common.{arith}
 use Rattle.std.proofs.lemmas.List.{append_assoc, drop-set-lt, drop_all, take-append-drop, take_more_set}
 use Rattle.std.proofs.Math.Seq.{drop-cons}
@@ -18,8 +18,7 @@ replanned_none (r ∷ rs) = refl
 
 -- a case that is not open is passed over
 pub replanned_closed : (r : Row) (rs : List Row) (plans : List (List ℕ)) → is_open_row r ≡ false → replanned (r ∷ rs) plans ≡ r ∷ replanned rs plans
-replanned_closed r rs [] closed = ap (λ xs. r ∷ xs) (sym (replanned_none rs))
-replanned_closed r rs (plan ∷ plans) closed = rw closed refl
+replanned_closed r rs plans closed = grind (arith, replanned_none)
 
 -- an open case gets the next plan
 pub replanned_open : (r : Row) (rs : List Row) (plan : List ℕ) (plans : List (List ℕ)) → is_open_row r ≡ true →
@@ -44,68 +43,38 @@ pub gets_next : (rows : List Row) (i : ℕ) (plans : List (List ℕ)) (k : ℕ) 
     k < length plans → plan ≡ get_or plans k plan → is_open_row r ≡ true →
     replanned_so_far (slice_set rows i (replanned_row plan r)) (i + 1) plans (k + 1) ≡ replanned_so_far rows i plans k
 gets_next rows i plans k r plan below is plan_below plan_is live =
-    let new = replanned_row plan r in
-    let next : drop k plans ≡ plan ∷ drop (k + 1) plans =
-    let same : suc k ≡ k + 1 = omega arith in
-    drop-cons plans k plan plan_below ∙ (λ j. sym plan_is j ∷ drop (same j) plans) in
-    let rest = replanned (drop (i + 1) rows) (drop (k + 1) plans) in
-    let left : replanned (drop i rows) (drop k plans) ≡ new ∷ rest =
-    (λ j. replanned (taken_off rows i r below is j) (next j)) ∙ replanned_open r (drop (i + 1) rows) plan (drop (k + 1) plans) live in
-    (λ j. take_more_set rows i new below j ++ replanned (drop-set-lt (i + 1) rows i new (omega arith) j) (drop (k + 1) plans))
-    ∙ append_assoc (take i rows) (new ∷ []) rest ∙ ap (λ xs. take i rows ++ xs) (sym left)
+    grind (arith, drop-cons, taken_off, replanned_open, take_more_set, drop-set-lt, append_assoc)
 
 -- where there are no plans left, all of the rows are there
 pub none_left : (rows : List Row) (i : ℕ) (plans : List (List ℕ)) (k : ℕ) → length plans ≤ k →
     replanned_so_far rows (i + 1) plans k ≡ replanned_so_far rows i plans k
-none_left rows i plans k past = all rows (i + 1) ∙ sym (all rows i)
-  where
-    all : (xs : List Row) (n : ℕ) → replanned_so_far xs n plans k ≡ xs
-    all xs n =
-        ap (λ ps. take n xs ++ replanned (drop n xs) ps) (drop_all k plans past) ∙ ap (λ ys. take n xs ++ ys) (replanned_none (drop n xs))
-        ∙ take-append-drop n xs
+none_left rows i plans k past = grind (arith, drop_all, replanned_none, take-append-drop)
 
 ascend_replanned : (low : ℕ) (rows : List Row) (plans : List (List ℕ)) → AscendFrom low rows → AscendFrom low (replanned rows plans)
 ascend_replanned low [] plans order = tt
 ascend_replanned low (r ∷ rs) [] order = order
-ascend_replanned low (r ∷ rs) (plan ∷ plans) order = elim (bool_cases (is_open_row r)) [
-  | inl live ↦ rw live (order.0, ascend_replanned (r.number + 1) rs plans order.1)
-  | inr closed ↦ rw closed (order.0, ascend_replanned (r.number + 1) rs (plan ∷ plans) order.1)
-]
+ascend_replanned low (r ∷ rs) (plan ∷ plans) order =
+    grind (arith, bool_cases, (ascend_replanned (r.number + 1) rs plans order.1), (ascend_replanned (r.number + 1) rs (plan ∷ plans) order.1))
 
 below_replanned : (high : ℕ) (rows : List Row) (plans : List (List ℕ)) → AreNumberedBelow high rows → AreNumberedBelow high (replanned rows plans)
 below_replanned high [] plans below = tt
 below_replanned high (r ∷ rs) [] below = below
-below_replanned high (r ∷ rs) (plan ∷ plans) below = elim (bool_cases (is_open_row r)) [
-  | inl live ↦ rw live (below.0, below_replanned high rs plans below.1)
-  | inr closed ↦ rw closed (below.0, below_replanned high rs (plan ∷ plans) below.1)
-]
+below_replanned high (r ∷ rs) (plan ∷ plans) below =
+    grind (arith, bool_cases, (below_replanned high rs plans below.1), (below_replanned high rs (plan ∷ plans) below.1))
 
 planned_replanned : (rows : List Row) (plans : List (List ℕ)) → ArePlannedWhileOpen rows → ArePlannedWhileOpen (replanned rows plans)
 planned_replanned [] plans planned = tt
 planned_replanned (r ∷ rs) [] planned = planned
-planned_replanned (r ∷ rs) (plan ∷ plans) planned = elim (bool_cases (is_open_row r)) [
-  | inl live ↦ rw live (sym live, planned_replanned rs plans planned.1)
-  | inr closed ↦ rw closed (planned.0, planned_replanned rs (plan ∷ plans) planned.1)
-]
+planned_replanned (r ∷ rs) (plan ∷ plans) planned =
+    grind (arith, bool_cases, (planned_replanned rs plans planned.1), (planned_replanned rs (plan ∷ plans) planned.1))
 
 -- as many cases are open as before
 pub count_replanned : (rows : List Row) (plans : List (List ℕ)) → open_count (replanned rows plans) ≡ open_count rows
 count_replanned [] plans = refl
 count_replanned (r ∷ rs) [] = refl
-count_replanned (r ∷ rs) (plan ∷ plans) = elim (bool_cases (is_open_row r)) [
-  | inl live ↦ ap open_count (replanned_open r rs plan plans live) ∙
-      omega (arith, counted (replanned_row plan r) (replanned rs plans), counted r rs, count_replanned rs plans)
-  | inr closed ↦ ap open_count (replanned_closed r rs (plan ∷ plans) closed) ∙
-      omega (arith, counted r (replanned rs (plan ∷ plans)), counted r rs, count_replanned rs (plan ∷ plans))
-]
+count_replanned (r ∷ rs) (plan ∷ plans) =
+    grind (arith, bool_cases, replanned_open, counted, replanned_closed, (count_replanned rs plans), (count_replanned rs (plan ∷ plans)))
 
 -- a table with other plans is kept
 pub kept_replanned : (ever live : ℕ) (rows : List Row) (plans : List (List ℕ)) → IsSoundTable rows ever live → IsSoundTable (replanned rows plans) ever live
-kept_replanned ever live rows plans kept = record {
-  ascend = ascend_replanned 0 rows plans kept.ascend;
-  below = below_replanned ever rows plans kept.below;
-  planned = planned_replanned rows plans kept.planned;
-  counted = count_replanned rows plans ∙ kept.counted;
-  few = kept.few;
-  limit = kept.limit;
-}
+kept_replanned ever live rows plans kept = grind (arith, ascend_replanned, below_replanned, planned_replanned, counted, count_replanned)

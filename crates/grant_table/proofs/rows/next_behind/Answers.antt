@@ -1,5 +1,4 @@
-use Rattle.std.proofs.Common.{ap, ◌∙◌}
-use Rattle.grant_table.specs.Cases.{next_open}
+use Rattle.std.proofs.Common.{arith}
 use Rattle.grant_table.proofs.Passed.{ascend_passed, next_open_passed}
 use Rattle.grant_table.proofs.rows.next_behind.Goals as goal
 
@@ -7,5 +6,4 @@ pub next_open-requires : goal.next_open-requires
 next_open-requires c = rw c.behind.ensures (ascend_passed 0 c.args.first c.args.rows.now c.requires.order)
 
 pub returns : goal.returns
-returns c = c.next_open.ensures ∙ ap (next_open c.args.from) c.behind.ensures ∙
-    next_open_passed c.args.from c.args.first c.args.rows.now c.requires.passed.ended
+returns c = grind (arith, next_open_passed)

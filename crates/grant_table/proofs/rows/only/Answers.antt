@@ -1,4 +1,4 @@
-use Rattle.std.proofs.Common.{◌++◌, ◌∷◌, [], sym, ap, ◌∙◌}
+use Rattle.std.proofs.Common.{sym, ap, ◌∙◌, arith}
 use Rattle.grant_table.specs.Kept.{rows_of}
 use Rattle.grant_table.proofs.Parts.{get_there, only_is}
 use Rattle.grant_table.proofs.rows.only.Goals as goal
@@ -7,7 +7,4 @@ pub returns-in_default : goal.returns-in_default
 returns-in_default c = c.new-some.ensures.items ∙ ap rows_of (sym c.in_default.ensures) ∙ sym (only_is 0 c.args.n c.args.rows.now c.requires)
 
 pub returns : goal.returns
-returns c =
-    let there = c.in-Some.ensures.found ∙ get_there c.args.rows.now c.in-Some.i c.index-rows-i.result c.in-Some.ensures.within c.index-rows-i.is in
-    c.in_ok-push.ensures.items ∙ ap (λ xs. xs ++ c.index-rows-i.result ∷ []) c.new-some.ensures.items ∙ ap rows_of (sym there) ∙
-    sym (only_is 0 c.args.n c.args.rows.now c.requires)
+returns c = grind (arith, get_there, only_is)

@@ -1,18 +1,12 @@
-use Rattle.std.proofs.Common.{◌≡◌, ◌+◌, cond, refl, sym, ap, subst, IsSomeAnd, ◌∙◌}
+use Rattle.std.proofs.Common.{◌≡◌, refl, sym, ap, subst, IsSomeAnd, ◌∙◌, arith}
 use Rattle.wf_names.specs.States.{is_done}
 use Rattle.case_record.specs.Cases.{CaseShape}
-use Rattle.grant_table.specs.Cases.{case_at, ones, finished_row, HasHeldStep}
+use Rattle.grant_table.specs.Cases.{case_at, finished_row}
 use Rattle.grant_table.proofs.Keeping.{known, there_again, table_put, finish_counts, case_changed}
 use Rattle.grant_table.proofs.cases.Cases.finish.Goals as goal
 
 pub put_row-requires-clause-there : goal.put_row-requires-clause-there
-put_row-requires-clause-there c =
-    let rows = c.args.self.now.rows in
-    let open_case = (known (λ k. HasHeldStep k c.args.s) c.args.c rows c.row-row.result c.row-row.ensures.row c.requires).open_case in
-    let done = ap (λ r. is_done r.case.phase) (sym c.finish.ensures) ∙ ap is_done (sym c.phase.ensures) ∙ sym c.is_done-done.ensures in
-    there_again (λ r. ones r ≡ ones c.finish.new.row + cond c.is_done-done.result 1 0) c.args.c rows c.row-row.result c.finish.new.row c.row-row.ensures.row
-    (ap (λ r. r.number) c.finish.ensures)
-    (finish_counts c.args.s c.row-row.result open_case ∙ (λ i. ones (sym c.finish.ensures i) + cond (done i) 1 0))
+put_row-requires-clause-there c = grind (arith, known, there_again, finish_counts)
 
 pub returns-clause-finished : goal.returns-clause-finished
 returns-clause-finished c = c.put_row.ensures ∙

@@ -1,12 +1,10 @@
-use Rattle.std.proofs.Common.{◌≡◌, ◌+◌, refl, ap, ◌∙◌, arith}
-use Rattle.grant_table.specs.Cases.{ones, held_row}
+use Rattle.std.proofs.Common.{refl, ◌∙◌, arith}
+use Rattle.grant_table.specs.Cases.{held_row}
 use Rattle.grant_table.proofs.Keeping.{there_again, table_put}
 use Rattle.grant_table.proofs.cases.Cases.hold_step.Goals as goal
 
 pub put_row-requires-clause-there : goal.put_row-requires-clause-there
-put_row-requires-clause-there c =
-    there_again (λ r. ones r ≡ ones c.hold.new.row + 0) c.args.c c.args.self.now.rows c.row-row.result c.hold.new.row c.row-row.ensures.row
-    (ap (λ r. r.number) c.hold.ensures) (omega (arith, ap ones c.hold.ensures))
+put_row-requires-clause-there c = grind (arith, there_again)
 
 pub returns : goal.returns
 returns c = c.put_row.ensures ∙

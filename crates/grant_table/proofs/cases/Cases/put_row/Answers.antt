@@ -1,4 +1,4 @@
-use Rattle.std.proofs.Common.{◌-◌, cond}
+use Rattle.std.proofs.Common.{cond, arith}
 use Rattle.grant_table.proofs.Keeping.{kept_put, counts_one}
 use Rattle.grant_table.proofs.Passed.{passed_put}
 use Rattle.grant_table.proofs.cases.Cases.put_row.Goals as goal
@@ -22,5 +22,4 @@ invariant_of-self c =
     record { sound = rw c.put.ensures.rows sound; passed = rw c.deref.ensures.value at c.past_ended-self-inside.ensures }
 
 pub returns : goal.returns
-returns c =
-    rw (← c.self.view_is) (λ i. record { rows = c.put.ensures.rows i; ever = c.self.inside.ever; spare = c.put.ensures.capacity i - c.put.ensures.len i })
+returns c = grind arith
