@@ -11,12 +11,9 @@ use Rattle.constraint_forms.specs.Rules.{count_members, different, is_among, use
 pub among_from : (k : ℕ) (group : List Bool) (f : ℕ → ℕ) (x y u : ℕ) → is_member group x ≡ true → y ≡ k + x → f y ≡ u →
     is_among (users_from k group (λ s. Some (f s))) u ≡ true
 among_from k [] f x y u one same is = absurd (false≢true one)
-among_from k (true ∷ bs) f zero y u one same is =
-    let here : y ≡ k = omega (arith, same) in
-    or_left (nat_eq (f k) u) (is_among (users_from (k + 1) bs (λ s. Some (f s))) u) (eq_is (f k) u (sym (ap f here) ∙ is))
+among_from k (true ∷ bs) f zero y u one same is = grind (arith, or_left, eq_is)
 among_from k (false ∷ bs) f zero y u one same is = absurd (false≢true one)
-among_from k (true ∷ bs) f (suc x) y u one same is =
-    or_right (nat_eq (f k) u) (is_among (users_from (k + 1) bs (λ s. Some (f s))) u) (among_from (k + 1) bs f x y u one (omega (arith, same)) is)
+among_from k (true ∷ bs) f (suc x) y u one same is = grind (arith, or_right, (among_from (k + 1) bs f x y u one (omega (arith, same)) is))
 among_from k (false ∷ bs) f (suc x) y u one same is = among_from (k + 1) bs f x y u one (omega (arith, same)) is
 
 -- a member that has a user
@@ -69,10 +66,7 @@ none_below (suc n) = let rest = none_below n in omega (arith, rest)
 more_above : (test : ℕ → Bool) (u n : ℕ) → n ≤ u → count_below n (λ w. nat_eq u w || test w) ≡ count_below n test
 unfolding count_below
 more_above test u zero low = refl
-more_above test u (suc n) low =
-    let rest = more_above test u n (omega (arith, low)) in
-    let other : nat_eq u n ≡ false = eq_above u n (omega (arith, low)) in
-    ap (λ k. k + cond (nat_eq u n || test n) 1 0) rest ∙ ap (λ b. count_below n test + cond (b || test n) 1 0) other
+more_above test u (suc n) low = grind (arith, eq_above, (more_above test u n (omega (arith, low))))
 
 more_below : (test : ℕ → Bool) (u n : ℕ) → u < n → count_below n (λ w. nat_eq u w || test w) ≡ cond (test u) 0 1 + count_below n test
 unfolding count_below

@@ -1,6 +1,6 @@
 -- What the clauses of a rule that counts say in a model.
-use Rattle.std.proofs.Common.{◌≡◌, refl, sym, subst, ◌∙◌, ℕ, zero, suc, ◌+◌, ◌-◌, ◌*◌, ◌/◌, ◌%◌, ◌<◌, Bool, true, false, not, ◌&&◌, ◌||◌, ◌==◌, cond, List, []}
-use Rattle.std.proofs.Common.{◌∷◌, ◌++◌, map, length, arith}
+use Rattle.std.proofs.Common.{◌≡◌, subst, ◌∙◌, ℕ, suc, ◌+◌, ◌-◌, ◌*◌, ◌/◌, ◌%◌, ◌<◌, Bool, true, false, not, ◌&&◌, ◌||◌, ◌==◌, cond, List, []}
+use Rattle.std.proofs.Common.{◌∷◌, map, length, arith}
 use Rattle.std.specs.Prelude.{ℤ}
 use Rattle.std.specs.List.{AllByRecursion as Every}
 use Rattle.std.proofs.lemmas.Bool.{false≢true}
@@ -77,44 +77,26 @@ climbs e block high u j = λ i. no_to (counts e block high (less_one u i) j) ∷
 
 pub meets : (e : Encoding) (block high u j : ℕ) → counting_clause e block high (suc u) (suc j) 1 ≡ no_to (takes e block (suc u)) ∷ no_to
     (counts e block high u j) ∷ yes_to (counts e block high (suc u) (suc j)) ∷ []
-meets e block high u j = λ i. no_to (takes e block (suc u)) ∷ (cond (later j i) []
-    (no_to (counts e block high (less_one u i) (less_one j i)) ∷ []) ++ yes_to (counts e block high (suc u) (suc j)) ∷ [])
+meets e block high u j = grind (arith, later, less_one)
 
 pub owes : (e : Encoding) (block high u j : ℕ) → counting_clause e block high (suc u) j 2 ≡ no_to (counts e block high (suc u) j) ∷ yes_to
     (counts e block high u j) ∷ yes_to (takes e block (suc u)) ∷ []
-owes e block high u j = λ i. no_to
-    (counts e block high (suc u) j) ∷ (cond (later u i) [] (yes_to (counts e block high (less_one u i) j) ∷ []) ++ yes_to (takes e block (suc u)) ∷ [])
+owes e block high u j = grind (arith, later, less_one)
 
 pub follows : (e : Encoding) (block high u j : ℕ) → counting_clause e block high (suc u) (suc j) 3 ≡ no_to (counts e block high (suc u) (suc j)) ∷ yes_to
     (counts e block high u (suc j)) ∷ yes_to (counts e block high u j) ∷ []
-follows e block high u j = λ i. no_to (counts e block high (suc u) (suc j)) ∷ cond (later u i) []
-    (yes_to (counts e block high (less_one u i) (suc j)) ∷ yes_to (counts e block high (less_one u i) (less_one j i)) ∷ [])
+follows e block high u j = grind (arith, later, less_one)
 
 -- what such clauses say together, of values alone
 as_first : (z c : Bool) → (not z || (c || false)) ≡ true → (not c || (z || false)) ≡ true → c ≡ z
-as_first true true up down = refl
-as_first true false up down = absurd (false≢true up)
-as_first false true up down = absurd (false≢true down)
-as_first false false up down = refl
+as_first z c up down = grind (arith, false≢true)
 
 as_next : (b z c : Bool) → (not b || (c || false)) ≡ true → (not z || (c || false)) ≡ true → (not c || (b || (z || false))) ≡ true → c ≡ (b || z)
-as_next true z true on up down = refl
-as_next true z false on up down = absurd (false≢true on)
-as_next false true true on up down = refl
-as_next false true false on up down = absurd (false≢true up)
-as_next false false true on up down = absurd (false≢true down)
-as_next false false false on up down = refl
+as_next b z c on up down = grind (arith, false≢true)
 
 as_more : (b z d c : Bool) → (not b || (c || false)) ≡ true → (not z || (not d || (c || false))) ≡ true → (not c || (b || (z || false))) ≡ true →
     (not c || (b || (d || false))) ≡ true → c ≡ (b || (z && d))
-as_more true z d true on up one two = refl
-as_more true z d false on up one two = absurd (false≢true on)
-as_more false true true true on up one two = refl
-as_more false true true false on up one two = absurd (false≢true up)
-as_more false true false true on up one two = absurd (false≢true two)
-as_more false true false false on up one two = refl
-as_more false false d true on up one two = absurd (false≢true one)
-as_more false false d false on up one two = refl
+as_more b z d c on up one two = grind (arith, false≢true)
 
 said : (m : ℕ → Bool) {c d : List ℤ} → c ≡ d → Holds m c → Holds m d
 said m same h = subst (λ x. satisfies m x ≡ true) same h
@@ -152,21 +134,12 @@ is_counter e m block most limit h =
 -- ---- what is asked
 
 one_part : (n : ℕ) → 0 < n → 0 < cond (n == 0) 0 1
-one_part zero some = some
-one_part (suc n) some = subst (λ b. 0 < cond b 0 1) (sym (later n)) (omega arith)
+one_part n some = grind (arith, later)
 
 pub ended_most : (e : Encoding) (m : ℕ → Bool) (block limit u : ℕ) → suc u ≡ e.users → GroupHolds e m (Ending block true limit) →
     m (counts e block (limit + 1) u limit) ≡ false
-ended_most e m block limit u last h =
-    let here = part_holds e m (Ending block true limit) h 0 (one_part e.users (omega (arith, last))) in
-    let user : e.users - 1 ≡ u = omega (arith, last) in
-    let number : limit + 1 - 1 ≡ limit = omega arith in
-    subst (λ j. m (counts e block (limit + 1) u j) ≡ false) number
-    (subst (λ v. m (counts e block (limit + 1) v (limit + 1 - 1)) ≡ false) user (one_no m (counts e block (limit + 1) (e.users - 1) (limit + 1 - 1)) here.0))
+ended_most e m block limit u last h = grind (arith, part_holds, one_part, one_no)
 
 pub ended_least : (e : Encoding) (m : ℕ → Bool) (block limit u : ℕ) → suc u ≡ e.users → GroupHolds e m (Ending block false limit) →
     m (counts e block limit u (limit - 1)) ≡ true
-ended_least e m block limit u last h =
-    let here = part_holds e m (Ending block false limit) h 0 (one_part e.users (omega (arith, last))) in
-    let user : e.users - 1 ≡ u = omega (arith, last) in
-    subst (λ v. m (counts e block limit v (limit - 1)) ≡ true) user (one_yes m (counts e block limit (e.users - 1) (limit - 1)) here.0)
+ended_least e m block limit u last h = grind (arith, part_holds, one_part, one_yes)

@@ -1,5 +1,5 @@
 -- A sequential counter counts.
-use Rattle.std.proofs.Common.{◌≡◌, refl, sym, ap, ◌∙◌, ℕ, zero, suc, ◌+◌, ◌<◌, Bool, true, false, ◌&&◌, ◌||◌, nat_lt, cond, arith}
+use Rattle.std.proofs.Common.{◌≡◌, sym, ap, ◌∙◌, ℕ, zero, suc, ◌+◌, ◌<◌, Bool, false, ◌&&◌, ◌||◌, nat_lt, cond, arith}
 use Rattle.std.proofs.lemmas.Bool.Decides.{nat_tests}
 use Rattle.wf_names.specs.UserSets.{count_below}
 
@@ -12,28 +12,22 @@ pub record IsCounter (z : ℕ → Bool) (c : ℕ → ℕ → Bool) (n high : ℕ
   pub next_more : (u j : ℕ) → suc u < n → suc j < high → c (suc u) (suc j) ≡ (c u (suc j) || (z (suc u) && c u j))
 
 one_first : (b : Bool) → b ≡ nat_lt 0 (0 + cond b 1 0)
-one_first true = refl
-one_first false = refl
+one_first b = grind arith
 
 none_first : (b : Bool) (j : ℕ) → false ≡ nat_lt (suc j) (0 + cond b 1 0)
-none_first true j = grind (arith, nat_tests)
-none_first false j = grind (arith, nat_tests)
+none_first b j = grind (arith, nat_tests)
 
 one_next : (b : Bool) (k : ℕ) → (nat_lt 0 k || b) ≡ nat_lt 0 (k + cond b 1 0)
-one_next true k = grind (arith, nat_tests)
-one_next false k = grind (arith, nat_tests)
+one_next b k = grind (arith, nat_tests)
 
 one_more : (b : Bool) (k j : ℕ) → (nat_lt (suc j) k || (b && nat_lt j k)) ≡ nat_lt (suc j) (k + cond b 1 0)
-one_more true k j = grind (arith, nat_tests)
-one_more false k j = grind (arith, nat_tests)
+one_more b k j = grind (arith, nat_tests)
 
 pub counted : (z : ℕ → Bool) (c : ℕ → ℕ → Bool) (n high : ℕ) → IsCounter z c n high → (u j : ℕ) → u < n → j < high → c u j ≡ nat_lt j (count_below (suc u) z)
 unfolding count_below
 counted z c n high is zero zero below less = is.first below less ∙ one_first (z 0)
 counted z c n high is zero (suc j) below less = is.first_more j below less ∙ none_first (z 0) j
-counted z c n high is (suc u) zero below less =
-    is.next u below less ∙ ap (λ b. b || z (suc u)) (counted z c n high is u zero (omega (arith, below)) less)
-    ∙ one_next (z (suc u)) (count_below (suc u) z)
+counted z c n high is (suc u) zero below less = grind (arith, one_next, (counted z c n high is u zero (omega (arith, below)) less))
 counted z c n high is (suc u) (suc j) below less =
     is.next_more u j below less
     ∙ ap (λ b. b || (z (suc u) && c u j)) (counted z c n high is u (suc j) (omega (arith, below)) less)
@@ -43,12 +37,7 @@ counted z c n high is (suc u) (suc j) below less =
 -- counts are a counter
 pub counter_of : (z : ℕ → Bool) (n high : ℕ) → IsCounter z (λ u j. nat_lt j (count_below (suc u) z)) n high
 unfolding count_below
-counter_of z n high = record {
-  first = λ some more. sym (one_first (z 0));
-  first_more = λ j some more. sym (none_first (z 0) j);
-  next = λ u below more. sym (one_next (z (suc u)) (count_below (suc u) z));
-  next_more = λ u j below more. sym (one_more (z (suc u)) (count_below (suc u) z) j);
-}
+counter_of z n high = grind (arith, one_first, none_first, one_next, one_more)
 
 -- .. and so is what agrees with them
 pub same_counter : (t z : ℕ → Bool) (c : ℕ → ℕ → Bool) (n high : ℕ) → ((u : ℕ) → u < n → z u ≡ t u) →

@@ -6,7 +6,7 @@ use Rattle.constraint_forms.specs.declared.rule.Rule.{Rule}
 use Rattle.constraint_forms.specs.declared.rule.Rule.TheVariants as rule
 use Rattle.cnf_export.specs.Laws.Encodings.{Encoding, blocks, clause, count_groups, counting_clause, ending_clause, group_clauses, groups, height, literals}
 use Rattle.cnf_export.specs.Laws.Encodings.{part_items}
-use Rattle.cnf_export.specs.Laws.Encodings.{members, numbers, once_clause, part_clauses, parts, rule_groups, rules_groups, step_blocks, step_groups}
+use Rattle.cnf_export.specs.Laws.Encodings.{members, numbers, once_clause, part_clauses, parts, rule_groups, rules_groups, step_groups}
 use Rattle.cnf_export.specs.Laws.Encodings.{taking_clause}
 use Rattle.cnf_export.specs.Sizes.{empties, empty_one}
 use Rattle.cnf_export.specs.declared.group.Group.{Group}
@@ -22,8 +22,7 @@ literals-append [] ys = omega arith
 literals-append (x ∷ xs) ys = let rest = literals-append xs ys in omega (arith, rest)
 
 one_at_least : (c : List ℤ) → 1 ≤ length c + empty_one c
-one_at_least [] = omega arith
-one_at_least (l ∷ ls) = omega arith
+one_at_least c = grind arith
 
 -- each clause has a literal but for these
 pub few_clauses : (cs : List (List ℤ)) → length cs ≤ literals cs + empties cs
@@ -38,39 +37,27 @@ map_filled f (x ∷ xs) each = let rest = map_filled f xs each in let one = each
 
 flat_filled : {X : Type 0} (f : X → List (List ℤ)) (xs : List X) → ((x : X) → empties (f x) ≡ 0) → empties (flat_map f xs) ≡ 0
 flat_filled f [] each = refl
-flat_filled f (x ∷ xs) each =
-    let rest = flat_filled f xs each in
-    let one = each x in
-    let sum = empties-append (f x) (flat_map f xs) in
-    omega (arith, rest, one, sum)
+flat_filled f (x ∷ xs) each = grind (arith, empties-append, (flat_filled f xs each))
 
 group_filled : (e : Encoding) (g : Group) → ((i k : ℕ) → empty_one (clause e g i k) ≡ 0) → empties (group_clauses e g) ≡ 0
 group_filled e g each = flat_filled (part_clauses e g) (numbers 0 (parts e g)) (λ i. map_filled (clause e g i) (part_items e g i) (each i))
 
 once_filled : (e : Encoding) (s u k : ℕ) → empty_one (once_clause e s u k) ≡ 0
-once_filled e s u zero = refl
-once_filled e s u (suc zero) = refl
-once_filled e s u (suc (suc k)) = refl
+once_filled e s u k = grind arith
 
 taking_filled : (e : Encoding) (block : ℕ) (group : List Bool) (u k : ℕ) → empty_one (taking_clause e block group u k) ≡ 0
-taking_filled e block group u zero = refl
-taking_filled e block group u (suc k) = refl
+taking_filled e block group u k = grind arith
 
 counting_filled : (e : Encoding) (block high u j row : ℕ) → empty_one (counting_clause e block high u j row) ≡ 0
-counting_filled e block high u j zero = refl
-counting_filled e block high u j (suc zero) = refl
-counting_filled e block high u j (suc (suc zero)) = refl
-counting_filled e block high u j (suc (suc (suc row))) = refl
+counting_filled e block high u j row = grind arith
 
 ending_filled : (e : Encoding) (block : ℕ) (most : Bool) (high : ℕ) → empty_one (ending_clause e block most high) ≡ 0
-ending_filled e block true high = refl
-ending_filled e block false high = refl
+ending_filled e block most high = grind arith
 
 -- ---- groups
 
 one_empty : (c : List ℤ) → empty_one c ≤ 1
-one_empty [] = omega arith
-one_empty (l ∷ ls) = omega arith
+one_empty c = grind arith
 
 step_within : (e : Encoding) (s : ℕ) → empties (flat_map (group_clauses e) (step_groups s)) ≤ 1
 step_within e s =
@@ -84,17 +71,12 @@ step_within e s =
     omega (arith, outside, once, rest, first, second, single, one)
 
 pair_filled : (e : Encoding) (back : Bool) (rho x s : ℕ) → empties (group_clauses e (pair_group_at back rho s x)) ≡ 0
-pair_filled e false rho x s = group_filled e (Pair rho x s) (λ i k. refl)
-pair_filled e true rho x s = group_filled e (Pair rho s x) (λ i k. refl)
+pair_filled e back rho x s = grind (arith, group_filled)
 
 flat_map_filled : {X : Type 0} (f : Group → List (List ℤ)) (g : X → Group) (xs : List X) → ((x : X) → empties (f (g x)) ≡ 0) →
     empties (flat_map f (map g xs)) ≡ 0
 flat_map_filled f g [] each = refl
-flat_map_filled f g (x ∷ xs) each =
-    let rest = flat_map_filled f g xs each in
-    let one = each x in
-    let sum = empties-append (f (g x)) (flat_map f (map g xs)) in
-    omega (arith, rest, one, sum)
+flat_map_filled f g (x ∷ xs) each = grind (arith, empties-append, (flat_map_filled f g xs each))
 
 one_filled : (e : Encoding) (g : Group) → empties (group_clauses e g) ≡ 0 → empties (flat_map (group_clauses e) (g ∷ [])) ≡ 0
 one_filled e g none = let sum = empties-append (group_clauses e g) [] in omega (arith, sum, none)
@@ -121,19 +103,11 @@ rule_filled e block (rule.AtLeast limit group) = count_filled e block false limi
 
 flat-append : {X : Type 0} (f : X → List (List ℤ)) (xs ys : List X) → empties (flat_map f (xs ++ ys)) ≡ empties (flat_map f xs) + empties (flat_map f ys)
 flat-append f [] ys = omega arith
-flat-append f (x ∷ xs) ys =
-    let rest = flat-append f xs ys in
-    let one = empties-append (f x) (flat_map f (xs ++ ys)) in
-    let two = empties-append (f x) (flat_map f xs) in
-    omega (arith, rest, one, two)
+flat-append f (x ∷ xs) ys = grind (arith, empties-append, (flat-append f xs ys))
 
 rules_filled : (e : Encoding) (block : ℕ) (rules : List Rule) → empties (flat_map (group_clauses e) (rules_groups block rules)) ≡ 0
 rules_filled e block [] = refl
-rules_filled e block (r ∷ rules) =
-    let rest = rules_filled e (block + blocks r) rules in
-    let one = rule_filled e block r in
-    let sum = flat-append (group_clauses e) (rule_groups block r) (rules_groups (block + blocks r) rules) in
-    omega (arith, rest, one, sum)
+rules_filled e block (r ∷ rules) = grind (arith, rule_filled, flat-append, (rules_filled e (block + blocks r) rules))
 
 steps_within : (e : Encoding) (k n : ℕ) → empties (flat_map (group_clauses e) (flat_map step_groups (numbers k n))) ≤ n
 steps_within e k zero = omega arith
@@ -144,8 +118,4 @@ steps_within e k (suc n) =
     omega (arith, rest, one, sum)
 
 pub filled : (e : Encoding) (steps : ℕ) (rules : List Rule) → empties (flat_map (group_clauses e) (groups steps rules)) ≤ steps
-filled e steps rules =
-    let first = steps_within e 0 steps in
-    let then = rules_filled e (step_blocks steps) rules in
-    let sum = flat-append (group_clauses e) (flat_map step_groups (numbers 0 steps)) (rules_groups (step_blocks steps) rules) in
-    omega (arith, first, then, sum)
+filled e steps rules = grind (arith, steps_within, rules_filled, flat-append)

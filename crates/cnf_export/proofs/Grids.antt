@@ -39,33 +39,15 @@ rows_from f k h w = flat_map (λ i. map (f i) (numbers 0 w)) (numbers k h)
 length-rows : (f : ℕ → ℕ → Bool) (k h w : ℕ) → length (rows_from f k h w) ≡ h * w
 unfolding rows_from
 length-rows f k zero w = omega arith
-length-rows f k (suc h) w =
-    let sum = length-append (map (f k) (numbers 0 w)) (rows_from f (k + 1) h w) in
-    let one = length-row (f k) 0 w in
-    let rest = length-rows f (k + 1) h w in
-    let next = suc-mul h w in
-    omega (arith, sum, one, rest, next)
+length-rows f k (suc h) w = grind (arith, length-append, length-row, suc-mul, (length-rows f (k + 1) h w))
 
 rows_at : (f : ℕ → ℕ → Bool) (k h w i j p : ℕ) (rest : List Bool) → i < h → j < w → p ≡ i * w + j →
     slice_index_or (rows_from f k h w ++ rest) p false ≡ f (k + i) j
 unfolding rows_from
 rows_at f k zero w i j p rest high low is = absurd (omega (arith, high))
-rows_at f k (suc h) w zero j p rest high low is =
-    let place : p ≡ j = omega (arith, is) in
-    let first : k ≡ k + 0 = omega arith in
-    let there : 0 + j ≡ j = omega arith in
-    ap (λ xs. slice_index_or xs p false) (append_assoc (map (f k) (numbers 0 w)) (rows_from f (k + 1) h w) rest)
-    ∙ ap (λ q. slice_index_or (map (f k) (numbers 0 w) ++ (rows_from f (k + 1) h w ++ rest)) q false) place
-    ∙ row_at (f k) 0 w j (rows_from f (k + 1) h w ++ rest) low
-    ∙ ap (f k) there ∙ ap (λ q. f q j) first
+rows_at f k (suc h) w zero j p rest high low is = grind (arith, append_assoc, row_at)
 rows_at f k (suc h) w (suc i) j p rest high low is =
-    let next = suc-mul i w in
-    let len = length-row (f k) 0 w in
-    let same : k + 1 + i ≡ k + suc i = omega arith in
-    ap (λ xs. slice_index_or xs p false) (append_assoc (map (f k) (numbers 0 w)) (rows_from f (k + 1) h w) rest)
-    ∙ behind (map (f k) (numbers 0 w)) (rows_from f (k + 1) h w ++ rest) p (i * w + j) (omega (arith, is, next, len))
-    ∙ rows_at f (k + 1) h w i j (i * w + j) rest (omega (arith, high)) low refl
-    ∙ ap (λ q. f q j) same
+    grind (arith, suc-mul, length-row, append_assoc, behind, (rows_at f (k + 1) h w i j (i * w + j) rest (omega (arith, high)) low refl))
 
 grid_at : (f : ℕ → ℕ → Bool) (h w i j p : ℕ) (rest : List Bool) → i < h → j < w → p ≡ i * w + j → slice_index_or (grid f h w ++ rest) p false ≡ f i j
 unfolding rows_from
@@ -79,10 +61,7 @@ length-grid f h w = length-rows f 0 h w
 
 pub next_mapped : {A : Type 0} (f : ℕ → A) (into after : List A) (k n : ℕ) → k < n → after ≡ into ++ f k ∷ [] →
     after ++ map f (numbers (k + 1) (n - (k + 1))) ≡ into ++ map f (numbers k (n - k))
-next_mapped f into after k n below is =
-    ap (λ xs. xs ++ map f (numbers (k + 1) (n - (k + 1)))) is
-    ∙ append_assoc into (f k ∷ []) (map f (numbers (k + 1) (n - (k + 1))))
-    ∙ ap (λ ks. into ++ map f ks) (sym (numbers_at k n below))
+next_mapped f into after k n below is = grind (arith, append_assoc, numbers_at)
 
 pub one_longer : (xs : List ℕ) (x : ℕ) → length (xs ++ x ∷ []) ≡ length xs + 1
 one_longer [] x = omega arith
@@ -100,35 +79,16 @@ count_next test n = refl
 
 more_blocks : (n block more : ℕ) → (block + more) * n ≡ block * n + more * n
 more_blocks n zero more = let same : 0 + more ≡ more = omega arith in ap (λ k. k * n) same ∙ omega arith
-more_blocks n (suc block) more =
-    let one = more_blocks n block more in
-    let next = suc-mul block n in
-    let sum = suc-mul (block + more) n in
-    let same : suc block + more ≡ suc (block + more) = omega arith in
-    ap (λ k. k * n) same ∙ omega (arith, one, next, sum)
+more_blocks n (suc block) more = grind (arith, suc-mul, (more_blocks n block more))
 
 times_turned : (m n : ℕ) → m * n ≡ n * m
 times_turned m n = grind arith
 
 length-count : (n : ℕ) (plan : List ℕ) (high : ℕ) (group : List Bool) → length (count_flags n plan high group) ≡ (1 + high) * n
-length-count n plan high group =
-    let row = map (has_some group plan) (numbers 0 n) in
-    let rest = grid (λ u j. nat_lt j (count_below (suc u) (has_some group plan))) n high in
-    let sum = length-append row rest in
-    let one = length-row (has_some group plan) 0 n in
-    let more = length-grid (λ u j. nat_lt j (count_below (suc u) (has_some group plan))) n high in
-    let turned_ = times_turned n high in
-    let blocks_ = more_blocks n 1 high in
-    omega (arith, sum, one, more, turned_, blocks_)
+length-count n plan high group = grind (arith, length-append, length-row, length-grid, times_turned, more_blocks)
 
 length-rule : (n : ℕ) (plan : List ℕ) (r : Rule) → length (rule_flags n plan r) ≡ blocks r * n
-length-rule n plan (rule.Pair rho s t) = omega arith
-length-rule n plan (rule.SomeOf rho group s) = omega arith
-length-rule n plan (rule.AllOf rho group s) = omega arith
-length-rule n plan (rule.SomeTo rho s group) = omega arith
-length-rule n plan (rule.AllTo rho s group) = omega arith
-length-rule n plan (rule.AtMost limit group) = length-count n plan (height true limit) group
-length-rule n plan (rule.AtLeast limit group) = length-count n plan (height false limit) group
+length-rule n plan r = grind (arith, length-count)
 
 says_count : (e : Encoding) (plan : List ℕ) (before rest : List Bool) (block high : ℕ) (group : List Bool) → length before ≡ block * e.users →
     SaysCount e (has_variable (before ++ (count_flags e.users plan high group ++ rest))) plan block high group

@@ -5,7 +5,7 @@ use Rattle.std.specs.Prelude.{ℤ}
 use Rattle.std.specs.List.{flat_map}
 use Rattle.std.proofs.lemmas.List.{append-nil}
 use Rattle.std.proofs.lemmas.Bool.{false≢true}
-use Rattle.cnf_export.specs.Laws.Encodings.{Encoding, clause, group_clauses, numbers, part_clauses, part_items}
+use Rattle.cnf_export.specs.Laws.Encodings.{Encoding, clause, numbers, part_clauses, part_items}
 use Rattle.cnf_export.specs.Positions.{left_from}
 use Rattle.cnf_export.specs.declared.group.Group.{Group}
 use Rattle.cnf_export.specs.declared.position.Position.{Position}
@@ -24,12 +24,7 @@ skipped : (test : ℕ → Bool) (d k n : ℕ) → k + d ≤ n → ((w : ℕ) →
     passing test k (n - k) ≡ passing test (k + d) (n - (k + d))
 skipped test zero k n within none = let same : k ≡ k + 0 = omega arith in ap (λ j. passing test j (n - j)) same
 skipped test (suc d) k n within none =
-    let below : k < n = omega (arith, within) in
-    let same : k + 1 + d ≡ k + suc d = omega arith in
-    passing_at test k n below
-    ∙ ap (λ b. cond b (k ∷ passing test (k + 1) (n - (k + 1))) (passing test (k + 1) (n - (k + 1)))) (none k (omega arith) (omega arith))
-    ∙ skipped test d (k + 1) n (omega (arith, within)) (λ w low high. none w (omega (arith, low)) (omega (arith, high)))
-    ∙ ap (λ j. passing test j (n - j)) same
+    grind (arith, passing_at, (skipped test d (k + 1) n (omega (arith, within)) (λ w low high. none w (omega (arith, low)) (omega (arith, high)))))
 
 -- the next that passes
 pub next_passing : (test : ℕ → Bool) (k v n : ℕ) → k ≤ v → v < n → test v ≡ true → ((w : ℕ) → k ≤ w → w < v → test w ≡ false) →
@@ -44,24 +39,18 @@ next_passing test k v n low below passes none =
 -- none passes any more
 pub none_passing : (test : ℕ → Bool) (k n : ℕ) → ((w : ℕ) → k ≤ w → test w ≡ false) → passing test k n ≡ []
 none_passing test k zero none = refl
-none_passing test k (suc n) none = ap (λ b. cond b (k ∷ passing test (k + 1) n) (passing test (k + 1) n)) (none k (omega arith)) ∙
-    none_passing test (k + 1) n (λ w low. none w (omega (arith, low)))
+none_passing test k (suc n) none = grind (arith, (none_passing test (k + 1) n (λ w low. none w (omega (arith, low)))))
 
 -- tests that agree within the bounds
 pub passing_same : (t u : ℕ → Bool) (k n : ℕ) → ((w : ℕ) → k ≤ w → w < k + n → t w ≡ u w) → passing t k n ≡ passing u k n
 passing_same t u k zero same = refl
-passing_same t u k (suc n) same =
-    ap (λ b. cond b (k ∷ passing t (k + 1) n) (passing t (k + 1) n)) (same k (omega arith) (omega arith))
-    ∙ ap (λ rest. cond (u k) (k ∷ rest) rest) (passing_same t u (k + 1) n (λ w low high. same w (omega (arith, low)) (omega (arith, high))))
+passing_same t u k (suc n) same = grind (arith, (passing_same t u (k + 1) n (λ w low high. same w (omega (arith, low)) (omega (arith, high)))))
 
 -- one more of those who pass is put behind
 pub one_added : (g : ℕ → ℤ) (test : ℕ → Bool) (into after : List ℤ) (k v n : ℕ) (l : ℤ) → after ≡ into ++ l ∷ [] → l ≡ g v → k ≤ v → v < n → test v ≡ true →
     ((w : ℕ) → k ≤ w → w < v → test w ≡ false) →
     after ++ map g (passing test (v + 1) (n - (v + 1))) ≡ into ++ map g (passing test k (n - k))
-one_added g test into after k v n l is same low below passes none =
-    ap (λ ls. ls ++ map g (passing test (v + 1) (n - (v + 1)))) (is ∙ ap (λ x. into ++ x ∷ []) same)
-    ∙ append_assoc into (g v ∷ []) (map g (passing test (v + 1) (n - (v + 1))))
-    ∙ ap (λ us. into ++ map g us) (sym (next_passing test k v n low below passes none))
+one_added g test into after k v n l is same low below passes none = grind (arith, append_assoc, next_passing)
 
 pub all_added : (g : ℕ → ℤ) (test : ℕ → Bool) (into : List ℤ) (k n : ℕ) → ((w : ℕ) → k ≤ w → test w ≡ false) → into ≡ into ++ map g (passing test k n)
 all_added g test into k n none = sym (append-nil into) ∙ ap (λ us. into ++ map g us) (sym (none_passing test k n none))
@@ -71,17 +60,12 @@ all_added g test into k n none = sym (append-nil into) ∙ ap (λ us. into ++ ma
 pub listed_one : {A : Type 0} (list : List ℕ → List A) (one : List A) (test : ℕ → Bool) (into after : List A) (t n : ℕ) →
     ((us : List ℕ) → list (t ∷ us) ≡ one ++ list us) → t < n → test t ≡ true → after ≡ into ++ one →
     after ++ list (passing test (t + 1) (n - (t + 1))) ≡ into ++ list (passing test t (n - t))
-listed_one list one test into after t n more below passes added =
-    let rest : List ℕ = passing test (t + 1) (n - (t + 1)) in
-    ap (λ ls. ls ++ list rest) added ∙ append_assoc into one (list rest)
-    ∙ ap (λ ls. into ++ ls) (sym (ap list (passing_at test t n below ∙ ap (λ b. cond b (t ∷ rest) rest) passes) ∙ more rest))
+listed_one list one test into after t n more below passes added = grind (arith, append_assoc, passing_at)
 
 -- one that does not pass is not
 pub listed_none : {A : Type 0} (list : List ℕ → List A) (test : ℕ → Bool) (into after : List A) (t n : ℕ) → t < n → test t ≡ false → after ≡ into →
     after ++ list (passing test (t + 1) (n - (t + 1))) ≡ into ++ list (passing test t (n - t))
-listed_none list test into after t n below fails kept =
-    let rest : List ℕ = passing test (t + 1) (n - (t + 1)) in
-    ap (λ ls. ls ++ list rest) kept ∙ ap (λ us. into ++ list us) (sym (passing_at test t n below ∙ ap (λ b. cond b (t ∷ rest) rest) fails))
+listed_none list test into after t n below fails kept = grind (arith, passing_at)
 
 pub numbers_at : (k n : ℕ) → k < n → numbers k (n - k) ≡ k ∷ numbers (k + 1) (n - (k + 1))
 numbers_at k n below = let more : n - k ≡ suc (n - (k + 1)) = omega arith in ap (numbers k) more
@@ -89,10 +73,7 @@ numbers_at k n below = let more : n - k ≡ suc (n - (k + 1)) = omega arith in a
 -- the part of one more number is put behind
 pub next_number : {A : Type 0} (f : ℕ → List A) (into after : List A) (k n : ℕ) → k < n → after ≡ into ++ f k →
     after ++ flat_map f (numbers (k + 1) (n - (k + 1))) ≡ into ++ flat_map f (numbers k (n - k))
-next_number f into after k n below is =
-    ap (λ xs. xs ++ flat_map f (numbers (k + 1) (n - (k + 1)))) is
-    ∙ append_assoc into (f k) (flat_map f (numbers (k + 1) (n - (k + 1))))
-    ∙ ap (λ ks. into ++ flat_map f ks) (sym (numbers_at k n below))
+next_number f into after k n below is = grind (arith, append_assoc, numbers_at)
 
 pub numbers_end : (k n : ℕ) → n ≤ k → numbers k (n - k) ≡ []
 numbers_end k n past = let none : n - k ≡ zero = omega arith in ap (numbers k) none
@@ -116,16 +97,8 @@ pub part_listed : (e : Encoding) (g : Group) (p n item : ℕ) (old : List ℕ) (
     length old ≤ item →
     map (clause e g p) new ++ (flat_map (part_clauses e g) (numbers (p + 1) (n - (p + 1))) ++ rest) ≡ map (clause e g listed)
     (drop item old) ++ (flat_map (part_clauses e g) (numbers p (n - p)) ++ rest)
-part_listed e g p n item old listed rest new is below done =
-    ap (λ us. map (clause e g p) us ++ (flat_map (part_clauses e g) (numbers (p + 1) (n - (p + 1))) ++ rest)) is
-    ∙ sym (append_assoc (part_clauses e g p) (flat_map (part_clauses e g) (numbers (p + 1) (n - (p + 1)))) rest)
-    ∙ ap (λ us. flat_map (part_clauses e g) us ++ rest) (sym (numbers_at p n below))
-    ∙ ap (λ us. map (clause e g listed) us ++ (flat_map (part_clauses e g) (numbers p (n - p)) ++ rest)) (sym (drop_past item old done))
+part_listed e g p n item old listed rest new is below done = grind (arith, append_assoc, numbers_at, drop_past)
 
 pub nothing_left : (e : Encoding) (groups : List Group) (x : Position) → length x.items ≤ x.item → x.parts ≤ x.part → length groups ≤ x.next_group →
     left_from e groups x ≡ []
-nothing_left e groups x items parts all =
-    ap (λ us. map (clause e x.current x.listed) us ++ (flat_map (part_clauses e x.current) (numbers x.part (x.parts - x.part)) ++ flat_map (group_clauses e)
-    (drop x.next_group groups))) (drop_past x.item x.items items)
-    ∙ ap (λ us. flat_map (part_clauses e x.current) us ++ flat_map (group_clauses e) (drop x.next_group groups)) (numbers_end x.part x.parts parts)
-    ∙ ap (λ gs. flat_map (group_clauses e) gs) (drop_past x.next_group groups all)
+nothing_left e groups x items parts all = grind (arith, drop_past, numbers_end)

@@ -1,6 +1,6 @@
 -- A model of the clauses is a valid plan.
-use Rattle.std.proofs.Common.{◌≡◌, ◌≢◌, refl, sym, ap, subst, ◌∙◌, ℕ, zero, suc, ◌+◌, ◌-◌, ◌<◌, Bool, true, false, not, ◌&&◌, ◌||◌, ◌==◌, nat_le, nat_lt, cond}
-use Rattle.std.proofs.Common.{eqb, List, [], ◌∷◌, map, length, Option, None, Some, is_some, slice_get, ◌⊎◌, inl, inr, arith}
+use Rattle.std.proofs.Common.{◌≡◌, ◌≢◌, refl, sym, ap, subst, ◌∙◌, ℕ, zero, suc, ◌+◌, ◌-◌, ◌<◌, Bool, true, false, not, ◌&&◌, ◌||◌, nat_le, nat_lt, cond}
+use Rattle.std.proofs.Common.{eqb, List, [], ◌∷◌, map, length, Option, Some, is_some, slice_get, ◌⊎◌, inl, inr, arith}
 use Rattle.std.specs.List.{flat_map, AllByRecursion as Every}
 use Rattle.std.specs.Prelude.{ℤ}
 use Rattle.std.proofs.lemmas.Bool.{false≢true, eqb-true}
@@ -66,9 +66,7 @@ all_members k (b ∷ bs) p each = at b refl (all_members (k + 1) bs p (λ x y on
 
 any_member : (k : ℕ) (group : List Bool) (p : ℕ → Bool) (x y : ℕ) → is_member group x ≡ true → y ≡ k + x → p y ≡ true → any_from k group p ≡ true
 any_member k [] p x y one same passes = absurd (false≢true one)
-any_member k (b ∷ bs) p zero y one same passes =
-    let here : y ≡ k = omega (arith, same) in
-    or_left (b && p k) (any_from (k + 1) bs p) (and_from b (p k) one (subst (λ z. p z ≡ true) here passes))
+any_member k (b ∷ bs) p zero y one same passes = grind (arith, or_left, and_from)
 any_member k (b ∷ bs) p (suc x) y one same passes = or_right (b && p k) (any_from (k + 1) bs p) (any_member (k + 1) bs p x y one (omega (arith, same)) passes)
 
 member_within : (group : List Bool) (x : ℕ) → is_member group x ≡ true → x < length group
@@ -128,10 +126,7 @@ pair_related e m rho s t u v h first second = elim (bool_cases (e.related rho u 
 
 -- the plan of a model gives a step a user
 plan_user : (e : Encoding) (m : ℕ → Bool) → ((s : ℕ) → s < e.steps → StepHolds e m s) → (s : ℕ) → s < e.steps → HasUser e m s (planned (plan_said e m) s)
-plan_user e m h s below =
-    let same : 0 + s ≡ s = omega arith in
-    subst (λ u. HasUser e m s u) (sym (made_at (λ t. last_below e.users (λ u. m (has e t u))) 0 e.steps s below ∙
-    ap (λ t. last_below e.users (λ u. m (has e t u))) same)) (user_of e m s (h s below))
+plan_user e m h s below = grind (arith, made_at, user_of)
 
 -- every member of a group is related to a step's user, or the other way round
 all_related : (e : Encoding) (m : ℕ → Bool) (back : Bool) (rho : ℕ) (group : List Bool) (s : ℕ) → ((t : ℕ) → t < e.steps → StepHolds e m t) →
@@ -279,14 +274,7 @@ rule_obeyed e m block (rule.AtLeast limit group) h within some holds = least_obe
 rule_at : (P : Group → Type 0) (block : ℕ) (rules : List Rule) (k : ℕ) (r : Rule) → slice_get rules k ≡ Some r → Every P (rules_groups block rules) →
     (b : ℕ) × Every P (rule_groups b r)
 rule_at P block [] k r is h = absurd (false≢true (ap is_some is))
-rule_at P block (q ∷ rules) zero r is h = (block, at is)
-  where
-    some_same : {A : Type 0} (d : A) → Option A → A
-    some_same d None = d
-    some_same d (Some a) = a
-
-    at : Some q ≡ Some r → Every P (rule_groups block r)
-    at e = subst (λ x. Every P (rule_groups block x)) (ap (some_same q) e) (every_left P (rule_groups block q) (rules_groups (block + blocks q) rules) h)
+rule_at P block (q ∷ rules) zero r is h = grind (arith, every_left)
 rule_at P block (q ∷ rules) (suc k) r is h =
     rule_at P (block + blocks q) rules k r is (every_right P (rule_groups block q) (rules_groups (block + blocks q) rules) h)
 
@@ -301,17 +289,12 @@ step_holds e m rules h s below =
 
 -- whoever an assigned step may have is the one assigned
 kept_user : (p : Problem) (finished : List Bool) (s u v : ℕ) (o : Option ℕ) → o ≡ Some v → may_be p finished s o u ≡ true → u ≡ v
-kept_user p finished s u v o is may =
-    let both = and_both (v == u) (is_member finished s || p.authorised s v) (subst (λ x. may_be p finished s x u ≡ true) is may) in
-    sym (eqb-true v u both.0)
+kept_user p finished s u v o is may = grind (arith, and_both, eqb-true)
 
 -- whoever a step that is not finished may have is authorised
 may_authorised : (p : Problem) (finished : List Bool) (s u : ℕ) (o : Option ℕ) → is_member finished s ≡ false → may_be p finished s o u ≡ true →
     p.authorised s u ≡ true
-may_authorised p finished s u None open_ may = may
-may_authorised p finished s u (Some v) open_ may =
-    let both = and_both (v == u) (is_member finished s || p.authorised s v) may in
-    subst (λ w. p.authorised s w ≡ true) (eqb-true v u both.0) (ap (λ b. b || p.authorised s v) (sym open_) ∙ both.1)
+may_authorised p finished s u o open_ may = grind (arith, and_both, eqb-true)
 
 pub models_are_plans : ModelsArePlans
 models_are_plans p assigned finished m sound within model =

@@ -4,15 +4,8 @@ use Rattle.wf_names.specs.declared.limits.TheConstants.{USER_LIMIT}
 
 -- the first variable of a block
 pub block_small : (b n : ℕ) → b < 65536 → n ≤ USER_LIMIT → b * n < 2 ^ 28
-block_small b n few users =
-    let most : b ≤ 65535 = omega (arith, few) in
-    let few_users : n ≤ 4096 = omega (arith, users) in
-    let bound : b * n ≤ 65535 * 4096 = mul-le-mul most few_users in
-    omega (arith, bound)
+block_small b n few users = grind (arith, mul-le-mul)
 
 -- the first of a user's variables in a count
 pub row_small : (u high : ℕ) → u < 65536 → high ≤ 256 → u * high < 2 ^ 25
-row_small u high few small =
-    let most : u ≤ 65535 = omega (arith, few) in
-    let bound : u * high ≤ 65535 * 256 = mul-le-mul most small in
-    omega (arith, bound)
+row_small u high few small = grind (arith, mul-le-mul)

@@ -1,6 +1,6 @@
 -- A model that says a valid plan is a model of the clauses.
 use Rattle.std.proofs.Common.{◌≡◌, ◌≢◌, refl, sym, ap, subst, ◌∙◌, ℕ, zero, suc, ◌+◌, ◌-◌, ◌<◌, ◌≤◌, Bool, true, false, not, ◌&&◌, ◌||◌, ◌==◌, nat_le, cond}
-use Rattle.std.proofs.Common.{eqb, List, [], ◌∷◌, ◌++◌, map, length, nat_lt, ◌*◌, Option, None, Some, slice_get, ◌⊎◌, inl, inr, arith}
+use Rattle.std.proofs.Common.{eqb, List, [], ◌∷◌, ◌++◌, map, length, nat_lt, ◌*◌, Option, Some, slice_get, ◌⊎◌, inl, inr, arith}
 use Rattle.std.specs.List.{flat_map, AllByRecursion as Every}
 use Rattle.std.specs.Prelude.{ℤ}
 use Rattle.std.proofs.lemmas.Bool.{false≢true, eqb-true}
@@ -53,11 +53,7 @@ numbers_from P k (suc n) each = (each k (omega arith) (omega arith), numbers_fro
 passing_from : (P : ℕ → Type 0) (test : ℕ → Bool) (k n : ℕ) → ((v : ℕ) → k ≤ v → v < k + n → test v ≡ true → P v) → Every P (passing test k n)
 passing_from P test k zero each = tt
 passing_from P test k (suc n) each =
-    at (test k) refl (passing_from P test (k + 1) n (λ v low high passes. each v (omega (arith, low)) (omega (arith, high)) passes))
-  where
-    at : (b : Bool) → test k ≡ b → Every P (passing test (k + 1) n) → Every P (cond b (k ∷ passing test (k + 1) n) (passing test (k + 1) n))
-    at true is rest = (each k (omega arith) (omega arith) is, rest)
-    at false is rest = rest
+    grind (arith, (passing_from P test (k + 1) n (λ v low high passes. each v (omega (arith, low)) (omega (arith, high)) passes)))
 
 -- ---- clauses that are satisfied
 
@@ -103,10 +99,7 @@ joined_satisfied m f test k (suc n) t low high passes one =
 
 -- unless a variable is there, the rest is not wanted
 unless : (m : ℕ → Bool) (v : ℕ) (ls : List ℤ) → (m v ≡ true → satisfies m ls ≡ true) → satisfies m (no_to v ∷ ls) ≡ true
-unless m v ls then = elim (bool_cases (m v)) [
-  | inl one ↦ or_right (not (m v)) (satisfies m ls) (then one)
-  | inr none ↦ or_left (not (m v)) (satisfies m ls) (ap not none)
-]
+unless m v ls then = grind (arith, bool_cases, or_right, or_left)
 
 one_is : (m : ℕ → Bool) (v : ℕ) → m v ≡ true → satisfies m (yes_to v ∷ []) ≡ true
 one_is m v one = or_left (m v) false one
@@ -122,46 +115,26 @@ parts_from e m g each = flat_from (Holds m) (part_clauses e g) (numbers 0 (parts
 
 -- where a group that ends a count has a part there are users
 some_part : (n i : ℕ) → i < cond (n == 0) 0 1 → 0 < n
-some_part zero i only = absurd (omega (arith, only))
-some_part (suc n) i only = omega arith
+some_part n i only = grind arith
 
 -- clauses from what they say together, of values alone
 back_first : (z c : Bool) → c ≡ z → ((not z || (c || false)) ≡ true) × ((not c || (z || false)) ≡ true)
-back_first true true same = (refl, refl)
-back_first true false same = absurd (false≢true same)
-back_first false true same = absurd (false≢true (sym same))
-back_first false false same = (refl, refl)
+back_first z c same = grind (arith, false≢true)
 
 back_on : (b z c : Bool) → c ≡ (b || z) → (not b || (c || false)) ≡ true
-back_on b z true same = or_right (not b) true refl
-back_on true z false same = absurd (false≢true same)
-back_on false z false same = refl
+back_on b z c same = grind (arith, or_right, false≢true)
 
 back_up : (b z c : Bool) → c ≡ (b || z) → (not z || (c || false)) ≡ true
-back_up b z true same = or_right (not z) true refl
-back_up true z false same = absurd (false≢true same)
-back_up false true false same = absurd (false≢true same)
-back_up false false false same = refl
+back_up b z c same = grind (arith, or_right, false≢true)
 
 back_owes : (b z c : Bool) → c ≡ (b || z) → (not c || (b || (z || false))) ≡ true
-back_owes b z false same = refl
-back_owes true z true same = refl
-back_owes false true true same = refl
-back_owes false false true same = absurd (false≢true (sym same))
+back_owes b z c same = grind (arith, false≢true)
 
 back_meets : (b z d c : Bool) → c ≡ (b || (z && d)) → (not z || (not d || (c || false))) ≡ true
-back_meets b false d c same = refl
-back_meets b true false c same = refl
-back_meets b true true true same = refl
-back_meets true true true false same = absurd (false≢true same)
-back_meets false true true false same = absurd (false≢true same)
+back_meets b z d c same = grind (arith, false≢true)
 
 back_more : (b z d c : Bool) → c ≡ (b || (z && d)) → ((not c || (b || (z || false))) ≡ true) × ((not c || (b || (d || false))) ≡ true)
-back_more b z d false same = (refl, refl)
-back_more true z d true same = (refl, refl)
-back_more false true true true same = (refl, refl)
-back_more false true false true same = absurd (false≢true (sym same))
-back_more false false d true same = absurd (false≢true (sym same))
+back_more b z d c same = grind (arith, false≢true)
 
 from_said : (m : ℕ → Bool) {c d : List ℤ} → c ≡ d → Holds m d → Holds m c
 from_said m same h = subst (λ x. satisfies m x ≡ true) (sym same) h
@@ -169,46 +142,11 @@ from_said m same h = subst (λ x. satisfies m x ≡ true) (sym same) h
 counter_rows : (e : Encoding) (m : ℕ → Bool) (block : ℕ) (most : Bool) (limit : ℕ) →
     IsCounter (λ w. m (takes e block w)) (λ v j. m (counts e block (height most limit) v j)) e.users (height most limit) →
     (u j : ℕ) → u < e.users → j < height most limit → Every (λ row. Holds m (clause e (Counting block most limit) u (4 * j + row))) (count_rows u j)
-counter_rows e m block most limit is zero zero below less =
-    let both = back_first (m (takes e block 0)) (m (counts e block (height most limit) 0 0)) (is.first below less) in
-    (from_said m (item_clause e block most limit 0 0 1 (omega arith)) both.0, (from_said m (item_clause e block most limit 0 0 2 (omega arith)) both.1, tt))
-counter_rows e m block most limit is zero (suc j) below less =
-    let none = is.first_more j below less in
-    let c = counts e block (height most limit) 0 (suc j) in
-    subst (Every (λ row. Holds m (clause e (Counting block most limit) 0 (4 * suc j + row)))) (sym (first_more_rows j)) (
-      from_said m (item_clause e block most limit 0 (suc j) 2 (omega arith)) (or_left (not (m c)) (m (takes e block 0) || false) (ap not none)),
-      (from_said m (item_clause e block most limit 0 (suc j) 3 (omega arith)) (none_is m c none), tt),
-    )
-counter_rows e m block most limit is (suc u) zero below less =
-    let high = height most limit in
-    let b = m (counts e block high u 0) in
-    let z = m (takes e block (suc u)) in
-    let c = m (counts e block high (suc u) 0) in
-    let same = is.next u below less in
-    subst (Every (λ row. Holds m (clause e (Counting block most limit) (suc u) (4 * 0 + row)))) (sym (next_rows u)) (
-      from_said m (item_clause e block most limit (suc u) 0 0 (omega arith) ∙ climbs e block high u 0) (back_on b z c same),
-      (
-        from_said m (item_clause e block most limit (suc u) 0 1 (omega arith)) (back_up b z c same),
-        (from_said m (item_clause e block most limit (suc u) 0 2 (omega arith) ∙ owes e block high u 0) (back_owes b z c same), tt),
-      ),
-    )
+counter_rows e m block most limit is zero zero below less = grind (arith, back_first, from_said, item_clause)
+counter_rows e m block most limit is zero (suc j) below less = grind (arith, first_more_rows, from_said, item_clause, or_left, none_is)
+counter_rows e m block most limit is (suc u) zero below less = grind (arith, next_rows, from_said, item_clause, climbs, back_on, back_up, owes, back_owes)
 counter_rows e m block most limit is (suc u) (suc j) below less =
-    let high = height most limit in
-    let b = m (counts e block high u (suc j)) in
-    let z = m (takes e block (suc u)) in
-    let d = m (counts e block high u j) in
-    let c = m (counts e block high (suc u) (suc j)) in
-    let same = is.next_more u j below less in
-    subst (Every (λ row. Holds m (clause e (Counting block most limit) (suc u) (4 * suc j + row)))) (sym (more_rows u j)) (
-      from_said m (item_clause e block most limit (suc u) (suc j) 0 (omega arith) ∙ climbs e block high u (suc j)) (back_on b (z && d) c same),
-      (
-        from_said m (item_clause e block most limit (suc u) (suc j) 1 (omega arith) ∙ meets e block high u j) (back_meets b z d c same),
-        (
-          from_said m (item_clause e block most limit (suc u) (suc j) 2 (omega arith) ∙ owes e block high u (suc j)) (back_more b z d c same).0,
-          (from_said m (item_clause e block most limit (suc u) (suc j) 3 (omega arith) ∙ follows e block high u j) (back_more b z d c same).1, tt),
-        ),
-      ),
-    )
+    grind (arith, more_rows, from_said, item_clause, climbs, back_on, meets, back_meets, owes, back_more, follows)
 
 counter_holds : (e : Encoding) (m : ℕ → Bool) (block : ℕ) (most : Bool) (limit : ℕ) → IsCounter (λ w. m (takes e block w))
     (λ v j. m (counts e block (height most limit) v j)) e.users (height most limit) → GroupHolds e m (Counting block most limit)
@@ -375,10 +313,7 @@ module _ (e : Encoding) (rules : List Rule) (m : ℕ → Bool) (plan : List ℕ)
 
 member_of_all : (k : ℕ) (group : List Bool) (p : ℕ → Bool) → all_from k group p ≡ true → (x y : ℕ) → is_member group x ≡ true → y ≡ k + x → p y ≡ true
 member_of_all k [] p h x y one same = absurd (false≢true one)
-member_of_all k (b ∷ bs) p h zero y one same =
-    let here : k ≡ y = omega (arith, same) in
-    subst (λ z. p z ≡ true) here (elim (or_cases (not b) (p k) (and_both (not b || p k) (all_from (k + 1) bs p) h).0)
-    [ inl no_one ↦ absurd (differ b one (not_yes b no_one)) | inr passes ↦ passes ])
+member_of_all k (b ∷ bs) p h zero y one same = grind (arith, or_cases, and_both, differ, not_yes)
 member_of_all k (b ∷ bs) p h (suc x) y one same = member_of_all (k + 1) bs p (and_both (not b || p k) (all_from (k + 1) bs p) h).1 x y one (omega (arith, same))
 
 some_member : (k : ℕ) (group : List Bool) (p : ℕ → Bool) → any_from k group p ≡ true → (x : ℕ) × (x < length group) × (is_member group x ≡ true) ×
@@ -452,25 +387,7 @@ rules_hold e all m plan fits says block (r ∷ rules) each count =
 
 planned_may : (p : Problem) (assigned : List (Option ℕ)) (finished : List Bool) (plan : List ℕ) → AreAssigned finished assigned →
     IsValidPlan p assigned finished plan → (s : ℕ) → s < p.steps → (o : Option ℕ) → user_at assigned s ≡ o → may_be p finished s o (planned plan s) ≡ true
-planned_may p assigned finished plan all valid s within None is = valid.allowed s within
-    (not_true (is_member finished s) (λ done. none_some (sym is ∙ (all s done).1)))
-  where
-    none_some : {u : ℕ} → None ≡ Some u → ⊥
-    none_some e = cc
-planned_may p assigned finished plan all valid s within (Some v) is =
-    and_from (v == planned plan s) (is_member finished s || p.authorised s v) (eq_is v (planned plan s) (sym same)) held
-  where
-    some_same : Some (planned plan s) ≡ Some v → planned plan s ≡ v
-    some_same e = cc
-
-    same : planned plan s ≡ v
-    same = some_same (valid.keeps s v is)
-
-    held : (is_member finished s || p.authorised s v) ≡ true
-    held = elim (bool_cases (is_member finished s)) [
-      | inl done ↦ or_left (is_member finished s) (p.authorised s v) done
-      | inr open_ ↦ or_right (is_member finished s) (p.authorised s v) (subst (λ w. p.authorised s w ≡ true) same (valid.allowed s within open_))
-    ]
+planned_may p assigned finished plan all valid s within o is = grind (arith, not_true, and_from, eq_is, bool_cases, or_left, or_right)
 
 pub plans_are_models : PlansAreModels
 plans_are_models p assigned finished plan m sound all valid says =

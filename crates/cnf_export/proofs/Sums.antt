@@ -1,5 +1,5 @@
 -- A count of clauses and literals, clause by clause.
-use Rattle.std.proofs.Common.{◌≡◌, sym, ap, ◌∙◌, ℕ, ◌+◌, ◌-◌, ◌<◌, ◌≤◌, Bool, true, false, List, [], ◌∷◌, ◌++◌, length, arith, append_assoc}
+use Rattle.std.proofs.Common.{◌≡◌, sym, ap, ◌∙◌, ℕ, ◌+◌, ◌-◌, ◌<◌, ◌≤◌, Bool, true, List, [], ◌∷◌, ◌++◌, length, arith, append_assoc}
 use Rattle.std.specs.Prelude.{ℤ, Result, Ok, Err, IsErrOf}
 use Rattle.std.specs.Result.{IsErrAnd}
 use Rattle.std.proofs.lemmas.Bool.{false≢true}
@@ -31,33 +31,17 @@ one_counted all left rest c clauses size n after more is first len room one sum 
 
 pub too_large : (all left rest : List (List ℤ)) (c : List ℤ) (clauses size n : ℕ) → IsCounted all left clauses size → left ≡ c ∷ rest → n ≡ length c →
     LITERAL_LIMIT - size < n → LITERAL_LIMIT < literals all
-too_large all left rest c clauses size n is first len over =
-    let same = ap literals (is.all_are ∙ ap (λ cs. is.given ++ cs) first) in
-    let sum = literals-append is.given (c ∷ rest) in
-    let size_is = is.size_is in
-    omega (arith, same, sum, size_is, len, over)
+too_large all left rest c clauses size n is first len over = grind (arith, literals-append)
 
 -- the number of clauses has room
 pub few_counted : (all left : List (List ℤ)) (clauses size k : ℕ) → IsCounted all left clauses size → empties all ≤ k → clauses ≤ LITERAL_LIMIT + k
-few_counted all left clauses size k is few =
-    let same = ap empties is.all_are in
-    let sum = empties-append is.given left in
-    let most = few_clauses is.given in
-    let size_is = is.size_is in
-    let limit = is.few in
-    let clauses_are = is.clauses_are in
-    omega (arith, same, sum, most, size_is, limit, clauses_are, few)
+few_counted all left clauses size k is few = grind (arith, empties-append, few_clauses)
 
 -- a clause is given where there is more
 pub given_next : (more : Bool) (left rest : List (List ℤ)) (c : List ℤ) → HasGiven left more c rest → more ≡ true → left ≡ c ∷ rest
-given_next true left rest c h is = h
-given_next false left rest c h is = absurd (false≢true is)
+given_next more left rest c h is = grind (arith, false≢true)
 
 -- a fault that is handed on is the fault that was met
 pub handed_on : {A F : Type 0} (r : Result A F) (met fault : F) → IsErrAnd r (λ e. e ≡ met) → IsErrOf r fault → met ≡ fault
 handed_on (Ok a) met fault same is = absurd same
-handed_on {A} {F} (Err e) met fault same is = sym same ∙ ap (or_else e) is
-  where
-    or_else : F → Result A F → F
-    or_else d (Ok a) = d
-    or_else d (Err f) = f
+handed_on {A} {F} (Err e) met fault same is = grind arith

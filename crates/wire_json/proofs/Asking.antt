@@ -1,5 +1,5 @@
 -- What is asked by a text that is no JSON, or no object.
-use Rattle.std.proofs.Common.{◌≡◌, ℕ, List, Bool, true, false, Option, Some, None, Err, refl, sym, ap, ◌∙◌}
+use Rattle.std.proofs.Common.{◌≡◌, ℕ, List, Bool, Option, Some, None, Err, sym, ap, ◌∙◌, arith}
 use Rattle.std.specs.Prelude.{◌==◌, length, IsUtf8, if◌then◌else◌}
 use Rattle.std.specs.Str.Lossy.{utf8_valid_len}
 use Rattle.basics.specs.Laws.Reading.{◌>>=◌, or_fault}
@@ -12,8 +12,7 @@ use Rattle.wire_json.specs.Values.{value_of}
 use Rattle.wire_json.proofs.Values.{value_of_utf8}
 
 no_matter : (b : Bool) (o : Option Data) → o ≡ None → (if b then o else None) ≡ None
-no_matter true o e = e
-no_matter false o e = refl
+no_matter b o e = grind arith
 
 -- bytes that read as no JSON are no value
 pub value_of_none : (bytes text : List ℕ) → text ≡ bytes → read text ≡ None → value_of bytes ≡ None
@@ -32,6 +31,4 @@ refused_at_once lanes d e = rw e
 pub asks_no_object : (lanes : ℕ) (line text : List ℕ) (d : Data) → text ≡ line → IsUtf8 line → read text ≡ Some d → as_object d ≡ None →
     asked (Err Object) ≡ asked_of lanes line
 unfolding asked_of
-asks_no_object lanes line text d same utf8 e none =
-    ap asked (sym (refused_at_once lanes d none))
-    ∙ ap (λ o. asked (or_fault o Syntax >>= request_in lanes)) (sym (value_of_utf8 line text d same utf8 e))
+asks_no_object lanes line text d same utf8 e none = grind (arith, refused_at_once, value_of_utf8)

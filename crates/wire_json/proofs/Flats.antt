@@ -21,45 +21,32 @@ use Rattle.wire_json.specs.Requests.{has_only}
 use Rattle.wire_json.specs.Objects.{worth_data, put_part, members_of}
 use Rattle.wire_json.specs.Flats.{whole, members_behind}
 
--- ---- what is read, as data
-
-abbrev pick : {A : Type 0} → A → Option A → A
-pick d None = d
-pick d (Some a) = a
-
 found : {B : Type 0} (r s : List Token) (x : Option B) (b : B) → option_map {U = B × List Token} (λ y. (y, r)) x ≡ Some (b, s) → (r ≡ s) × (x ≡ Some b)
-found r s None b e = absurd (cc)
-found r s (Some y) b e = let same = ap (pick (y, r)) e in (ap (λ p. p.1) same, ap (λ p. Some p.0) same)
+found r s x b e = grind arith
 
 converted_some : {A B : Type 0} (f : A → Option B) (o : Option (A × List Token)) (b : B) (r : List Token) → converted f o ≡ Some (b, r) →
     (a : A) × (o ≡ Some (a, r)) × (f a ≡ Some b)
-converted_some f None b r e = absurd (cc)
-converted_some f (Some p) b r e = let both = found p.1 r (f p.0) b e in (p.0, ap (λ s. Some (p.0, s)) both.0, both.1)
+converted_some f o b r e = grind (arith, found)
 
 refused : {B : Type 0} (r : List Token) (x : Option B) → option_map {U = B × List Token} (λ y. (y, r)) x ≡ None → x ≡ None
-refused r None e = refl
-refused r (Some y) e = absurd (cc)
+refused r x e = grind arith
 
 twice_mapped : {A B : Type 0} (g : A → B) (r : List Token) (x : Option A) → option_map (λ b. (b, r)) (option_map g x) ≡ parse_map g (option_map (λ a. (a, r)) x)
-twice_mapped g r None = refl
-twice_mapped g r (Some a) = refl
+twice_mapped g r x = grind arith
 
 converted-object : (o : Option (json.Members × List Token))
     → converted of_json (parse_map json.object o) ≡ parse_map object (converted (λ ms. of_members ms no_members) o)
-converted-object None = refl
-converted-object (Some p) = twice_mapped object p.1 (of_members p.0 no_members)
+converted-object o = grind (arith, twice_mapped)
 
 -- ---- the members of an object, one at a time
 
 with_member : (k : List ℕ) (j : json.Json) (d : Data) (old : Members) → of_json j ≡ Some d → (o : Option (json.Members × List Token))
     → converted (λ ms. of_members ms old) (parse_map (json.member k j) o) ≡ converted (λ ms. of_members ms (put k d old)) o
-with_member k j d old e None = refl
-with_member k j d old e (Some p) = rw e
+with_member k j d old e o = grind arith
 
 without_member : (k : List ℕ) (j : json.Json) (old : Members) → of_json j ≡ None → (o : Option (json.Members × List Token))
     → converted (λ ms. of_members ms old) (parse_map (json.member k j) o) ≡ None
-without_member k j old e None = refl
-without_member k j old e (Some p) = rw e
+without_member k j old e o = grind arith
 
 module _ (p : Parse json.Json) (old : Members) where
   pub member_read : (n : ℕ) (k : List ℕ) (ts s r : List Token) (d : Data) → 0 < n → read_key ts ≡ Some (Some k, s) → converted of_json (p s) ≡ Some (d, r)
@@ -93,13 +80,10 @@ whole_read o d e = let j = converted_some of_json o d [] e in ap whole j.1 ∙ j
 
 -- more follows a value
 pub more_follows : (o : Option (json.Json × List Token)) (d : Data) (r : List Token) → converted of_json o ≡ Some (d, r) → r ≢ [] → whole o ≡ None
-more_follows o d [] e some = absurd (some refl)
-more_follows o d (t ∷ r) e some = ap whole (converted_some of_json o d (t ∷ r) e).1
+more_follows o d r e some = grind (arith, converted_some)
 
 whole_refused : (o : Option (json.Json × List Token)) → converted of_json o ≡ None → whole o ≡ None
-whole_refused None e = refl
-whole_refused (Some (j, [])) e = refused [] (of_json j) e
-whole_refused (Some (j, t ∷ r)) e = refl
+whole_refused o e = grind (arith, refused)
 
 begun : (after : List Token) → converted of_json (value 127 (Token.begin_object ∷ after)) ≡ parse_map object (members_behind after)
 begun after = ap (converted of_json) (value-begin_object 127 after (omega arith)) ∙ converted-object (members (value 126) (length after) after)
@@ -118,13 +102,10 @@ object_and_more after r ms e some =
 
 -- a text that was passed over, and one that was not
 pub not_skipped : (o : Option (json.Json × List Token)) → option_map (λ p. p.1) o ≡ None → whole o ≡ None
-not_skipped None e = refl
-not_skipped (Some p) e = absurd (cc)
+not_skipped o e = grind arith
 
 pub skipped_more : (o : Option (json.Json × List Token)) (r : List Token) → option_map (λ p. p.1) o ≡ Some r → r ≢ [] → whole o ≡ None
-skipped_more None r e some = absurd (cc)
-skipped_more (Some (j, [])) r e some = absurd (some (ap (pick []) (sym e)))
-skipped_more (Some (j, t ∷ ts)) r e some = refl
+skipped_more o r e some = grind arith
 
 -- ---- what stands at a key
 
@@ -133,11 +114,7 @@ last_at key found [] = found
 last_at key found (p ∷ ps) = last_at key (if pointwise nat_eq p.key.now key then Some (worth_data p.worth) else found) ps
 
 put_at : (key k : List ℕ) (d : Data) (ms : Members) (b : Bool) → bytes_eq k key ≡ b → (if b then Some d else get_member key ms) ≡ get_member key (put k d ms)
-put_at key k d ms true e =
-    let same : k ≡ key = (bytes_eq-Decides k key).0 e in
-    sym (get_member-put key d ms) ∙ ap (λ x. get_member key (put x d ms)) (sym same)
-put_at key k d ms false e =
-    sym (get_member-put_other key k d ms (λ (h : key ≡ k). true≢false (sym ((bytes_eq-Decides k key).1 (sym h)) ∙ e)))
+put_at key k d ms b e = grind (arith, bytes_eq-Decides, get_member-put, get_member-put_other, true≢false)
 
 last_found : (key : List ℕ) (ps : List Part) (ms : Members) → last_at key (get_member key ms) ps ≡ get_member key (fold put_part ms ps)
 last_found key [] ms = refl
@@ -160,24 +137,16 @@ out_at keys (p ∷ ps) zero d h e = ap (λ x. x && each_is_among keys ps) e
 out_at keys (p ∷ ps) (suc i) d h e = out_at keys ps i d (omega (arith, h)) e
 
 turned : (a b c : Bool) → (a && (b && c)) ≡ (b && (a && c))
-turned true true c = refl
-turned true false c = refl
-turned false true c = refl
-turned false false c = refl
+turned a b c = grind arith
 
 twice : (a b : Bool) → (a && b) ≡ (a && (a && b))
-twice true b = refl
-twice false b = refl
+twice a b = grind arith
 
 regrouped : (a b c : Bool) → ((a && b) && c) ≡ (b && (a && c))
-regrouped true true c = refl
-regrouped true false c = refl
-regrouped false true c = refl
-regrouped false false c = refl
+regrouped a b c = grind arith
 
 and_true : (a : Bool) → a ≡ (a && true)
-and_true true = refl
-and_true false = refl
+and_true a = grind arith
 
 module _ (keys : List (List ℕ)) where
   abbrev among : List ℕ → Bool

@@ -1,5 +1,5 @@
 -- An entry that is made in pieces.
-use Rattle.std.proofs.Common.{◌≡◌, ℕ, ◌-◌, List, [], ◌∷◌, ◌++◌, length, take, drop, sym, ap, ◌∙◌, arith, append_assoc, append-nil, length-drop, take_all}
+use Rattle.std.proofs.Common.{◌≡◌, ℕ, ◌-◌, List, [], ◌∷◌, ◌++◌, length, take, drop, ap, ◌∙◌, arith, append_assoc, append-nil, length-drop, take_all}
 
 regrouped : (b4 d4 b3 d3 b2 d2 b1 a : List ℕ) →
     (b4 ++ (d4 ++ (b3 ++ (d3 ++ (b2 ++ (d2 ++ b1)))))) ++ a ≡ b4 ++ (d4 ++ (b3 ++ (d3 ++ (b2 ++ (d2 ++ (b1 ++ a))))))
@@ -8,11 +8,7 @@ regrouped b4 d4 b3 d3 b2 d2 b1 a = simp append_assoc
 -- what stands before the reply, and bytes behind it, from their end to their start
 pub head_made : (a t0 t1 t2 t3 t4 b1 b2 b3 b4 d2 d3 d4 : List ℕ) → t0 ≡ a ++ [] → t1 ≡ b1 ++ t0 → t2 ≡ b2 ++ (d2 ++ t1) → t3 ≡ b3 ++ (d3 ++ t2)
     → t4 ≡ b4 ++ (d4 ++ t3) → t4 ≡ (b4 ++ (d4 ++ (b3 ++ (d3 ++ (b2 ++ (d2 ++ b1)))))) ++ a
-head_made a t0 t1 t2 t3 t4 b1 b2 b3 b4 d2 d3 d4 e0 e1 e2 e3 e4 =
-    let last : t1 ≡ b1 ++ a = e1 ∙ ap (λ t. b1 ++ t) (e0 ∙ append-nil a) in
-    let line : t2 ≡ b2 ++ (d2 ++ (b1 ++ a)) = e2 ∙ ap (λ t. b2 ++ (d2 ++ t)) last in
-    let lane : t3 ≡ b3 ++ (d3 ++ (b2 ++ (d2 ++ (b1 ++ a)))) = e3 ∙ ap (λ t. b3 ++ (d3 ++ t)) line in
-    e4 ∙ ap (λ t. b4 ++ (d4 ++ t)) lane ∙ sym (regrouped b4 d4 b3 d3 b2 d2 b1 a)
+head_made a t0 t1 t2 t3 t4 b1 b2 b3 b4 d2 d3 d4 e0 e1 e2 e3 e4 = grind (arith, append-nil, regrouped)
 
 -- the head, the reply, and the brace and the line end at once
 pub line_added : (x0 x1 x2 x3 b1 b2 b3 b4 d2 d3 d4 r : List ℕ) → x1 ≡ x0 ++ (b4 ++ (d4 ++ (b3 ++ (d3 ++ (b2 ++ (d2 ++ b1)))))) → x2 ≡ x1 ++ r
@@ -30,11 +26,7 @@ ending_made t0 t1 t2 t3 b d k e0 e1 e2 e3 = e3 ∙ ap (λ t. k ++ t) (e2 ∙ ap 
 -- a branch whose tree is a leaf, from its end to its start
 pub leaf_made : (t0 t1 t2 t3 k d u c : List ℕ) → t0 ≡ [] → t1 ≡ 125 ∷ 93 ∷ t0 → t2 ≡ 44 ∷ (k ++ (d ++ t1)) → t3 ≡ c ++ 91 ∷ (u ++ t2)
     → t3 ≡ c ++ 91 ∷ (u ++ 44 ∷ ((k ++ (d ++ 125 ∷ [])) ++ 93 ∷ []))
-leaf_made t0 t1 t2 t3 k d u c e0 e1 e2 e3 =
-    let closed : t1 ≡ 125 ∷ 93 ∷ [] = e1 ∙ ap (λ t. 125 ∷ 93 ∷ t) e0 in
-    let leaf : (k ++ (d ++ 125 ∷ [])) ++ 93 ∷ [] ≡ k ++ (d ++ 125 ∷ 93 ∷ []) =
-    append_assoc k (d ++ 125 ∷ []) (93 ∷ []) ∙ ap (λ t. k ++ t) (append_assoc d (125 ∷ []) (93 ∷ [])) in
-    e3 ∙ ap (λ t. c ++ 91 ∷ (u ++ t)) (e2 ∙ ap (λ t. 44 ∷ (k ++ (d ++ t))) closed ∙ ap (λ t. 44 ∷ t) (sym leaf))
+leaf_made t0 t1 t2 t3 k d u c e0 e1 e2 e3 = grind (arith, append_assoc)
 
 -- a step of a work list, from its end to its start
 pub item_made : (t0 t1 t2 t3 n d : List ℕ) → t0 ≡ 93 ∷ [] → t1 ≡ d ++ t0 → t2 ≡ 44 ∷ t1 → t3 ≡ 91 ∷ (n ++ t2) → t3 ≡ 91 ∷ (n ++ 44 ∷ (d ++ 93 ∷ []))

@@ -1,5 +1,5 @@
 -- Keys of two lists, one behind the other, and the keys of an edit.
-use Rattle.std.proofs.Common.{◌≡◌, ℕ, List, ◌∷◌, ◌++◌, Bool, true, refl, sym, ap, ◌∙◌, Result, Ok, Err, Option, Some, None}
+use Rattle.std.proofs.Common.{◌≡◌, ℕ, List, ◌∷◌, ◌++◌, Bool, true, refl, Result, Ok, Err, Option, Some, arith}
 use Rattle.std.specs.Prelude.{[], ◌||◌, is_some, unwrap_or, IsErrAnd}
 use Rattle.std.specs.List.{list_any}
 use Rattle.std.proofs.lemmas.List.Folds.{list_any-append}
@@ -18,12 +18,10 @@ any_of_both p xs ys = list_any-append p xs ys
 -- ---- the keys of an edit
 
 err_first : {A B : Type 0} (r : Result A Bad) (x : B) (b : Bad) → (r >>= (λ _. Ok x)) ≡ Err b → r ≡ Err b
-err_first (Ok a) x b h = cc
-err_first (Err e) x b h = cc
+err_first r x b h = grind arith
 
 ok_first : {B : Type 0} (r : Result (Unit {0}) Bad) (x y : B) → (r >>= (λ _. Ok x)) ≡ Ok y → r ≡ Ok tt
-ok_first (Ok a) x y h = refl
-ok_first (Err e) x y h = cc
+ok_first r x y h = grind arith
 
 -- an edit is read exactly where its keys are
 pub no_edit : (r : Row Edit) (d : Data) (b : Bad) → edit_by r d ≡ Err b → each (λ (_ : Unit {0}) key. check (has_form d key) (Key key)) tt r.keys ≡ Err b
@@ -35,8 +33,7 @@ an_edit r d e h = ok_first (each (λ (_ : Unit {0}) key. check (has_form d key) 
 -- ---- a request that asks for an edit by its row
 
 named_by : (d : Data) (o : Option (List ℕ)) (name : List ℕ) → or_fault o (Key by) ≡ Ok name → is_some o ≡ true
-named_by d (Some x) name h = refl
-named_by d None name h = cc
+named_by d o name h = grind arith
 
 pub edit_refused : (others : List (List ℕ)) (r : Row Edit) (is : Data → Request) (d : Data) (ms : Members) (name : List ℕ) (b : Bad)
     → or_fault (name_at_key by d) (Key by) ≡ Ok name → edit_by r d ≡ Err b → request_by others (by ∷ r.keys) is d ms ≡ Err b
@@ -48,13 +45,10 @@ pub key_refused : (others : List (List ℕ)) (r : Row Edit) (is : Data → Reque
     → known ≡ r.keys → or_fault (name_at_key by d) (Key by) ≡ Ok name → edit_by r d ≡ Ok x → check (has_only (others ++ by ∷ known) ms) Extra ≡ Err b
     → request_by others (by ∷ r.keys) is d ms ≡ Err b
 unfolding request_by
-key_refused others r is d ms known name x b same h e k =
-    let last : check (has_only (others ++ by ∷ r.keys) ms) Extra ≡ Err b = ap (λ keys. check (has_only (others ++ by ∷ keys) ms) Extra) (sym same) ∙ k in
-    rw (named_by d (name_at_key by d) name h, an_edit r d x e, last) refl
+key_refused others r is d ms known name x b same h e k = grind (arith, named_by, an_edit)
 
 no_name : (o : Option (List ℕ)) (b : Bad) → or_fault o (Key by) ≡ Err b → check (is_some o) (Key by) ≡ Err b
-no_name (Some x) b h = cc
-no_name None b h = cc
+no_name o b h = grind arith
 
 pub by_refused : (others keys : List (List ℕ)) (is : Data → Request) (d : Data) (ms : Members) (b : Bad) → or_fault (name_at_key by d) (Key by) ≡ Err b
     → request_by others (by ∷ keys) is d ms ≡ Err b
@@ -62,12 +56,10 @@ unfolding request_by
 by_refused others keys is d ms b h = rw (no_name (name_at_key by d) b h) refl
 
 name_is : (o : Option (List ℕ)) (name : List ℕ) → or_fault o (Key by) ≡ Ok name → unwrap_or o [] ≡ name
-name_is (Some x) name h = cc
-name_is None name h = cc
+name_is o name h = grind arith
 
 same_ok : (r : Result (Unit {0}) Bad) (x y : Edit) → (r >>= (λ _. Ok x)) ≡ Ok y → x ≡ y
-same_ok (Ok a) x y h = cc
-same_ok (Err e) x y h = cc
+same_ok r x y h = grind arith
 
 edit_is : (r : Row Edit) (d : Data) (e : Edit) → edit_by r d ≡ Ok e → r.is d ≡ e
 edit_is r d e h = same_ok (each (λ (_ : Unit {0}) key. check (has_form d key) (Key key)) tt r.keys) (r.is d) e h
@@ -77,13 +69,8 @@ pub edit_asked : (others : List (List ℕ)) (r : Row Edit) (make : List ℕ → 
     → known ≡ r.keys → or_fault (name_at_key by d) (Key by) ≡ Ok name → edit_by r d ≡ Ok x → check (has_only (others ++ by ∷ known) ms) Extra ≡ Ok u
     → request_by others (by ∷ r.keys) (λ c. make (the_name by c) (r.is c)) d ms ≡ Ok (make name x)
 unfolding request_by
-edit_asked others r make d ms known name x u same h e k =
-    let last : check (has_only (others ++ by ∷ r.keys) ms) Extra ≡ Ok u = ap (λ keys. check (has_only (others ++ by ∷ keys) ms) Extra) (sym same) ∙ k in
-    let asked : request_by others (by ∷ r.keys) (λ c. make (the_name by c) (r.is c)) d ms ≡ Ok (make (the_name by d) (r.is d)) =
-    rw (named_by d (name_at_key by d) name h, an_edit r d x e, last) refl in
-    asked ∙ ap (λ n. Ok (make n (r.is d))) (name_is (name_at_key by d) name h) ∙ ap (λ y. Ok (make name y)) (edit_is r d x e)
+edit_asked others r make d ms known name x u same h e k = grind (arith, named_by, an_edit, name_is, edit_is)
 
 -- code that handed on a fault
 pub handed_on : {A : Type 0} (result reading : Result A Bad) (b : Bad) → IsErrAnd result (λ e. e ≡ b) → reading ≡ Err b → Gives Some (λ r. r) result reading
-handed_on (Ok a) reading b is e = absurd is
-handed_on (Err x) reading b is e = e ∙ ap Err (sym is)
+handed_on result reading b is e = grind arith

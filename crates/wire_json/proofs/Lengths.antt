@@ -5,7 +5,7 @@ use Rattle.std.specs.Prelude.{codes, decimal, slice_index_or}
 use Rattle.std.proofs.lemmas.Fmt.{length-decimal-le}
 use Rattle.std.proofs.lemmas.Grind.{common_steps}
 use Rattle.std.proofs.lemmas.List.{length-append}
-use Rattle.json.specs.Print.{escape, escape_byte, quoted}
+use Rattle.json.specs.Print.{escape_byte, quoted}
 use Rattle.serde_json.specs.Data.{array}
 use Rattle.serde_json.specs.View.{items_of}
 use Rattle.serde_json.specs.Written.{comma_if, compact_text, items_text}
@@ -26,9 +26,7 @@ around a x b = length-append a (x ++ b) ∙ ap (λ n. length a + n) (length-appe
 
 -- a text between what opens an object and what closes it
 pub framed : (front text : List ℕ) → length (front ++ (text ++ codes "}")) ≡ suc (length front) + length text
-framed front text =
-    let parts : length (front ++ (text ++ codes "}")) ≡ length front + (length text + 1) = around front text (codes "}") in
-    omega (arith, parts)
+framed front text = grind (arith, around)
 
 -- two texts there, with what parts them
 pub framed_two : (front between a b : List ℕ) →
@@ -42,10 +40,7 @@ unfolding is_name
 name_short s h = grind (arith, common_steps)
 
 pub quoted_short : (s : List ℕ) → is_name s ≡ true → length (quoted s) ≤ 42
-quoted_short s h =
-    let same : length (quoted s) ≡ suc (length (escape s ++ 34 ∷ [])) = refl in
-    let parts : length (escape s ++ 34 ∷ []) ≡ length (escape s) + 1 = length-append (escape s) (34 ∷ []) in
-    omega (arith, same, parts, ap length (name_stays s h), name_short s h)
+quoted_short s h = grind (arith, length-append, name_stays, name_short)
 
 -- a number stands for a name, or for the empty text
 there_or_not : (names : List (List ℕ)) (n : ℕ) → (slice_index_or names n [] ≡ []) ⊎ (slice_get names n ≡ Some (slice_index_or names n []))
@@ -54,11 +49,7 @@ there_or_not (x ∷ xs) zero = inr refl
 there_or_not (x ∷ xs) (suc n) = there_or_not xs n
 
 pub named_short : (names : List (List ℕ)) (n : ℕ) → AreNames names → length (compact_text (named names n)) ≤ 42
-named_short names n known = at (there_or_not names n)
-  where
-    at : (slice_index_or names n [] ≡ []) ⊎ (slice_get names n ≡ Some (slice_index_or names n [])) → length (quoted (slice_index_or names n [])) ≤ 42
-    at (inl none) = omega (arith, ap (λ s. length (quoted s)) none)
-    at (inr there) = quoted_short (slice_index_or names n []) (known.form n (slice_index_or names n []) there)
+named_short names n known = grind (arith, there_or_not, quoted_short)
 
 -- ---- leaves
 
@@ -85,22 +76,12 @@ twin_short p v users =
 -- ---- nodes
 
 comma_short : (later : Bool) → length (comma_if later) ≤ 1
-comma_short true = omega arith
-comma_short false = omega arith
+comma_short later = grind arith
 
 -- a branch before others
 branch_long : (later : Bool) (user kid rest : List ℕ) →
     length (comma_if later ++ ((91 ∷ (user ++ (44 ∷ (kid ++ 93 ∷ [])))) ++ rest)) ≤ 4 + (length user + (length kid + length rest))
-branch_long later user kid rest =
-    let ending : List ℕ = 93 ∷ [] in
-    let tail : List ℕ = 44 ∷ (kid ++ ending) in
-    let branch : List ℕ = 91 ∷ (user ++ tail) in
-    let outer : length (comma_if later ++ (branch ++ rest)) ≡ length (comma_if later) + (length branch + length rest) = around (comma_if later) branch rest in
-    let front : length branch ≡ suc (length (user ++ tail)) = refl in
-    let inner : length (user ++ tail) ≡ length user + length tail = length-append user tail in
-    let comma : length tail ≡ suc (length (kid ++ ending)) = refl in
-    let close : length (kid ++ ending) ≡ length kid + 1 = length-append kid ending in
-    omega (arith, outer, front, inner, comma, close, comma_short later)
+branch_long later user kid rest = grind (arith, around, length-append, comma_short)
 
 mutual
   unfolding escape_byte

@@ -1,8 +1,7 @@
 -- The text of an entry.
-use Rattle.std.proofs.Common.{◌≡◌, ℕ, List, [], ◌∷◌, ◌++◌, refl, sym, ap, ◌∙◌, codes, append_assoc, append-nil}
+use Rattle.std.proofs.Common.{◌≡◌, ℕ, List, [], ◌∷◌, ◌++◌, ap, ◌∙◌, codes, append_assoc, append-nil, arith}
 use Rattle.std.specs.Prelude.{decimal}
-use Rattle.json.specs.Print.{quoted, escape_byte}
-use Rattle.serde_json.specs.Data.{number, object, member, no_members, unsigned}
+use Rattle.json.specs.Print.{escape_byte}
 use Rattle.serde_json.specs.Written.{compact_text}
 use Rattle.policy_book.specs.Laws.Shapes.{PolicyShape}
 use Rattle.wf_talk.specs.declared.entry.Entry.{Entry}
@@ -16,38 +15,22 @@ use Rattle.wire_json.proofs.Heads.{line_added}
 -- two policies that write its reply alike write it alike
 pub text_same : (p q : PolicyShape) (e : Entry) → reply_data q e.reply ≡ reply_data p e.reply → entry_text q e ≡ entry_text p e
 unfolding entry_text
-text_same p q e same =
-    ap (λ d. compact_text (object
-    (member (codes "at") (number (unsigned e.at))
-    (member (codes "lane") (number (unsigned e.lane))
-    (member (codes "line") (number (unsigned e.line))
-    (member (codes "reply") d no_members))))) ++ 10 ∷ []) same
+text_same p q e same = grind arith
 
 -- ---- a line in pieces
 
 pub line_split : (p : PolicyShape) (e : Entry) → entry_text p e ≡ head_text e ++ (compact_text (reply_data p e.reply) ++ 125 ∷ 10 ∷ [])
 unfolding escape_byte entry_text
-line_split p e =
-    let h : List ℕ = head_text e in
-    let r : List ℕ = compact_text (reply_data p e.reply) in
-    let t : List ℕ = 125 ∷ 10 ∷ [] in
-    sym (line_added [] h (h ++ r) ((h ++ r) ++ t) (44 ∷ (quoted (codes "reply") ++ 58 ∷ [])) (44 ∷ (quoted (codes "line") ++ 58 ∷ []))
-    (44 ∷ (quoted (codes "lane") ++ 58 ∷ [])) (123 ∷ (quoted (codes "at") ++ 58 ∷ [])) (decimal e.line) (decimal e.lane) (decimal e.at) r
-    refl refl refl)
-    ∙ append_assoc h r t
+line_split p e = grind (arith, line_added, append_assoc)
 
 -- what stands behind the head, at once
 pub line_of : (p : PolicyShape) (e : Entry) (r : Reply) (t x0 x1 : List ℕ) → e.reply ≡ r → compact_text (reply_data p r) ++ 125 ∷ 10 ∷ [] ≡ t
     → x1 ≡ x0 ++ (head_text e ++ t) → x1 ≡ x0 ++ entry_text p e
-line_of p e r t x0 x1 is same added =
-    added ∙ ap (λ y. x0 ++ (head_text e ++ y)) (sym same)
-    ∙ ap (λ q. x0 ++ (head_text e ++ (compact_text (reply_data p q) ++ 125 ∷ 10 ∷ []))) (sym is)
-    ∙ ap (λ y. x0 ++ y) (sym (line_split p e))
+line_of p e r t x0 x1 is same added = grind (arith, line_split)
 
 -- the head, the reply, and the brace and the line end at once
 pub line_in_three : (x0 x1 x2 x3 h r t : List ℕ) → x1 ≡ x0 ++ (h ++ []) → x2 ≡ x1 ++ r → x3 ≡ x2 ++ t → x3 ≡ x0 ++ (h ++ (r ++ t))
-line_in_three x0 x1 x2 x3 h r t e1 e2 e3 =
-    e3 ∙ ap (λ x. x ++ t) (e2 ∙ ap (λ x. x ++ r) (e1 ∙ ap (λ y. x0 ++ y) (append-nil h))) ∙ append_assoc (x0 ++ h) r t ∙ append_assoc x0 h (r ++ t)
+line_in_three x0 x1 x2 x3 h r t e1 e2 e3 = grind (arith, append-nil, append_assoc)
 
 -- the head with what begins the reply, and the rest
 pub line_in_two : (x0 x1 x2 h a b : List ℕ) → x1 ≡ x0 ++ (h ++ a) → x2 ≡ x1 ++ b → x2 ≡ x0 ++ (h ++ (a ++ b))

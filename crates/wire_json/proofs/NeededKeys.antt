@@ -1,9 +1,9 @@
 -- The keys that a request or an edit needs, one after the other.
-use Rattle.std.proofs.Common.{◌≡◌, ℕ, List, [], ◌∷◌, ◌++◌, true, false, refl, ap, ◌∙◌, Result, Ok, Err, Option, Some, None}
+use Rattle.std.proofs.Common.{◌≡◌, ℕ, List, [], ◌∷◌, ◌++◌, true, false, refl, Result, Ok, Err, Option, Some, arith}
 use Rattle.std.specs.Prelude.{is_some, unwrap_or, nat_eq, IsErrAnd}
 use Rattle.std.specs.Cmp.Lexicographic.{pointwise}
 use Rattle.serde_json.specs.Data.{Data, Members}
-use Rattle.basics.specs.Laws.Reading.{◌>>=◌, Gives, or_fault, check, each}
+use Rattle.basics.specs.Laws.Reading.{Gives, or_fault, check, each}
 use Rattle.wf_talk.specs.declared.edit.Edit.{Edit}
 use Rattle.wf_talk.specs.declared.request.Request.{Request}
 use Rattle.wf_talk.specs.declared.request.Bad.{Bad}
@@ -17,20 +17,16 @@ abbrev pub keys_read : Data → List (List ℕ) → Result (Unit {0}) Bad
 keys_read d keys = each (λ (_ : Unit {0}) key. check (has_form d key) (Key key)) tt keys
 
 none_there : {A : Type 0} (o : Option A) (key : List ℕ) (b : Bad) → or_fault o (Key key) ≡ Err b → check (is_some o) (Key key) ≡ Err b
-none_there (Some x) key b h = cc
-none_there None key b h = cc
+none_there o key b h = grind arith
 
 one_there : {A : Type 0} (o : Option A) (key : List ℕ) (x : A) → or_fault o (Key key) ≡ Ok x → is_some o ≡ true
-one_there (Some y) key x h = refl
-one_there None key x h = cc
+one_there o key x h = grind arith
 
 then_there : {A : Type 0} (o : Option A) (key : List ℕ) (x : A) → or_fault o (Key key) ≡ Ok x → check (is_some o) (Key key) ≡ Ok tt
-then_there (Some y) key x h = refl
-then_there None key x h = cc
+then_there o key x h = grind arith
 
 it_is : {A : Type 0} (o : Option A) (other : A) (key : List ℕ) (x : A) → or_fault o (Key key) ≡ Ok x → unwrap_or o other ≡ x
-it_is (Some y) other key x h = cc
-it_is None other key x h = cc
+it_is o other key x h = grind arith
 
 -- ---- a name, at any key but that of a case
 
@@ -51,8 +47,7 @@ pub case_missing : (d : Data) (keys : List (List ℕ)) (b : Bad) → or_fault (r
 case_missing d keys b h = rw (none_there (read_case d) case b h) refl
 
 pub case_there : (d : Data) (keys : List (List ℕ)) (n : ℕ) → or_fault (read_case d) (Key case) ≡ Ok n → keys_read d (case ∷ keys) ≡ keys_read d keys
-case_there d keys n h =
-    ap (λ r. r >>= (λ next. each (λ (_ : Unit {0}) key. check (has_form d key) (Key key)) next keys)) (then_there (read_case d) case n h)
+case_there d keys n h = grind (arith, then_there)
 
 pub case_is : (d : Data) (n : ℕ) → or_fault (read_case d) (Key case) ≡ Ok n → the_case d ≡ n
 case_is d n h = it_is (read_case d) 0 case n h
@@ -75,49 +70,37 @@ first_missing r result d a rest fault same oa ha is = edit_fault r (a ∷ rest) 
 pub second_missing : (r : Row Edit) (result : Result Edit Bad) (d : Data) (a b : List ℕ) (rest : List (List ℕ)) (x : List ℕ) (fault : Bad)
     → r.keys ≡ a ∷ b ∷ rest → pointwise nat_eq a case ≡ false → pointwise nat_eq b case ≡ false → or_fault (name_at_key a d) (Key a) ≡ Ok x
     → or_fault (name_at_key b d) (Key b) ≡ Err fault → IsErrAnd result (λ e. e ≡ fault) → Gives Some (λ e. e) result (edit_by r d)
-second_missing r result d a b rest x fault same oa ob ha hb is =
-    edit_fault r (a ∷ b ∷ rest) result d fault same (name_there d a (b ∷ rest) x oa ha ∙ name_missing d b rest fault ob hb) is
+second_missing r result d a b rest x fault same oa ob ha hb is = grind (arith, edit_fault, name_there, name_missing)
 
 pub third_missing : (r : Row Edit) (result : Result Edit Bad) (d : Data) (a b c : List ℕ) (x y : List ℕ) (fault : Bad) → r.keys ≡ a ∷ b ∷ c ∷ []
     → pointwise nat_eq a case ≡ false → pointwise nat_eq b case ≡ false → pointwise nat_eq c case ≡ false → or_fault (name_at_key a d) (Key a) ≡ Ok x
     → or_fault (name_at_key b d) (Key b) ≡ Ok y → or_fault (name_at_key c d) (Key c) ≡ Err fault → IsErrAnd result (λ e. e ≡ fault)
     → Gives Some (λ e. e) result (edit_by r d)
-third_missing r result d a b c x y fault same oa ob oc ha hb hc is =
-    edit_fault r (a ∷ b ∷ c ∷ []) result d fault same
-    (name_there d a (b ∷ c ∷ []) x oa ha ∙ name_there d b (c ∷ []) y ob hb ∙ name_missing d c [] fault oc hc) is
+third_missing r result d a b c x y fault same oa ob oc ha hb hc is = grind (arith, edit_fault, name_there, name_missing)
 
 pub two_read : (r : Row Edit) (d : Data) (a b x y : List ℕ) (made : List ℕ → List ℕ → Edit) → r.keys ≡ a ∷ b ∷ []
     → r.is d ≡ made (the_name a d) (the_name b d) → pointwise nat_eq a case ≡ false → pointwise nat_eq b case ≡ false
     → or_fault (name_at_key a d) (Key a) ≡ Ok x → or_fault (name_at_key b d) (Key b) ≡ Ok y → edit_by r d ≡ Ok (made x y)
-two_read r d a b x y made same is oa ob ha hb =
-    edit_read r (a ∷ b ∷ []) d (made x y) same (name_there d a (b ∷ []) x oa ha ∙ name_there d b [] y ob hb)
-    (is ∙ (λ i. made (name_is d a x ha i) (name_is d b y hb i)))
+two_read r d a b x y made same is oa ob ha hb = grind (arith, edit_read, name_there, name_is)
 
 pub three_read : (r : Row Edit) (d : Data) (a b c x y z : List ℕ) (made : List ℕ → List ℕ → List ℕ → Edit) → r.keys ≡ a ∷ b ∷ c ∷ []
     → r.is d ≡ made (the_name a d) (the_name b d) (the_name c d) → pointwise nat_eq a case ≡ false → pointwise nat_eq b case ≡ false
     → pointwise nat_eq c case ≡ false → or_fault (name_at_key a d) (Key a) ≡ Ok x → or_fault (name_at_key b d) (Key b) ≡ Ok y
     → or_fault (name_at_key c d) (Key c) ≡ Ok z → edit_by r d ≡ Ok (made x y z)
-three_read r d a b c x y z made same is oa ob oc ha hb hc =
-    edit_read r (a ∷ b ∷ c ∷ []) d (made x y z) same
-    (name_there d a (b ∷ c ∷ []) x oa ha ∙ name_there d b (c ∷ []) y ob hb ∙ name_there d c [] z oc hc)
-    (is ∙ (λ i. made (name_is d a x ha i) (name_is d b y hb i) (name_is d c z hc i)))
+three_read r d a b c x y z made same is oa ob oc ha hb hc = grind (arith, edit_read, name_there, name_is)
 
 pub key_missing : (others keys : List (List ℕ)) (is : Data → Request) (d : Data) (ms : Members) (result : Result Request Bad) (b : Bad)
     → keys_read d keys ≡ Err b → IsErrAnd result (λ e. e ≡ b) → Gives Some (λ r. r) result (request_by others keys is d ms)
 unfolding request_by
-key_missing others keys is d ms result b h same =
-    handed_on result (request_by others keys is d ms) b same (ap (λ r. r >>= (λ _. check (has_only (others ++ keys) ms) Extra >>= (λ _. Ok (is d)))) h)
+key_missing others keys is d ms result b h same = grind (arith, handed_on)
 
 pub key_extra : (others keys : List (List ℕ)) (is : Data → Request) (d : Data) (ms : Members) (result : Result Request Bad) (b : Bad)
     → keys_read d keys ≡ Ok tt → check (has_only (others ++ keys) ms) Extra ≡ Err b → IsErrAnd result (λ e. e ≡ b)
     → Gives Some (λ r. r) result (request_by others keys is d ms)
 unfolding request_by
-key_extra others keys is d ms result b h k same =
-    handed_on result (request_by others keys is d ms) b same
-    (ap (λ r. r >>= (λ _. check (has_only (others ++ keys) ms) Extra >>= (λ _. Ok (is d)))) h ∙ ap (λ r. r >>= (λ _. Ok (is d))) k)
+key_extra others keys is d ms result b h k same = grind (arith, handed_on)
 
 pub request_read : (others keys : List (List ℕ)) (is : Data → Request) (d : Data) (ms : Members) (u : Unit {0}) (r : Request) → keys_read d keys ≡ Ok tt
     → check (has_only (others ++ keys) ms) Extra ≡ Ok u → is d ≡ r → request_by others keys is d ms ≡ Ok r
 unfolding request_by
-request_read others keys is d ms u r h k e =
-    ap (λ s. s >>= (λ _. check (has_only (others ++ keys) ms) Extra >>= (λ _. Ok (is d)))) h ∙ ap (λ s. s >>= (λ _. Ok (is d))) k ∙ ap Ok e
+request_read others keys is d ms u r h k e = grind arith

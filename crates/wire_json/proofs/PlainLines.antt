@@ -2,7 +2,7 @@
 -- are known, a part at a time.
 use Rattle.std.proofs.Common.{◌≡◌, ℕ, ◌-◌, ◌<◌, ◌≤◌, ◌^◌, List, [], ◌∷◌, ◌++◌, length, Bool, true, false, Option, Some, None, option_map, Ok}
 use Rattle.std.proofs.Common.{Less, Greater, refl, sym, ap, subst, ◌∙◌, arith, append_assoc, le-leb, decimal, nat_cmp, take_all, drop, take, get_or}
-use Rattle.std.specs.Prelude.{codes, IsUtf8, IsTrue, is_some, unwrap_or}
+use Rattle.std.specs.Prelude.{codes, IsUtf8, IsTrue, is_some}
 use Rattle.std.specs.Cmp.Lexicographic.{slice_cmp}
 use Rattle.std.proofs.lemmas.Fmt.{IsAscii-decimal}
 use Rattle.std.proofs.lemmas.Str.{IsUtf8-append, IsUtf8-from_ascii}
@@ -23,7 +23,6 @@ use Rattle.basics.specs.Laws.Reading.{◌>>=◌, or_fault}
 use Rattle.wf_names.specs.Names.{is_name}
 use Rattle.wf_names.proofs.NameForms.{name_utf8}
 use Rattle.wf_talk.specs.declared.request.Request.{Request}
-use Rattle.wf_talk.specs.declared.request.Request.TheVariants.{Claim, Finish, GiveBack}
 use Rattle.wf_talk.specs.declared.request.Bad.TheVariants.{Syntax}
 use Rattle.wf_talk.specs.declared.request.Ask.TheVariants as ask
 use Rattle.wire_json.specs.declared.plain.Act.{Act}
@@ -42,13 +41,11 @@ use Rattle.wire_json.proofs.Flats.{member_read, members_over, object_read}
 
 -- a member goes behind those with lesser keys, and before those with greater ones
 behind : (k l : List ℕ) (d : Data) (o : Option Data) (ms : Members) → slice_cmp nat_cmp k l ≡ Greater → put k d (member_if l o ms) ≡ member_if l o (put k d ms)
-behind k l d None ms is = refl
-behind k l d (Some e) ms is = rw is refl
+behind k l d o ms is = grind arith
 
 before : (k l : List ℕ) (d : Data) (o : Option Data) (ms : Members) → slice_cmp nat_cmp k l ≡ Less → put k d ms ≡ member k d ms
     → put k d (member_if l o ms) ≡ member k d (member_if l o ms)
-before k l d None ms is h = h
-before k l d (Some e) ms is h = rw is refl
+before k l d o ms is h = grind arith
 
 module _ (c d l s u : Option Data) (x : Data) where
   put_user : put user x (at_keys c d l s None) ≡ at_keys c d l s (Some x)
@@ -171,8 +168,7 @@ number_read k n old new text rest named small is more =
     ∙ ap (λ o. option_map (λ d. (d, ts)) (option_map v.number o)) (number_of-decimal n h)) old new text rest is more
 
 none : {A : Type 0} (o : Option A) → is_some o ≡ false → o ≡ None
-none None h = refl
-none (Some a) h = cc
+none o h = grind arith
 
 -- ---- a part at each key
 
@@ -182,9 +178,7 @@ same a b c d e k h1 h2 h3 h4 h5 = rw (h1, h2, h3, h4, h5) refl
 
 word_form : (a : Act) → IsTrue (is_name (word a))
 unfolding is_name
-word_form act.Claim = refl
-word_form act.Finish = refl
-word_form act.GiveBack = refl
+word_form a = grind arith
 
 module _ (old : Known) (text rest : List ℕ) where
   abbrev at_case : Option Data
@@ -250,22 +244,12 @@ requested : (a : Act) (lanes n : ℕ) (s u : List ℕ) (o : Option ℕ) (l : ℕ
     → request_in lanes (object (at_keys (Some (number_data n)) (Some (v.string (word a))) (option_map number_data o) (Some (v.string s)) (Some (v.string u))))
     ≡ Ok (asks l (request_of a n s u))
 unfolding request_in request_by
-requested act.Claim lanes n s u None l h hs hu is = rw (le-leb n 65535 h, hs, hu) (ap (λ o. Ok (asks (unwrap_or o 0) (Claim n s u))) is)
-requested act.Finish lanes n s u None l h hs hu is = rw (le-leb n 65535 h, hs, hu) (ap (λ o. Ok (asks (unwrap_or o 0) (Finish n s u))) is)
-requested act.GiveBack lanes n s u None l h hs hu is = rw (le-leb n 65535 h, hs, hu) (ap (λ o. Ok (asks (unwrap_or o 0) (GiveBack n s u))) is)
-requested act.Claim lanes n s u (Some m) l h hs hu is = rw (is, le-leb n 65535 h, hs, hu) refl
-requested act.Finish lanes n s u (Some m) l h hs hu is = rw (is, le-leb n 65535 h, hs, hu) refl
-requested act.GiveBack lanes n s u (Some m) l h hs hu is = rw (is, le-leb n 65535 h, hs, hu) refl
+requested a lanes n s u o l h hs hu is = grind (arith, le-leb)
 
 pub known_asked : (k : Known) (lanes : ℕ) (a : Act) (n : ℕ) (s u : List ℕ) (l : ℕ) → k.act ≡ Some a → k.case ≡ Some n → k.step ≡ Some s → k.user ≡ Some u
     → n < 65536 → IsTrue (is_name s) → IsTrue (is_name u) → lane_known lanes k.lane ≡ Some l
     → asks l (request_of a n s u) ≡ asked (request_in lanes (object (known_members k)))
-known_asked k lanes a n s u l is_act is_case is_step is_user small hs hu is =
-    ap asked (sym (requested a lanes n s u k.lane l (omega arith) hs hu is))
-    ∙ ap (λ ms. asked (request_in lanes (object ms)))
-    (same (Some (number_data n)) (Some (v.string (word a))) (option_map number_data k.lane) (Some (v.string s))
-    (Some (v.string u)) k (ap (option_map number_data) (sym is_case)) (ap (option_map (λ x. v.string (word x))) (sym is_act)) refl
-    (ap (option_map v.string) (sym is_step)) (ap (option_map v.string) (sym is_user)))
+known_asked k lanes a n s u l is_act is_case is_step is_user small hs hu is = grind (arith, requested, same)
 
 pub line_asked : (lanes : ℕ) (line : List ℕ) (ms : Members) → value_of line ≡ Some (object ms) → asked (request_in lanes (object ms)) ≡ asked_of lanes line
 unfolding asked_of
@@ -274,5 +258,4 @@ line_asked lanes line ms read = ap (λ o. asked (or_fault o Syntax >>= request_i
 -- ---- a blank at the front
 
 pub blank_first : (rest : List ℕ) → 0 < length rest → get_or rest 0 0 ≡ 32 → rest ≡ 32 ∷ take (length rest - 1) (drop 1 rest)
-blank_first [] h e = absurd (omega arith)
-blank_first (b ∷ bs) h e = ap (λ x. x ∷ bs) e ∙ ap (λ ys. 32 ∷ ys) (sym (take_all (length (b ∷ bs) - 1) bs (omega arith)))
+blank_first rest h e = grind (arith, take_all)

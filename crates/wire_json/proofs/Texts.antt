@@ -43,9 +43,7 @@ face_added_in x0 x1 x2 x3 x4 x5 x6 a b c d e e1 e2 e3 e4 e5 e6 = rw (e6, e5, e4,
 -- one more item behind a text, and the others behind it
 pub one_more : (old new : List ℕ) (later : Bool) (d : Data) (rest : Items) → new ≡ old ++ (comma_if later ++ compact_text d) →
     new ++ items_text true rest ≡ old ++ items_text later (item d rest)
-one_more old new later d rest e =
-    ap (λ x. x ++ items_text true rest) e ∙ append_assoc old (comma_if later ++ compact_text d) (items_text true rest)
-    ∙ ap (λ x. old ++ x) (append_assoc (comma_if later) (compact_text d) (items_text true rest))
+one_more old new later d rest e = grind (arith, append_assoc)
 
 -- ---- the items of a list, one by one
 
@@ -55,10 +53,7 @@ items_begun old out items e = ap (λ x. x ++ items) e ∙ append_assoc old (91 �
 pub item_added : {A : Type 0} (data_of : A → Data) (xs : List A) (i : ℕ) (x : A) (old new whole : List ℕ) (later : Bool) → i < length xs → x ≡ get_or xs i x
     → new ≡ old ++ (comma_if later ++ compact_text (data_of x)) → old ++ items_text later (items_of (map data_of (drop i xs))) ≡ whole
     → new ++ items_text true (items_of (map data_of (drop (i + 1) xs))) ≡ whole
-item_added data_of xs i x old new whole later within is e here =
-    let next : drop i xs ≡ x ∷ drop (i + 1) xs = drop_more xs i x within ∙ ap (λ y. y ∷ drop (i + 1) xs) (sym is) in
-    one_more old new later (data_of x) (items_of (map data_of (drop (i + 1) xs))) e
-    ∙ ap (λ ys. old ++ items_text later (items_of (map data_of ys))) (sym next) ∙ here
+item_added data_of xs i x old new whole later within is e here = grind (arith, drop_more, one_more)
 
 pub all_dropped : {A : Type 0} (xs : List A) (i : ℕ) → length xs ≤ i → drop i xs ≡ []
 all_dropped [] zero h = refl
@@ -68,8 +63,7 @@ all_dropped (x ∷ xs) (suc i) h = all_dropped xs i (omega (arith, h))
 
 pub items_ended : {A : Type 0} (data_of : A → Data) (xs : List A) (i : ℕ) (old new whole : List ℕ) (later : Bool) → length xs ≤ i → new ≡ old ++ 93 ∷ []
     → old ++ items_text later (items_of (map data_of (drop i xs))) ≡ whole → new ≡ whole
-items_ended data_of xs i old new whole later end e here =
-    e ∙ ap (λ ys. old ++ items_text later (items_of (map data_of ys))) (sym (all_dropped xs i end)) ∙ here
+items_ended data_of xs i old new whole later end e here = grind (arith, all_dropped)
 
 -- nothing in a name is escaped
 byte_stays : (b : ℕ) → is_name_byte b ≡ true → escape_byte b ≡ b ∷ []
