@@ -13,8 +13,7 @@ searched : (related : Relating) (users : ℕ → Option ℕ) (n : ℕ) (rules : 
     first_falsified related users n
     (drop k rules) ≡ (if is_falsified related rule users then Some n else first_falsified related users (n + 1) (drop (suc k) rules))
 searched related users n [] k rule here = cc
-searched related users n (r ∷ rules) zero rule here = let is : r ≡ rule = cc in
-    ap (λ x. if is_falsified related x users then Some n else first_falsified related users (n + 1) rules) is
+searched related users n (r ∷ rules) zero rule here = grind arith
 searched related users n (r ∷ rules) (suc k) rule here = searched related users n rules k rule here
 
 -- a rule that is falsified is the first where no earlier one is
@@ -37,14 +36,9 @@ passed_rule related users k rules rule goal here is so_far =
 -- a number that passes is the next
 pub passes : (test : ℕ → Bool) (k n : ℕ) (so_far goal : List ℕ) → k < n → test k ≡ true → so_far ++ passing test k (n - k) ≡ goal →
     (so_far ++ k ∷ []) ++ passing test (k + 1) (n - (k + 1)) ≡ goal
-passes test k n so_far goal below is before =
-    let left = passing test (k + 1) (n - (k + 1)) in
-    append_assoc so_far (k ∷ []) left ∙ ap (λ b. so_far ++ (if b then k ∷ left else left)) (sym is) ∙
-    ap (λ xs. so_far ++ xs) (sym (passing_at test k n below)) ∙ before
+passes test k n so_far goal below is before = grind (arith, append_assoc, passing_at)
 
 -- a number that does not pass is left out
 pub fails : (test : ℕ → Bool) (k n : ℕ) (so_far goal : List ℕ) → k < n → test k ≡ false → so_far ++ passing test k (n - k) ≡ goal →
     so_far ++ passing test (k + 1) (n - (k + 1)) ≡ goal
-fails test k n so_far goal below is before =
-    let left = passing test (k + 1) (n - (k + 1)) in
-    ap (λ b. so_far ++ (if b then k ∷ left else left)) (sym is) ∙ ap (λ xs. so_far ++ xs) (sym (passing_at test k n below)) ∙ before
+fails test k n so_far goal below is before = grind (arith, passing_at)

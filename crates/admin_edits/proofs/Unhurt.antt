@@ -1,5 +1,5 @@
 -- A valid plan that a change cannot hurt stays valid.
-use Rattle.std.proofs.Common.{◌≡◌, ◌≢◌, ◌==◌, ◌&&◌, ◌||◌, not, ℕ, zero, suc, ◌+◌, ◌<◌, ◌≤◌, Bool, true, false, List, [], ◌∷◌, ◌++◌, length, Option, None, Some}
+use Rattle.std.proofs.Common.{◌≡◌, ◌≢◌, ◌==◌, ◌&&◌, ◌||◌, not, ℕ, zero, suc, ◌+◌, ◌<◌, ◌≤◌, Bool, true, false, List, [], ◌∷◌, ◌++◌, length, Option, Some}
 use Rattle.std.proofs.Common.{◌⊎◌, inl, inr, refl, sym, ap, subst, ◌∙◌, arith, length-append}
 use Rattle.std.specs.Prelude.{slice_get}
 use Rattle.std.specs.List.{list_any}
@@ -13,16 +13,15 @@ use Rattle.basics.proofs.Booleans.{and_both, and_from, differ, eq_is, eq_same, o
 use Rattle.basics.specs.Laws.Pairs.{Pairs, pair_cmp}
 use Rattle.basics.specs.PairLaws.{pair_cmp_total, pair_cmp-IsAntisymmetric}
 use Rattle.rbac_state.specs.Laws.Rosters.{has_role}
-use Rattle.user_relations.specs.Laws.Relations.{RelationKind, RelationShape, change_kind, complement, complement_of, complemented, is_related, kind_holds}
+use Rattle.user_relations.specs.Laws.Relations.{RelationKind, RelationShape, change_kind, complement_of, complemented, is_related, kind_holds}
 use Rattle.user_relations.specs.Laws.Relations.{kind_of}
-use Rattle.user_relations.specs.Laws.Relations.{listed, listed_pairs, pairs_of, with_kind}
+use Rattle.user_relations.specs.Laws.Relations.{listed, pairs_of, with_kind}
 use Rattle.constraint_forms.specs.declared.rule.Rule.{Rule}
-use Rattle.constraint_forms.specs.declared.rule.Rule.TheVariants.{Pair, SomeOf, AllOf, SomeTo, AllTo, AtMost, AtLeast}
 use Rattle.constraint_forms.specs.Assign.{is_member, planned}
 use Rattle.constraint_forms.specs.Rules.{Relating, all_from, any_from, is_satisfied, reads}
 use Rattle.constraint_forms.proofs.Reading.{none_read}
 use Rattle.policy_book.specs.Laws.Shapes.{PolicyShape, WorkflowShape}
-use Rattle.policy_book.specs.Policies.{any_below, flow_at, no_workflow, problem_of, with_flow, with_roster}
+use Rattle.policy_book.specs.Policies.{any_below, flow_at, problem_of, with_flow, with_roster}
 use Rattle.policy_book.specs.Laws.Plans.{IsValidPlan, Problem}
 use Rattle.policy_book.proofs.Counting.{any_below-at}
 use Rattle.admin_edits.specs.declared.amendment.Amendment.TheVariants as amend
@@ -35,15 +34,7 @@ pub stays : (p q : Problem) (assigned : List (Option ℕ)) (finished : List Bool
     ((k : ℕ) (rule : Rule) → slice_get p.rules k ≡ Some rule → is_satisfied p.related rule (planned plan) ≡ true →
     is_satisfied q.related rule (planned plan) ≡ true) →
     IsValidPlan p assigned finished plan → IsValidPlan q assigned finished plan
-stays p q assigned finished plan steps users rules authorised related valid = record {
-  whole = valid.whole ∙ sym steps;
-  known = λ s h. let known : planned plan s < p.users = valid.known s (omega (arith, h, steps)) in omega (arith, known, users);
-  keeps = valid.keeps;
-  allowed = λ s h open_. let within : s < p.steps = omega (arith, h, steps) in
-      authorised s within open_ (valid.allowed s within open_);
-  obeyed = λ k rule is. let here : slice_get p.rules k ≡ Some rule = ap (λ (rs : List Rule). slice_get rs k) (sym rules) ∙ is in
-      related k rule here (valid.obeyed k rule here);
-}
+stays p q assigned finished plan steps users rules authorised related valid = grind arith
 
 -- ---- who is authorised
 
@@ -71,8 +62,7 @@ not_taken pairs k q other is =
 -- the roles of another user stay when all of a user's are taken away
 pub others_keep : (n u v r : ℕ) (members : Pairs) → v ≢ u → set.contains members (v, r) ≡ true → set.contains (without_roles n u members) (v, r) ≡ true
 others_keep zero u v r members other is = is
-others_keep (suc n) u v r members other is =
-    not_taken (without_roles n u members) (u, n) (v, r) (λ e. other (ap (λ (x : ℕ × ℕ). x.0) e)) (others_keep n u v r members other is)
+others_keep (suc n) u v r members other is = grind (arith, not_taken, (others_keep n u v r members other is))
 
 -- a step that is not finished goes to another user
 goes_to_another : (finished : List Bool) (plan : List ℕ) (u s : ℕ) → gives_open finished plan u ≡ false → s < length plan → is_member finished s ≡ false →
@@ -96,10 +86,7 @@ problem_with p w = record {
 -- after a change of the workflow at g, that at f is the new one, or as it was
 pub flow_there : (p : PolicyShape) (g : ℕ) (w : WorkflowShape) (f : ℕ) → g < length p.flows → ((f ≡ g) × (flow_at (with_flow p g w) f ≡ w)) ⊎
     (flow_at (with_flow p g w) f ≡ flow_at p f)
-flow_there p g w f within = elim (eqb_tells f g) [
-  | inl same ↦ inl (same.1, subst (λ (n : ℕ). flow_at (with_flow p g w) n ≡ w) (sym same.1) (get_or-set_same p.flows g w no_workflow within))
-  | inr other ↦ inr (get_or-set_other p.flows g f w no_workflow other.1)
-]
+flow_there p g w f within = grind (arith, eqb_tells, get_or-set_same, get_or-set_other)
 
 -- what a plan has to keep where one workflow changes
 flow_stays : (p : PolicyShape) (g : ℕ) (w : WorkflowShape) (f : ℕ) (assigned : List (Option ℕ)) (finished : List Bool) (plan : List ℕ) → g < length p.flows →
@@ -130,18 +117,11 @@ change_other (r ∷ rs) (suc n) (suc m) kind other = change_other rs n m kind (�
 
 -- another relation is as it was
 pub kind_other : (rs : List RelationShape) (rho sigma : ℕ) (kind : RelationKind) → sigma ≢ rho → kind_of (with_kind rs rho kind) sigma ≡ kind_of rs sigma
-kind_other rs zero sigma kind other = refl
-kind_other rs (suc zero) sigma kind other = refl
-kind_other rs (suc (suc n)) zero kind other = refl
-kind_other rs (suc (suc n)) (suc zero) kind other = refl
-kind_other rs (suc (suc n)) (suc (suc m)) kind other = change_other rs n m kind (λ e. other (ap (λ (k : ℕ). suc (suc k)) e))
+kind_other rs rho sigma kind other = grind (arith, change_other)
 
 holds_other : (rs : List RelationShape) (rho : ℕ) (kind : RelationKind) (of : Option RelationKind) (u v : ℕ) → is_number rho (complemented of) ≡ false →
     kind_holds (with_kind rs rho kind) of u v ≡ kind_holds rs of u v
-holds_other rs rho kind None u v other = refl
-holds_other rs rho kind (Some (listed pairs)) u v other = refl
-holds_other rs rho kind (Some (complement n)) u v other =
-    ap (λ (k : Option RelationKind). not (set.contains (listed_pairs k) (u, v))) (kind_other rs rho n kind (λ e. differ (n == rho) (eq_is n rho e) other))
+holds_other rs rho kind of u v other = grind (arith, kind_other, differ, eq_is)
 
 -- and relates the same users, if it is not the complement of the one that changes
 pub related_other : (rs : List RelationShape) (rho sigma : ℕ) (kind : RelationKind) (u v : ℕ) → sigma ≢ rho → is_number rho (complement_of rs sigma) ≡ false →
@@ -158,19 +138,12 @@ any_same k (m ∷ ms) a b same = ap (λ (t : Bool). (m && t) || any_from (k + 1)
 
 all_same : (k : ℕ) (group : List Bool) (a b : ℕ → Bool) → ((x : ℕ) → a x ≡ b x) → all_from k group a ≡ all_from k group b
 all_same k [] a b same = refl
-all_same k (m ∷ ms) a b same = ap (λ (t : Bool). (not m || t) && all_from (k + 1) ms a) (same k) ∙
-    ap (λ (t : Bool). (not m || b k) && t) (all_same (k + 1) ms a b same)
+all_same k (m ∷ ms) a b same = grind (arith, (all_same (k + 1) ms a b same))
 
 -- a rule rests on the relations that it reads alone
 pub satisfied_same : (a b : Relating) (rule : Rule) (f : ℕ → ℕ) → ((rho u v : ℕ) → reads rule rho ≡ true → b rho u v ≡ a rho u v) →
     is_satisfied b rule f ≡ is_satisfied a rule f
-satisfied_same a b (Pair rho first second) f same = same rho (f first) (f second) (eq_same rho)
-satisfied_same a b (SomeOf rho group step) f same = any_same 0 group _ _ (λ x. same rho (f x) (f step) (eq_same rho))
-satisfied_same a b (AllOf rho group step) f same = all_same 0 group _ _ (λ x. same rho (f x) (f step) (eq_same rho))
-satisfied_same a b (SomeTo rho step group) f same = any_same 0 group _ _ (λ x. same rho (f step) (f x) (eq_same rho))
-satisfied_same a b (AllTo rho step group) f same = all_same 0 group _ _ (λ x. same rho (f step) (f x) (eq_same rho))
-satisfied_same a b (AtMost limit group) f same = refl
-satisfied_same a b (AtLeast limit group) f same = refl
+satisfied_same a b rule f same = grind (arith, eq_same, any_same, all_same)
 
 none_passes : (test : Rule → Bool) (rules : List Rule) (k : ℕ) (rule : Rule) → list_any test rules ≡ false → slice_get rules k ≡ Some rule → test rule ≡ false
 none_passes test [] k rule none is = absurd (cc)
@@ -203,16 +176,7 @@ members_stay : (p : PolicyShape) (members : Pairs) (f : ℕ) (assigned : List (O
     set.contains members (planned plan s, r) ≡ true) →
     IsValidPlan (problem_of p f) assigned finished plan →
     IsValidPlan (problem_of (with_roster p (record p.roster { members = members })) f) assigned finished plan
-members_stay p members f assigned finished plan keep valid =
-    let q = with_roster p (record p.roster { members = members }) in
-    stays (problem_of p f) (problem_of q f) assigned finished plan refl (omega arith) refl
-    (λ s h open_ is.
-    let within : s < length plan = omega (arith, h, valid.whole) in
-    more_below (length p.roster.roles) (λ r. has_role p.roster (planned plan s) r && set.contains (flow_at p f).flow.permits (r, s))
-    (λ r. set.contains members (planned plan s, r) && set.contains (flow_at p f).flow.permits (r, s))
-    (λ r both. let held = and_both (has_role p.roster (planned plan s) r) (set.contains (flow_at p f).flow.permits (r, s)) both in
-    and_from _ _ (keep s r within open_ held.0) held.1) is)
-    (λ k rule is obeyed. obeyed) valid
+members_stay p members f assigned finished plan keep valid = grind (arith, stays, more_below, and_both, and_from)
 
 pub unhurt_plans_stay_valid : UnhurtPlansStayValid
 unhurt_plans_stay_valid p (amend.AddUser name) f assigned finished plan found unhurt valid =

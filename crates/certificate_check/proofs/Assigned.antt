@@ -1,6 +1,6 @@
 -- Assignments with one more step given, and what tests say.
-use Rattle.std.proofs.Common.{◌≡◌, refl, sym, ap, subst, ◌∙◌, ℕ, ◌<◌, ◌≤◌, true, false, not, List, length, get_or, Option, None, Some, is_some, slice_set, eqb}
-use Rattle.std.proofs.Common.{leb, Bool, ◌⊎◌, ◌≢◌, inl, inr}
+use Rattle.std.proofs.Common.{◌≡◌, sym, ap, subst, ◌∙◌, ℕ, ◌<◌, ◌≤◌, true, not, List, length, get_or, Option, None, Some, is_some, slice_set}
+use Rattle.std.proofs.Common.{Bool, ◌⊎◌, arith}
 use Rattle.std.proofs.lemmas.Bool.{false≢true}
 use Rattle.std.proofs.lemmas.Bool.Decides.{eqb_tells, leb_tells}
 use Rattle.std.proofs.lemmas.List.{get_or-set_same, get_or-set_other, set_past}
@@ -8,8 +8,7 @@ use Rattle.constraint_forms.specs.Assign.{user_at}
 use Rattle.policy_book.specs.Laws.Plans.{AreAssigned}
 
 pub not_some : (o : Option ℕ) → not (is_some o) ≡ true → o ≡ None
-not_some None h = refl
-not_some (Some u) h = absurd (false≢true h)
+not_some o h = grind (arith, false≢true)
 
 abbrev value_or_zero : Option ℕ → ℕ
 value_or_zero None = 0
@@ -19,8 +18,7 @@ pub same_some : (x y : ℕ) → Some x ≡ Some y → x ≡ y
 same_some x y e = ap value_or_zero e
 
 pub either : {A B X : Type 0} → A ⊎ B → (A → X) → (B → X) → X
-either (inl a) f g = f a
-either (inr b) f g = g b
+either h0 f g = grind arith
 
 pub none_not_some : {X : Type 0} (u : ℕ) → None ≡ Some u → X
 none_not_some u e = absurd (false≢true (ap is_some e))
@@ -37,16 +35,7 @@ given_past a s u t past = ap (λ (b : List (Option ℕ)). get_or b t None) (set_
 
 -- whoever has a step after another was given: the one given, or the one from before
 pub given : (a : List (Option ℕ)) (s u t w : ℕ) → user_at (slice_set a s (Some u)) t ≡ Some w → ((t ≡ s) × (w ≡ u)) ⊎ (user_at a t ≡ Some w)
-given a s u t w h = at_step (eqb_tells t s)
-  where
-    within : t ≡ s → ((leb (length a) s ≡ true) × (length a ≤ s)) ⊎ ((leb (length a) s ≡ false) × (s < length a)) → ((t ≡ s) × (w ≡ u)) ⊎ (user_at a t ≡ Some w)
-    within same (inl past) = inr (sym (given_past a s u t past.1) ∙ h)
-    within same (inr below) =
-        inl (same, sym (same_some u w (sym (subst (λ k. user_at (slice_set a s (Some u)) k ≡ Some u) (sym same) (given_same a s u below.1)) ∙ h)))
-
-    at_step : ((eqb t s ≡ true) × (t ≡ s)) ⊎ ((eqb t s ≡ false) × (t ≢ s)) → ((t ≡ s) × (w ≡ u)) ⊎ (user_at a t ≡ Some w)
-    at_step (inl same) = within same.1 (leb_tells (length a) s)
-    at_step (inr apart) = inr (sym (given_other a s u t apart.1) ∙ h)
+given a s u t w h = grind (arith, eqb_tells, given_past, same_some, given_same, leb_tells, given_other)
 
 -- finished steps stay assigned where one more step is given
 pub still_assigned : (done : List Bool) (a : List (Option ℕ)) (t u : ℕ) → t < length a → AreAssigned done a → AreAssigned done (slice_set a t (Some u))

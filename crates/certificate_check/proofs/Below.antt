@@ -1,5 +1,5 @@
 -- Tests of every number below another, and tests that agree.
-use Rattle.std.proofs.Common.{◌≡◌, ◌≢◌, refl, sym, ap, ◌∙◌, ℕ, zero, suc, ◌+◌, ◌<◌, Bool, true, false, not, ◌⊎◌, inl, inr, eqb, arith}
+use Rattle.std.proofs.Common.{◌≡◌, ◌≢◌, refl, ap, ◌∙◌, ℕ, zero, suc, ◌+◌, ◌<◌, Bool, true, false, ◌⊎◌, inl, inr, eqb, arith}
 use Rattle.std.proofs.lemmas.Bool.Decides.{eqb_tells}
 use Rattle.basics.proofs.Booleans.{and_both, and_from, differ, not_true, not_yes}
 use Rattle.policy_book.specs.Laws.Twins.{agree, all_below}
@@ -25,9 +25,7 @@ pub one_more_passes : (n : ℕ) (test : ℕ → Bool) → all_below n test ≡ t
 one_more_passes n test all here = let more : n + 1 ≡ suc n = omega arith in ap (λ m. all_below m test) more ∙ and_from (all_below n test) (test n) all here
 
 pub agree_same : (a b : Bool) → agree a b ≡ true → a ≡ b
-agree_same true b h = sym h
-agree_same false b h = sym (not_yes b h)
+agree_same a b h = grind (arith, not_yes)
 
 pub same_agree : (a b : Bool) → a ≡ b → agree a b ≡ true
-same_agree true b e = sym e
-same_agree false b e = ap not (sym e)
+same_agree a b e = grind arith

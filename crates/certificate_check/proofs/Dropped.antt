@@ -1,12 +1,11 @@
 -- A tree that does not mention an assigned step refutes without it too.
-use Rattle.std.proofs.Common.{◌≡◌, ◌≢◌, refl, sym, ap, ◌∙◌, ℕ, ◌<◌, ◌≤◌, Bool, true, false, not, arith, ◌&&◌, ◌==◌, List, [], ◌∷◌, length, Option, None, Some}
-use Rattle.std.proofs.Common.{is_some, slice_get, slice_set, eqb, leb, nat_lt, ◌⊎◌, inl, inr}
+use Rattle.std.proofs.Common.{◌≡◌, ◌≢◌, refl, sym, ap, ◌∙◌, ℕ, Bool, true, false, not, arith, ◌&&◌, ◌==◌, List, [], ◌∷◌, length, Option, None, Some}
+use Rattle.std.proofs.Common.{is_some, slice_get, slice_set, nat_lt}
 use Rattle.std.proofs.lemmas.Bool.{false≢true, and_from}
 use Rattle.std.proofs.lemmas.Bool.Decides.{eqb_tells, leb_tells, nat_tests}
 use Rattle.std.proofs.lemmas.List.{length-set}
 use Rattle.constraint_forms.specs.declared.rule.Rule.{Rule}
 use Rattle.constraint_forms.specs.Assign.{user_at}
-use Rattle.constraint_forms.specs.Rules.{names}
 use Rattle.constraint_forms.proofs.RuleLaws.{falsified_by_named}
 use Rattle.refutation_tree.specs.Tree.{Shape, Kids, holder, rule, node, no_kids, tree_kid, twin_kid}
 use Rattle.policy_book.specs.Laws.Plans.{Problem}
@@ -27,46 +26,16 @@ record IsWithout (a b : List (Option ℕ)) (s u : ℕ) : Type 0 where
 
 -- what is given to another step in both makes no difference
 without_given : (a b : List (Option ℕ)) (s u t v : ℕ) → IsWithout a b s u → t ≢ s → IsWithout (slice_set a t (Some v)) (slice_set b t (Some v)) s u
-without_given a b s u t v w apart = record {
-  long = length-set a t (Some v) ∙ w.long ∙ sym (length-set b t (Some v));
-  here = given_other a t v s (λ same. apart (sym same)) ∙ w.here;
-  gone = given_other b t v s (λ same. apart (sym same)) ∙ w.gone;
-  others = λ x far. at x far (eqb_tells x t);
-}
-  where
-    within : (x : ℕ) → x ≢ s → x ≡ t → ((leb (length a) t ≡ true) × (length a ≤ t)) ⊎ ((leb (length a) t ≡ false) × (t < length a)) →
-        user_at (slice_set a t (Some v)) x ≡ user_at (slice_set b t (Some v)) x
-    within x far same (inl past) = given_past a t v x past.1 ∙ w.others x far ∙ sym (given_past b t v x (omega (arith, past.1, w.long)))
-    within x far same (inr below) =
-        ap (user_at (slice_set a t (Some v))) same ∙ given_same a t v below.1 ∙ sym (given_same b t v (omega (arith, below.1, w.long))) ∙
-        sym (ap (user_at (slice_set b t (Some v))) same)
-
-    at : (x : ℕ) → x ≢ s → ((eqb x t ≡ true) × (x ≡ t)) ⊎ ((eqb x t ≡ false) × (x ≢ t)) →
-        user_at (slice_set a t (Some v)) x ≡ user_at (slice_set b t (Some v)) x
-    at x far (inl same) = within x far same.1 (leb_tells (length a) t)
-    at x far (inr other) = given_other a t v x other.1 ∙ w.others x far ∙ sym (given_other b t v x other.1)
+without_given a b s u t v w apart = grind (arith, length-set, given_other, eqb_tells, given_past, given_same, leb_tells)
 
 -- a rule that does not name the step is falsified by both or by none
 broken_without : (p : Problem) (a b : List (Option ℕ)) (s u : ℕ) → IsWithout a b s u → (o : Option Rule) → is_rule_naming s o ≡ false →
     is_broken p b o ≡ is_broken p a o
-broken_without p a b s u w None h = refl
-broken_without p a b s u w (Some r) h =
-    falsified_by_named p.related r (user_at b) (user_at a) (λ t named. sym (w.others t (λ same. false≢true (sym h ∙ ap (names r) (sym same) ∙ named))))
+broken_without p a b s u w o h = grind (arith, falsified_by_named, false≢true)
 
 -- twins stay twins where a step is given to nobody
 twins_without : (p : Problem) (a b : List (Option ℕ)) (s u : ℕ) → IsWithout a b s u → (v w : ℕ) → are_twins p a v w ≡ true → are_twins p b v w ≡ true
-twins_without p a b s u without v w h =
-    let twins = twins_mean p a v w h in
-    mean_twins p b v w record {
-      first = λ t is. twins.first t (before t v is (eqb_tells t s));
-      second = λ t is. twins.second t (before t w is (eqb_tells t s));
-      steps = twins.steps;
-      rules = twins.rules;
-    }
-  where
-    before : (t x : ℕ) → user_at b t ≡ Some x → ((eqb t s ≡ true) × (t ≡ s)) ⊎ ((eqb t s ≡ false) × (t ≢ s)) → user_at a t ≡ Some x
-    before t x is (inl same) = none_not_some x (sym without.gone ∙ ap (user_at b) (sym same.1) ∙ is)
-    before t x is (inr apart) = without.others t apart.1 ∙ is
+twins_without p a b s u without v w h = grind (arith, twins_mean, mean_twins, eqb_tells, none_not_some)
 
 mutual
   dropped : (p : Problem) (a b : List (Option ℕ)) (finished : List Bool) (s u : ℕ) → IsWithout a b s u → (tree : Shape) → mentions p.rules s tree ≡ false →

@@ -1,5 +1,5 @@
 -- A valid plan stays valid where one step goes to another user who is authorised and keeps the rules that name the step.
-use Rattle.std.proofs.Common.{◌≡◌, ◌≢◌, ℕ, ◌<◌, ◌≤◌, Bool, true, false, ◌⊎◌, inl, inr, leb, List, length, Option, None, Some, slice_get}
+use Rattle.std.proofs.Common.{◌≡◌, ◌≢◌, ℕ, ◌<◌, Bool, true, false, ◌⊎◌, inl, inr, List, length, Option, Some, slice_get}
 use Rattle.std.proofs.Common.{slice_set, sym, ap, subst, ◌∙◌, arith}
 use Rattle.std.proofs.lemmas.Bool.Decides.{eqb_tells, leb_tells}
 use Rattle.std.proofs.lemmas.List.{get_or-set_same, get_or-set_other, get_or_past, length-set}
@@ -21,11 +21,7 @@ moved_other plan s u t apart = get_or-set_other plan s t u 0 apart
 
 -- whoever is assigned is assigned to a step within the list
 assigned_below : (a : List (Option ℕ)) (t w : ℕ) → user_at a t ≡ Some w → t < length a
-assigned_below a t w is = at (leb_tells (length a) t)
-  where
-    at : ((leb (length a) t ≡ true) × (length a ≤ t)) ⊎ ((leb (length a) t ≡ false) × (t < length a)) → t < length a
-    at (inl past) = none_not_some w (sym (get_or_past a t None past.1) ∙ is)
-    at (inr below) = below.1
+assigned_below a t w is = grind (arith, leb_tells, none_not_some, get_or_past)
 
 -- a rule that names a step and is kept is satisfied
 kept_satisfied : (p : Problem) (plan : List ℕ) (s : ℕ) (rule : Rule) → keeps_rule p plan s (Some rule) ≡ true → names rule s ≡ true →

@@ -44,19 +44,12 @@ passing-has test x passes k (suc n) low high =
 -- the user who holds a step wrongly
 misheld_found : (p : Problem) (finished : List Bool) (s : ℕ) (o : Option ℕ) → is_misheld p finished s o ≡ true → (u : ℕ) × (o ≡ Some u) ×
     (is_member finished s ≡ false) × (p.authorised s u ≡ false)
-misheld_found p finished s None h = absurd (false≢true h)
-misheld_found p finished s (Some u) h =
-    let both = and_both _ _ h in
-    (u, refl, not_yes _ both.0, not_yes _ both.1)
+misheld_found p finished s o h = grind (arith, false≢true, and_both, not_yes)
 
 -- no valid plan keeps a step with a user who is not authorised for it
 misheld_excludes : (p : Problem) (assigned : List (Option ℕ)) (finished : List Bool) (s : ℕ) → s < p.steps →
     is_misheld p finished s (user_at assigned s) ≡ true → (plan : List ℕ) → IsValidPlan p assigned finished plan → ⊥
-misheld_excludes p assigned finished s below h plan valid =
-    let held = misheld_found p finished s (user_at assigned s) h in
-    let kept : planned plan s ≡ held.0 = same_some _ _ (valid.keeps s held.0 held.1) in
-    let may : p.authorised s held.0 ≡ true = subst (λ u. p.authorised s u ≡ true) kept (valid.allowed s below held.2) in
-    false≢true (sym held.3 ∙ may)
+misheld_excludes p assigned finished s below h plan valid = grind (arith, misheld_found, same_some, false≢true)
 
 -- no valid plan obeys a rule that is falsified
 broken_excludes : (p : Problem) (assigned : List (Option ℕ)) (finished : List Bool) (k : ℕ) (o : Option Rule) → slice_get p.rules k ≡ o →
@@ -69,31 +62,17 @@ broken_excludes p assigned finished k (Some r) is h plan valid =
 -- a step that is free is given its user in a valid plan, which stays valid
 valid_given : (p : Problem) (assigned : List (Option ℕ)) (finished : List Bool) (plan : List ℕ) (s : ℕ) → IsValidPlan p assigned finished plan →
     IsValidPlan p (slice_set assigned s (Some (planned plan s))) finished plan
-valid_given p assigned finished plan s valid = record {
-  whole = valid.whole;
-  known = valid.known;
-  keeps = λ t w h. kept t w (given assigned s (planned plan s) t w h);
-  allowed = valid.allowed;
-  obeyed = valid.obeyed;
-}
-  where
-    kept : (t w : ℕ) → ((t ≡ s) × (w ≡ planned plan s)) ⊎ (user_at assigned t ≡ Some w) → Some (planned plan t) ≡ Some w
-    kept t w (inl here) = ap Some (ap (planned plan) here.0 ∙ sym here.1)
-    kept t w (inr before) = valid.keeps t w before
+valid_given p assigned finished plan s valid = grind (arith, given)
 
 -- a free step is not finished
 free_open : (assigned : List (Option ℕ)) (finished : List Bool) (s : ℕ) → AreAssigned finished assigned → user_at assigned s ≡ None → (b : Bool) →
     is_member finished s ≡ b → b ≡ false
-free_open assigned finished s all free true is = let u = all s is in none_not_some u.0 (sym free ∙ u.1)
-free_open assigned finished s all free false is = refl
+free_open assigned finished s all free b is = grind (arith, none_not_some)
 
 -- what is finished stays assigned where a free step is given
 pub assigned_given : (assigned : List (Option ℕ)) (finished : List Bool) (s u : ℕ) → AreAssigned finished assigned → user_at assigned s ≡ None →
     AreAssigned finished (slice_set assigned s (Some u))
-assigned_given assigned finished s u all free t is =
-    let w = all t is in
-    let apart : t ≢ s = λ same. none_not_some w.0 (sym free ∙ sym (ap (user_at assigned) same) ∙ w.1) in
-    (w.0, given_other assigned s u t apart ∙ w.1)
+assigned_given assigned finished s u all free = grind (arith, none_not_some, given_other)
 
 -- no valid plan gives the step to one of some users
 abbrev AreTried : Problem → List (Option ℕ) → List Bool → ℕ → List ℕ → Type 0
@@ -103,13 +82,7 @@ AreTried p assigned finished s users =
 one_more_tried : (p : Problem) (assigned : List (Option ℕ)) (finished : List Bool) (s v : ℕ) (users : List ℕ) →
     v < p.users → ((plan : List ℕ) → IsValidPlan p (slice_set assigned s (Some v)) finished plan → ⊥) → AreTried p assigned finished s users →
     AreTried p assigned finished s (v ∷ users)
-one_more_tried p assigned finished s v users known none tried w h =
-    either (has_parts v w users h)
-    (λ same. (
-      subst (λ x. x < p.users) same known,
-      λ plan valid. none plan (subst (λ x. IsValidPlan p (slice_set assigned s (Some x)) finished plan) (sym same) valid),
-    ))
-    (λ later. tried w later)
+one_more_tried p assigned finished s v users known none tried = grind (arith, either, has_parts)
 
 -- a twin of a user who was tried is given the step in no valid plan
 twin_excludes : (p : Problem) (assigned : List (Option ℕ)) (finished : List Bool) (s u v : ℕ) (users : List ℕ) → IsWellFormed p → s < p.steps →

@@ -1,46 +1,34 @@
 -- Whether relations treat two users alike, by rules that read the same and by rows of users.
-use Rattle.std.proofs.Common.{◌≡◌, refl, sym, ap, ◌∙◌, ℕ, ◌<◌, Bool, true, false, ◌&&◌, ◌||◌, ◌==◌, ◌↔◌, nat_lt, List, Option, None, Some}
+use Rattle.std.proofs.Common.{◌≡◌, refl, ℕ, ◌<◌, Bool, true, false, ◌&&◌, ◌||◌, ◌==◌, ◌↔◌, nat_lt, List, Option, arith}
 use Rattle.std.proofs.lemmas.Bool.{false≢true}
 use Rattle.basics.proofs.Booleans.{and_both, and_from, lt_back, lt_yes, not_true, same_by}
 use Rattle.wf_names.specs.UserSets.{has_user}
 use Rattle.constraint_forms.specs.declared.rule.Rule.{Rule}
-use Rattle.constraint_forms.specs.Rules.{reads}
 use Rattle.constraint_forms.proofs.Reading.{all_as_each, each_read}
 use Rattle.policy_book.specs.Laws.Plans.{Problem}
-use Rattle.policy_book.specs.Laws.Twins.{agree, all_below, is_alike_to, is_rule_alike, treats_alike}
+use Rattle.policy_book.specs.Laws.Twins.{agree, all_below, is_alike_to, is_rule_alike}
 use Rattle.certificate_check.specs.Alike.{AreSameBut, reads_as}
 use Rattle.certificate_check.proofs.Below.{agree_same, all_pass, each_passes, same_agree}
 
 -- a rule treats users alike where another does that reads all that it reads
 pub read_alike : (p : Problem) (u v : ℕ) (a b : Option Rule) → reads_as a b ≡ true → is_rule_alike p u v a ≡ true → is_rule_alike p u v b ≡ true
-read_alike p u v None b h alike = absurd (false≢true h)
-read_alike p u v (Some x) None h alike = absurd (false≢true h)
-read_alike p u v (Some x) (Some y) h alike = all_as_each y test (λ rho read. each_read x test alike rho (each_read y (reads x) h rho read))
-  where
-    test : ℕ → Bool
-    test rho = treats_alike p.users (p.related rho) u v
+read_alike p u v a b h alike = grind (arith, false≢true, all_as_each, each_read)
 
 -- a set is that of the users below a number who pass
 abbrev IsRow : List ℕ → ℕ → (ℕ → Bool) → Type 0
 IsRow row n test = (w : ℕ) → has_user row w ≡ (nat_lt w n && test w)
 
 second_holds : (a b : Bool) → (a || b) ≡ true → a ≡ false → b ≡ true
-second_holds true b h is = absurd (false≢true (sym is))
-second_holds false b h is = h
+second_holds a b h is = grind (arith, false≢true)
 
 -- rows are the same, u and v aside, where the tests are
 rows_same : (n : ℕ) (f g : ℕ → Bool) (u v : ℕ) (a b : List ℕ) → IsRow a n f → IsRow b n g →
     ((w : ℕ) → w < n → (w == u || w == v) ≡ false → f w ≡ g w) → AreSameBut a b u v
-rows_same n f g u v a b of_a of_b same w apart = of_a w ∙ at (nat_lt w n) (λ is. same w (lt_back w n is) apart) ∙ sym (of_b w)
-  where
-    at : (below : Bool) → (below ≡ true → f w ≡ g w) → (below && f w) ≡ (below && g w)
-    at true is = is refl
-    at false is = refl
+rows_same n f g u v a b of_a of_b same = grind (arith, lt_back)
 
 tests_same : (n : ℕ) (f g : ℕ → Bool) (u v : ℕ) (a b : List ℕ) → IsRow a n f → IsRow b n g → AreSameBut a b u v →
     (w : ℕ) → w < n → (w == u || w == v) ≡ false → f w ≡ g w
-tests_same n f g u v a b of_a of_b same w below apart =
-    let is = lt_yes w n below in ap (λ b. b && f w) (sym is) ∙ sym (of_a w) ∙ same w apart ∙ of_b w ∙ ap (λ b. b && g w) is
+tests_same n f g u v a b of_a of_b same w below apart = grind (arith, lt_yes)
 
 abbrev alike_test : (ℕ → ℕ → Bool) → ℕ → ℕ → ℕ → Bool
 alike_test holds u v w = (w == u || w == v) || is_alike_to holds u v w

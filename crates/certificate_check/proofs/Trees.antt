@@ -1,20 +1,19 @@
 -- The walk over a tree's branches.
-use Rattle.std.proofs.Common.{◌≡◌, refl, sym, ap, subst, ◌∙◌, ℕ, zero, suc, ◌+◌, ◌-◌, ◌<◌, ◌≤◌, Bool, true, false, not, ◌&&◌, ◌||◌, ◌==◌, List, [], ◌∷◌, length}
-use Rattle.std.proofs.Common.{get_or, take, drop, ◌++◌, Option, Some, is_some, slice_set, arith, nat_lt, if◌then◌else◌, ◌⊎◌, inl, inr}
+use Rattle.std.proofs.Common.{◌≡◌, refl, sym, ap, subst, ◌∙◌, ℕ, zero, suc, ◌+◌, ◌-◌, ◌<◌, ◌≤◌, Bool, true, false, ◌&&◌, ◌||◌, ◌==◌, List, [], ◌∷◌, length}
+use Rattle.std.proofs.Common.{get_or, take, drop, ◌++◌, Option, Some, slice_set, arith, if◌then◌else◌, ◌⊎◌, inl, inr}
 use Rattle.std.proofs.lemmas.Bool.{false≢true, ltb-true, eqb-true, ne_eqb}
 use Rattle.std.proofs.lemmas.Bool.Decides.{nat_tests}
 use Rattle.std.proofs.lemmas.List.{drop-drop, length-drop, take_more}
 use Rattle.constraint_forms.specs.declared.rule.Rule.{Rule}
-use Rattle.constraint_forms.specs.Assign.{user_at}
 use Rattle.refutation_tree.specs.Tree.{Kids, no_kids, tree_kid, twin_kid, kids_from, kid_count, nodes_of_kids}
-use Rattle.refutation_tree.specs.Laws.Views.{kid_onto, branch_onto, kids_of_items, shape_of}
+use Rattle.refutation_tree.specs.Laws.Views.{kid_onto, branch_onto, kids_of_items}
 use Rattle.refutation_tree.specs.declared.tree.Branch.{Branch}
 use Rattle.refutation_tree.specs.declared.tree.Kid.{Kid}
 use Rattle.refutation_tree.specs.declared.tree.Kid.TheVariants.{Tree as Tree_kid, Twin}
 use Rattle.refutation_tree.proofs.ShapeLaws.{kids_of_items-drop, kids_from-items, kid_count-items, nodes-drop}
 use Rattle.policy_book.specs.Laws.Plans.{Problem, IsWithin}
-use Rattle.policy_book.specs.Laws.Twins.{are_twins, is_one_of}
-use Rattle.policy_book.specs.Laws.Refuting.{refutes, all_refute, have_users, authorised_users, passing, mentions, any_mentions, is_unassigned}
+use Rattle.policy_book.specs.Laws.Twins.{is_one_of}
+use Rattle.policy_book.specs.Laws.Refuting.{all_refute, have_users, authorised_users, passing, any_mentions, is_unassigned}
 use Rattle.certificate_check.specs.Walks.{AreUsersBelow, begins_with, tree_users, kid_user_onto}
 use Rattle.basics.proofs.Booleans.{and_both, or-false, or_cases, or_right}
 use Rattle.certificate_check.proofs.Assigned.{given, either}
@@ -24,8 +23,7 @@ use Rattle.policy_book.proofs.Passing.{passing_at}
 
 onto_mentions : (rules : List Rule) (s : ℕ) (kid : Kid) (u : ℕ) (rest : Kids) →
     any_mentions rules s (kid_onto kid u rest) ≡ (any_mentions rules s (kid_onto kid u no_kids) || any_mentions rules s rest)
-onto_mentions rules s (Tree_kid t) u rest = ap (λ b. b || any_mentions rules s rest) (sym (or-false (mentions rules s (shape_of t))))
-onto_mentions rules s (Twin v) u rest = refl
+onto_mentions rules s kid u rest = grind (arith, or-false)
 
 -- the branches from a place on mention a step: the one there or one behind it
 pub mentions_at : (rules : List Rule) (s : ℕ) (bs : List Branch) (i : ℕ) (b : Branch) → i < length bs → b ≡ get_or bs i b → any_mentions rules s
@@ -36,13 +34,11 @@ mentions_at rules s bs i b below is = ap (any_mentions rules s) (kids_of_items-d
 -- ---- all refute
 
 and_all : (b d : Bool) → (b && d) ≡ ((b && true) && d)
-and_all true d = refl
-and_all false d = refl
+and_all b d = grind arith
 
 onto_refutes : (p : Problem) (a : List (Option ℕ)) (done : List Bool) (s : ℕ) (earlier : List ℕ) (kid : Kid) (u : ℕ) (rest : Kids) → all_refute p a done s
     earlier (kid_onto kid u rest) ≡ (all_refute p a done s earlier (kid_onto kid u no_kids) && all_refute p a done s (kid_user_onto kid u earlier) rest)
-onto_refutes p a done s earlier (Tree_kid t) u rest = and_all (refutes p (slice_set a s (Some u)) done (shape_of t)) (all_refute p a done s (u ∷ earlier) rest)
-onto_refutes p a done s earlier (Twin v) u rest = and_all (is_one_of earlier v && are_twins p a u v) (all_refute p a done s earlier rest)
+onto_refutes p a done s earlier kid u rest = grind (arith, and_all)
 
 tree_users-push : (users : List ℕ) (bs : List Branch) (b : Branch) → tree_users users (bs ++ b ∷ []) ≡ kid_user_onto b.kid b.user (tree_users users bs)
 tree_users-push users [] b = refl
@@ -67,8 +63,7 @@ refutes_at p a done s bs i b below is =
 -- ---- users with trees
 
 onto_one : (kid : Kid) (u : ℕ) (users : List ℕ) (x : ℕ) → is_one_of (kid_user_onto kid u users) x ≡ (is_one_of (kid_user_onto kid u []) x || is_one_of users x)
-onto_one (Tree_kid t) u users x = ap (λ b. b || is_one_of users x) (sym (or-false (u == x)))
-onto_one (Twin v) u users x = refl
+onto_one kid u users x = grind (arith, or-false)
 
 -- one more branch: it is the user's and has a tree, or one before it
 pub one_of_more : (bs : List Branch) (i : ℕ) (b : Branch) (x : ℕ) → i < length bs → b ≡ get_or bs i b →
@@ -93,8 +88,7 @@ pub one_of_all : (n : ℕ) (bs : List Branch) (x : ℕ) → is_one_of (tree_user
 one_of_all n bs x h = tree_users-take n bs [] x h
 
 onto_below : (n : ℕ) (kid : Kid) (u : ℕ) (rest : Kids) → AreUsersBelow n (kid_onto kid u rest) → (u < n) × AreUsersBelow n rest
-onto_below n (Tree_kid t) u rest h = h
-onto_below n (Twin v) u rest h = h
+onto_below n kid u rest h = grind arith
 
 -- a user whose branch has a tree is a user of the branches
 tree_users-below : (n : ℕ) (bs : List Branch) (users : List ℕ) (x : ℕ) → AreUsersBelow n (kids_of_items bs) → (is_one_of users x ≡ true → x < n) →
@@ -117,9 +111,7 @@ tree_user_below n bs x known h = tree_users-below n bs [] x known (λ e. absurd 
 -- ---- users
 
 pub have_users-begin : (u : ℕ) (us : List ℕ) (kids : Kids) → have_users (u ∷ us) kids ≡ (begins_with u kids && have_users us (kids_from 1 kids))
-have_users-begin u us no_kids = refl
-have_users-begin u us (tree_kid v t kids) = refl
-have_users-begin u us (twin_kid v w kids) = refl
+have_users-begin u us kids = grind arith
 
 -- a user's branch comes next, or not, and the others have theirs behind it
 pub users_next : (u : ℕ) (us : List ℕ) (bs : List Branch) (i : ℕ) (b : Bool) → b ≡ begins_with u (kids_of_items (drop i bs)) →
@@ -129,28 +121,18 @@ users_next u us bs i b is =
     ∙ ap (λ k. b && have_users us k) (kids_from-items 1 (drop i bs) ∙ ap kids_of_items (drop-drop 1 i bs))
 
 have_none : (kids : Kids) → have_users [] kids ≡ (kid_count kids == 0)
-have_none no_kids = refl
-have_none (tree_kid u t kids) = sym (ne_eqb (kid_count kids + 1) 0 (λ e. omega (arith, e)))
-have_none (twin_kid u v kids) = sym (ne_eqb (kid_count kids + 1) 0 (λ e. omega (arith, e)))
+have_none kids = grind (arith, ne_eqb)
 
 -- no user is left where no branch is
 pub none_next : (bs : List Branch) (i : ℕ) → i ≤ length bs → have_users [] (kids_of_items (drop i bs)) ≡ (i == length bs)
-none_next bs i within =
-    let left : kid_count (kids_of_items (drop i bs)) ≡ length bs - i = kid_count-items (drop i bs) ∙ length-drop i bs in
-    have_none (kids_of_items (drop i bs)) ∙ ap (λ n. n == 0) left ∙ grind (arith, nat_tests)
+none_next bs i within = grind (arith, kid_count-items, length-drop, have_none, nat_tests)
 
 -- where nobody passes up to a number, those from there on are left
 passing_skip : (test : ℕ → Bool) (from k n : ℕ) → from + k ≤ n → ((v : ℕ) → from ≤ v → v < from + k → test v ≡ false) →
     passing test from (n - from) ≡ passing test (from + k) (n - (from + k))
-passing_skip test from zero n within none =
-    let same : from ≡ from + zero = omega arith in
-    ap (λ m. passing test m (n - m)) same
+passing_skip test from zero n within none = grind arith
 passing_skip test from (suc k) n within none =
-    let u = from + k in
-    let left = passing test (u + 1) (n - (u + 1)) in
-    let next : u + 1 ≡ from + suc k = omega arith in
-    passing_skip test from k n (omega (arith, within)) (λ v low lt. none v low (omega (arith, lt))) ∙ passing_at test u n (omega (arith, within)) ∙
-    ap (λ b. if b then u ∷ left else left) (none u (omega arith) (omega arith)) ∙ ap (λ m. passing test m (n - m)) next
+    grind (arith, passing_at, (passing_skip test from k n (omega (arith, within)) (λ v low lt. none v low (omega (arith, lt)))))
 
 -- the next who passes comes first
 pub passing_next : (test : ℕ → Bool) (from u n : ℕ) → from ≤ u → u < n → ((v : ℕ) → from ≤ v → v < u → test v ≡ false) → test u ≡ true →
@@ -186,8 +168,7 @@ passing_below test k (suc n) most few kids h = at (test k) kids h (λ rest e. pa
     at false left e later = later left e
 
 below_onto : (n : ℕ) (kid : Kid) (u : ℕ) (rest : Kids) → u < n → AreUsersBelow n rest → AreUsersBelow n (kid_onto kid u rest)
-below_onto n (Tree_kid t) u rest known h = (known, h)
-below_onto n (Twin v) u rest known h = (known, h)
+below_onto n kid u rest known h = grind arith
 
 -- the first branches are of users as all are
 pub first_below : (n i : ℕ) (bs : List Branch) → AreUsersBelow n (kids_of_items bs) → AreUsersBelow n (kids_of_items (take i bs))
@@ -211,8 +192,7 @@ branch_user p s bs users i below b is =
 -- ---- nodes
 
 onto_nodes : (kid : Kid) (u : ℕ) (rest : Kids) → nodes_of_kids rest ≤ nodes_of_kids (kid_onto kid u rest)
-onto_nodes (Tree_kid t) u rest = omega arith
-onto_nodes (Twin v) u rest = omega arith
+onto_nodes kid u rest = grind arith
 
 nodes_left : (i : ℕ) (bs : List Branch) → nodes_of_kids (kids_of_items (drop i bs)) ≤ nodes_of_kids (kids_of_items bs)
 nodes_left zero bs = omega arith
@@ -226,9 +206,4 @@ nodes_within bs i b below is = omega (arith, nodes-drop bs i b below is, nodes_l
 -- ---- what is assigned
 
 pub within_given : (p : Problem) (a : List (Option ℕ)) (s u : ℕ) → IsWithin p a → is_unassigned p a s ≡ true → u < p.users → IsWithin p (slice_set a s (Some u))
-within_given p a s u within free below =
-    let step : s < p.steps = ltb-true s p.steps (and_both (nat_lt s p.steps) (not (is_some (user_at a s))) free).0 in
-    record {
-      steps = λ t w h. either (given a s u t w h) (λ here. omega (arith, here.0, step)) (within.steps t w);
-      users = λ t w h. either (given a s u t w h) (λ here. omega (arith, here.1, below)) (within.users t w);
-    }
+within_given p a s u within free below = grind (arith, ltb-true, and_both, either, given)

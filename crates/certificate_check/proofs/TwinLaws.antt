@@ -28,12 +28,10 @@ pub record AreTwins (p : Problem) (a : List (Option ℕ)) (u v : ℕ) : Type 0 w
   pub rules : (k : ℕ) (r : Rule) → slice_get p.rules k ≡ Some r → AreTwinsFor p.users p.related r u v
 
 given_means : (o : Option ℕ) (u : ℕ) → not (is_given_to u o) ≡ true → o ≢ Some u
-given_means None u h is = none_not_some u is
-given_means (Some v) u h is = false≢true (sym (not_yes (v == u) h) ∙ eq_is v u (same_some v u is))
+given_means o u h = grind (arith, none_not_some, false≢true, not_yes, eq_is, same_some)
 
 means_given : (o : Option ℕ) (u : ℕ) → o ≢ Some u → not (is_given_to u o) ≡ true
-means_given None u h = refl
-means_given (Some v) u h = ap not (eq_other v u (λ same. h (ap Some same)))
+means_given o u h = grind (arith, eq_other)
 
 -- a step past the end has no user
 past_none : (a : List (Option ℕ)) (s : ℕ) → length a ≤ s → user_at a s ≡ None
@@ -52,8 +50,7 @@ means_no_step : (a : List (Option ℕ)) (u : ℕ) → ((s : ℕ) → user_at a s
 means_no_step a u none = all_pass (length a) (λ t. not (is_given_to u (user_at a t))) (λ s below. means_given (user_at a s) u (none s))
 
 second_holds : (a b : Bool) → (a || b) ≡ true → a ≡ false → b ≡ true
-second_holds true b h is = absurd (false≢true (sym is))
-second_holds false b h is = h
+second_holds a b h is = grind (arith, false≢true)
 
 neither : (w u v : ℕ) → w ≢ u → w ≢ v → (w == u || w == v) ≡ false
 neither w u v nu nv = ap (λ b. b || w == v) (eq_other w u nu) ∙ eq_other w v nv
@@ -81,35 +78,13 @@ alike_means users holds u v h = record {
         (second_holds (w == u || w == v) (is_alike_to holds u v w) (each_passes users test both.0 w below) (neither w u v nu nv))
 
 means_alike : (users : ℕ) (holds : ℕ → ℕ → Bool) (u v : ℕ) → AreInterchangeable users holds u v → treats_alike users holds u v ≡ true
-means_alike users holds u v alike =
-    and_from (all_below users test) (agree (holds u u) (holds v v) && agree (holds u v) (holds v u))
-    (all_pass users test each)
-    (and_from (agree (holds u u) (holds v v)) (agree (holds u v) (holds v u)) (same_agree (holds u u) (holds v v) alike.own)
-    (same_agree (holds u v) (holds v u) alike.mutually))
-  where
-    test : ℕ → Bool
-    test w = (w == u || w == v) || is_alike_to holds u v w
-
-    each : (w : ℕ) → w < users → test w ≡ true
-    each w below = at (eqb_tells w u) (eqb_tells w v)
-      where
-        at : ((eqb w u ≡ true) × (w ≡ u)) ⊎ ((eqb w u ≡ false) × (w ≢ u)) → ((eqb w v ≡ true) × (w ≡ v)) ⊎ ((eqb w v ≡ false) × (w ≢ v)) → test w ≡ true
-        at (inl is) other = or_left (w == u || w == v) (is_alike_to holds u v w) (or_left (w == u) (w == v) is.0)
-        at (inr nu) (inl is) = or_left (w == u || w == v) (is_alike_to holds u v w) (or_right (w == u) (w == v) is.0)
-        at (inr nu) (inr nv) =
-            or_right (w == u || w == v) (is_alike_to holds u v w)
-            (and_from (agree (holds u w) (holds v w)) (agree (holds w u) (holds w v))
-            (same_agree (holds u w) (holds v w) (alike.towards w below nu.1 nv.1)) (same_agree (holds w u) (holds w v) (alike.«from» w below nu.1 nv.1)))
+means_alike users holds u v alike = grind (arith, and_from, all_pass, same_agree, eqb_tells, or_left, or_right)
 
 rule_means : (p : Problem) (u v : ℕ) (o : Option Rule) → is_rule_alike p u v o ≡ true → (r : Rule) → o ≡ Some r → AreTwinsFor p.users p.related r u v
-rule_means p u v o h r is rho read =
-    alike_means p.users (p.related rho) u v
-    (each_read r (λ x. treats_alike p.users (p.related x) u v) (subst (λ x. is_rule_alike p u v x ≡ true) is h) rho read)
+rule_means p u v o h r is = grind (arith, alike_means, each_read)
 
 means_rule : (p : Problem) (u v : ℕ) (o : Option Rule) → ((r : Rule) → o ≡ Some r → AreTwinsFor p.users p.related r u v) → is_rule_alike p u v o ≡ true
-means_rule p u v None each = refl
-means_rule p u v (Some r) each =
-    all_as_each r (λ x. treats_alike p.users (p.related x) u v) (λ rho read. means_alike p.users (p.related rho) u v (each r refl rho read))
+means_rule p u v o each = grind (arith, all_as_each, means_alike)
 
 pub twins_mean : (p : Problem) (a : List (Option ℕ)) (u v : ℕ) → are_twins p a u v ≡ true → AreTwins p a u v
 twins_mean p a u v h =
@@ -126,63 +101,19 @@ twins_mean p a u v h =
     }
 
 pub mean_twins : (p : Problem) (a : List (Option ℕ)) (u v : ℕ) → AreTwins p a u v → are_twins p a u v ≡ true
-mean_twins p a u v twins =
-    and_from (has_no_step a u && has_no_step a v) (may_do_the_same p u v && are_related_alike p u v)
-    (and_from (has_no_step a u) (has_no_step a v) (means_no_step a u twins.first) (means_no_step a v twins.second))
-    (and_from (may_do_the_same p u v) (are_related_alike p u v)
-    (all_pass p.steps (λ t. agree (p.authorised t u) (p.authorised t v)) (λ s below. same_agree (p.authorised s u) (p.authorised s v) (twins.steps s below)))
-    (all_pass (length p.rules) (λ j. is_rule_alike p u v (slice_get p.rules j)) (λ k below. means_rule p u v (slice_get p.rules k) (twins.rules k))))
+mean_twins p a u v twins = grind (arith, and_from, means_no_step, all_pass, same_agree, means_rule)
 
 -- ---- chains
 
 alike_turned : (users : ℕ) (holds : ℕ → ℕ → Bool) (u v : ℕ) → AreInterchangeable users holds u v → AreInterchangeable users holds v u
-alike_turned users holds u v alike = record {
-  towards = λ w below nv nu. sym (alike.towards w below nu nv);
-  «from» = λ w below nv nu. sym (alike.«from» w below nu nv);
-  own = sym alike.own;
-  mutually = sym alike.mutually;
-}
+alike_turned users holds u v alike = grind arith
 
 pub twins_turned : (p : Problem) (a : List (Option ℕ)) (u v : ℕ) → AreTwins p a u v → AreTwins p a v u
-twins_turned p a u v twins = record {
-  first = twins.second;
-  second = twins.first;
-  steps = λ s below. sym (twins.steps s below);
-  rules = λ k r is rho read. alike_turned p.users (p.related rho) u v (twins.rules k r is rho read);
-}
+twins_turned p a u v twins = grind (arith, alike_turned)
 
 alike_chain : (users : ℕ) (holds : ℕ → ℕ → Bool) (u v w : ℕ) → u < users → v < users → w < users → AreInterchangeable users holds u v →
     AreInterchangeable users holds v w → AreInterchangeable users holds u w
-alike_chain users holds u v w u_in v_in w_in one two = at (eqb_tells u v) (eqb_tells v w) (eqb_tells u w)
-  where
-    at : ((eqb u v ≡ true) × (u ≡ v)) ⊎ ((eqb u v ≡ false) × (u ≢ v)) → ((eqb v w ≡ true) × (v ≡ w)) ⊎ ((eqb v w ≡ false) × (v ≢ w)) →
-        ((eqb u w ≡ true) × (u ≡ w)) ⊎ ((eqb u w ≡ false) × (u ≢ w)) → AreInterchangeable users holds u w
-    at (inl same) other last = subst (λ x. AreInterchangeable users holds x w) (sym same.1) two
-    at (inr apart) (inl same) last = subst (λ x. AreInterchangeable users holds u x) same.1 one
-    at (inr apart) (inr far) (inl same) = subst (λ x. AreInterchangeable users holds u x) same.1 record {
-      towards = λ x below nu nv. refl;
-      «from» = λ x below nu nv. refl;
-      own = refl;
-      mutually = refl;
-    }
-    at (inr uv) (inr vw) (inr uw) = record {
-      towards = λ x below nu nw. toward x below nu nw (eqb_tells x v);
-      «from» = λ x below nu nw. back x below nu nw (eqb_tells x v);
-      own = one.own ∙ two.own;
-      mutually = one.towards w w_in (λ e. uw.1 (sym e)) (λ e. vw.1 (sym e)) ∙ two.mutually ∙ sym (one.«from» w w_in (λ e. uw.1 (sym e)) (λ e. vw.1 (sym e)));
-    }
-      where
-        toward : (x : ℕ) → x < users → x ≢ u → x ≢ w → ((eqb x v ≡ true) × (x ≡ v)) ⊎ ((eqb x v ≡ false) × (x ≢ v)) → holds u x ≡ holds w x
-        toward x below nu nw (inr nv) = one.towards x below nu nv.1 ∙ two.towards x below nv.1 nw
-        toward x below nu nw (inl is) =
-            ap (holds u) is.1 ∙ one.mutually ∙ two.towards u u_in uv.1 uw.1 ∙ one.«from» w w_in (λ e. uw.1 (sym e)) (λ e. vw.1 (sym e)) ∙
-            ap (holds w) (sym is.1)
-
-        back : (x : ℕ) → x < users → x ≢ u → x ≢ w → ((eqb x v ≡ true) × (x ≡ v)) ⊎ ((eqb x v ≡ false) × (x ≢ v)) → holds x u ≡ holds x w
-        back x below nu nw (inr nv) = one.«from» x below nu nv.1 ∙ two.«from» x below nv.1 nw
-        back x below nu nw (inl is) =
-            ap (λ y. holds y u) is.1 ∙ sym one.mutually ∙ two.«from» u u_in uv.1 uw.1 ∙ one.towards w w_in (λ e. uw.1 (sym e)) (λ e. vw.1 (sym e)) ∙
-            ap (λ y. holds y w) (sym is.1)
+alike_chain users holds u v w u_in v_in w_in one two = grind (arith, eqb_tells)
 
 pub twins_chain : TwinsChain
 twins_chain p a u v w u_in v_in w_in h k =
@@ -206,20 +137,10 @@ exchanged_first u v = rw (eq_is u u refl) refl
 
 -- what holds of both alike holds of whoever comes in place of a user
 exchanged_same : (g : ℕ → Bool) (u v x : ℕ) → g u ≡ g v → g (exchanged u v x) ≡ g x
-exchanged_same g u v x same = at (eqb_tells x u) (eqb_tells x v)
-  where
-    at : ((eqb x u ≡ true) × (x ≡ u)) ⊎ ((eqb x u ≡ false) × (x ≢ u)) → ((eqb x v ≡ true) × (x ≡ v)) ⊎ ((eqb x v ≡ false) × (x ≢ v)) → g (exchanged u v x) ≡ g x
-    at (inl is) other = ap g (ap (exchanged u v) is.1 ∙ exchanged_first u v) ∙ sym same ∙ ap g (sym is.1)
-    at (inr nu) (inl is) = (rw (nu.0, is.0) same) ∙ ap g (sym is.1)
-    at (inr nu) (inr nv) = ap g (exchanged_other u v x nu.1 nv.1)
+exchanged_same g u v x same = grind (arith, eqb_tells, exchanged_first, exchanged_other)
 
 exchanged_below : (n u v x : ℕ) → u < n → v < n → x < n → exchanged u v x < n
-exchanged_below n u v x u_in v_in x_in = at (bool_cases (x == u)) (bool_cases (x == v))
-  where
-    at : ((x == u) ≡ true) ⊎ ((x == u) ≡ false) → ((x == v) ≡ true) ⊎ ((x == v) ≡ false) → exchanged u v x < n
-    at (inl is) other = rw is v_in
-    at (inr not_u) (inl is) = rw (not_u, is) u_in
-    at (inr not_u) (inr not_v) = rw (not_u, not_v) x_in
+exchanged_below n u v x u_in v_in x_in = grind (arith, bool_cases)
 
 planned-map : (f : ℕ → ℕ) (plan : List ℕ) (s : ℕ) → s < length plan → planned (map f plan) s ≡ f (planned plan s)
 planned-map f [] s below = absurd (omega (arith, below))
@@ -233,11 +154,7 @@ planned-past f (x ∷ xs) (suc s) past = planned-past f xs s (omega (arith, past
 
 -- a user who is neither of the two stays where they are
 planned_stays : (u v : ℕ) (plan : List ℕ) (s w : ℕ) → planned plan s ≡ w → w ≢ u → w ≢ v → planned (map (exchanged u v) plan) s ≡ w
-planned_stays u v plan s w is nu nv = at (leb_tells (length plan) s)
-  where
-    at : ((leb (length plan) s ≡ true) × (length plan ≤ s)) ⊎ ((leb (length plan) s ≡ false) × (s < length plan)) → planned (map (exchanged u v) plan) s ≡ w
-    at (inl past) = planned-past (exchanged u v) plan s past.1 ∙ is
-    at (inr below) = planned-map (exchanged u v) plan s below.1 ∙ ap (exchanged u v) is ∙ exchanged_other u v w nu nv
+planned_stays u v plan s w is nu nv = grind (arith, leb_tells, planned-past, planned-map, exchanged_other)
 
 -- a plan that gives a step to one of two twins, with both exchanged
 pub plan_exchanged : (p : Problem) (a : List (Option ℕ)) (done : List Bool) (s u v : ℕ) (plan : List ℕ) → IsWellFormed p → s < p.steps → s < length a →

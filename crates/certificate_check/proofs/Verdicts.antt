@@ -28,42 +28,29 @@ all_pass test x k (suc n) none low high =
 -- where all pass, nothing fails
 none_fails : (test : ℕ → Bool) (k n : ℕ) → ((x : ℕ) → k ≤ x → x < k + n → test x ≡ true) → first_failing test k n ≡ None
 none_fails test k zero pass = refl
-none_fails test k (suc n) pass =
-    ap (λ b. if b then first_failing test (k + 1) n else Some k) (pass k (omega arith) (omega arith))
-    ∙ none_fails test (k + 1) n (λ x low high. pass x (omega (arith, low)) (omega (arith, high)))
+none_fails test k (suc n) pass = grind (arith, (none_fails test (k + 1) n (λ x low high. pass x (omega (arith, low)) (omega (arith, high)))))
 
 ok_parts : (x y z : Option ℕ) → IsOk (fault_else x Moved (fault_else y Role (fault_else z Rule_fault (Ok tt)))) → (x ≡ None) × (y ≡ None) × (z ≡ None)
-ok_parts None None None ok = (refl, refl, refl)
-ok_parts None None (Some k) ok = absurd (false≢true ok)
-ok_parts None (Some s) z ok = absurd (false≢true ok)
-ok_parts (Some s) y z ok = absurd (false≢true ok)
+ok_parts x y z ok = grind (arith, false≢true)
 
 ok_whole : (x y z : Option ℕ) → x ≡ None → y ≡ None → z ≡ None → IsOk (fault_else x Moved (fault_else y Role (fault_else z Rule_fault (Ok tt))))
-ok_whole None None None e f g = refl
-ok_whole None None (Some k) e f g = none_not_some k (sym g)
-ok_whole None (Some s) z e f g = none_not_some s (sym f)
-ok_whole (Some s) y z e f g = none_not_some s (sym e)
+ok_whole x y z e f g = grind (arith, none_not_some)
 
 kept_keeps : (o : Option ℕ) (w u : ℕ) → is_kept o w ≡ true → o ≡ Some u → w ≡ u
-kept_keeps None w u kept is = none_not_some u is
-kept_keeps (Some v) w u kept is = sym (eqb-true v w kept) ∙ same_some v u is
+kept_keeps o w u kept is = grind (arith, none_not_some, eqb-true, same_some)
 
 keeps_kept : (o : Option ℕ) (w : ℕ) → ((u : ℕ) → o ≡ Some u → Some w ≡ Some u) → is_kept o w ≡ true
-keeps_kept None w keeps = refl
-keeps_kept (Some v) w keeps = eq-eqb v w (sym (same_some w v (keeps v refl)))
+keeps_kept o w keeps = grind (arith, eq-eqb, same_some)
 
 may_authorised : (b c : Bool) → (b || c) ≡ true → b ≡ false → c ≡ true
-may_authorised true c may unfinished = absurd (false≢true (sym unfinished))
-may_authorised false c may unfinished = may
+may_authorised b c may unfinished = grind (arith, false≢true)
 
 authorised_may : (b c : Bool) → (b ≡ false → c ≡ true) → (b || c) ≡ true
-authorised_may true c allowed = refl
-authorised_may false c allowed = allowed refl
+authorised_may b c allowed = grind arith
 
 satisfied_obeyed : (p : Problem) (plan : List ℕ) (o : Option Rule) → ((r : Rule) → o ≡ Some r → IsTrue (is_satisfied p.related r (planned plan))) →
     is_obeyed p plan o ≡ true
-satisfied_obeyed p plan None obeys = refl
-satisfied_obeyed p plan (Some r) obeys = obeys r refl
+satisfied_obeyed p plan o obeys = grind arith
 
 pub verdict_tells : (p : Problem) (a : List (Option ℕ)) (done : List Bool) (plan : List ℕ) → length plan ≡ p.steps →
     ((s : ℕ) → s < length plan → planned plan s < p.users) → IsWithin p a → IsOk (plan_verdict p a done plan) ↔ IsValidPlan p a done plan

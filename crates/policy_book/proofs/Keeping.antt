@@ -103,21 +103,6 @@ module _ (r : RosterShape) (rs : List RelationShape) (names : Table) (flows : Li
         };
       }
 
-  -- other memberships
-  pub stored_with_members : (m : Pairs) → IsStoredPolicy (record r { members = m }) rs names flows admin
-  stored_with_members m = record {
-    limit = old.limit;
-    sound = record {
-      users = old.sound.users;
-      roles = old.sound.roles;
-      admin = old.sound.admin;
-      named = old.sound.named;
-      few = old.sound.few;
-      related = old.sound.related;
-      flows = old.sound.flows;
-    };
-  }
-
   -- other pairs in one relation
   pub stored_with_pairs : (rho : ℕ) (pairs : Pairs) → AllPairs (λ u v. (u < length r.users) × (v < length r.users)) pairs →
       IsStoredPolicy r (with_kind rs rho (listed pairs)) names flows admin

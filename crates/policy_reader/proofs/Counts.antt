@@ -1,7 +1,6 @@
 -- How many items an array and how many entries a table has.
 use Rattle.std.proofs.Common.{◌≡◌, List, [], ◌∷◌, length, String, Global, refl, ap, get_or, ◌≢◌, None, arith, ◌<◌, ◌≤◌, ℕ, true, suc}
 use Rattle.policy_reader.proofs.Words.{STEP_LIMIT, is_count, Value, view, items_view, members_view, items, entries, both_texts, texts_in}
-use Rattle.std.proofs.lemmas.Bool.Decides.{nat_tests}
 
 pub count_items : (vs : List Value) → length (items (items_view vs)) ≡ length vs
 count_items [] = refl
@@ -24,4 +23,4 @@ texts_of_others (v ∷ w ∷ []) h = absurd (h refl)
 texts_of_others (v ∷ w ∷ x ∷ vs) h = refl
 
 pub counted : (n : ℕ) → 0 < n → n ≤ STEP_LIMIT → is_count n ≡ true
-counted n some few = grind (arith, nat_tests, some, few)
+counted n some few = grind arith

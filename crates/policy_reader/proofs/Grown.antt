@@ -1,6 +1,6 @@
 -- Policies with more workflows.
-use Rattle.std.proofs.Common.{◌≡◌, ℕ, ◌<◌, false, List, [], ◌∷◌, ◌++◌, length, refl, sym, ◌∙◌, subst}
-use Rattle.policy_reader.proofs.Words.{AllByRecursion, IsGrown, names_of, some_user_has, Ascend, IsFreshPolicy, IsPrintable}
+use Rattle.std.proofs.Common.{◌≡◌, ℕ, ◌<◌, false, List, [], ◌∷◌, ◌++◌, length, refl, arith}
+use Rattle.policy_reader.proofs.Words.{AllByRecursion, IsGrown, Ascend, IsFreshPolicy, IsPrintable}
 use Rattle.policy_book.specs.Laws.Shapes.{PolicyShape, WorkflowShape}
 
 pub push_all : {X : Type 0} (P : X → Type 0) (xs : List X) (y : X) → AllByRecursion P xs → P y → AllByRecursion P (xs ++ y ∷ [])
@@ -15,17 +15,7 @@ pub grown_none : (p : PolicyShape) → IsGrown p p
 grown_none p = record { roster = refl; relations = refl; admin = refl; active = λ h. h }
 
 pub grown_more : (p q r : PolicyShape) → IsGrown p q → IsGrown q r → IsGrown p r
-grown_more p q r a b =
-    record { roster = b.roster ∙ a.roster; relations = b.relations ∙ a.relations; admin = b.admin ∙ a.admin; active = λ h. b.active (a.active h) }
+grown_more p q r a b = grind arith
 
 pub printable : (p q : PolicyShape) → IsFreshPolicy p → p.flows ≡ [] → IsGrown p q → Ascend q.flow_names → 0 < length q.flow_names → IsPrintable q
-printable p q begun none grown ascend some = record {
-  begun = record {
-    users = subst (λ x. Ascend x.users) (sym grown.roster) begun.users;
-    relations = subst (λ x. Ascend (names_of x)) (sym grown.relations) begun.relations;
-    admin = (λ i. some_user_has (grown.roster i) (grown.admin i)) ∙ begun.admin;
-  };
-  flows = ascend;
-  some = some;
-  active = grown.active (subst (AllByRecursion (λ w. w.retired ≡ false)) (sym none) tt);
-}
+printable p q begun none grown ascend some = grind arith

@@ -1,12 +1,9 @@
 -- A loop over an array: what is read of the items that are left gives the whole.
-use Rattle.std.proofs.Common.{◌≡◌, ℕ, ◌+◌, ◌<◌, List, ◌∷◌, length, drop, get_or, sym, ap, ◌∙◌, Ok}
+use Rattle.std.proofs.Common.{◌≡◌, ℕ, ◌+◌, ◌<◌, List, length, drop, get_or, Ok, arith}
 use Rattle.std.proofs.lemmas.List.{drop_more}
-use Rattle.policy_reader.proofs.Words.{Value, Data, view, items_view, items, ◌>>=◌, each, Reading}
+use Rattle.policy_reader.proofs.Words.{Value, Data, view, items_view, items, each, Reading}
 
 pub each_more : {S : Type 0} (read : S → Data → Reading S) (s t : S) (whole : Reading S) (vs : List Value) (i : ℕ) (v : Value) → i < length vs
     → v ≡ get_or vs i v → each read s (items (items_view (drop i vs))) ≡ whole → read s (view v) ≡ Ok t
     → each read t (items (items_view (drop (i + 1) vs))) ≡ whole
-each_more read s t whole vs i v lt at before here =
-    let rest = items (items_view (drop (i + 1) vs)) in
-    let left : drop i vs ≡ v ∷ drop (i + 1) vs = drop_more vs i v lt ∙ ap (λ w. w ∷ drop (i + 1) vs) (sym at) in
-    sym (ap (λ r. r >>= (λ u. each read u rest)) here) ∙ sym (ap (λ ws. each read s (items (items_view ws))) left) ∙ before
+each_more read s t whole vs i v lt at before here = grind (arith, drop_more)

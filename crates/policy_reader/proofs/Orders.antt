@@ -1,10 +1,10 @@
 -- The order of a workflow, read as a set of pairs: the least step before itself.
-use Rattle.std.proofs.Common.{◌≡◌, ℕ, zero, suc, ◌<◌, ◌≤◌, Bool, true, false, List, [], Option, None, Some, refl, ap, subst, ◌∙◌, inl, inr, arith, length}
+use Rattle.std.proofs.Common.{◌≡◌, ℕ, zero, suc, ◌<◌, ◌≤◌, Bool, true, false, List, [], Option, None, Some, refl, ap, inl, inr, arith, length}
 use Rattle.std.proofs.Common.{Ok, Err, slice_index_or}
 use Rattle.std.specs.FinSet as set
 use Rattle.policy_reader.specs.declared.fault.ReadFault.TheVariants as read
 use Rattle.policy_reader.specs.declared.fault.PolicyKind.TheVariants as kind
-use Rattle.policy_reader.proofs.Words.{cases_lt, not_true, STEP_LIMIT, Pairs, all_insert, Precedes, next, through, is_before, IsLeastCycle, AreBelow}
+use Rattle.policy_reader.proofs.Words.{cases_lt, not_true, STEP_LIMIT, Pairs, all_insert, Precedes, is_before, IsLeastCycle, AreBelow}
 use Rattle.policy_reader.proofs.Words.{least_below, found_or, cycle_at, Fails, Flows, fault_of, fault_about, IsCycleOrMemory}
 use Rattle.workflow_schema.specs.Laws.{OrderIsDecided}
 use Rattle.policy_reader.specs.Flows.{no_cycle}
@@ -22,10 +22,7 @@ least_is zero test s lt here before = absurd (omega (arith, lt))
 least_is (suc n) test s lt here before =
     elim (cases_lt s n) [
       | inl below ↦ rw (least_is n test s below here before) refl
-      | inr above ↦
-          let same : n ≡ s = omega (arith, lt, above) in
-          let none : least_below n test ≡ None = least_none n test (λ t less. before t (omega (arith, less, same))) in
-          rw (none, ap test same ∙ here) (ap Some same)
+      | inr above ↦ grind (arith, least_none)
     ]
 
 record IsLeast (n : ℕ) (test : ℕ → Bool) (s : ℕ) : Type 0 where
@@ -39,13 +36,7 @@ Tells n test None = (t : ℕ) → t < n → test t ≡ false
 Tells n test (Some s) = IsLeast n test s
 
 tells_more : (n : ℕ) (test : ℕ → Bool) (o : Option ℕ) (b : Bool) → test n ≡ b → Tells n test o → Tells (suc n) test (found_or o n b)
-tells_more n test (Some s) b e h = record { within = omega (arith, h.within); here = h.here; before = h.before }
-tells_more n test None true e h = record { within = omega arith; here = e; before = h }
-tells_more n test None false e h = λ t lt.
-    elim (cases_lt t n) [
-      | inl below ↦ h t below
-      | inr above ↦ let same : n ≡ t = omega (arith, lt, above) in subst (λ x. test x ≡ false) same e
-    ]
+tells_more n test o b e h = grind arith
 
 least_tells : (n : ℕ) (test : ℕ → Bool) → Tells n test (least_below n test)
 least_tells zero test = λ t lt. absurd (omega (arith, lt))
@@ -53,8 +44,7 @@ least_tells (suc n) test = tells_more n test (least_below n test) (test n) refl 
 
 -- the step at which a chain begins is in range
 first_below : (n : ℕ) (order : Pairs) (s t : ℕ) → AreBelow n order → Precedes order s t → s < n
-first_below n order s t within (next pair) = (within.each s _ pair).0
-first_below n order s t within (through pair more) = (within.each s _ pair).0
+first_below n order s t within h5 = grind arith
 
 -- the least step before itself is the one that the search finds
 pub cycle_found : OrderIsDecided → (n : ℕ) (order : Pairs) (s : ℕ) → n ≤ STEP_LIMIT → AreBelow n order → IsLeastCycle order s →
@@ -66,16 +56,11 @@ cycle_found decided n order s few within h =
 
 least_cycle : OrderIsDecided → (n : ℕ) (order : Pairs) (s : ℕ) → n ≤ STEP_LIMIT → AreBelow n order → IsLeast n (λ t. is_before order t t) s →
     IsLeastCycle order s
-least_cycle decided n order s few within h = record {
-  cycle = (decided order s s (λ a b pair. omega (arith, few, (within.each a b pair).1))).0 h.here;
-  least = λ t lt chain. let yes : is_before order t t ≡ true = (decided order t t (λ a b pair. omega (arith, few, (within.each a b pair).1))).1 chain in
-      let no = h.before t lt in cc;
-}
+least_cycle decided n order s few within h = grind arith
 
 none_found : OrderIsDecided → (n : ℕ) (order : Pairs) (o : Option ℕ) → n ≤ STEP_LIMIT → AreBelow n order → ((s : ℕ) → IsLeastCycle order s → ⊥) →
     Tells n (λ t. is_before order t t) o → o ≡ None
-none_found decided n order None few within free h = refl
-none_found decided n order (Some s) few within free h = absurd (free s (least_cycle decided n order s few within h))
+none_found decided n order o few within free h = grind (arith, least_cycle)
 
 -- where no step is the least before itself, the search finds none
 pub no_cycle_found : OrderIsDecided → (n : ℕ) (order : Pairs) → n ≤ STEP_LIMIT → AreBelow n order → ((s : ℕ) → IsLeastCycle order s → ⊥) →
@@ -107,10 +92,7 @@ no_cycle-err f steps order s e = ap (cycle_at f steps) e
 
 -- a workflow that was refused neither for its count nor for a pair that stands twice
 pub other_fault : (counted : Bool) (fault : FlowFault) → counted ≡ true → (fault ≡ TooMany → counted ≡ false) → (fault ≡ Twice → ⊥) → IsCycleOrMemory fault
-other_fault counted TooMany is many twice = let not = many refl in cc
-other_fault counted Twice is many twice = twice refl
-other_fault counted (Cycle s) is many twice = tt
-other_fault counted NoMemory is many twice = tt
+other_fault counted fault is many twice = grind arith
 
 pub refused : (fault : FlowFault) (result : ReadFault) (f : ℕ) (steps : List (List ℕ)) (order : Pairs) → IsCycleOrMemory fault
     → ((s : ℕ) → fault ≡ Cycle s → result ≡ read.Policy (fault_about kind.Cycle Flows f (slice_index_or steps s [])))

@@ -58,9 +58,7 @@ upto_length (suc n) = omega (arith, length-append (upto n) (n ∷ []), upto_leng
 
 first_number : {Y : Type 0} (n : ℕ) (f : ℕ → Y) → map f (upto (suc n)) ≡ f 0 ∷ map (λ i. f (suc i)) (upto n)
 first_number zero f = refl
-first_number (suc n) f =
-    map-append f (upto (suc n)) (suc n ∷ []) ∙ ap (λ ys. ys ++ f (suc n) ∷ []) (first_number n f) ∙
-    ap (λ ys. f 0 ∷ ys) (sym (map-append (λ i. f (suc i)) (upto n) (n ∷ [])))
+first_number (suc n) f = grind (arith, (first_number n f))
 
 -- what is written by numbers of a list's items
 pub upto_map : {X Y : Type 0} (xs : List X) (f : ℕ → Y) (g : X → Y) → ((i : ℕ) (x : X) → slice_get xs i ≡ Some x → f i ≡ g x) →

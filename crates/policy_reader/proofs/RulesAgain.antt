@@ -30,20 +30,15 @@ first_of (suc k) (b ∷ g) = b ∷ first_of k g
 
 none_of : (g : List Bool) (s : ℕ) → is_member (map (λ _. false) g) s ≡ false
 none_of [] s = refl
-none_of (b ∷ g) zero = refl
-none_of (b ∷ g) (suc s) = none_of g s
+none_of (b ∷ g) s = grind (arith, (none_of g))
 
 first_fresh : (k : ℕ) (g : List Bool) → is_member (first_of k g) k ≡ false
 first_fresh zero g = none_of g zero
-first_fresh (suc k) [] = refl
-first_fresh (suc k) (b ∷ g) = first_fresh k g
+first_fresh (suc k) g = grind (arith, (first_fresh k))
 
 -- the next step, where it is there and where not
 first_more : (k : ℕ) (g : List Bool) (b : Bool) → is_member g k ≡ b → cond b (slice_set (first_of k g) k true) (first_of k g) ≡ first_of (suc k) g
-first_more zero [] true e = refl
-first_more zero [] false e = refl
-first_more zero (x ∷ g) true e = ap (λ y. y ∷ map (λ _. false) g) (sym e)
-first_more zero (x ∷ g) false e = ap (λ y. y ∷ map (λ _. false) g) (sym e)
+first_more zero g b e = grind arith
 first_more (suc k) [] true e = refl
 first_more (suc k) [] false e = refl
 first_more (suc k) (x ∷ g) true e = ap (λ h. x ∷ h) (first_more k g true e)

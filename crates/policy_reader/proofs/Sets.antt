@@ -118,7 +118,4 @@ module _ (layout : Layout) (whole : Pairs) where
 
 -- the lines below the next number
 pub next_line : (whole : Pairs) (u : ℕ) → lines by_first whole (λ m. nat_lt m u || nat_eq m u) ≡ lines by_first whole (λ m. nat_lt m (suc u))
-next_line whole u = same_part whole (λ q. nat_lt q.0 u || nat_eq q.0 u) (λ q. nat_lt q.0 (suc u)) (λ q h. below q.0)
-  where
-    below : (m : ℕ) → (nat_lt m u || nat_eq m u) ≡ nat_lt m (suc u)
-    below m = grind arith
+next_line whole u = grind arith

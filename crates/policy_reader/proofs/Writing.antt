@@ -1,11 +1,11 @@
 -- Values and tables as they are built.
 use Rattle.std.proofs.Common.{◌≡◌, ℕ, suc, ◌+◌, ◌<◌, ◌≤◌, Bool, true, false, List, [], ◌∷◌, ◌++◌, length, map, take, get_or, IsTrue, String, Global, Vec}
-use Rattle.std.proofs.Common.{Ordering, Less, Equal, Greater, string_bytes, refl, sym, ap, ◌∙◌, append_assoc, arith, Result, Ok, Err, OnOk, slice_get, Option}
-use Rattle.std.proofs.Common.{Some, None, option_map, zero, subst, inl, inr}
+use Rattle.std.proofs.Common.{Ordering, string_bytes, refl, sym, ap, ◌∙◌, append_assoc, arith, Result, OnOk, slice_get, Option}
+use Rattle.std.proofs.Common.{Some, option_map, zero, inl, inr}
 use Rattle.std.specs.FinSet as set
 use Rattle.std.specs.Result.{is_err}
 use Rattle.policy_reader.proofs.Prints.{All, get_or_from_slice_get, slice_get_past, slice_get_within, AreNames, first_declared, RELATION_LIMIT, Pairs}
-use Rattle.policy_reader.proofs.Prints.{RelationShape, RelationKind, listed, complement, kind_of, known_names, has_list, is_listed, complemented, complement_of}
+use Rattle.policy_reader.proofs.Prints.{RelationShape, RelationKind, complement, kind_of, known_names, has_list, is_listed, complemented, complement_of}
 use Rattle.policy_reader.proofs.Prints.{AreSoundRelations, match_ordering, get_or_default, length-map, map-append, take_more, take_all, Data, Members, member}
 use Rattle.policy_reader.proofs.Prints.{view}
 use Rattle.policy_reader.proofs.Prints.{members_view, with_member, table_below, chosen, name_at, row, rows, string, array, items_of, pair_data}
@@ -22,9 +22,7 @@ placed : (o : Ordering) (k : String Global) (v : Value) (e : Entry) (es rest : L
     → members_view (match_ordering o ((k, v) ∷ e ∷ es) ((e.0, v) ∷ es) (e ∷ rest))
     ≡ match_ordering o (member (string_bytes k) (view v) (members_view (e ∷ es))) (member (string_bytes e.0) (view v) (members_view es))
     (member (string_bytes e.0) (view e.1) ms)
-placed Less k v e es rest ms same = refl
-placed Equal k v e es rest ms same = refl
-placed Greater k v e es rest ms same = ap (member (string_bytes e.0) (view e.1)) same
+placed o k v e es rest ms same = grind arith
 
 -- an insert into the map of a table, seen as members
 pub insert_view : (es : List Entry) (k : String Global) (v : Value) →
@@ -58,13 +56,11 @@ chosen_skip f n test not_here = rw (one_more n, not_here) refl
 pub names_next : (names : List (List ℕ)) (test : ℕ → Bool) (n : ℕ) (before after : List Data) → test n ≡ true
     → before ≡ map (λ n. string (name_at names n)) (chosen n test) → after ≡ before ++ string (name_at names n) ∷ []
     → after ≡ map (λ n. string (name_at names n)) (chosen (n + 1) test)
-names_next names test n before after here same more =
-    more ∙ ap (λ ds. ds ++ string (name_at names n) ∷ []) same ∙ sym (chosen_more (λ n. string (name_at names n)) n test here)
+names_next names test n before after here same more = grind (arith, chosen_more)
 
 pub names_skip : (names : List (List ℕ)) (test : ℕ → Bool) (n : ℕ) (before after : List Data) → test n ≡ false
     → before ≡ map (λ n. string (name_at names n)) (chosen n test) → after ≡ before → after ≡ map (λ n. string (name_at names n)) (chosen (n + 1) test)
-names_skip names test n before after not_here same as_before =
-    as_before ∙ same ∙ sym (chosen_skip (λ n. string (name_at names n)) n test not_here)
+names_skip names test n before after not_here same as_before = grind arith
 
 pub table_more : (n : ℕ) (entry : ℕ → List ℕ × Data) → table_below (n + 1) entry ≡ with_member (entry n).0 (entry n).1 (table_below n entry)
 table_more n entry = rw (one_more n) refl
@@ -105,20 +101,15 @@ name_found names n name h = get_or_from_slice_get names n name [] h
 
 -- what is true is true where a call succeeds
 pub on_ok : {A E : Type 0} (result : Result A E) (P : Type 0) → P → OnOk result P
-on_ok (Ok x) P h = h
-on_ok (Err e) P h = tt
+on_ok result P h = grind arith
 
 -- a call that gave no fault did what it says that it does
 pub when_ok : {A E : Type 0} (result : Result A E) (P : Type 0) → is_err result ≡ false → OnOk result P → P
-when_ok (Ok x) P went h = h
-when_ok (Err e) P went h = cc
+when_ok result P went h = grind arith
 
 -- what holds of each number below the next
 pub one_further : (P : ℕ → Type 0) (n : ℕ) → ((m : ℕ) → m < n → P m) → P n → (m : ℕ) → m < n + 1 → P m
-one_further P n h here m lt = elim (cases_lt m n) [
-  | inl below ↦ h m below
-  | inr above ↦ let same : n ≡ m = omega (arith, lt, above) in subst P same here
-]
+one_further P n h here m lt = grind (arith, cases_lt)
 
 -- ---- relations
 
@@ -140,9 +131,7 @@ pub number_fits : (relations : List RelationShape) (n : ℕ) → AreSoundRelatio
 number_fits relations n sound lt = omega (arith, sound.count, lt)
 
 complement_kind : (o : Option RelationKind) (n : ℕ) → complemented o ≡ Some n → o ≡ Some (complement n)
-complement_kind None n e = cc
-complement_kind (Some (listed pairs)) n e = cc
-complement_kind (Some (complement m)) n e = ap (λ o. option_map complement o) e
+complement_kind o n e = grind arith
 
 listed_within : (relations : List RelationShape) (n : ℕ) → is_listed relations n ≡ true → n < length relations + 2
 listed_within relations zero e = cc

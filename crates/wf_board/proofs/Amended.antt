@@ -1,35 +1,17 @@
 -- What an edit of the policy keeps.
-use Rattle.std.proofs.Common.{◌≡◌, ℕ, ◌+◌, ◌<◌, ◌≤◌, inl, inr, Bool, true, false, nat_eq, List, [], ◌∷◌, length, map, Option, None, Some, is_some, Result, Ok}
-use Rattle.std.proofs.Common.{if◌then◌else◌, refl, sym, ap, subst, ◌∙◌, arith}
+use Rattle.wf_board.proofs.Common.{◌≡◌, ℕ, ◌+◌, ◌<◌, ◌≤◌, inl, inr, Bool, true, false, List, [], ◌∷◌, length, map, Option, Some, is_some, Result, Ok}
+use Rattle.wf_board.proofs.Common.{if◌then◌else◌, refl, sym, ap, subst, ◌∙◌, arith, nat_tests, bool_cases, eq_is, ◌>>=◌, Tree, PolicyShape, CaseShape}
+use Rattle.wf_board.proofs.Common.{assigned_of, is_open, Row, CasesShape, case_in, is_open_row, replanned, AscendFrom, replanned_closed, replanned_none}
+use Rattle.wf_board.proofs.Common.{replanned_open, Ask, Denial, Amendment, amended, IsKnownChange, changes_keep_names, Deed, Book, Numbered, numbered_case}
+use Rattle.wf_board.proofs.Common.{open_cases, EditionShape, numbered, state_on, cause_full, decision_aside, decision_of, unless_denied, ArePlansOf}
+use Rattle.wf_board.proofs.Common.{CanAllBeCompleted, CanBeCompleted, IsFirstStranded, IsTreeOf, EachRow, IsOfPolicy, IsPlanned, with_edited, board_of, IsKept}
+use Rattle.wf_board.proofs.Common.{IsEditionFor, IsStrandingFor}
+use Rattle.std.proofs.Common.{nat_eq}
 use Rattle.std.specs.Option.{option_map}
-use Rattle.std.proofs.lemmas.Bool.Decides.{nat_tests}
-use Rattle.basics.proofs.Booleans.{bool_cases, eq_is}
-use Rattle.basics.specs.Laws.Reading.{◌>>=◌}
-use Rattle.refutation_tree.specs.declared.tree.Tree.{Tree}
-use Rattle.policy_book.specs.Laws.Shapes.{PolicyShape}
-use Rattle.case_record.specs.Cases.{CaseShape, assigned_of, is_open}
-use Rattle.grant_table.specs.declared.rows.Row.{Row}
 use Rattle.grant_table.specs.Cases.{look_up}
-use Rattle.grant_table.specs.Cases.{CasesShape, case_in, is_open_row, replanned}
-use Rattle.grant_table.specs.Kept.{AscendFrom}
 use Rattle.grant_table.specs.Kept as table
-use Rattle.grant_table.proofs.Replanning.{replanned_closed, replanned_none, replanned_open}
-use Rattle.wf_talk.specs.declared.request.Ask.{Ask}
-use Rattle.wf_talk.specs.declared.reply.Denial.{Denial}
-use Rattle.admin_edits.specs.declared.amendment.Amendment.{Amendment}
-use Rattle.admin_edits.specs.Laws.Edits.{amended}
-use Rattle.admin_edits.specs.Amendment.{IsKnownChange}
-use Rattle.admin_edits.proofs.Keeping.{changes_keep_names, within_after}
-use Rattle.wf_board.specs.declared.deed.Deed.{Deed}
+use Rattle.admin_edits.proofs.Keeping.{within_after}
 use Rattle.wf_board.specs.declared.deed.Deed.TheVariants as deed
-use Rattle.wf_board.specs.Laws.States.{Book, Numbered, numbered_case, open_cases}
-use Rattle.wf_board.specs.Boards.{EditionShape, numbered, state_on}
-use Rattle.wf_board.specs.Decisions.{cause_full, decision_aside, decision_of, unless_denied}
-use Rattle.wf_board.specs.Edition.{ArePlansOf, CanAllBeCompleted, CanBeCompleted, IsFirstStranded, IsTreeOf}
-use Rattle.wf_board.specs.Laws.Kept.{EachRow, IsOfPolicy, IsPlanned}
-use Rattle.wf_board.specs.Laws.Steps.{with_edited}
-use Rattle.wf_board.specs.Taking.{board_of, IsKept}
-use Rattle.wf_board.specs.Verdicts.{IsEditionFor, IsStrandingFor}
 use Rattle.wf_board.proofs.Rows.{case_numbered}
 
 -- ---- cases of a state
@@ -74,18 +56,15 @@ plans_complete p (e ∷ es) (plan ∷ plans) is = ((plan, is.0), plans_complete 
 pub numbered_replanned : (rows : List Row) (plans : List (List ℕ)) → map numbered (replanned rows plans) ≡ map numbered rows
 numbered_replanned [] plans = refl
 numbered_replanned (r ∷ rs) [] = refl
-numbered_replanned (r ∷ rs) (plan ∷ plans) = elim (bool_cases (is_open_row r)) [
-  | inl live ↦ ap (map numbered) (replanned_open r rs plan plans live) ∙ ap (λ es. numbered r ∷ es) (numbered_replanned rs plans)
-  | inr closed ↦ ap (map numbered) (replanned_closed r rs (plan ∷ plans) closed) ∙ ap (λ es. numbered r ∷ es) (numbered_replanned rs (plan ∷ plans))
-]
+numbered_replanned (r ∷ rs) (plan ∷ plans) =
+    grind (arith, bool_cases, replanned_open, replanned_closed, (numbered_replanned rs plans), (numbered_replanned rs (plan ∷ plans)))
 
 pub there_replanned : (n : ℕ) (rows : List Row) (plans : List (List ℕ)) → case_in n (replanned rows plans) ≡ case_in n rows
 there_replanned n rows plans =
     sym (case_numbered n (replanned rows plans)) ∙ ap (λ es. numbered_case es n) (numbered_replanned rows plans) ∙ case_numbered n rows
 
 pub closed_planned : (p : PolicyShape) (c : CaseShape) (o : Option (List ℕ)) → is_some o ≡ is_open c → is_open c ≡ false → IsPlanned p c o
-closed_planned p c None kept closed = closed
-closed_planned p c (Some plan) kept closed = let apart : true ≡ false = kept ∙ closed in cc
+closed_planned p c o kept closed = grind arith
 
 -- the plans of the rows that are open, if this one is
 abbrev ArePlansAfter : PolicyShape → Bool → Row → List Row → List (List ℕ) → Type 0
@@ -138,18 +117,11 @@ with_plans t plans = record t { rows = replanned t.rows plans }
 pub edited_keeps : (p : PolicyShape) (t : CasesShape) (a : Amendment) (plans : List (List ℕ)) → IsKept p t → IsKnownChange p a →
     table.ArePlannedWhileOpen t.rows →
     ArePlansOf (amended p a) (open_cases (map numbered t.rows)) plans → IsKept (amended p a) (with_plans t plans)
-edited_keeps p t a plans kept found planned are = record {
-  planned = record {
-    cases = each_of_policy p a t.rows plans found kept.planned.cases;
-    plans = each_replanned (amended p a) t.rows plans planned are;
-  };
-  numbered = λ n below. ap is_some (there_replanned n t.rows plans) ∙ kept.numbered n below;
-}
+edited_keeps p t a plans kept found planned are = grind (arith, each_of_policy, each_replanned, there_replanned)
 
 pub edited_state : (p : PolicyShape) (t : CasesShape) (a : Amendment) (plans : List (List ℕ)) (edits : ℕ) →
     state_on (board_of (amended p a) (with_plans t plans) (edits + 1)) ≡ with_edited (state_on (board_of p t edits)) a
-edited_state p t a plans edits =
-    λ i. record { book = record { policy = amended p a; cases = numbered_replanned t.rows plans i; ever = t.ever }; edits = edits + 1 }
+edited_state p t a plans edits = grind (arith, numbered_replanned)
 
 -- ---- verdicts
 
@@ -161,8 +133,7 @@ pub record IsChange (b : Book) (r : Result Deed Denial) (edition : EditionShape)
   pub plans : ArePlansOf edition.policy (open_cases b.cases) edition.plans
 
 pub edition_change : (b : Book) (r : Result Deed Denial) (edition : EditionShape) → IsEditionFor b r edition → IsChange b r edition
-edition_change b (Ok (deed.Change a)) edition is = record { amendment = a; decided = refl; policy = is.0; plans = is.1 }
-edition_change b r edition is = absurd is
+edition_change b r edition is = grind arith
 
 -- what was decided is a change that strands a case
 pub record IsStranding (b : Book) (r : Result Deed Denial) (n : ℕ) (tree : Tree) : Type 0 where
@@ -172,8 +143,7 @@ pub record IsStranding (b : Book) (r : Result Deed Denial) (n : ℕ) (tree : Tre
   pub stranded : IsFirstStranded (amended b.policy amendment) (open_cases b.cases) n flow tree
 
 pub stranding_change : (b : Book) (r : Result Deed Denial) (n : ℕ) (tree : Tree) → IsStrandingFor b r n tree → IsStranding b r n tree
-stranding_change b (Ok (deed.Change a)) n tree is = record { amendment = a; decided = refl; flow = is.0; stranded = is.1 }
-stranding_change b r n tree is = absurd is
+stranding_change b r n tree is = grind arith
 
 -- no more cases being opened is no cause against a change
 pub change_decided : (b : Book) (what : Ask) (a : Amendment) → decision_aside b what ≡ Ok (deed.Change a) → decision_of b what ≡ Ok (deed.Change a)
@@ -190,9 +160,7 @@ pub record IsFoundCase (p : PolicyShape) (n f : ℕ) (tree : Tree) (rows : List 
 found_later : (p : PolicyShape) (n f : ℕ) (tree : Tree) (r : Row) (rs : List Row) (few more : List Numbered) → r.number < n →
     ((t : Tree) → IsFirstStranded p few n f t → IsFirstStranded p more n f t) →
     IsFoundCase p n f tree rs few → IsFoundCase p n f tree (r ∷ rs) more
-found_later p n f tree r rs few more above on is =
-    let apart : nat_eq r.number n ≡ false = grind (arith, nat_tests) in
-    record { case = is.case; there = rw apart is.there; flow = is.flow; shown = is.shown; others = λ t shows. on t (is.others t shows) }
+found_later p n f tree r rs few more above on is = grind (arith, nat_tests)
 
 -- the cases of rows that are open, if the first is
 abbrev open_onto : Bool → Row → List Row → List Numbered

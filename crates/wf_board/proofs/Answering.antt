@@ -1,48 +1,23 @@
 -- What a board answers is a step of its state.
-use Rattle.std.proofs.Common.{◌≡◌, ℕ, ◌+◌, ◌<◌, ◌≤◌, inl, nat_le, true, false, not, List, length, is_err, OnErr, None, Some, Result, Ok, Err, refl}
-use Rattle.std.proofs.Common.{sym, ap, subst, ◌∙◌, arith}
-use Rattle.std.proofs.lemmas.Bool.Decides.{nat_tests}
-use Rattle.basics.proofs.Booleans.{or_false}
+use Rattle.wf_board.proofs.Common.{◌≡◌, ℕ, ◌+◌, ◌<◌, ◌≤◌, inl, true, false, not, List, length, None, Some, Result, Ok, Err, refl, sym, ap, subst, ◌∙◌, arith}
+use Rattle.wf_board.proofs.Common.{nat_tests, or_false, Tree, PolicyShape, IsValidPlan, flow_at, problem_of, CaseShape, Row, CasesShape, case_in, change_row}
+use Rattle.wf_board.proofs.Common.{open_count, with_case, unless, Ask, Reply, Denial, amended, Amendment, AscendFrom, ArePlansOf, HoldsOf, IsAllowed, Deed}
+use Rattle.wf_board.proofs.Common.{Answered, Done, EditionShape, book_of, state_on, rows_after, decision_aside, decision_of, unless_denied, Book, State}
+use Rattle.wf_board.proofs.Common.{is_full, open_cases, Answers, state_after_decision, with_changed, board_of, full_or, HasChanged, HasTakenStep, IsKept}
+use Rattle.wf_board.proofs.Common.{HasAnswered, IsEditionFor, IsStrandingFor, room_used, IsSoundPolicy, ArePlanned, IsSoundState, KeepsCompletable}
+use Rattle.std.proofs.Common.{nat_le, is_err, OnErr}
 use Rattle.constraint_forms.specs.Assign.{no_steps, no_users}
-use Rattle.refutation_tree.specs.declared.tree.Tree.{Tree}
-use Rattle.policy_book.specs.Laws.Shapes.{PolicyShape}
-use Rattle.policy_book.specs.Laws.Plans.{IsValidPlan}
-use Rattle.policy_book.specs.Policies.{flow_at, problem_of}
-use Rattle.case_record.specs.Cases.{CaseShape}
-use Rattle.grant_table.specs.declared.rows.Row.{Row}
-use Rattle.grant_table.specs.Cases.{CasesShape, case_in, change_row, open_count, with_case}
 use Rattle.wf_names.specs.declared.limits.TheConstants.{CASE_LIMIT, OPEN_CASE_LIMIT}
-use Rattle.admin_edits.specs.ClaimCauses.{unless}
-use Rattle.wf_talk.specs.declared.request.Ask.{Ask}
-use Rattle.wf_talk.specs.declared.reply.Reply.{Reply}
 use Rattle.wf_talk.specs.declared.reply.Reply.TheVariants as reply
-use Rattle.wf_talk.specs.declared.reply.Denial.{Denial}
 use Rattle.wf_talk.specs.declared.reply.Denial.TheVariants.{Full, Strands}
-use Rattle.admin_edits.specs.Laws.Edits.{amended}
-use Rattle.admin_edits.specs.declared.amendment.Amendment.{Amendment}
-use Rattle.grant_table.specs.Kept.{AscendFrom, IsSoundTable}
-use Rattle.wf_board.specs.Edition.{ArePlansOf, IsFirstStranded}
+use Rattle.grant_table.specs.Kept.{IsSoundTable}
 use Rattle.wf_board.proofs.Amended.{IsChange, change_decided, edited_keeps, edited_state, edition_change, plans_complete, stranded_case, stranding_change}
 use Rattle.wf_board.proofs.Amended.{with_plans}
-use Rattle.admin_edits.proofs.Keeping.{HoldsOf}
 use Rattle.wf_board.proofs.Told.{IsTold, aside_told}
-use Rattle.wf_board.specs.Laws.Found.{IsAllowed}
-use Rattle.wf_board.specs.declared.deed.Deed.{Deed}
 use Rattle.wf_board.specs.declared.deed.Deed.TheVariants as deed
 use Rattle.wf_board.specs.declared.verdict.Verdict.TheVariants as verdict
-use Rattle.wf_board.specs.declared.verdict.Answered.{Answered}
-use Rattle.wf_board.specs.declared.verdict.Answered.TheVariants.{Done, Needs}
-use Rattle.wf_board.specs.Boards.{EditionShape, book_of, state_on}
-use Rattle.wf_board.specs.Laws.KeptPlans.{rows_after}
-use Rattle.wf_board.specs.Decisions.{decision_aside, decision_of, unless_denied}
-use Rattle.wf_board.specs.Laws.States.{Book, State, is_full, open_cases}
-use Rattle.wf_board.specs.Laws.Steps.{Answers, state_after_decision, with_changed}
-use Rattle.wf_board.specs.Taking.{board_of, full_or, HasChanged, HasTakenStep, IsKept}
-use Rattle.wf_board.specs.Verdicts.{HasAnswered, IsEditionFor, IsStrandingFor, room_used}
 use Rattle.wf_board.proofs.Rows.{case_numbered, open_numbered}
 use Rattle.wf_board.proofs.Planned.{known_case, opened_keeps, opened_state, plan_kept}
-use Rattle.policy_book.specs.Laws.Facts.{IsSoundPolicy}
-use Rattle.wf_board.specs.Laws.Kept.{ArePlanned, IsSoundState, KeepsCompletable}
 
 -- a step that changes one case
 pub changed_taken : (p : PolicyShape) (before after : CasesShape) (n : ℕ) (f : Row → Row) (g : CaseShape → CaseShape) (decision : Result Deed Denial)
@@ -61,13 +36,7 @@ changed_taken p before after n f g decision given changed step next rows = recor
 pub same_taken : (p : PolicyShape) (t : CasesShape) (decision : Result Deed Denial) (given : Reply) → IsKept p t →
     ((edits : ℕ) → Answers (state_on (board_of p t edits)) decision given) → ((s : State) → state_after_decision s decision given ≡ s) →
     rows_after p t decision given ≡ t.rows → HasTakenStep p t t decision given
-same_taken p t decision given kept step next rows = record {
-  kept = kept;
-  step = step;
-  next = λ edits. sym (next (state_on (board_of p t edits)));
-  rows = sym rows;
-  room = omega arith;
-}
+same_taken p t decision given kept step next rows = grind arith
 
 -- a denial
 pub denied_taken : (p : PolicyShape) (t : CasesShape) (d : Denial) → IsKept p t → HasTakenStep p t t (Err d) (reply.Denied d)
@@ -86,13 +55,10 @@ less_than a b h = grind (arith, nat_tests)
 
 -- below both limits
 pub below_limits : (p : PolicyShape) (t : CasesShape) → is_full (book_of p t) ≡ false → (open_count t.rows < OPEN_CASE_LIMIT) × (t.ever < CASE_LIMIT)
-below_limits p t left =
-    let both = or_false _ _ left in
-    (subst (λ n. n < OPEN_CASE_LIMIT) (open_numbered t.rows) (less_than OPEN_CASE_LIMIT _ both.0), less_than CASE_LIMIT t.ever both.1)
+below_limits p t left = grind (arith, or_false, open_numbered, less_than)
 
 pub on_err : {A E P : Type 0} (r : Result A E) → is_err r ≡ true → OnErr r P → P
-on_err (Ok x) h on = cc
-on_err (Err e) h on = on
+on_err r h on = grind arith
 
 kept_with_room : (p : PolicyShape) (t : CasesShape) (more : ℕ) → IsKept p t → IsKept p (record t { spare = more })
 kept_with_room p t more kept = record { planned = kept.planned; numbered = kept.numbered }
@@ -121,25 +87,12 @@ opened_taken p t roomy after f n plan kept known valid left same more number is 
 pub stranding_taken : (p : PolicyShape) (t : CasesShape) (what : Ask) (n f : ℕ) (tree : Tree) → IsKept p t → AscendFrom 0 t.rows →
     IsStrandingFor (book_of p t) (decision_aside (book_of p t) what) n tree →
     ((c : CaseShape) → case_in n t.rows ≡ Some c → f ≡ c.flow) → HasTakenStep p t t (decision_of (book_of p t) what) (reply.Denied (Strands n f tree))
-stranding_taken p t what n f tree kept order is flow =
-    let change = stranding_change (book_of p t) (decision_aside (book_of p t) what) n tree is in
-    let a = change.amendment in
-    let found = stranded_case (amended p a) t.rows n change.flow tree order change.stranded in
-    let same : change.flow ≡ f = sym found.flow ∙ sym (flow found.case found.there) in
-    subst (λ r. HasTakenStep p t t r (reply.Denied (Strands n f tree))) (sym (change_decided (book_of p t) what a change.decided))
-    (same_taken p t (Ok (deed.Change a)) (reply.Denied (Strands n f tree)) kept
-    (λ edits. subst (λ g. IsFirstStranded (amended p a) (open_cases (book_of p t).cases) n g tree) same change.stranded) (λ s. refl) refl)
+stranding_taken p t what n f tree kept order is flow = grind (arith, stranding_change, stranded_case, change_decided, same_taken)
 
 -- the case that would be stranded is there
 pub stranding_there : {X : Type 0} (p : PolicyShape) (t : CasesShape) (what : Ask) (n : ℕ) (tree : Tree) → AscendFrom 0 t.rows →
     IsStrandingFor (book_of p t) (decision_aside (book_of p t) what) n tree → case_in n t.rows ≡ None → X
-stranding_there p t what n tree order is none =
-    let change = stranding_change (book_of p t) (decision_aside (book_of p t) what) n tree is in
-    let found = stranded_case (amended p change.amendment) t.rows n change.flow tree order change.stranded in
-    no_such found.case (sym none ∙ found.there)
-  where
-    no_such : {Y : Type 0} (c : CaseShape) → None ≡ Some c → Y
-    no_such c h = cc
+stranding_there p t what n tree order is none = grind (arith, stranding_change, stranded_case)
 
 -- an edit is accepted: what the board then keeps, and what it has answered
 abbrev pub HasEdited : PolicyShape → CasesShape → ℕ → Ask → EditionShape → PolicyShape → CasesShape → Type 0
@@ -183,9 +136,7 @@ edition_taken p q before after edits live what edition kept sound rows is policy
 
 -- an answer takes one place at most
 pub one_at_most : (before after : ℕ) (given : Answered) → before ≤ after + room_used given → before ≤ after + 1
-one_at_most before after Needs room = let none : before ≤ after + 0 = room in omega (arith, none)
-one_at_most before after (Done (reply.Opened n plan)) room = room
-one_at_most before after (Done given) room = let none : before ≤ after + 0 = room in omega (arith, none)
+one_at_most before after given room = grind arith
 
 -- ---- the state of a board
 

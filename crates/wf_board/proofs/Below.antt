@@ -1,5 +1,5 @@
 -- Numbers that are all below a limit.
-use Rattle.std.proofs.Common.{◌≡◌, ℕ, zero, suc, ◌+◌, ◌<◌, ◌≤◌, inl, inr, Bool, true, false, ◌==◌, List, [], ◌∷◌, length, if◌then◌else◌, subst, arith}
+use Rattle.std.proofs.Common.{◌≡◌, ℕ, zero, suc, ◌+◌, ◌<◌, ◌≤◌, inl, inr, Bool, true, ◌==◌, List, [], ◌∷◌, length, if◌then◌else◌, subst, arith}
 use Rattle.basics.proofs.Booleans.{eq_back, or_cases}
 use Rattle.constraint_forms.specs.Assign.{planned}
 use Rattle.policy_book.specs.Laws.Twins.{is_one_of}
@@ -11,13 +11,11 @@ AllBelow n [] = Unit {0}
 AllBelow n (u ∷ us) = (u < n) × AllBelow n us
 
 below_if : (n k : ℕ) (b : Bool) (us : List ℕ) → k < n → AllBelow n us → AllBelow n (if b then k ∷ us else us)
-below_if n k true us here rest = (here, rest)
-below_if n k false us here rest = rest
+below_if n k b us here rest = grind arith
 
 pub passing_all : (n : ℕ) (test : ℕ → Bool) (k count : ℕ) → k + count ≤ n → AllBelow n (passing test k count)
 passing_all n test k zero within = tt
-passing_all n test k (suc count) within =
-    below_if n k (test k) (passing test (k + 1) count) (omega (arith, within)) (passing_all n test (k + 1) count (omega (arith, within)))
+passing_all n test k (suc count) within = grind (arith, below_if, (passing_all n test (k + 1) count (omega (arith, within))))
 
 pub one_below : (n : ℕ) (us : List ℕ) (v : ℕ) → AllBelow n us → is_one_of us v ≡ true → v < n
 one_below n [] v below one = cc

@@ -1,7 +1,6 @@
 -- How many entries pass a test, and where the last one stands, with one more entry.
-use Rattle.std.proofs.Common.{◌≡◌, ℕ, zero, suc, ◌+◌, ◌≤◌, Bool, true, false, List, [], ◌∷◌, ◌++◌, length, drop, if◌then◌else◌, refl, ap, ◌∙◌, arith}
-use Rattle.std.proofs.lemmas.List.{drop-append-le}
-use Rattle.wf_talk.specs.declared.entry.Entry.{Entry}
+use Rattle.wf_board.proofs.Common.{◌≡◌, ℕ, zero, suc, ◌+◌, ◌≤◌, Bool, List, [], ◌∷◌, ◌++◌, length, if◌then◌else◌, refl, ap, ◌∙◌, arith, drop-append-le, Entry}
+use Rattle.std.proofs.Common.{drop}
 use Rattle.wf_board.specs.Counting.{count_of, last_end_from}
 
 -- and with one more
@@ -44,33 +43,21 @@ end_more n before test (x ∷ xs) e =
     end_more (n + 1) next test xs e ∙ ap (λ m. if test e then m else last_end_from (n + 1) next test xs) same
 
 next_within : (n before : ℕ) (b : Bool) → before ≤ n → (if b then n + 1 else before) ≤ n + 1
-next_within n before true known = omega arith
-next_within n before false known = omega (arith, known)
+next_within n before b known = grind arith
 
 -- it is no place behind the entries
 pub end_within : (n before : ℕ) (test : Entry → Bool) (entries : List Entry) → before ≤ n → last_end_from n before test entries ≤ n + length entries
 end_within n before test [] known = omega (arith, known)
 end_within n before test (x ∷ xs) known =
-    let rest = end_within (n + 1) (if test x then n + 1 else before) test xs (next_within n before (test x) known) in
-    omega (arith, rest)
+    grind (arith, next_within, (end_within (n + 1) (if test x then n + 1 else before) test xs (next_within n before (test x) known)))
 
 -- nor before the place where none passes
 pub end_above : (n before : ℕ) (test : Entry → Bool) (entries : List Entry) → before ≤ n → before ≤ last_end_from n before test entries
 end_above n before test [] known = omega arith
 end_above n before test (x ∷ xs) known =
-    by_test (test x) (end_above (n + 1) (n + 1) test xs (omega arith)) (end_above (n + 1) before test xs (omega (arith, known)))
-  where
-    by_test : (b : Bool) → n + 1 ≤ last_end_from (n + 1) (n + 1) test xs → before ≤ last_end_from (n + 1) before test xs →
-        before ≤ last_end_from (n + 1) (if b then n + 1 else before) test xs
-    by_test true here later = omega (arith, here, known)
-    by_test false here later = later
+    grind (arith, (end_above (n + 1) (n + 1) test xs (omega arith)), (end_above (n + 1) before test xs (omega (arith, known))))
 
 -- where one passes, it is behind the first
 pub end_there : (n before : ℕ) (test : Entry → Bool) (entries : List Entry) → 1 ≤ count_of test entries → n + 1 ≤ last_end_from n before test entries
 end_there n before test [] some = absurd (omega (arith, some))
-end_there n before test (x ∷ xs) some = by_test (test x) some (end_above (n + 1) (n + 1) test xs (omega arith)) (end_there (n + 1) before test xs)
-  where
-    by_test : (b : Bool) → 1 ≤ (if b then 1 else 0) + count_of test xs → n + 1 ≤ last_end_from (n + 1) (n + 1) test xs →
-        (1 ≤ count_of test xs → n + 1 + 1 ≤ last_end_from (n + 1) before test xs) → n + 1 ≤ last_end_from (n + 1) (if b then n + 1 else before) test xs
-    by_test true one here later = here
-    by_test false one here later = let rest = later (omega (arith, one)) in omega (arith, rest)
+end_there n before test (x ∷ xs) some = grind (arith, end_above, (end_there (n + 1) before test xs))

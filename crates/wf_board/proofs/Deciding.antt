@@ -1,38 +1,19 @@
 -- Each entry of a legal history decides exactly what was asked.
-use Rattle.std.proofs.Common.{◌≡◌, ℕ, zero, suc, ◌+◌, ◌<◌, ◌≤◌, ◌⊎◌, inl, inr, Bool, true, false, nat_eq, List, [], ◌∷◌, ◌++◌, take, None, Some}
-use Rattle.std.proofs.Common.{slice_get, Result, Ok, Err, if◌then◌else◌, append_assoc, append-nil, refl, sym, ap, subst, ◌∙◌, arith}
-use Rattle.std.specs.Option.{option_map}
-use Rattle.std.proofs.lemmas.Bool.Decides.{nat_tests}
-use Rattle.basics.proofs.Booleans.{eq_is}
+use Rattle.wf_board.proofs.Common.{◌≡◌, ℕ, zero, suc, ◌+◌, ◌<◌, ◌≤◌, ◌⊎◌, inl, inr, Bool, true, false, List, [], ◌∷◌, ◌++◌, take, None, Some, Result, Ok, Err}
+use Rattle.wf_board.proofs.Common.{if◌then◌else◌, append_assoc, append-nil, refl, sym, ap, subst, ◌∙◌, arith, nat_tests, eq_is, Tree, shape_of, PolicyShape}
+use Rattle.wf_board.proofs.Common.{IsSoundPolicy, problem_of, refutes_soundly, CaseShape, assigned_of, finished_of, is_open, Edit, Entry, Ask, Reply, Denial}
+use Rattle.wf_board.proofs.Common.{Amendment, amended, amendment_of, HoldsOf, changes_keep_policies_sound, Deed, Numbered, State, numbered_case, open_cases}
+use Rattle.wf_board.proofs.Common.{opening_state, CanBeCompleted, IsFirstStranded, decision_of, Answers, IsReplyTo, IsStep, with_edited, EachAfter, IsRetry}
+use Rattle.wf_board.proofs.Common.{IsRightAfter, AreCasesNumbered, AreNumberedFrom, IsSoundState, KeepsCompletable}
+use Rattle.std.proofs.Common.{nat_eq}
+use Rattle.std.proofs.Common.{slice_get}
 use Rattle.constraint_forms.specs.Assign.{no_steps, no_users}
-use Rattle.refutation_tree.specs.declared.tree.Tree.{Tree}
-use Rattle.refutation_tree.specs.Laws.Views.{shape_of}
-use Rattle.policy_book.specs.Laws.Shapes.{PolicyShape}
-use Rattle.policy_book.specs.Laws.Facts.{IsSoundPolicy}
-use Rattle.policy_book.specs.Policies.{problem_of}
-use Rattle.certificate_check.proofs.Refuted.{refutes_soundly}
-use Rattle.case_record.specs.Cases.{CaseShape, assigned_of, finished_of, is_open}
-use Rattle.grant_table.specs.Cases.{look_up}
-use Rattle.wf_talk.specs.declared.edit.Edit.{Edit}
-use Rattle.wf_talk.specs.declared.entry.Entry.{Entry}
 use Rattle.wf_talk.specs.declared.request.Request.TheVariants as request
-use Rattle.wf_talk.specs.declared.request.Ask.{Ask}
 use Rattle.wf_talk.specs.declared.request.Ask.TheVariants as ask
-use Rattle.wf_talk.specs.declared.reply.Reply.{Reply}
 use Rattle.wf_talk.specs.declared.reply.Reply.TheVariants as reply
-use Rattle.wf_talk.specs.declared.reply.Denial.{Denial}
 use Rattle.wf_talk.specs.declared.reply.Denial.TheVariants as denial
-use Rattle.admin_edits.specs.declared.amendment.Amendment.{Amendment}
-use Rattle.admin_edits.specs.Laws.Edits.{amended, amendment_of}
-use Rattle.admin_edits.proofs.Keeping.{HoldsOf, changes_keep_policies_sound}
-use Rattle.wf_board.specs.declared.deed.Deed.{Deed}
 use Rattle.wf_board.specs.declared.deed.Deed.TheVariants as deed
-use Rattle.wf_board.specs.Laws.States.{Numbered, State, numbered_case, open_cases, opening_state}
-use Rattle.wf_board.specs.Edition.{CanBeCompleted, IsFirstStranded}
-use Rattle.wf_board.specs.Decisions.{decision_of}
-use Rattle.wf_board.specs.Laws.Steps.{Answers, IsReplyTo, IsStep, with_edited}
-use Rattle.wf_board.specs.Laws.Histories.{EachAfter, IsRetry, IsRightAfter, state_after}
-use Rattle.wf_board.specs.Laws.Kept.{AreCasesNumbered, AreNumberedFrom, IsSoundState, KeepsCompletable}
+use Rattle.wf_board.specs.Laws.Histories.{state_after}
 use Rattle.wf_board.specs.Laws.Decided.{IsChangeExact, IsDeniedByTree, IsEditExact, IsExact, IsGrantExact, IsLeastStranded, IsRefuted}
 use Rattle.wf_board.specs.Laws.{HistoriesAreExact}
 use Rattle.wf_board.proofs.Amended.{open_can, same_case}
@@ -56,24 +37,7 @@ record IsLeast (p : PolicyShape) (cases : List Numbered) (n f : ℕ) (tree : Tre
 
 least_later : (p : PolicyShape) (x : Numbered) (xs : List Numbered) (n f : ℕ) (tree : Tree) → x.number < n →
     (is_open x.case ≡ true → CanBeCompleted p x.case) → IsLeast p xs n f tree → IsLeast p (x ∷ xs) n f tree
-least_later p x xs n f tree above first is =
-    let apart : nat_eq x.number n ≡ false = grind (arith, nat_tests) in
-    record {
-      case = is.case;
-      its_case = rw apart is.its_case;
-      live = is.live;
-      flow = is.flow;
-      refuted = is.refuted;
-      least = λ m other below found live. at_number m other (nat_eq x.number m) found live (λ there. is.least m other below there live);
-    }
-  where
-    at_number : (m : ℕ) (other : CaseShape) (b : Bool) →
-        option_map (λ (e : Numbered). e.case) (if b then Some x else look_up (λ (e : Numbered). e.number) m xs) ≡ Some other → is_open other ≡ true →
-        (numbered_case xs m ≡ Some other → CanBeCompleted p other) → CanBeCompleted p other
-    at_number m other true found live rest =
-        let same = same_case x.case other found in
-        subst (CanBeCompleted p) same (first (ap is_open same ∙ live))
-    at_number m other false found live rest = rest found
+least_later p x xs n f tree above first is = grind (arith, nat_tests, same_case)
 
 least_from : (p : PolicyShape) (k : ℕ) (cases : List Numbered) (n f : ℕ) (tree : Tree) → IsSoundPolicy p → AreNumberedFrom k cases →
     IsFirstStranded p (open_cases cases) n f tree → (k ≤ n) × IsLeast p cases n f tree
@@ -140,9 +104,7 @@ change_exact s a (reply.Denied (denial.Strands n f tree)) numbers after is memor
 change_exact s a given numbers after is memory = absurd is
 
 sound_after : (s : State) (a : Amendment) → IsSoundState s → IsTold s.book (deed.Change a) → IsSoundPolicy (amended s.book.policy a)
-sound_after s a sound known =
-    let its = known.0 sound.policy in
-    changes_keep_policies_sound s.book.policy a sound.policy its.found its.allowed
+sound_after s a sound known = grind (arith, changes_keep_policies_sound)
 
 decided_change : (s : State) (by : List ℕ) (edit : Edit) (a : Amendment) → amendment_of s.book.policy by edit ≡ Ok a →
     decision_of s.book (ask.Request (request.Change by edit)) ≡ Ok (deed.Change a)
@@ -158,8 +120,7 @@ edit_exact s what given known step by edit a asked is decides =
 -- ---- claims
 
 grant_exact : (s : State) (what : Ask) (given : Reply) → IsKnown s → IsStep s what given → IsGrantExact s what given
-grant_exact s what given known step n name user c t u asked named decides =
-    grants_are_exact s n name user c t u given known.sound named (subst (λ (w : Ask). IsStep s w given) asked step) decides.memory
+grant_exact s what given known step = grind (arith, grants_are_exact)
 
 -- ---- denials
 
@@ -188,12 +149,7 @@ same_denial x y h = cc
 denial_exact : (s : State) (r : Result Deed Denial) (given : Reply) (d : Denial) → IsKnown s → HoldsOf (IsTold s.book) r → Answers s r given →
     given ≡ reply.Denied d →
     (r ≡ Err d) ⊎ IsDeniedByTree s r d
-denial_exact s (Ok made) given d known its is denied = inr (denied_by_tree s made d known its (subst (IsReplyTo s made) denied is))
-denial_exact s (Err first) given d known its (inl is) denied = inl (ap Err (same_denial first d (sym is ∙ denied)))
-denial_exact s (Err first) given d known its (inr is) denied = absurd (apart (sym is ∙ denied))
-  where
-    apart : reply.NoMemory ≡ reply.Denied d → ⊥
-    apart h = cc
+denial_exact s r given d known its is denied = grind (arith, denied_by_tree, same_denial)
 
 -- ---- entries
 
@@ -205,14 +161,7 @@ step_exact s what given known step = record {
 }
 
 again_exact : (s : State) (what : Ask) (given : Reply) (n place : ℕ) → given ≡ reply.Again n place → IsExact s what given
-again_exact s what given n place again = record {
-  grants = λ m name user c t u asked named decides. absurd (decides.once n place again);
-  edits = λ by edit a asked is decides. absurd (decides.once n place again);
-  denials = λ d denied. absurd (apart d (sym again ∙ denied));
-}
-  where
-    apart : (d : Denial) → reply.Again n place ≡ reply.Denied d → ⊥
-    apart d h = cc
+again_exact s what given n place again = grind arith
 
 entry_exact : (p : PolicyShape) (rounds : ℕ) (earlier : List Entry) (e : Entry) → IsKnown (state_after (opening_state p) earlier) →
     IsRightAfter (opening_state p) rounds earlier e →
@@ -228,10 +177,7 @@ entry_exact p rounds earlier e known right = by_reply right.1
 each_at : (P : List Entry → Entry → Type 0) (earlier entries : List Entry) → EachAfter P earlier entries → (n : ℕ) (e : Entry) →
     slice_get entries n ≡ Some e → P (earlier ++ take n entries) e
 each_at P earlier [] each n e is = cc
-each_at P earlier (x ∷ xs) each zero e is = subst (λ es. P es e) (sym (append-nil earlier)) (subst (P earlier) (same x e is) each.0)
-  where
-    same : (a b : Entry) → Some a ≡ Some b → a ≡ b
-    same a b h = cc
+each_at P earlier (x ∷ xs) each zero e is = grind (arith, append-nil)
 each_at P earlier (x ∷ xs) each (suc n) e is = subst (λ es. P es e) (append_assoc earlier (x ∷ []) (take n xs)) (each_at P (earlier ++ x ∷ []) xs each.1 n e is)
 
 pub histories_are_exact : HistoriesAreExact

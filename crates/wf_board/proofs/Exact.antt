@@ -1,34 +1,19 @@
 -- A claim is granted exactly where its case can then be completed, and an edit accepted where all cases can.
-use Rattle.std.proofs.Common.{◌≡◌, ℕ, ◌<◌, ◌≤◌, ◌⊎◌, inl, inr, leb, true, false, List, [], ◌∷◌, length, Some, slice_get, refl, sym, ap, subst, ◌∙◌}
+use Rattle.wf_board.proofs.Common.{◌≡◌, ℕ, ◌<◌, inl, inr, true, List, [], ◌∷◌, length, Some, refl, ap, ◌∙◌, arith, user_of, StepState, Free, Held, Tree}
+use Rattle.wf_board.proofs.Common.{shape_of, PolicyShape, IsSoundPolicy, problem_of, AreAssigned, IsCompletable, refutes_soundly, CaseShape, assigned_of}
+use Rattle.wf_board.proofs.Common.{finished_of, state_at, assigned_of-at, finished_of-at, Reply, assigned_with, Duty, Numbered, State, open_cases, IsReplyTo}
+use Rattle.wf_board.proofs.Common.{IsSoundState, CanAllBeCompleted, IsFirstStranded, Amendment, amended, changes_keep_policies_sound}
 use Rattle.std.proofs.lemmas.Bool.Decides.{leb_tells}
 use Rattle.std.proofs.lemmas.List.{get_or_past}
 use Rattle.std.specs.Prelude.{◌↔◌}
-use Rattle.wf_names.specs.States.{is_finished, user_of}
-use Rattle.wf_names.specs.declared.states.StepState.{StepState}
-use Rattle.wf_names.specs.declared.states.StepState.TheVariants.{Free, Held, Finished}
-use Rattle.refutation_tree.specs.declared.tree.Tree.{Tree}
-use Rattle.refutation_tree.specs.Laws.Views.{shape_of}
-use Rattle.policy_book.specs.Laws.Shapes.{PolicyShape, WorkflowShape}
-use Rattle.policy_book.specs.Laws.Facts.{IsSoundPolicy}
-use Rattle.policy_book.specs.Policies.{no_workflow, problem_of}
-use Rattle.policy_book.specs.Laws.Plans.{AreAssigned, IsCompletable, IsWellFormed}
-use Rattle.certificate_check.proofs.Refuted.{assigned_given, refutes_soundly}
-use Rattle.case_record.specs.Cases.{CaseShape, assigned_of, finished_of, state_at}
-use Rattle.case_record.proofs.Laws.{assigned_of-at, finished_of-at}
-use Rattle.wf_talk.specs.declared.reply.Reply.{Reply}
+use Rattle.wf_names.specs.States.{is_finished}
+use Rattle.wf_names.specs.declared.states.StepState.TheVariants.{Finished}
+use Rattle.policy_book.specs.Laws.Plans.{IsWellFormed}
+use Rattle.certificate_check.proofs.Refuted.{assigned_given}
 use Rattle.wf_talk.specs.declared.reply.Reply.TheVariants as reply
 use Rattle.wf_talk.specs.declared.reply.Denial.TheVariants as denial
-use Rattle.admin_edits.specs.ClaimCauses.{assigned_with}
 use Rattle.wf_board.specs.declared.deed.Deed.TheVariants as deed
-use Rattle.wf_board.specs.declared.deed.Duty.{Duty}
-use Rattle.wf_board.specs.Laws.States.{Numbered, State, open_cases}
-use Rattle.wf_board.specs.Laws.Steps.{Answers, IsReplyTo}
-use Rattle.wf_board.specs.Laws.Kept.{IsSoundState}
 use Rattle.wf_board.specs.Laws.{ClaimsAreExact, EditsAreExact}
-use Rattle.wf_board.specs.Edition.{CanAllBeCompleted, IsFirstStranded}
-use Rattle.admin_edits.specs.declared.amendment.Amendment.{Amendment}
-use Rattle.admin_edits.specs.Laws.Edits.{amended}
-use Rattle.admin_edits.proofs.Keeping.{HoldsOf, changes_keep_policies_sound}
 use Rattle.wf_board.proofs.Told.{IsTold, claim_free, told}
 
 finished_user : (x : StepState) → is_finished x ≡ true → (u : ℕ) × (user_of x ≡ Some u)
@@ -38,9 +23,7 @@ finished_user (Finished u) is = (u, refl)
 
 -- each finished step of a case is assigned
 pub finished_assigned : (c : CaseShape) → AreAssigned (finished_of c) (assigned_of c)
-finished_assigned c s is =
-    let found = finished_user (state_at c s) (sym (finished_of-at c s) ∙ is) in
-    (found.0, assigned_of-at c s ∙ found.1)
+finished_assigned c = grind (arith, finished_user, finished_of-at, assigned_of-at)
 
 -- also where a free step is given to a user
 pub claimed_assigned : (c : CaseShape) (t u : ℕ) → state_at c t ≡ Free → AreAssigned (finished_of c) (assigned_with c t u)
@@ -52,12 +35,7 @@ well_formed p f sound known k rule is = ((sound.flows f known).ruled k rule is).
 
 -- also where there is no workflow with the number
 pub well_formed_any : (p : PolicyShape) (f : ℕ) → IsSoundPolicy p → IsWellFormed (problem_of p f)
-well_formed_any p f sound = at_number (leb_tells (length p.flows) f)
-  where
-    at_number : ((leb (length p.flows) f ≡ true) × (length p.flows ≤ f)) ⊎ ((leb (length p.flows) f ≡ false) × (f < length p.flows)) →
-        IsWellFormed (problem_of p f)
-    at_number (inl past) = λ k rule is. cc (is, ap (λ (w : WorkflowShape). slice_get w.rules k) (get_or_past p.flows f no_workflow past.1))
-    at_number (inr known) = well_formed p f sound known.1
+well_formed_any p f sound = grind (arith, leb_tells, get_or_past, well_formed)
 
 -- the case of a refuted claim cannot be completed
 pub refuted_claim : (s : State) (d : Duty) (tree : Tree) → IsSoundState s → IsTold s.book (deed.Claim d) →
@@ -80,8 +58,7 @@ claim_exact s d (reply.Denied (denial.Stranded g tree)) sound known is memory =
 claim_exact s d given sound known is memory = absurd is
 
 pub claims_are_exact : ClaimsAreExact
-claims_are_exact s what given d sound decided step memory =
-    claim_exact s d given sound (subst (HoldsOf (IsTold s.book)) decided (told s.book what)) (subst (λ r. Answers s r given) decided step) memory
+claims_are_exact = grind (arith, claim_exact, told)
 
 -- ---- edits
 
@@ -89,22 +66,13 @@ claims_are_exact s what given d sound decided step memory =
 pub stranded_not : (p : PolicyShape) (cases : List Numbered) (n f : ℕ) (tree : Tree) → IsSoundPolicy p → IsFirstStranded p cases n f tree →
     ¬ CanAllBeCompleted p cases
 stranded_not p [] n f tree sound is all = is
-stranded_not p (e ∷ es) n f tree sound (inl here) all =
-    refutes_soundly (problem_of p e.case.flow) (assigned_of e.case) (finished_of e.case) (shape_of tree)
-    (well_formed_any p e.case.flow sound) (finished_assigned e.case) here.1.1 all.0
+stranded_not p (e ∷ es) n f tree sound (inl here) all = grind (arith, refutes_soundly, well_formed_any, finished_assigned)
 stranded_not p (e ∷ es) n f tree sound (inr later) all = stranded_not p es n f tree sound later.1 all.1
 
 edit_exact : (s : State) (a : Amendment) (given : Reply) → IsSoundState s → IsTold s.book (deed.Change a) → IsReplyTo s (deed.Change a) given →
     ¬ (given ≡ reply.NoMemory) →
     ((number : ℕ) × (given ≡ reply.Edited number)) ↔ CanAllBeCompleted (amended s.book.policy a) (open_cases s.book.cases)
-edit_exact s a reply.NoMemory sound known is memory = absurd (memory refl)
-edit_exact s a (reply.Edited number) sound known is memory = (λ edited. is.1, λ all. (number, refl))
-edit_exact s a (reply.Denied (denial.Strands n f tree)) sound known is memory =
-    let its = known.0 sound.policy in
-    let after = changes_keep_policies_sound s.book.policy a sound.policy its.found its.allowed in
-    (λ edited. cc edited.1, λ all. absurd (stranded_not (amended s.book.policy a) (open_cases s.book.cases) n f tree after is all))
-edit_exact s a given sound known is memory = absurd is
+edit_exact s a given sound known is memory = grind (arith, changes_keep_policies_sound, stranded_not)
 
 pub edits_are_exact : EditsAreExact
-edits_are_exact s what given a sound decided step memory =
-    edit_exact s a given sound (subst (HoldsOf (IsTold s.book)) decided (told s.book what)) (subst (λ r. Answers s r given) decided step) memory
+edits_are_exact = grind (arith, edit_exact, told)

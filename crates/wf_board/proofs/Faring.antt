@@ -1,11 +1,8 @@
 -- What is said of a decision, and of why it is none.
-use Rattle.std.proofs.Common.{◌≡◌, Bool, true, false, List, [], ◌∷◌, Option, None, Some, Result, Ok, Err, refl}
+use Rattle.wf_board.proofs.Common.{◌≡◌, Bool, List, [], ◌∷◌, Option, None, Some, Result, Ok, Err, arith, ◌>>=◌, or_fault, Denial, unless, Deed, unless_denied}
 use Rattle.std.specs.Option.{option_map}
-use Rattle.basics.specs.Laws.Reading.{◌>>=◌, check, or_fault}
-use Rattle.wf_talk.specs.declared.reply.Denial.{Denial}
-use Rattle.admin_edits.specs.ClaimCauses.{first_of, unless}
-use Rattle.wf_board.specs.declared.deed.Deed.{Deed}
-use Rattle.wf_board.specs.Decisions.{unless_denied}
+use Rattle.basics.specs.Laws.Reading.{check}
+use Rattle.admin_edits.specs.ClaimCauses.{first_of}
 
 -- P holds of what was read, and Q of why it was not
 abbrev pub Fares : {A F : Type 0} → (A → Type 0) → (F → Type 0) → Result A F → Type 0
@@ -14,16 +11,13 @@ Fares P Q (Err d) = Q d
 
 pub then_fares : {A B F : Type 0} (P : A → Type 0) (R : B → Type 0) (Q : F → Type 0) (r : Result A F) (f : A → Result B F) → Fares P Q r
     → ((x : A) → P x → Fares R Q (f x)) → Fares R Q (r >>= f)
-then_fares P R Q (Ok x) f has each = each x has
-then_fares P R Q (Err d) f has each = has
+then_fares P R Q r f has each = grind arith
 
 pub or_fares : {A F : Type 0} (Q : F → Type 0) (o : Option A) (d : F) → Q d → Fares (λ x. o ≡ Some x) Q (or_fault o d)
-or_fares Q (Some x) d none = refl
-or_fares Q None d none = none
+or_fares Q o d none = grind arith
 
 pub check_fares : {F : Type 0} (Q : F → Type 0) (b : Bool) (d : F) → Q d → Fares (λ _. Unit {0}) Q (check b d)
-check_fares Q true d failed = tt
-check_fares Q false d failed = failed
+check_fares Q b d failed = grind arith
 
 -- Q holds of the cause, if there is one
 abbrev pub IsCauseSo : (Denial → Type 0) → Option Denial → Type 0
@@ -45,13 +39,10 @@ pub four_so : (Q : Denial → Type 0) (first second third fourth : Option Denial
 four_so Q first second third fourth a b c d = first_so Q (first ∷ second ∷ third ∷ fourth ∷ []) (a, (b, (c, (d, tt))))
 
 pub unless_so : (Q : Denial → Type 0) (b : Bool) (d : Denial) → Q d → IsCauseSo Q (unless b d)
-unless_so Q true d so = tt
-unless_so Q false d so = so
+unless_so Q b d so = grind arith
 
 pub map_so : {A : Type 0} (Q : Denial → Type 0) (f : A → Denial) (o : Option A) → ((x : A) → o ≡ Some x → Q (f x)) → IsCauseSo Q (option_map f o)
-map_so Q f None so = tt
-map_so Q f (Some x) so = so x refl
+map_so Q f o so = grind arith
 
 pub unless_fares : (P : Deed → Type 0) (Q : Denial → Type 0) (given : Deed) (o : Option Denial) → P given → IsCauseSo Q o → Fares P Q (unless_denied given o)
-unless_fares P Q given None has so = has
-unless_fares P Q given (Some d) has so = so
+unless_fares P Q given o has so = grind arith

@@ -1,38 +1,18 @@
 -- A state and what is asked fix the reply, but for its plan or tree, and the state after it.
-use Rattle.std.proofs.Common.{◌≡◌, ℕ, inl, inr, true, false, List, [], ◌∷◌, Result, Ok, Err, refl, sym, ap, ◌∙◌}
-use Rattle.wf_names.specs.States.{is_done}
-use Rattle.refutation_tree.specs.declared.tree.Tree.{Tree}
-use Rattle.refutation_tree.specs.declared.tree.Tree.TheVariants as tree
-use Rattle.refutation_tree.specs.Laws.Views.{shape_of}
+use Rattle.wf_board.proofs.Common.{◌≡◌, ℕ, inl, inr, true, false, List, [], ◌∷◌, Result, Ok, Err, refl, sym, ap, ◌∙◌, arith, is_done, Tree, PolicyShape}
+use Rattle.wf_board.proofs.Common.{IsSoundPolicy, AreAssigned, refutes_soundly, CaseShape, finished_case, Amendment, amended, HoldsOf}
+use Rattle.wf_board.proofs.Common.{changes_keep_policies_sound, Reply, Denial, Deed, Duty, Numbered, State, decision_of, CanBeCompleted, IsFirstStranded}
+use Rattle.wf_board.proofs.Common.{IsTreeOf, Answers, IsReplyTo, state_after_decision, IsSoundState, none_member}
 use Rattle.constraint_forms.specs.Assign.{no_steps, no_users}
-use Rattle.policy_book.specs.Laws.Shapes.{PolicyShape}
-use Rattle.policy_book.specs.Laws.Facts.{IsSoundPolicy}
-use Rattle.policy_book.specs.Policies.{problem_of}
-use Rattle.policy_book.specs.Laws.Plans.{AreAssigned}
-use Rattle.certificate_check.proofs.Refuted.{refutes_soundly}
-use Rattle.case_record.specs.Cases.{CaseShape, assigned_of, finished_case, finished_of}
-use Rattle.admin_edits.specs.declared.amendment.Amendment.{Amendment}
-use Rattle.admin_edits.specs.Laws.Edits.{amended}
-use Rattle.admin_edits.proofs.Keeping.{HoldsOf, changes_keep_policies_sound}
 use Rattle.wf_talk.specs.declared.request.Bad.{Bad}
-use Rattle.wf_talk.specs.declared.reply.Reply.{Reply}
 use Rattle.wf_talk.specs.declared.reply.Reply.TheVariants as reply
-use Rattle.wf_talk.specs.declared.reply.Denial.{Denial}
 use Rattle.wf_talk.specs.declared.reply.Denial.TheVariants as denial
-use Rattle.wf_board.specs.declared.deed.Deed.{Deed}
-use Rattle.wf_board.specs.declared.deed.Duty.{Duty}
 use Rattle.wf_board.specs.declared.deed.Deed.TheVariants as deed
-use Rattle.wf_board.specs.Laws.States.{Numbered, State, open_cases}
-use Rattle.wf_board.specs.Decisions.{decision_of}
-use Rattle.wf_board.specs.Views.{steps_of}
-use Rattle.wf_board.specs.Edition.{CanBeCompleted, IsFirstStranded, IsTreeOf}
-use Rattle.wf_board.specs.Laws.Steps.{Answers, IsReplyTo, face_of, state_after_decision}
-use Rattle.wf_board.specs.Laws.Kept.{IsSoundState}
+use Rattle.wf_board.specs.Laws.Steps.{face_of}
 use Rattle.wf_board.specs.Laws.{OutcomeIsFixed, bare}
 use Rattle.wf_board.proofs.Listed.{one_list}
 use Rattle.wf_board.proofs.Exact.{finished_assigned, refuted_claim, stranded_not, well_formed_any}
 use Rattle.wf_board.proofs.Told.{IsTold, told}
-use Rattle.constraint_forms.proofs.Members.{none_member}
 
 -- two replies are the same but for their plans or trees, and so are the states after them
 abbrev HasSame : State → Result Deed Denial → Reply → Reply → Type 0
@@ -45,9 +25,7 @@ none_assigned s is = let apart : true ≡ false = sym is ∙ none_member s in cc
 
 refuted_opening : (s : State) (f n g : ℕ) (plan : List ℕ) (t : Tree) → IsSoundState s → IsReplyTo s (deed.Open f) (reply.Opened n plan) →
     IsReplyTo s (deed.Open f) (reply.Denied (denial.Unsatisfiable g t)) → ⊥
-refuted_opening s f n g plan t sound opened refuted =
-    refutes_soundly (problem_of s.book.policy f) no_users no_steps (shape_of t) (well_formed_any s.book.policy f sound.policy) none_assigned refuted.1
-    (plan, opened.1)
+refuted_opening s f n g plan t sound opened refuted = grind (arith, refutes_soundly, well_formed_any, none_assigned)
 
 fixed_opened : (s : State) (f n : ℕ) (plan : List ℕ) (other : Reply) → IsSoundState s → IsReplyTo s (deed.Open f) (reply.Opened n plan) →
     IsReplyTo s (deed.Open f) other → ¬ (other ≡ reply.NoMemory) →
@@ -62,8 +40,7 @@ fixed_unsatisfiable : (s : State) (f g : ℕ) (t : Tree) (other : Reply) → IsS
     ¬ (other ≡ reply.NoMemory) → HasSame s (Ok (deed.Open f)) (reply.Denied (denial.Unsatisfiable g t)) other
 fixed_unsatisfiable s f g t reply.NoMemory sound a b memory = absurd (memory refl)
 fixed_unsatisfiable s f g t (reply.Opened m q) sound a b memory = absurd (refuted_opening s f m g q t sound b a)
-fixed_unsatisfiable s f g t (reply.Denied (denial.Unsatisfiable h u)) sound a b memory =
-    (ap (λ k. reply.Denied (denial.Unsatisfiable k (tree.Holder 0))) (a.0 ∙ sym b.0), refl)
+fixed_unsatisfiable s f g t (reply.Denied (denial.Unsatisfiable h u)) sound a b memory = grind arith
 fixed_unsatisfiable s f g t other sound a b memory = absurd b
 
 fixed_opening : (s : State) (f : ℕ) (one other : Reply) → IsSoundState s → IsReplyTo s (deed.Open f) one → IsReplyTo s (deed.Open f) other →
@@ -89,8 +66,7 @@ fixed_stranded : (s : State) (d : Duty) (g : ℕ) (x : Tree) (other : Reply) →
     HasSame s (Ok (deed.Claim d)) (reply.Denied (denial.Stranded g x)) other
 fixed_stranded s d g x reply.NoMemory sound known a b memory = absurd (memory refl)
 fixed_stranded s d g x (reply.Granted q) sound known a b memory = absurd (refuted_claim s d x sound known (refl, a.1) (q, b))
-fixed_stranded s d g x (reply.Denied (denial.Stranded h y)) sound known a b memory =
-    (ap (λ k. reply.Denied (denial.Stranded k (tree.Holder 0))) (a.0 ∙ sym b.0), refl)
+fixed_stranded s d g x (reply.Denied (denial.Stranded h y)) sound known a b memory = grind arith
 fixed_stranded s d g x other sound known a b memory = absurd b
 
 fixed_claim : (s : State) (d : Duty) (one other : Reply) → IsSoundState s → IsTold s.book (deed.Claim d) →
@@ -105,8 +81,7 @@ fixed_claim s d one other sound known a b m memory = absurd a
 
 -- a case of which a tree shows that it cannot be completed cannot be
 tree_excludes : (p : PolicyShape) (c : CaseShape) (t : Tree) → IsSoundPolicy p → IsTreeOf p c t → ¬ CanBeCompleted p c
-tree_excludes p c t sound is can =
-    refutes_soundly (problem_of p c.flow) (assigned_of c) (finished_of c) (shape_of t) (well_formed_any p c.flow sound) (finished_assigned c) is can
+tree_excludes p c t sound is = grind (arith, refutes_soundly, well_formed_any, finished_assigned)
 
 -- there is one first stranded case
 pub one_stranded : (p : PolicyShape) (cases : List Numbered) (n f m g : ℕ) (t u : Tree) → IsSoundPolicy p → IsFirstStranded p cases n f t →
@@ -120,21 +95,12 @@ one_stranded p (e ∷ es) n f m g t u sound (inr a) (inr b) = one_stranded p es 
 fixed_edited : (s : State) (a : Amendment) (number : ℕ) (other : Reply) → IsSoundPolicy (amended s.book.policy a) →
     IsReplyTo s (deed.Change a) (reply.Edited number) → IsReplyTo s (deed.Change a) other →
     ¬ (other ≡ reply.NoMemory) → HasSame s (Ok (deed.Change a)) (reply.Edited number) other
-fixed_edited s a number reply.NoMemory sound x y memory = absurd (memory refl)
-fixed_edited s a number (reply.Edited m) sound x y memory = (ap reply.Edited (x.0 ∙ sym y.0), refl)
-fixed_edited s a number (reply.Denied (denial.Strands m g u)) sound x y memory =
-    absurd (stranded_not (amended s.book.policy a) (open_cases s.book.cases) m g u sound y x.1)
-fixed_edited s a number other sound x y memory = absurd y
+fixed_edited s a number other sound x y memory = grind (arith, stranded_not)
 
 fixed_strands : (s : State) (a : Amendment) (n f : ℕ) (t : Tree) (other : Reply) → IsSoundPolicy (amended s.book.policy a) →
     IsReplyTo s (deed.Change a) (reply.Denied (denial.Strands n f t)) →
     IsReplyTo s (deed.Change a) other → ¬ (other ≡ reply.NoMemory) → HasSame s (Ok (deed.Change a)) (reply.Denied (denial.Strands n f t)) other
-fixed_strands s a n f t reply.NoMemory sound x y memory = absurd (memory refl)
-fixed_strands s a n f t (reply.Edited m) sound x y memory = absurd (stranded_not (amended s.book.policy a) (open_cases s.book.cases) n f t sound x y.1)
-fixed_strands s a n f t (reply.Denied (denial.Strands m g u)) sound x y memory =
-    let same = one_stranded (amended s.book.policy a) (open_cases s.book.cases) n f m g t u sound x y in
-    ((λ i. reply.Denied (denial.Strands (same.0 i) (same.1 i) (tree.Holder 0))), refl)
-fixed_strands s a n f t other sound x y memory = absurd y
+fixed_strands s a n f t other sound x y memory = grind (arith, stranded_not, one_stranded)
 
 fixed_change : (s : State) (a : Amendment) (one other : Reply) → IsSoundPolicy (amended s.book.policy a) → IsReplyTo s (deed.Change a) one →
     IsReplyTo s (deed.Change a) other →
@@ -153,61 +119,37 @@ IsThis s d this = (given : Reply) → IsReplyTo s d given → ¬ (given ≡ repl
 same_this : (s : State) (d : Deed) (this one other : Reply) → IsThis s d this → IsReplyTo s d one → IsReplyTo s d other → ¬ (one ≡ reply.NoMemory) →
     ¬ (other ≡ reply.NoMemory) →
     HasSame s (Ok d) one other
-same_this s d this one other is a b m memory =
-    let same = is one a m ∙ sym (is other b memory) in
-    (ap bare same, ap (λ r. state_after_decision s (Ok d) r) same)
+same_this s d this one other is a b m memory = grind arith
 
 finish_this : (s : State) (d : Duty) → IsThis s (deed.Finish d) (reply.Finished (is_done (finished_case d.case d.step).phase))
-finish_this s d reply.NoMemory is memory = absurd (memory refl)
-finish_this s d (reply.Finished done) is memory = ap reply.Finished is
-finish_this s d given is memory = absurd is
+finish_this s d = grind arith
 
 return_this : (s : State) (d : Duty) → IsThis s (deed.GiveBack d) reply.Returned
-return_this s d reply.NoMemory is memory = absurd (memory refl)
-return_this s d reply.Returned is memory = refl
-return_this s d given is memory = absurd is
+return_this s d = grind arith
 
 release_this : (s : State) (n : ℕ) (c : CaseShape) (t : ℕ) → IsThis s (deed.Release n c t) reply.Released
-release_this s n c t reply.NoMemory is memory = absurd (memory refl)
-release_this s n c t reply.Released is memory = refl
-release_this s n c t given is memory = absurd is
+release_this s n c t = grind arith
 
 withdrawal_this : (s : State) (n : ℕ) → IsThis s (deed.Withdraw n) reply.Withdrawn
-withdrawal_this s n reply.NoMemory is memory = absurd (memory refl)
-withdrawal_this s n reply.Withdrawn is memory = refl
-withdrawal_this s n given is memory = absurd is
+withdrawal_this s n = grind arith
 
 showing_this : (s : State) (c : CaseShape) → IsThis s (deed.Show c) (reply.Shown (face_of c))
-showing_this s c reply.NoMemory is memory = absurd (memory refl)
-showing_this s c (reply.Shown face) is memory = ap reply.Shown is
-showing_this s c given is memory = absurd is
+showing_this s c = grind arith
 
 bad_this : (s : State) (bad : Bad) → IsThis s (deed.TurnAway bad) (reply.Bad bad)
-bad_this s bad reply.NoMemory is memory = absurd (memory refl)
-bad_this s bad (reply.Bad b) is memory = ap reply.Bad is
-bad_this s bad given is memory = absurd is
+bad_this s bad = grind arith
 
 -- ---- views
 
 work_fixed : (s : State) (u : ℕ) (one other : Reply) → IsReplyTo s (deed.Work u) one → IsReplyTo s (deed.Work u) other → ¬ (one ≡ reply.NoMemory) →
     ¬ (other ≡ reply.NoMemory) →
     HasSame s (Ok (deed.Work u)) one other
-work_fixed s u reply.NoMemory other a b m memory = absurd (m refl)
-work_fixed s u (reply.Work items) reply.NoMemory a b m memory = absurd (memory refl)
-work_fixed s u (reply.Work items) (reply.Work given) a b m memory =
-    (ap reply.Work (one_list _ _ _ (steps_of (open_cases s.book.cases)) items given (λ x is not. not is) a b), refl)
-work_fixed s u (reply.Work items) other a b m memory = absurd b
-work_fixed s u one other a b m memory = absurd a
+work_fixed s u one other a b m memory = grind (arith, one_list)
 
 what_if_fixed : (s : State) (a : Amendment) (one other : Reply) → IsReplyTo s (deed.WhatIf a) one → IsReplyTo s (deed.WhatIf a) other →
     ¬ (one ≡ reply.NoMemory) → ¬ (other ≡ reply.NoMemory) →
     HasSame s (Ok (deed.WhatIf a)) one other
-what_if_fixed s a reply.NoMemory other x y m memory = absurd (m refl)
-what_if_fixed s a (reply.WhatIf numbers) reply.NoMemory x y m memory = absurd (memory refl)
-what_if_fixed s a (reply.WhatIf numbers) (reply.WhatIf given) x y m memory =
-    (ap reply.WhatIf (one_list _ _ _ (open_cases s.book.cases) numbers given (λ e not is. not is) x y), refl)
-what_if_fixed s a (reply.WhatIf numbers) other x y m memory = absurd y
-what_if_fixed s a one other x y m memory = absurd x
+what_if_fixed s a one other x y m memory = grind (arith, one_list)
 
 -- ---- outcomes
 

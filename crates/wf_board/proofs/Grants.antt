@@ -1,48 +1,29 @@
 -- A claim is granted exactly where its user is authorised, its step is ready, and its case can then be completed.
-use Rattle.std.proofs.Common.{◌≡◌, ℕ, suc, ◌+◌, ◌<◌, Bool, true, false, ◌&&◌, nat_lt, List, [], ◌∷◌, length, Option, None, Some, option_map, is_none}
-use Rattle.std.proofs.Common.{slice_get, if◌then◌else◌, ◌⊎◌, inl, inr, refl, sym, ap, subst, ◌∙◌, arith}
+use Rattle.wf_board.proofs.Common.{◌≡◌, ℕ, suc, ◌+◌, ◌<◌, Bool, true, false, ◌&&◌, List, [], ◌∷◌, length, Option, None, Some, if◌then◌else◌, ◌⊎◌, refl, sym, ap}
+use Rattle.wf_board.proofs.Common.{subst, ◌∙◌, arith, false≢true, nat_tests, and_from, user_of, StepState, Free, Rule, user_at, Relating, PolicyShape}
+use Rattle.wf_board.proofs.Common.{IsSoundPolicy, flow_at, is_authorised, problem_of, AreAssigned, IsCompletable, refutes_soundly, CaseShape, assigned_of}
+use Rattle.wf_board.proofs.Common.{finished_of, state_at, Row, plan_of, Reply, Denial, assigned_with, first_cause, unless, Deed, Duty, Book, State, decision_of}
+use Rattle.wf_board.proofs.Common.{unless_denied, Answers, CanBeCompleted, AreFound, ArePlanned}
+use Rattle.std.proofs.Common.{nat_lt, option_map, is_none}
+use Rattle.std.proofs.Common.{slice_get}
 use Rattle.std.specs.Prelude.{◌↔◌, ◌||◌}
 use Rattle.std.specs.List.{list_any}
-use Rattle.std.proofs.lemmas.Bool.{false≢true}
-use Rattle.std.proofs.lemmas.Bool.Decides.{nat_tests}
-use Rattle.basics.proofs.Booleans.{and_both, and_from}
-use Rattle.basics.specs.Laws.Reading.{◌>>=◌}
-use Rattle.wf_names.specs.States.{user_of}
-use Rattle.wf_names.specs.declared.states.StepState.{StepState}
-use Rattle.wf_names.specs.declared.states.StepState.TheVariants.{Free, Held, Finished}
-use Rattle.constraint_forms.specs.declared.rule.Rule.{Rule}
-use Rattle.constraint_forms.specs.Assign.{planned, user_at}
-use Rattle.constraint_forms.specs.Rules.{Relating, is_falsified, names}
+use Rattle.basics.proofs.Booleans.{and_both}
+use Rattle.constraint_forms.specs.Assign.{planned}
+use Rattle.constraint_forms.specs.Rules.{is_falsified, names}
 use Rattle.constraint_forms.proofs.RuleLaws.{falsified_by_named}
 use Rattle.refutation_tree.specs.Tree.{rule}
-use Rattle.policy_book.specs.Laws.Shapes.{PolicyShape}
-use Rattle.policy_book.specs.Laws.Facts.{IsSoundPolicy}
-use Rattle.policy_book.specs.Policies.{flow_at, is_authorised, problem_of}
-use Rattle.policy_book.specs.Laws.Plans.{AreAssigned, IsCompletable}
 use Rattle.policy_book.specs.Laws.Refuting.{is_broken}
 use Rattle.certificate_check.proofs.Assigned.{given_other}
-use Rattle.certificate_check.proofs.Refuted.{refutes_soundly}
-use Rattle.case_record.specs.Cases.{CaseShape, assigned_of, finished_of, state_at}
 use Rattle.case_record.specs.Order.{first_missing, is_free, is_ready}
-use Rattle.grant_table.specs.declared.rows.Row.{Row}
-use Rattle.grant_table.specs.Cases.{plan_of, row_at}
+use Rattle.grant_table.specs.Cases.{row_at}
 use Rattle.wf_talk.specs.declared.request.Request.TheVariants as request
 use Rattle.wf_talk.specs.declared.request.Ask.TheVariants as ask
-use Rattle.wf_talk.specs.declared.reply.Reply.{Reply}
 use Rattle.wf_talk.specs.declared.reply.Reply.TheVariants as reply
-use Rattle.wf_talk.specs.declared.reply.Denial.{Denial}
 use Rattle.wf_talk.specs.declared.reply.Denial.TheVariants as denial
-use Rattle.admin_edits.specs.ClaimCauses.{assigned_with, first_cause, first_falsified, first_of, permitted_roles, unless}
-use Rattle.wf_board.specs.declared.deed.Deed.{Deed}
-use Rattle.wf_board.specs.declared.deed.Duty.{Duty}
+use Rattle.admin_edits.specs.ClaimCauses.{first_falsified, first_of, permitted_roles}
 use Rattle.wf_board.specs.declared.deed.Deed.TheVariants as deed
-use Rattle.wf_board.specs.Laws.States.{Book, State}
-use Rattle.wf_board.specs.Decisions.{cause_full, decision_of, unless_denied}
-use Rattle.wf_board.specs.Laws.Steps.{Answers}
 use Rattle.wf_board.specs.Laws.Grants.{AreNamed, MayBeGranted}
-use Rattle.wf_board.specs.Edition.{CanBeCompleted}
-use Rattle.wf_board.specs.Laws.Found.{AreFound}
-use Rattle.wf_board.specs.Laws.Kept.{ArePlanned}
 use Rattle.wf_board.specs.Laws.{GrantsAreExact}
 use Rattle.wf_board.proofs.Giving.{kept_valid, may_planned, valid_with}
 use Rattle.wf_board.proofs.Told.{place_within, unless_tells}
@@ -51,41 +32,28 @@ use Rattle.wf_board.proofs.Exact.{claimed_assigned, claims_are_exact, finished_a
 -- ---- what no cause tells
 
 all_none : (a b c d : Option Denial) → first_of (a ∷ b ∷ c ∷ d ∷ []) ≡ None → (a ≡ None) × ((b ≡ None) × ((c ≡ None) × (d ≡ None)))
-all_none (Some x) b c d h = cc
-all_none None (Some x) c d h = cc
-all_none None None (Some x) d h = cc
-all_none None None None (Some x) h = cc
-all_none None None None None h = (refl, (refl, (refl, refl)))
+all_none a b c d h = grind arith
 
 none_all : (a b c d : Option Denial) → a ≡ None → b ≡ None → c ≡ None → d ≡ None → first_of (a ∷ b ∷ c ∷ d ∷ []) ≡ None
 none_all a b c d h i j k = rw (h, i, j, k) refl
 
 free_of_users : (x : StepState) (make : ℕ → Denial) → option_map make (user_of x) ≡ None → is_free x ≡ true
-free_of_users Free make h = refl
-free_of_users (Held u) make h = cc
-free_of_users (Finished u) make h = cc
+free_of_users x make h = grind arith
 
 users_of_free : (x : StepState) (make : ℕ → Denial) → is_free x ≡ true → option_map make (user_of x) ≡ None
-users_of_free Free make h = refl
-users_of_free (Held u) make h = cc
-users_of_free (Finished u) make h = cc
+users_of_free x make h = grind arith
 
 free_is : (x : StepState) → is_free x ≡ true → x ≡ Free
-free_is Free h = refl
-free_is (Held u) h = cc
-free_is (Finished u) h = cc
+free_is x h = grind arith
 
 nothing_made : (o : Option ℕ) (make : ℕ → Denial) → option_map make o ≡ None → is_none o ≡ true
-nothing_made None make h = refl
-nothing_made (Some n) make h = cc
+nothing_made o make h = grind arith
 
 made_of_nothing : (o : Option ℕ) (make : ℕ → Denial) → is_none o ≡ true → option_map make o ≡ None
-made_of_nothing None make h = refl
-made_of_nothing (Some n) make h = cc
+made_of_nothing o make h = grind arith
 
 passed : (b : Bool) (d : Denial) → b ≡ true → unless b d ≡ None
-passed true d h = refl
-passed false d h = cc
+passed b d h = grind arith
 
 -- ---- a falsified rule
 
@@ -147,12 +115,7 @@ claim_of n c t u = deed.Claim record { number = n; case = c; step = t; user = u 
 -- what a claim is decided as, once its case, step and user are found
 decided_claim : (b : Book) (n : ℕ) (step user : List ℕ) (c : CaseShape) (t u : ℕ) → AreNamed b n step user c t u →
     decision_of b (ask.Request (request.Claim n step user)) ≡ unless_denied (claim_of n c t u) (first_cause b.policy c t u)
-decided_claim b n step user c t u named = rw (named.its_case, named.live, named.its_step, named.its_user) (unless_full (first_cause b.policy c t u))
-  where
-    unless_full : (o : Option Denial) →
-        (unless_denied (claim_of n c t u) o >>= (λ given. unless_denied given (cause_full b given))) ≡ unless_denied (claim_of n c t u) o
-    unless_full None = refl
-    unless_full (Some d) = refl
+decided_claim b n step user c t u named = grind arith
 
 -- no cause is against a claim that may be granted
 granted_none : (p : PolicyShape) (c : CaseShape) (t u : ℕ) → IsSoundPolicy p → c.flow < length p.flows → MayBeGranted p c t u → first_cause p c t u ≡ None
@@ -167,8 +130,7 @@ granted_none p c t u sound known may =
     (no_rule_falsified p c t u sound known (free_is (state_at c t) free) may.completable))
 
 none_later : (a b : Bool) → a || b ≡ false → b ≡ false
-none_later true b h = cc
-none_later false b h = h
+none_later a b h = grind arith
 
 -- a rule that does not name the step is falsified where it was before the step is given, and each that does is looked at
 still_none : (related : Relating) (c : CaseShape) (t u k : ℕ) (rules : List Rule) →
@@ -176,31 +138,10 @@ still_none : (related : Relating) (c : CaseShape) (t u k : ℕ) (rules : List Ru
     → first_falsified related (user_at (assigned_of c)) k rules ≡ None → first_falsified related (user_at (assigned_with c t u)) k rules ≡ None
 still_none related c t u k [] quiet before = refl
 still_none related c t u k (r ∷ rs) quiet before =
-    by_rule (names r t) (is_falsified related r (user_at (assigned_with c t u))) (is_falsified related r (user_at (assigned_of c))) refl refl refl
-    (still_none related c t u (k + 1) rs)
-  where
-    alike : names r t ≡ false → is_falsified related r (user_at (assigned_with c t u)) ≡ is_falsified related r (user_at (assigned_of c))
-    alike apart = falsified_by_named related r (user_at (assigned_with c t u)) (user_at (assigned_of c))
-        (λ x named. given_other (assigned_of c) t u x (λ same. false≢true (sym apart ∙ ap (names r) (sym same) ∙ named)))
-
-    by_rule : (n now was : Bool) → names r t ≡ n → is_falsified related r (user_at (assigned_with c t u)) ≡ now →
-        is_falsified related r (user_at (assigned_of c)) ≡ was
-        → (list_any (λ x. names x t && is_falsified related x (user_at (assigned_with c t u))) rs ≡ false →
-        first_falsified related (user_at (assigned_of c)) (k + 1) rs ≡ None
-        → first_falsified related (user_at (assigned_with c t u)) (k + 1) rs ≡ None)
-        → first_falsified related (user_at (assigned_with c t u)) k (r ∷ rs) ≡ None
-    by_rule n now true named is old rest = cc (ap (λ b. if b then Some k else first_falsified related (user_at (assigned_of c)) (k + 1) rs) (sym old) ∙ before)
-    by_rule true true false named is old rest =
-        cc (sym (ap (λ b. b || list_any (λ x. names x t && is_falsified related x (user_at (assigned_with c t u))) rs)
-        (ap (λ b. b && is_falsified related r (user_at (assigned_with c t u))) named ∙ is)) ∙ quiet)
-    by_rule false true false named is old rest = absurd (false≢true (sym old ∙ sym (alike named) ∙ is))
-    by_rule n false false named is old rest =
-        ap (λ b. if b then Some k else first_falsified related (user_at (assigned_with c t u)) (k + 1) rs) is
-        ∙ rest (none_later _ _ quiet) (ap (λ b. if b then Some k else first_falsified related (user_at (assigned_of c)) (k + 1) rs) (sym old) ∙ before)
+    grind (arith, falsified_by_named, given_other, false≢true, none_later, (still_none related c t u (k + 1) rs))
 
 nothing : (o : Option ℕ) → is_none o ≡ true → o ≡ None
-nothing None h = refl
-nothing (Some n) h = cc
+nothing o h = grind arith
 
 -- no cause is against the claim of a ready step, where the case can be completed and no rule that names the step is falsified
 pub clear_none : (p : PolicyShape) (c : CaseShape) (t u : ℕ) → IsSoundPolicy p → c.flow < length p.flows → CanBeCompleted p c
@@ -240,26 +181,10 @@ planned_none p rows d plan sound are found ready kept gives =
 -- where there is no cause, the user is authorised and the step ready
 none_granted : (s : State) (c : CaseShape) (t u : ℕ) → t < length c.states → first_cause s.book.policy c t u ≡ None →
     IsCompletable (problem_of s.book.policy c.flow) (assigned_with c t u) (finished_of c) → MayBeGranted s.book.policy c t u
-none_granted s c t u below none complete =
-    let p = s.book.policy in
-    let each = all_none
-    (option_map denial.Taken (user_of (state_at c t)))
-    (option_map (denial.Order c.flow) (first_missing c (flow_at p c.flow).flow.order t))
-    (unless (is_authorised p c.flow t u) (denial.Role (permitted_roles p c.flow t)))
-    (option_map denial.Rule (first_falsified (problem_of p c.flow).related (user_at (assigned_with c t u)) 0 (flow_at p c.flow).rules))
-    none in
-    let within : nat_lt t (length c.states) ≡ true = grind (arith, nat_tests) in
-    record {
-      authorised = unless_tells (is_authorised p c.flow t u) (denial.Role (permitted_roles p c.flow t)) each.1.1.0;
-      ready = and_from (nat_lt t (length c.states) && is_free (state_at c t)) (is_none (first_missing c (flow_at p c.flow).flow.order t))
-          (and_from (nat_lt t (length c.states)) (is_free (state_at c t)) within (free_of_users (state_at c t) denial.Taken each.0))
-          (nothing_made (first_missing c (flow_at p c.flow).flow.order t) (denial.Order c.flow) each.1.0);
-      completable = complete;
-    }
+none_granted s c t u below none complete = grind (arith, all_none, nat_tests, unless_tells, and_from, free_of_users, nothing_made)
 
 no_grant : (d : Denial) (given : Reply) (plan : List ℕ) → (given ≡ reply.Denied d) ⊎ (given ≡ reply.NoMemory) → given ≡ reply.Granted plan → ⊥
-no_grant d given plan (inl is) granted = cc
-no_grant d given plan (inr is) granted = cc
+no_grant d given plan h3 granted = grind arith
 
 pub grants_are_exact : GrantsAreExact
 grants_are_exact s n step user c t u given sound named is_step memory = by_cause (first_cause s.book.policy c t u) refl

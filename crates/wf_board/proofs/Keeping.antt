@@ -1,36 +1,16 @@
 -- What every step of a session keeps.
-use Rattle.std.proofs.Common.{◌≡◌, ℕ, zero, suc, ◌<◌, ◌⊎◌, inl, inr, Bool, true, false, nat_eq, List, [], ◌∷◌, ◌++◌, length, take, None, Some, Result, Ok, Err}
-use Rattle.std.proofs.Common.{if◌then◌else◌, refl, sym, ap, subst, ◌∙◌}
-use Rattle.std.specs.Option.{option_map}
-use Rattle.wf_names.specs.States.{is_held}
-use Rattle.wf_names.specs.declared.states.StepState.TheVariants.{Free, Held}
-use Rattle.wf_names.specs.declared.states.Phase.TheVariants.{Withdrawn}
+use Rattle.wf_board.proofs.Common.{◌≡◌, ℕ, zero, suc, ◌<◌, ◌⊎◌, inl, inr, true, List, [], ◌∷◌, ◌++◌, length, take, Some, Result, Ok, Err, sym, ap, subst, ◌∙◌}
+use Rattle.wf_board.proofs.Common.{arith, is_held, Free, Held, Withdrawn, PolicyShape, IsSoundPolicy, flow_at, problem_of, IsCompletable, IsValidPlan}
+use Rattle.wf_board.proofs.Common.{CaseShape, assigned_of, finished_case, finished_of, fresh_case, is_open, state_at, with_phase, with_state, Entry, Ask, Reply}
+use Rattle.wf_board.proofs.Common.{Denial, Deed, Duty, Amendment, amended, HoldsOf, changes_keep_policies_sound, CanAllBeCompleted, Numbered, State}
+use Rattle.wf_board.proofs.Common.{numbered_case, open_cases, opening_state, with_case_changed, decision_of, Answers, IsReplyTo, IsStep, state_after_decision}
+use Rattle.wf_board.proofs.Common.{state_after_deed, state_after_step, with_changed, with_edited, with_opened, EachAfter, IsRetry, IsRightAfter, IsOfPolicy}
+use Rattle.wf_board.proofs.Common.{IsSoundState, KeepsCompletable}
 use Rattle.constraint_forms.specs.Assign.{no_steps, no_users}
-use Rattle.policy_book.specs.Laws.Shapes.{PolicyShape}
-use Rattle.policy_book.specs.Laws.Facts.{IsSoundPolicy}
-use Rattle.policy_book.specs.Policies.{flow_at, problem_of}
-use Rattle.policy_book.specs.Laws.Plans.{IsCompletable, IsValidPlan}
-use Rattle.case_record.specs.Cases.{CaseShape, assigned_of, finished_case, finished_of, fresh_case, is_open, state_at, with_phase, with_state}
-use Rattle.grant_table.specs.Cases.{look_up}
-use Rattle.wf_talk.specs.declared.entry.Entry.{Entry}
-use Rattle.wf_talk.specs.declared.request.Ask.{Ask}
-use Rattle.wf_talk.specs.declared.reply.Reply.{Reply}
 use Rattle.wf_talk.specs.declared.reply.Reply.TheVariants as reply
-use Rattle.wf_talk.specs.declared.reply.Denial.{Denial}
-use Rattle.wf_board.specs.declared.deed.Deed.{Deed}
-use Rattle.wf_board.specs.declared.deed.Duty.{Duty}
 use Rattle.wf_board.specs.declared.deed.Deed.TheVariants as deed
-use Rattle.admin_edits.specs.declared.amendment.Amendment.{Amendment}
-use Rattle.admin_edits.specs.Laws.Edits.{amended}
-use Rattle.admin_edits.proofs.Keeping.{HoldsOf, changes_keep_policies_sound}
-use Rattle.wf_board.specs.Edition.{CanAllBeCompleted}
-use Rattle.wf_board.specs.Laws.States.{Numbered, State, numbered_case, open_cases, opening_state, with_case_changed}
-use Rattle.wf_board.specs.Decisions.{decision_of}
-use Rattle.wf_board.specs.Laws.Steps.{Answers, IsReplyTo, IsStep, state_after_decision, state_after_deed, state_after_step, with_changed, with_edited}
-use Rattle.wf_board.specs.Laws.Steps.{with_opened}
-use Rattle.wf_board.specs.Laws.Histories.{EachAfter, IsRetry, IsRightAfter, state_after}
+use Rattle.wf_board.specs.Laws.Histories.{state_after}
 use Rattle.wf_board.proofs.HistoryLaws.{after_more, again_stays}
-use Rattle.wf_board.specs.Laws.Kept.{IsOfPolicy, IsSoundState, KeepsCompletable}
 use Rattle.wf_board.specs.Laws.{HistoriesKeepCompletable, HistoriesStaySound, PlansStayValid, StepsKeepCompletable}
 use Rattle.wf_board.proofs.Told.{HasStep, IsTold, claim_free, held_by, told}
 use Rattle.wf_board.proofs.Valid.{valid_claimed, valid_finished, valid_freed, valid_fresh}
@@ -51,21 +31,7 @@ read_changed : (m n : ℕ) (change : CaseShape → CaseShape) (cases : List Numb
     numbered_case (with_case_changed n change cases) m ≡ Some d →
     IsChanged n change cases d ⊎ (numbered_case cases m ≡ Some d)
 read_changed m n change [] d h = inr h
-read_changed m n change (x ∷ xs) d h = at_first (nat_eq x.number n) (nat_eq x.number m) refl refl h (read_changed m n change xs d)
-  where
-    at_first : (b e : Bool) → nat_eq x.number n ≡ b → nat_eq x.number m ≡ e →
-        numbered_case (if b then record x { case = change x.case } ∷ xs else x ∷ with_case_changed n change xs) m ≡ Some d →
-        (numbered_case (with_case_changed n change xs) m ≡ Some d → IsChanged n change xs d ⊎ (numbered_case xs m ≡ Some d)) →
-        IsChanged n change (x ∷ xs) d ⊎ (numbered_case (x ∷ xs) m ≡ Some d)
-    at_first true true here there found rest = inl record { before = x.case; found = rw here refl; changed = sym (same_case _ _ (rw there at found)) }
-    at_first true false here there found rest = inr (rw there (rw there at found))
-    at_first false true here there found rest = inr (rw there (rw there at found))
-    at_first false false here there found rest = lifted here there (rest (rw there at found))
-      where
-        lifted : nat_eq x.number n ≡ false → nat_eq x.number m ≡ false → IsChanged n change xs d ⊎ (numbered_case xs m ≡ Some d) →
-            IsChanged n change (x ∷ xs) d ⊎ (numbered_case (x ∷ xs) m ≡ Some d)
-        lifted no_n no_m (inl is) = inl record { before = is.before; found = rw no_n is.found; changed = is.changed }
-        lifted no_n no_m (inr is) = inr (rw no_m is)
+read_changed m n change (x ∷ xs) d h = grind (arith, same_case, (read_changed m n change xs d))
 
 all_changed : (P : CaseShape → Type 0) (n : ℕ) (change : CaseShape → CaseShape) (cases : List Numbered) → AllCases P cases →
     ((c : CaseShape) → numbered_case cases n ≡ Some c → P c → P (change c)) → AllCases P (with_case_changed n change cases)
@@ -77,25 +43,11 @@ all_changed P n change cases all kept m d h = by_read (read_changed m n change c
 
 read_added : (m : ℕ) (cases : List Numbered) (new : Numbered) (d : CaseShape) → numbered_case (cases ++ new ∷ []) m ≡ Some d → (d ≡ new.case) ⊎
     (numbered_case cases m ≡ Some d)
-read_added m [] new d h = at_new (nat_eq new.number m) h
-  where
-    at_new : (b : Bool) → option_map (λ (e : Numbered). e.case) (if b then Some new else None) ≡ Some d → (d ≡ new.case) ⊎ (numbered_case [] m ≡ Some d)
-    at_new true found = inl (sym (same_case _ _ found))
-    at_new false found = inr found
-read_added m (x ∷ xs) new d h = at_first (nat_eq x.number m) h (read_added m xs new d)
-  where
-    at_first : (b : Bool) → option_map (λ (e : Numbered). e.case) (if b then Some x else look_up (λ (e : Numbered). e.number) m (xs ++ new ∷ [])) ≡ Some d →
-        (numbered_case (xs ++ new ∷ []) m ≡ Some d → (d ≡ new.case) ⊎ (numbered_case xs m ≡ Some d)) →
-        (d ≡ new.case) ⊎ (option_map (λ (e : Numbered). e.case) (if b then Some x else look_up (λ (e : Numbered). e.number) m xs) ≡ Some d)
-    at_first true found rest = inr found
-    at_first false found rest = rest found
+read_added m [] new d h = grind (arith, same_case)
+read_added m (x ∷ xs) new d h = grind (arith, (read_added m xs new d))
 
 all_added : (P : CaseShape → Type 0) (cases : List Numbered) (new : Numbered) → AllCases P cases → P new.case → AllCases P (cases ++ new ∷ [])
-all_added P cases new all last m d h = by_read (read_added m cases new d h)
-  where
-    by_read : (d ≡ new.case) ⊎ (numbered_case cases m ≡ Some d) → P d
-    by_read (inl is) = subst P (sym is) last
-    by_read (inr is) = all m d is
+all_added P cases new all last = grind (arith, read_added)
 
 -- ---- one step
 
@@ -183,10 +135,8 @@ edited_keeps s a keeps known all =
 deed_keeps : (s : State) (given : Deed) (answer : Reply) → Keeps s → IsTold s.book given → IsReplyTo s given answer → Keeps (state_after_deed s given answer)
 deed_keeps s (deed.Open f) (reply.Opened n plan) keeps known is = opened_keeps s f plan keeps known.0 is.1
 deed_keeps s (deed.Claim d) (reply.Granted plan) keeps known is = claimed_keeps s d plan keeps known is
-deed_keeps s (deed.Finish d) (reply.Finished done) keeps known is =
-    finished_keeps s d.number d.case d.step keeps known.0 (held_by d.user (state_at d.case d.step) known.1)
-deed_keeps s (deed.GiveBack d) reply.Returned keeps known is =
-    freed_keeps s d.number d.case d.step keeps known.0 (held_by d.user (state_at d.case d.step) known.1)
+deed_keeps s (deed.Finish d) (reply.Finished done) keeps known is = grind (arith, finished_keeps, held_by)
+deed_keeps s (deed.GiveBack d) reply.Returned keeps known is = grind (arith, freed_keeps, held_by)
 deed_keeps s (deed.Release n c t) reply.Released keeps known is = freed_keeps s n c t keeps known.0 known.1
 deed_keeps s (deed.Withdraw n) reply.Withdrawn keeps known is = withdrawn_keeps s n keeps
 deed_keeps s (deed.Change a) (reply.Edited number) keeps known is = edited_keeps s a keeps known is.1

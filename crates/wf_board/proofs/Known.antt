@@ -1,26 +1,15 @@
 -- A case stays one of the policy where it is opened and where its steps change.
-use Rattle.std.proofs.Common.{◌≡◌, ℕ, ◌<◌, true, List, length, Option, Some, sym, subst, ◌∙◌}
+use Rattle.wf_board.proofs.Common.{◌≡◌, ℕ, ◌<◌, true, List, length, Option, Some, sym, subst, ◌∙◌, arith, is_held, Free, Held, user_at, PolicyShape, flow_at}
+use Rattle.wf_board.proofs.Common.{problem_of, IsWithin, Problem, none_not_some, CaseShape, assigned_of, finished_case, fresh_case, state_at, with_phase}
+use Rattle.wf_board.proofs.Common.{with_state, assigned_of-finish, assigned_of-hold, assigned_of-release, IsOfPolicy}
 use Rattle.std.proofs.lemmas.List.{length-replicate, length-set}
-use Rattle.wf_names.specs.States.{is_held}
-use Rattle.wf_names.specs.declared.states.StepState.TheVariants.{Free, Held}
 use Rattle.wf_names.specs.declared.states.Phase.{Phase}
-use Rattle.constraint_forms.specs.Assign.{user_at}
-use Rattle.policy_book.specs.Laws.Shapes.{PolicyShape}
-use Rattle.policy_book.specs.Policies.{flow_at, problem_of}
-use Rattle.policy_book.specs.Laws.Plans.{IsWithin, Problem}
-use Rattle.certificate_check.proofs.Assigned.{none_not_some}
-use Rattle.case_record.specs.Cases.{CaseShape, as_finished, assigned_of, finished_case, fresh_case, state_at, with_phase, with_state}
-use Rattle.case_record.proofs.Laws.{assigned_of-finish, assigned_of-hold, assigned_of-release}
-use Rattle.wf_board.specs.Laws.Kept.{IsOfPolicy}
 use Rattle.wf_board.proofs.Valid.{fresh_user, less_given}
 use Rattle.wf_board.proofs.Within.{claimed_within}
 
 -- what is given less is within the same
 within_fewer : (q : Problem) (a b : List (Option ℕ)) → ((s u : ℕ) → user_at b s ≡ Some u → user_at a s ≡ Some u) → IsWithin q a → IsWithin q b
-within_fewer q a b fewer within = record {
-  steps = λ s u is. within.steps s u (fewer s u is);
-  users = λ s u is. within.users s u (fewer s u is);
-}
+within_fewer q a b fewer within = grind arith
 
 pub of_policy_fresh : (p : PolicyShape) (f : ℕ) → f < length p.flows → IsOfPolicy p (fresh_case f (length (flow_at p f).flow.steps))
 of_policy_fresh p f known =
@@ -43,11 +32,7 @@ of_policy_claimed p c t u below user known = record {
 }
 
 pub of_policy_finished : (p : PolicyShape) (c : CaseShape) (t : ℕ) → is_held (state_at c t) ≡ true → IsOfPolicy p c → IsOfPolicy p (finished_case c t)
-of_policy_finished p c t held known = record {
-  flow = known.flow;
-  steps = length-set c.states t (as_finished (state_at c t)) ∙ known.steps;
-  users = subst (IsWithin (problem_of p c.flow)) (sym (assigned_of-finish c t held)) known.users;
-}
+of_policy_finished p c t held known = grind (arith, length-set, assigned_of-finish)
 
 pub of_policy_freed : (p : PolicyShape) (c : CaseShape) (t : ℕ) → is_held (state_at c t) ≡ true → IsOfPolicy p c → IsOfPolicy p (with_state c t Free)
 of_policy_freed p c t held known = record {

@@ -1,3 +1,4 @@
+mod Common
 pub mod HistoryLaws
 pub mod Amended
 pub mod Snaps

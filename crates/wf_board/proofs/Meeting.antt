@@ -1,26 +1,23 @@
 -- A change of one pair matters to no plan that does not give steps to both users.
-use Rattle.std.proofs.Common.{◌≡◌, ◌==◌, ◌&&◌, ◌||◌, not, ℕ, zero, suc, ◌+◌, ◌<◌, Bool, true, false, List, [], ◌∷◌, length, Option, None, Some, Ok}
-use Rattle.std.proofs.Common.{inl, inr, refl, sym, ap, subst, ◌∙◌, arith}
+use Rattle.wf_board.proofs.Common.{◌≡◌, ◌==◌, ◌&&◌, not, ℕ, zero, suc, ◌+◌, ◌<◌, Bool, true, false, List, [], ◌∷◌, length, Option, None, Some, Ok, inl, inr}
+use Rattle.wf_board.proofs.Common.{refl, sym, ap, subst, ◌∙◌, arith, eqb_tells, and_from, differ, Pairs, RelationKind, is_related, pairs_of, with_kind, Rule}
+use Rattle.wf_board.proofs.Common.{Relating, IsRuleOf, is_satisfied, any_below-at, gives}
+use Rattle.std.proofs.Common.{◌||◌}
 use Rattle.std.specs.Prelude.{slice_get}
 use Rattle.std.specs.Option.{option_map}
 use Rattle.std.specs.FinSet as set
 use Rattle.std.specs.Ordering.{eq_by_cmp}
-use Rattle.std.proofs.lemmas.Bool.Decides.{eqb_tells}
 use Rattle.std.proofs.lemmas.Map.Views.{tells_apart}
-use Rattle.basics.proofs.Booleans.{and_from, differ, eq_same, or_left, or_right}
-use Rattle.basics.specs.Laws.Pairs.{Pairs, pair_cmp}
+use Rattle.basics.proofs.Booleans.{eq_same, or_left, or_right}
+use Rattle.basics.specs.Laws.Pairs.{pair_cmp}
 use Rattle.basics.specs.PairLaws.{pair_cmp_total, pair_cmp-IsAntisymmetric}
-use Rattle.user_relations.specs.Laws.Relations.{RelationKind, RelationShape, change_kind, complement, is_related, kind_holds, kind_of, listed, listed_pairs}
-use Rattle.user_relations.specs.Laws.Relations.{pairs_of, with_kind}
+use Rattle.user_relations.specs.Laws.Relations.{RelationShape, change_kind, complement, kind_holds, kind_of, listed}
 use Rattle.user_relations.specs.Kinds.{put_fault, take_fault}
-use Rattle.constraint_forms.specs.declared.rule.Rule.{Rule}
 use Rattle.constraint_forms.specs.declared.rule.Rule.TheVariants.{Pair, SomeOf, AllOf, SomeTo, AllTo, AtMost, AtLeast}
 use Rattle.constraint_forms.specs.Assign.{is_member, planned}
-use Rattle.constraint_forms.specs.Rules.{Relating, IsRuleOf, all_from, any_from, is_satisfied}
-use Rattle.policy_book.proofs.Counting.{any_below-at}
+use Rattle.constraint_forms.specs.Rules.{all_from, any_from}
 use Rattle.admin_edits.specs.Laws.Edits.{pair_fault, unless_fault}
 use Rattle.admin_edits.proofs.Unhurt.{kind_other}
-use Rattle.wf_board.specs.Breaking.{gives}
 
 -- ---- rules
 
@@ -83,23 +80,13 @@ kind_there (r ∷ rs) (suc n) kind old is = kind_there rs n kind old is
 
 -- a relation that is listed has the new kind
 kind_here : (rs : List RelationShape) (rho : ℕ) (kind old : RelationKind) → kind_of rs rho ≡ Some old → kind_of (with_kind rs rho kind) rho ≡ Some kind
-kind_here rs zero kind old is = cc
-kind_here rs (suc zero) kind old is = cc
-kind_here rs (suc (suc n)) kind old is = kind_there rs n kind old is
+kind_here rs rho kind old is = grind (arith, kind_there)
 
 -- where two users are in the new pairs as they were in the old ones, they are so in those of every relation
 in_pairs : (rs : List RelationShape) (rho : ℕ) (old new : Pairs) (n x y : ℕ) → kind_of rs rho ≡ Some (listed old) →
     set.contains new (x, y) ≡ set.contains old (x, y) →
     set.contains (pairs_of (with_kind rs rho (listed new)) n) (x, y) ≡ set.contains (pairs_of rs n) (x, y)
-in_pairs rs rho old new n x y is same = elim (eqb_tells n rho) [
-  | inl here ↦
-      ap (λ (m : ℕ). set.contains (pairs_of (with_kind rs rho (listed new)) m) (x, y)) here.1
-      ∙ ap (λ k. set.contains (listed_pairs k) (x, y)) (kind_here rs rho (listed new) (listed old) is)
-      ∙ same
-      ∙ sym (ap (λ k. set.contains (listed_pairs k) (x, y)) is)
-      ∙ sym (ap (λ (m : ℕ). set.contains (pairs_of rs m) (x, y)) here.1)
-  | inr other ↦ ap (λ k. set.contains (listed_pairs k) (x, y)) (kind_other rs rho n (listed new) other.1)
-]
+in_pairs rs rho old new n x y is same = grind (arith, eqb_tells, kind_here, kind_other)
 
 -- and related as before
 related_still : (rs : List RelationShape) (rho : ℕ) (old new : Pairs) (own x y : ℕ) → kind_of rs rho ≡ Some (listed old) →
@@ -162,9 +149,7 @@ given_at plan u s below is = any_below-at (length plan) s (λ t. planned plan t 
 -- two users of a plan are no pair of which the plan gives a step to one alone
 pub apart_from : (plan : List ℕ) (u v s t : ℕ) → (gives plan u && gives plan v) ≡ false → s < length plan → t < length plan →
     ◌≡◌ {A = ℕ × ℕ} (planned plan s, planned plan t) (u, v) → ⊥
-apart_from plan u v s t none first second is =
-    differ (gives plan u && gives plan v)
-    (and_from _ _ (given_at plan u s first (ap (λ (x : ℕ × ℕ). x.0) is)) (given_at plan v t second (ap (λ (x : ℕ × ℕ). x.1) is))) none
+apart_from plan u v s t none first second is = grind (arith, differ, and_from, given_at)
 
 -- a rule is satisfied as it was where a pair changes and the plan does not give steps to both users
 pub satisfied_apart : (rs : List RelationShape) (rho : ℕ) (old new : Pairs) (rule : Rule) (plan : List ℕ) (u v : ℕ) → kind_of rs rho ≡ Some (listed old) →

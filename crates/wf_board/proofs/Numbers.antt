@@ -1,22 +1,11 @@
 -- The cases of a state are numbered in order.
-use Rattle.std.proofs.Common.{◌≡◌, ℕ, ◌+◌, ◌<◌, Bool, true, false, nat_eq, List, [], ◌∷◌, ◌++◌, length, None, Result, Ok, Err, if◌then◌else◌, refl, sym}
-use Rattle.std.proofs.Common.{◌∙◌, arith}
-use Rattle.std.proofs.lemmas.Bool.Decides.{nat_tests}
+use Rattle.wf_board.proofs.Common.{◌≡◌, ℕ, ◌+◌, ◌<◌, List, [], ◌∷◌, ◌++◌, length, None, Result, Ok, Err, refl, arith, nat_tests, CaseShape, Entry, Ask, Reply}
+use Rattle.wf_board.proofs.Common.{Denial, Deed, Numbered, State, numbered_case, opening_state, with_case_changed, decision_of, state_after_decision}
+use Rattle.wf_board.proofs.Common.{state_after_deed, state_after_step, with_changed, with_opened, AreCasesNumbered, AreNumberedFrom}
 use Rattle.std.proofs.lemmas.List.{length-append}
-use Rattle.policy_book.specs.Policies.{flow_at}
-use Rattle.case_record.specs.Cases.{CaseShape, fresh_case}
-use Rattle.wf_talk.specs.declared.entry.Entry.{Entry}
-use Rattle.wf_talk.specs.declared.request.Ask.{Ask}
-use Rattle.wf_talk.specs.declared.reply.Reply.{Reply}
 use Rattle.wf_talk.specs.declared.reply.Reply.TheVariants as reply
-use Rattle.wf_talk.specs.declared.reply.Denial.{Denial}
-use Rattle.wf_board.specs.declared.deed.Deed.{Deed}
 use Rattle.wf_board.specs.declared.deed.Deed.TheVariants as deed
-use Rattle.wf_board.specs.Laws.States.{Numbered, State, numbered_case, opening_state, with_case_changed}
-use Rattle.wf_board.specs.Decisions.{decision_of}
-use Rattle.wf_board.specs.Laws.Steps.{state_after_decision, state_after_deed, state_after_step, with_changed, with_opened}
 use Rattle.wf_board.specs.Laws.Histories.{state_after}
-use Rattle.wf_board.specs.Laws.Kept.{AreCasesNumbered, AreNumberedFrom}
 use Rattle.wf_board.specs.Laws.{HistoriesNumberCases}
 
 -- one more case gets the next number
@@ -28,36 +17,17 @@ numbered_more k (x ∷ xs) e all is = (all.0, numbered_more (k + 1) xs e all.1 (
 numbered_changed : (n : ℕ) (change : CaseShape → CaseShape) (k : ℕ) (cases : List Numbered) → AreNumberedFrom k cases →
     AreNumberedFrom k (with_case_changed n change cases)
 numbered_changed n change k [] all = tt
-numbered_changed n change k (x ∷ xs) all = at_first (nat_eq x.number n) (numbered_changed n change (k + 1) xs all.1)
-  where
-    at_first : (b : Bool) → AreNumberedFrom (k + 1) (with_case_changed n change xs) →
-        AreNumberedFrom k (if b then record x { case = change x.case } ∷ xs else x ∷ with_case_changed n change xs)
-    at_first true rest = all
-    at_first false rest = (all.0, rest)
+numbered_changed n change k (x ∷ xs) all = grind (arith, (numbered_changed n change (k + 1) xs all.1))
 
 length_changed : (n : ℕ) (change : CaseShape → CaseShape) (cases : List Numbered) → length (with_case_changed n change cases) ≡ length cases
 length_changed n change [] = refl
-length_changed n change (x ∷ xs) = at_first (nat_eq x.number n) (length_changed n change xs)
-  where
-    at_first : (b : Bool) → length (with_case_changed n change xs) ≡ length xs →
-        length (if b then record x { case = change x.case } ∷ xs else x ∷ with_case_changed n change xs) ≡ length (x ∷ xs)
-    at_first true rest = refl
-    at_first false rest = omega (arith, rest)
+length_changed n change (x ∷ xs) = grind (arith, (length_changed n change xs))
 
 changed_numbered : (s : State) (n : ℕ) (change : CaseShape → CaseShape) → AreCasesNumbered s → AreCasesNumbered (with_changed s n change)
-changed_numbered s n change is = record {
-  order = numbered_changed n change 0 s.book.cases is.order;
-  next = is.next ∙ sym (length_changed n change s.book.cases);
-}
+changed_numbered s n change is = grind (arith, numbered_changed, length_changed)
 
 opened_numbered : (s : State) (f : ℕ) → AreCasesNumbered s → AreCasesNumbered (with_opened s f)
-opened_numbered s f is =
-    let new : Numbered = record { number = s.book.ever; case = fresh_case f (length (flow_at s.book.policy f).flow.steps) } in
-    let longer = length-append s.book.cases (new ∷ []) in
-    record {
-      order = numbered_more 0 s.book.cases new is.order (omega (arith, is.next));
-      next = omega (arith, longer, is.next);
-    }
+opened_numbered s f is = grind (arith, length-append, numbered_more)
 
 deed_numbered : (s : State) (given : Deed) (answer : Reply) → AreCasesNumbered s → AreCasesNumbered (state_after_deed s given answer)
 deed_numbered s (deed.Open f) (reply.Opened n plan) is = opened_numbered s f is
@@ -89,6 +59,4 @@ histories_number_cases p entries = history_numbered (opening_state p) entries (r
 -- no case has a number below the first
 pub none_below : (k m : ℕ) (cases : List Numbered) → AreNumberedFrom k cases → m < k → numbered_case cases m ≡ None
 none_below k m [] all below = refl
-none_below k m (x ∷ xs) all below =
-    let apart : nat_eq x.number m ≡ false = grind (arith, nat_tests, all.0) in
-    rw apart (none_below (k + 1) m xs all.1 (omega (arith, below)))
+none_below k m (x ∷ xs) all below = grind (arith, nat_tests, (none_below (k + 1) m xs all.1 (omega (arith, below))))

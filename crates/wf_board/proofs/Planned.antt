@@ -1,30 +1,16 @@
 -- What a board keeps of its table, row by row.
-use Rattle.std.proofs.Common.{◌≡◌, ◌≢◌, eqb, ℕ, ◌+◌, ◌<◌, ◌⊎◌, inl, inr, Bool, true, false, List, [], ◌∷◌, ◌++◌, length, Option, None, Some, is_some, IsSomeAnd}
-use Rattle.std.proofs.Common.{refl, sym, ap, subst, ◌∙◌, arith}
+use Rattle.wf_board.proofs.Common.{◌≡◌, ◌≢◌, ℕ, ◌+◌, ◌<◌, ◌⊎◌, inl, inr, Bool, true, false, List, [], ◌∷◌, ◌++◌, length, Option, None, Some, is_some, refl, sym}
+use Rattle.wf_board.proofs.Common.{ap, subst, ◌∙◌, arith, eqb_tells, is_done, is_held, Free, Held, Withdrawn, PolicyShape, flow_at, problem_of, IsCompletable}
+use Rattle.wf_board.proofs.Common.{IsValidPlan, CaseShape, assigned_of, finished_case, finished_of, fresh_case, is_open, state_at, with_phase, with_state, Row}
+use Rattle.wf_board.proofs.Common.{CasesShape, case_in, change_row, open_rows, with_case, assigned_with, Duty, state_on, AreFound, ArePlanned, IsOfPolicy}
+use Rattle.wf_board.proofs.Common.{IsPlanned, with_changed, with_opened, board_of, HasChanged, IsKept, Ask}
+use Rattle.std.proofs.Common.{eqb, IsSomeAnd}
 use Rattle.std.specs.Option.{option_map}
-use Rattle.std.proofs.lemmas.Bool.Decides.{eqb_tells}
-use Rattle.wf_names.specs.States.{is_done, is_held}
-use Rattle.wf_names.specs.declared.states.StepState.TheVariants.{Free, Held}
-use Rattle.wf_names.specs.declared.states.Phase.TheVariants.{Withdrawn}
 use Rattle.constraint_forms.specs.Assign.{no_steps, no_users}
-use Rattle.policy_book.specs.Laws.Shapes.{PolicyShape}
-use Rattle.policy_book.specs.Policies.{flow_at, problem_of}
-use Rattle.policy_book.specs.Laws.Plans.{IsCompletable, IsValidPlan}
-use Rattle.case_record.specs.Cases.{CaseShape, assigned_of, finished_case, finished_of, fresh_case, is_open, state_at, with_phase, with_state}
-use Rattle.grant_table.specs.declared.rows.Row.{Row}
-use Rattle.grant_table.specs.Cases.{CasesShape, case_in, only, change_row, finished_row, freed_row, held_row, open_rows, plan_while, row_at, with_case}
+use Rattle.grant_table.specs.Cases.{only, finished_row, freed_row, held_row, plan_while}
 use Rattle.grant_table.specs.Cases.{with_row, withdrawn_row}
-use Rattle.admin_edits.specs.ClaimCauses.{assigned_with}
-use Rattle.wf_board.specs.declared.deed.Duty.{Duty}
-use Rattle.wf_board.specs.Boards.{state_on}
-use Rattle.wf_board.specs.Laws.Found.{AreFound, IsOpenAt}
-use Rattle.wf_board.specs.Laws.Kept.{ArePlanned, IsOfPolicy, IsPlanned}
-use Rattle.wf_board.specs.Laws.Steps.{with_changed, with_opened}
-use Rattle.wf_board.specs.Taking.{board_of, HasChanged, IsKept}
+use Rattle.wf_board.specs.Laws.Found.{IsOpenAt}
 use Rattle.wf_board.specs.Verdicts.{snap_rows}
-use Rattle.wf_talk.specs.declared.request.Request.TheVariants as request
-use Rattle.wf_talk.specs.declared.request.Ask.{Ask}
-use Rattle.wf_talk.specs.declared.request.Ask.TheVariants as ask
 use Rattle.wf_board.proofs.Rows.{changed_case, each_added, each_at, each_changed, each_only, each_open, numbered_added, numbered_changed, row_of_case}
 use Rattle.wf_board.proofs.Rows.{there_added, there_changed, there_last}
 use Rattle.wf_board.proofs.Valid.{valid_claimed, valid_finished, valid_freed, valid_fresh}
@@ -38,9 +24,7 @@ none_planned p = record { cases = tt; plans = tt }
 
 -- a case is of a workflow of the policy
 pub known_case : (p : PolicyShape) (rows : List Row) (n : ℕ) (c : CaseShape) → ArePlanned p rows → case_in n rows ≡ Some c → IsOfPolicy p c
-known_case p rows n c planned here =
-    let found = row_of_case n rows c here in
-    subst (IsOfPolicy p) found.1.1 (each_at (λ r. IsOfPolicy p r.case) n rows found.0 planned.cases found.1.0)
+known_case p rows n c planned here = grind (arith, row_of_case, each_at)
 
 same_row : (a b : Row) → Some a ≡ Some b → a ≡ b
 same_row a b h = cc
@@ -54,28 +38,13 @@ changed_keeps : (p : PolicyShape) (t : CasesShape) (n : ℕ) (c : CaseShape) (f 
     ((r : Row) → (f r).number ≡ r.number) →
     ((r : Row) → r.case ≡ c → IsOfPolicy p c → IsPlanned p c r.plan → IsKeptRow p (f r).case (f r).plan) →
     IsKept p (with_row t n f)
-changed_keeps p t n c f kept here same change = record {
-  planned = record {
-    cases = each_changed (λ r. IsOfPolicy p r.case) n f t.rows kept.planned.cases (λ r there known. (both r there).0);
-    plans = each_changed (λ r. IsPlanned p r.case r.plan) n f t.rows kept.planned.plans (λ r there known. (both r there).1);
-  };
-  numbered = λ m below. there_changed m n f t.rows same (kept.numbered m below);
-}
-  where
-    both : (r : Row) → row_at n t.rows ≡ Some r → IsKeptRow p (f r).case (f r).plan
-    both r there =
-        let found = row_of_case n t.rows c here in
-        let is : found.0 ≡ r = same_row found.0 r (sym found.1.0 ∙ there) in
-        let its_case : r.case ≡ c = ap (λ (x : Row). x.case) (sym is) ∙ found.1.1 in
-        change r its_case (known_case p t.rows n c kept.planned here)
-        (subst (λ d. IsPlanned p d r.plan) its_case (each_at (λ x. IsPlanned p x.case x.plan) n t.rows r kept.planned.plans there))
+changed_keeps p t n c f kept here same change = grind (arith, each_changed, there_changed, row_of_case, same_row, known_case, each_at)
 
 -- and so does the case of the state
 changed_state : (p : PolicyShape) (t : CasesShape) (n : ℕ) (f : Row → Row) (g : CaseShape → CaseShape) → ((r : Row) → (f r).number ≡ r.number) →
     ((r : Row) → (f r).case ≡ g r.case) →
     (edits : ℕ) → state_on (board_of p (with_row t n f) edits) ≡ with_changed (state_on (board_of p t edits)) n g
-changed_state p t n f g same changes edits =
-    λ i. record { book = record { policy = p; cases = numbered_changed n f g t.rows same changes i; ever = t.ever }; edits = edits }
+changed_state p t n f g same changes edits = grind (arith, numbered_changed)
 
 pub held_keeps : (p : PolicyShape) (t : CasesShape) (d : Duty) (plan : List ℕ) → IsKept p t → AreFound p t.rows d → state_at d.case d.step ≡ Free →
     IsValidPlan (problem_of p d.case.flow) (assigned_with d.case d.step d.user) (finished_of d.case) plan →
@@ -172,42 +141,26 @@ opened_keeps p t f plan kept known valid =
 
 pub opened_state : (p : PolicyShape) (t : CasesShape) (f : ℕ) (plan : List ℕ) (edits : ℕ) →
     state_on (board_of p (with_case t f (length (flow_at p f).flow.steps) plan) edits) ≡ with_opened (state_on (board_of p t edits)) f
-opened_state p t f plan edits =
-    let new : Row = record { number = t.ever; case = fresh_case f (length (flow_at p f).flow.steps); plan = Some plan } in
-    λ i. record { book = record { policy = p; cases = numbered_added t.rows new i; ever = t.ever + 1 }; edits = edits }
+opened_state p t f plan edits = grind (arith, numbered_added)
 
 -- ---- completing
 
 pub planned_open : (p : PolicyShape) (c : CaseShape) (o : Option (List ℕ)) → is_open c ≡ true → IsPlanned p c o →
     IsCompletable (problem_of p c.flow) (assigned_of c) (finished_of c)
-planned_open p c None live planned = live_apart c live planned
-planned_open p c (Some plan) live planned = (plan, planned)
+planned_open p c o live planned = grind (arith, live_apart)
 
 -- an open case can be completed by its plan
 pub plan_kept : (p : PolicyShape) (rows : List Row) (n : ℕ) (c : CaseShape) → ArePlanned p rows → case_in n rows ≡ Some c → is_open c ≡ true →
     IsCompletable (problem_of p c.flow) (assigned_of c) (finished_of c)
-plan_kept p rows n c planned here live =
-    let found = row_of_case n rows c here in
-    planned_open p c found.0.plan live
-    (subst (λ d. IsPlanned p d found.0.plan) found.1.1 (each_at (λ r. IsPlanned p r.case r.plan) n rows found.0 planned.plans found.1.0))
+plan_kept p rows n c planned here live = grind (arith, row_of_case, planned_open, each_at)
 
 -- ---- a snapshot
 
 pub planned_only : (p : PolicyShape) (rows : List Row) (n : ℕ) → ArePlanned p rows → ArePlanned p (only n rows)
-planned_only p rows n planned = record {
-  cases = each_only (λ r. IsOfPolicy p r.case) n rows planned.cases;
-  plans = each_only (λ r. IsPlanned p r.case r.plan) n rows planned.plans;
-}
+planned_only p rows n planned = grind (arith, each_only)
 
 pub planned_live : (p : PolicyShape) (rows : List Row) → ArePlanned p rows → ArePlanned p (open_rows rows)
-planned_live p rows planned = record {
-  cases = each_open (λ r. IsOfPolicy p r.case) rows planned.cases;
-  plans = each_open (λ r. IsPlanned p r.case r.plan) rows planned.plans;
-}
+planned_live p rows planned = grind (arith, each_open)
 
 pub planned_snap : (p : PolicyShape) (rows : List Row) (what : Ask) → ArePlanned p rows → ArePlanned p (snap_rows rows what)
-planned_snap p rows (ask.Request (request.Claim n step user)) planned = planned_only p rows n planned
-planned_snap p rows (ask.Request (request.Change by edit)) planned = planned_live p rows planned
-planned_snap p rows (ask.Request (request.Worklist user)) planned = planned_live p rows planned
-planned_snap p rows (ask.Request (request.WhatIf by edit)) planned = planned_live p rows planned
-planned_snap p rows what planned = none_planned p
+planned_snap p rows what planned = grind (arith, planned_only, planned_live, none_planned)

@@ -1,43 +1,30 @@
 -- A valid plan that a change does not make invalid stays valid.
-use Rattle.std.proofs.Common.{◌≡◌, ◌≢◌, ◌==◌, ◌&&◌, ◌||◌, not, ℕ, zero, suc, ◌+◌, ◌<◌, Bool, true, false, List, [], ◌∷◌, length, take, drop, get_or, Option}
-use Rattle.std.proofs.Common.{Some, inl, inr, refl, sym, ap, subst, ◌∙◌, arith, length-append}
+use Rattle.wf_board.proofs.Common.{◌≡◌, ◌≢◌, ◌==◌, ◌&&◌, not, ℕ, zero, suc, ◌+◌, ◌<◌, Bool, true, false, List, [], ◌∷◌, length, take, Option, Some, inl, inr}
+use Rattle.wf_board.proofs.Common.{refl, sym, ap, subst, ◌∙◌, arith, eqb_tells, and_from, bool_cases, differ, eq_is, or_false, RelationKind, is_related}
+use Rattle.wf_board.proofs.Common.{pairs_of, with_kind, Rule, is_satisfied, IsRuleOf, PolicyShape, flow_at, is_authorised, problem_of, IsSoundPolicy}
+use Rattle.wf_board.proofs.Common.{IsValidPlan, any_below-at, Pairs, CaseShape, assigned_of, finished_of, finished_of-at, Row, open_count, Amendment, amended}
+use Rattle.wf_board.proofs.Common.{IsKnownChange, changes_keep_names, unhurt_plans_stay_valid, gives, IsPlanOf, IsAllowed, ArePlanned, EachRow, IsOfPolicy}
+use Rattle.wf_board.proofs.Common.{IsPlanned}
+use Rattle.std.proofs.Common.{drop, get_or}
+use Rattle.std.proofs.Common.{length-append}
 use Rattle.std.specs.Prelude.{slice_get}
 use Rattle.std.specs.FinSet as set
-use Rattle.std.proofs.lemmas.Bool.Decides.{eqb_tells}
 use Rattle.std.proofs.lemmas.Option.{slice_get_within}
 use Rattle.basics.proofs.Lists.{take_next}
-use Rattle.basics.proofs.Booleans.{and_from, bool_cases, differ, eq_is, not_true, or_false, second_false}
-use Rattle.wf_names.specs.States.{is_finished}
+use Rattle.basics.proofs.Booleans.{not_true, second_false}
 use Rattle.rbac_state.specs.Laws.Rosters.{has_role}
-use Rattle.user_relations.specs.Laws.Relations.{RelationKind, complement_of, is_related, kind_of, listed, listed_pairs, pairs_of, with_kind}
-use Rattle.constraint_forms.specs.declared.rule.Rule.{Rule}
+use Rattle.user_relations.specs.Laws.Relations.{kind_of, listed, listed_pairs}
 use Rattle.constraint_forms.specs.Assign.{is_member, planned}
-use Rattle.constraint_forms.specs.Rules.{is_satisfied, reads, IsRuleOf}
 use Rattle.constraint_forms.proofs.Reading.{none_read}
-use Rattle.policy_book.specs.Laws.Shapes.{PolicyShape, WorkflowShape}
-use Rattle.policy_book.specs.Policies.{any_below, flow_at, is_authorised, problem_of, with_flow, with_roster}
-use Rattle.policy_book.specs.Laws.Facts.{IsSoundPolicy}
-use Rattle.policy_book.specs.Laws.Plans.{IsValidPlan}
-use Rattle.policy_book.proofs.Counting.{any_below-at}
-use Rattle.basics.specs.Laws.Pairs.{Pairs}
-use Rattle.case_record.specs.Cases.{CaseShape, assigned_of, finished_of, state_at}
-use Rattle.case_record.proofs.Laws.{finished_of-at}
-use Rattle.grant_table.specs.declared.rows.Row.{Row}
-use Rattle.grant_table.specs.Cases.{open_count}
+use Rattle.policy_book.specs.Laws.Shapes.{WorkflowShape}
+use Rattle.policy_book.specs.Policies.{any_below, with_flow, with_roster}
 use Rattle.grant_table.specs.Kept.{ArePlannedWhileOpen, IsOpenPart}
 use Rattle.grant_table.proofs.Passed.{closed_first, closed_rest}
-use Rattle.admin_edits.specs.declared.amendment.Amendment.{Amendment}
 use Rattle.admin_edits.specs.declared.amendment.Amendment.TheVariants as amend
-use Rattle.admin_edits.specs.Laws.Edits.{amended, without_roles}
-use Rattle.admin_edits.specs.Amendment.{IsKnownChange}
-use Rattle.admin_edits.specs.Hurting.{is_number, is_over}
-use Rattle.admin_edits.proofs.Keeping.{changes_keep_names}
+use Rattle.admin_edits.specs.Laws.Edits.{without_roles}
+use Rattle.admin_edits.specs.Hurting.{is_over}
 use Rattle.admin_edits.proofs.Unhurt.{flow_there, more_below, not_taken, others_keep, problem_with, related_other, satisfied_same, stays}
-use Rattle.admin_edits.proofs.Unhurt.{unhurt_plans_stay_valid}
-use Rattle.wf_board.specs.Breaking.{breaks, breaks_rule, gives, is_barred, is_broken_over, loses_step, HasPlanFor, NamesStep}
-use Rattle.wf_board.specs.Edition.{IsPlanOf}
-use Rattle.wf_board.specs.Laws.Found.{IsAllowed}
-use Rattle.wf_board.specs.Laws.Kept.{ArePlanned, EachRow, IsOfPolicy, IsPlanned}
+use Rattle.wf_board.specs.Breaking.{breaks, breaks_rule, is_barred, is_broken_over, loses_step, HasPlanFor, NamesStep}
 use Rattle.wf_board.proofs.Amended.{closed_planned}
 use Rattle.wf_board.proofs.Exact.{well_formed_any}
 use Rattle.wf_board.proofs.Meeting.{listed_put, listed_taken, put_other, satisfied_apart, taken_other}
@@ -49,22 +36,15 @@ none_below n test none k below = not_true (test k) (λ is. differ (any_below n t
 
 -- one of two tests that both pass may be exchanged for one that passes with it
 first_still : (a b d : Bool) → (a ≡ true → b ≡ true) → (a && d) ≡ true → (b && d) ≡ true
-first_still true b d still both = and_from b d (still refl) both
-first_still false b d still both = absurd (cc)
+first_still a b d still both = grind (arith, and_from)
 
 second_still : (a b d : Bool) → (b ≡ true → d ≡ true) → (a && b) ≡ true → (a && d) ≡ true
-second_still true b d still both = still both
-second_still false b d still both = absurd (cc)
+second_still a b d still both = grind arith
 
 -- a step that is not barred and not finished is one that its user may perform
 may_still : (q : PolicyShape) (c : CaseShape) (plan : List ℕ) (s : ℕ) → is_barred q c plan s ≡ false → is_member (finished_of c) s ≡ false →
     is_authorised q c.flow s (planned plan s) ≡ true
-may_still q c plan s free open_ =
-    let unfinished : not (is_finished (state_at c s)) ≡ true = ap not (sym (finished_of-at c s) ∙ open_) in
-    elim (bool_cases (is_authorised q c.flow s (planned plan s))) [
-      | inl may ↦ may
-      | inr may_not ↦ absurd (differ (is_barred q c plan s) (and_from _ _ unfinished (ap not may_not)) free)
-    ]
+may_still q c plan s free open_ = grind (arith, finished_of-at, bool_cases, differ, and_from)
 
 -- a user of a step that is not finished may still perform it
 still_hers : (q : PolicyShape) (c : CaseShape) (plan : List ℕ) (u s : ℕ) → loses_step q c plan u ≡ false → s < length plan →
@@ -96,19 +76,11 @@ members_unbroken p members c plan u keep none valid =
 
 satisfied_there : (q : PolicyShape) (rule : Rule) (plan : List ℕ) → not (is_satisfied (is_related q.relations) rule (planned plan)) ≡ false →
     is_satisfied (is_related q.relations) rule (planned plan) ≡ true
-satisfied_there q rule plan h = elim (bool_cases (is_satisfied (is_related q.relations) rule (planned plan))) [
-  | inl is ↦ is
-  | inr broken ↦ absurd (differ (not (is_satisfied (is_related q.relations) rule (planned plan))) (ap not broken) h)
-]
+satisfied_there q rule plan h = grind (arith, bool_cases, differ)
 
 satisfied_over : (p : PolicyShape) (rho : ℕ) (kind : RelationKind) (rule : Rule) (plan : List ℕ) → is_over p.relations rho rule ≡ false →
     is_satisfied (is_related (with_kind p.relations rho kind)) rule (planned plan) ≡ is_satisfied (is_related p.relations) rule (planned plan)
-satisfied_over p rho kind rule plan apart =
-    let over : (own : ℕ) → reads rule own ≡ true → ((own == rho) ≡ false) × (is_number rho (complement_of p.relations own) ≡ false) =
-    λ own read. or_false (own == rho) (is_number rho (complement_of p.relations own))
-    (none_read rule (λ x. (x == rho) || is_number rho (complement_of p.relations x)) apart own read) in
-    satisfied_same (is_related p.relations) (is_related (with_kind p.relations rho kind)) rule (planned plan)
-    (λ own u v read. related_other p.relations rho own kind u v (λ e. differ (own == rho) (eq_is own rho e) (over own read).0) (over own read).1)
+satisfied_over p rho kind rule plan apart = grind (arith, or_false, none_read, satisfied_same, related_other, differ, eq_is)
 
 -- where pairs of a relation change, and each rule over it or its complement is satisfied
 rules_unbroken : (p : PolicyShape) (rho : ℕ) (kind : RelationKind) (c : CaseShape) (plan : List ℕ) →
@@ -213,22 +185,11 @@ unbroken p (amend.Retire g) c plan sound is none valid =
 -- a valid plan has its steps and its users after a change too
 pub has_plan : (p : PolicyShape) (a : Amendment) (c : CaseShape) (plan : List ℕ) → IsKnownChange p a → IsOfPolicy p c → IsPlanOf p c plan →
     HasPlanFor (amended p a) c.flow plan
-has_plan p a c plan found known valid =
-    let names = changes_keep_names p a found in
-    let longer : length (amended p a).roster.users ≡ length p.roster.users + length names.more = ap length names.users ∙ length-append p.roster.users
-    names.more in
-    record {
-      flow = subst (λ n. c.flow < n) (sym names.flows) known.flow;
-      whole = valid.whole ∙ ap length (sym (names.steps c.flow));
-      users = λ s h. let user : planned plan s < length p.roster.users = valid.known s (omega (arith, h, valid.whole)) in omega (arith, user, longer);
-    }
+has_plan p a c plan found known valid = grind (arith, changes_keep_names, length-append)
 
 -- and the step that is forbidden
 pub names_step : (p : PolicyShape) (a : Amendment) (c : CaseShape) (plan : List ℕ) → IsKnownChange p a → IsPlanOf p c plan → NamesStep a c.flow plan
-names_step p (amend.Forbid g r s) c plan found valid = λ same.
-    let steps : length (flow_at p c.flow).flow.steps ≡ length (flow_at p g).flow.steps = ap (λ (n : ℕ). length (flow_at p n).flow.steps) same in
-    omega (arith, found.step, steps, valid.whole)
-names_step p a c plan found valid = tt
+names_step p a c plan found valid = grind arith
 
 -- ---- rows
 
@@ -250,10 +211,7 @@ each_behind P (suc n) [] each = tt
 each_behind P (suc n) (r ∷ rs) each = each_behind P n rs each.1
 
 pub planned_part : (p : PolicyShape) (rows part : List Row) → IsOpenPart rows part → ArePlanned p rows → ArePlanned p part
-planned_part p rows part is kept = subst (ArePlanned p) (sym is.2) (record {
-  cases = each_behind (λ r. IsOfPolicy p r.case) is.0 rows kept.cases;
-  plans = each_behind (λ r. IsPlanned p r.case r.plan) is.0 rows kept.plans;
-})
+planned_part p rows part is kept = grind (arith, each_behind)
 
 -- where no case of the first rows is open, the plans of the others are all that there are
 planned_before : (q : PolicyShape) (n : ℕ) (rows : List Row) → ArePlannedWhileOpen rows → open_count (take n rows) ≡ 0 →

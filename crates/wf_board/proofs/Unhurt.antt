@@ -1,37 +1,19 @@
 -- Under a change that makes no plan invalid the plans stay.
-use Rattle.std.proofs.Common.{◌≡◌, ℕ, ◌+◌, Bool, true, false, List, [], ◌∷◌, map, Option, None, Some, if◌then◌else◌, refl, sym, subst, arith}
-use Rattle.policy_book.specs.Laws.Shapes.{PolicyShape}
-use Rattle.case_record.specs.Cases.{CaseShape, assigned_of, finished_of, is_open}
-use Rattle.grant_table.specs.declared.rows.Row.{Row}
-use Rattle.grant_table.specs.Cases.{CasesShape}
-use Rattle.wf_talk.specs.declared.request.Ask.{Ask}
+use Rattle.wf_board.proofs.Common.{◌≡◌, ℕ, ◌+◌, Bool, true, false, List, [], ◌∷◌, map, Option, None, Some, refl, sym, subst, arith, PolicyShape, CaseShape}
+use Rattle.wf_board.proofs.Common.{assigned_of, finished_of, Row, CasesShape, Ask, Amendment, amended, IsKnownChange, unhurt_plans_stay_valid, Done, open_cases}
+use Rattle.wf_board.proofs.Common.{numbered, state_on, CanAllBeCompleted, ArePlanned, EachRow, IsOfPolicy, IsPlanned, Answers, state_after_decision, IsKept}
+use Rattle.wf_board.proofs.Common.{board_of, HasAnswered}
 use Rattle.wf_talk.specs.declared.reply.Reply.TheVariants as reply
-use Rattle.admin_edits.specs.declared.amendment.Amendment.{Amendment}
-use Rattle.admin_edits.specs.declared.amendment.Amendment.TheVariants as amend
-use Rattle.admin_edits.specs.Laws.Edits.{amended}
-use Rattle.admin_edits.specs.Amendment.{IsKnownChange}
 use Rattle.admin_edits.specs.Hurting.{may_hurt}
-use Rattle.admin_edits.proofs.Unhurt.{unhurt_plans_stay_valid}
 use Rattle.wf_board.specs.declared.deed.Deed.TheVariants as deed
 use Rattle.wf_board.specs.declared.verdict.Verdict.TheVariants as verdict
-use Rattle.wf_board.specs.declared.verdict.Answered.TheVariants.{Done}
-use Rattle.wf_board.specs.Laws.States.{open_cases}
-use Rattle.wf_board.specs.Boards.{numbered, state_on}
-use Rattle.wf_board.specs.Edition.{CanAllBeCompleted}
-use Rattle.wf_board.specs.Laws.Kept.{ArePlanned, EachRow, IsOfPolicy, IsPlanned}
-use Rattle.wf_board.specs.Laws.Steps.{Answers, state_after_decision}
 use Rattle.wf_board.specs.Deeds.{HasSettled, IsUndecided, is_harmless}
-use Rattle.wf_board.specs.Taking.{IsKept, KeepsAll, board_of}
-use Rattle.wf_board.specs.Verdicts.{HasAnswered}
+use Rattle.wf_board.specs.Taking.{KeepsAll}
 use Rattle.wf_board.proofs.Amended.{of_policy_amended}
 use Rattle.wf_board.proofs.Planned.{planned_open}
 
 hurts_none : (p : PolicyShape) (a : Amendment) (f : ℕ) (finished : List Bool) (plan : List ℕ) → is_harmless a ≡ true → may_hurt p a f finished plan ≡ false
-hurts_none p (amend.AddUser name) f finished plan h = refl
-hurts_none p (amend.Enrol u r) f finished plan h = refl
-hurts_none p (amend.Permit g r s) f finished plan h = refl
-hurts_none p (amend.Retire g) f finished plan h = refl
-hurts_none p a f finished plan h = cc
+hurts_none p a f finished plan h = grind arith
 
 each_still : (P Q : Row → Type 0) (rows : List Row) → ((r : Row) → P r → Q r) → EachRow P rows → EachRow Q rows
 each_still P Q [] still each = tt
@@ -46,12 +28,7 @@ planned_still p a c (Some plan) found harmless planned =
 -- where each row is planned, all open cases can be completed
 planned_complete : (p : PolicyShape) (rows : List Row) → EachRow (λ r. IsPlanned p r.case r.plan) rows → CanAllBeCompleted p (open_cases (map numbered rows))
 planned_complete p [] planned = tt
-planned_complete p (r ∷ rs) planned = at_first (is_open r.case) refl (planned_complete p rs planned.1)
-  where
-    at_first : (b : Bool) → is_open r.case ≡ b → CanAllBeCompleted p (open_cases (map numbered rs)) →
-        CanAllBeCompleted p (if b then numbered r ∷ open_cases (map numbered rs) else open_cases (map numbered rs))
-    at_first true live rest = (planned_open p r.case r.plan live planned.0, rest)
-    at_first false closed rest = rest
+planned_complete p (r ∷ rs) planned = grind (arith, planned_open, (planned_complete p rs planned.1))
 
 -- what a board then keeps, and what it has answered
 abbrev pub HasChangedTo : PolicyShape → CasesShape → ℕ → Ask → PolicyShape → Type 0
@@ -61,11 +38,7 @@ HasChangedTo p t edits what q =
 -- the plans stay valid under a change that makes none invalid
 pub harmless_keeps : (p : PolicyShape) (a : Amendment) (rows : List Row) → IsKnownChange p a → is_harmless a ≡ true →
     ArePlanned p rows → KeepsAll p a rows (amended p a)
-harmless_keeps p a rows found harmless kept = record {
-  policy = refl;
-  planned = each_still (λ r. IsPlanned p r.case r.plan) (λ r. IsPlanned (amended p a) r.case r.plan) rows
-      (λ r known. planned_still p a r.case r.plan found harmless known) kept.plans;
-}
+harmless_keeps p a rows found harmless kept = grind (arith, each_still, planned_still)
 
 pub unbroken_taken : (p q : PolicyShape) (t : CasesShape) (edits : ℕ) (what : Ask) (a : Amendment) → IsKept p t →
     IsUndecided p t what (deed.Change a) → KeepsAll p a t.rows q →
@@ -86,16 +59,4 @@ unbroken_taken p q t edits what a kept is keeps =
 pub change_settled : (p q : PolicyShape) (t : CasesShape) (edits : ℕ) (what : Ask) →
     HasAnswered (board_of p t edits) (board_of q t (edits + 1)) what verdict.Nothing (Done (reply.Edited (edits + 1))) →
     HasSettled (board_of p t edits) (board_of q t (edits + 1)) what verdict.Nothing (reply.Edited (edits + 1))
-change_settled p q t edits what answered = record {
-  step = answered.0;
-  small = refl;
-  next = answered.1;
-  left = record {
-    plans = record {
-      rows = λ same. let apart : true ≡ false = same in cc;
-      edited = λ edition is accepted. cc;
-    };
-    lacking = λ short. cc;
-    spare = omega arith;
-  };
-}
+change_settled p q t edits what answered = grind arith

@@ -1,15 +1,12 @@
 -- A valid plan stays valid where its case is opened, and where a step is claimed, finished or let go of.
-use Rattle.std.proofs.Common.{◌≡◌, ℕ, zero, suc, ◌<◌, Bool, true, false, List, [], ◌∷◌, length, Option, None, Some, slice_set, sym, ap, subst, ◌∙◌}
-use Rattle.wf_names.specs.declared.states.StepState.TheVariants.{Free, Held}
-use Rattle.wf_names.specs.States.{is_held, user_of}
-use Rattle.constraint_forms.specs.Assign.{is_member, no_steps, no_users, user_at}
-use Rattle.constraint_forms.proofs.Members.{none_member}
-use Rattle.policy_book.specs.Laws.Plans.{IsValidPlan, Problem}
-use Rattle.case_record.specs.Cases.{CaseShape, assigned_of, finished_case, finished_of, fresh_case, state_at, with_state}
-use Rattle.case_record.proofs.Laws.{assigned_of-at, assigned_of-finish, assigned_of-hold, assigned_of-release, blank_at, finished_of-finish, finished_of-hold}
+use Rattle.wf_board.proofs.Common.{◌≡◌, ℕ, zero, suc, ◌<◌, Bool, true, false, List, [], ◌∷◌, length, Option, None, Some, sym, ap, ◌∙◌, arith, Free, Held}
+use Rattle.wf_board.proofs.Common.{is_held, user_of, user_at, none_member, IsValidPlan, Problem, CaseShape, assigned_of, finished_case, finished_of, fresh_case}
+use Rattle.wf_board.proofs.Common.{state_at, with_state, assigned_of-at, assigned_of-finish, assigned_of-hold, assigned_of-release, none_not_some}
+use Rattle.wf_board.proofs.Common.{assigned_with}
+use Rattle.std.proofs.Common.{slice_set}
+use Rattle.constraint_forms.specs.Assign.{is_member, no_steps, no_users}
+use Rattle.case_record.proofs.Laws.{blank_at, finished_of-finish, finished_of-hold}
 use Rattle.case_record.proofs.Laws.{finished_of-release}
-use Rattle.certificate_check.proofs.Assigned.{none_not_some}
-use Rattle.admin_edits.specs.ClaimCauses.{assigned_with}
 
 -- nobody has a step of a fresh case
 pub fresh_user : (flow n s : ℕ) → user_at (assigned_of (fresh_case flow n)) s ≡ None
@@ -30,9 +27,7 @@ valid_fresh p flow n plan valid = record {
 pub valid_claimed : (p : Problem) (c : CaseShape) (t u : ℕ) (plan : List ℕ) → t < length c.states → state_at c t ≡ Free →
     IsValidPlan p (assigned_with c t u) (finished_of c) plan →
     IsValidPlan p (assigned_of (with_state c t (Held u))) (finished_of (with_state c t (Held u))) plan
-valid_claimed p c t u plan below free valid =
-    subst (λ a. IsValidPlan p a (finished_of (with_state c t (Held u))) plan) (sym (assigned_of-hold c t u below))
-    (subst (λ f. IsValidPlan p (assigned_with c t u) f plan) (sym (finished_of-hold c t u below free)) valid)
+valid_claimed p c t u plan below free valid = grind (arith, assigned_of-hold, finished_of-hold)
 
 less_member : (group : List Bool) (t s : ℕ) → is_member (slice_set group t true) s ≡ false → is_member group s ≡ false
 less_member [] t s h = h
@@ -45,14 +40,7 @@ less_member (x ∷ xs) (suc t) (suc s) h = less_member xs t s h
 pub valid_finished : (p : Problem) (c : CaseShape) (t : ℕ) (plan : List ℕ) → is_held (state_at c t) ≡ true →
     IsValidPlan p (assigned_of c) (finished_of c) plan →
     IsValidPlan p (assigned_of (finished_case c t)) (finished_of (finished_case c t)) plan
-valid_finished p c t plan held valid = record {
-  whole = valid.whole;
-  known = valid.known;
-  keeps = λ s u is. valid.keeps s u (subst (λ a. user_at a s ≡ Some u) (assigned_of-finish c t held) is);
-  allowed = λ s below unfinished. valid.allowed s below
-      (less_member (finished_of c) t s (subst (λ f. is_member f s ≡ false) (finished_of-finish c t held) unfinished));
-  obeyed = valid.obeyed;
-}
+valid_finished p c t plan held valid = grind (arith, assigned_of-finish, less_member, finished_of-finish)
 
 -- where a step is taken away, nobody has a step that nobody had
 pub less_given : (a : List (Option ℕ)) (t s u : ℕ) → user_at (slice_set a t None) s ≡ Some u → user_at a s ≡ Some u
@@ -65,10 +53,4 @@ less_given (x ∷ xs) (suc t) (suc s) u h = less_given xs t s u h
 -- and where it is free again
 pub valid_freed : (p : Problem) (c : CaseShape) (t : ℕ) (plan : List ℕ) → is_held (state_at c t) ≡ true → IsValidPlan p (assigned_of c) (finished_of c) plan →
     IsValidPlan p (assigned_of (with_state c t Free)) (finished_of (with_state c t Free)) plan
-valid_freed p c t plan held valid = record {
-  whole = valid.whole;
-  known = valid.known;
-  keeps = λ s u is. valid.keeps s u (less_given (assigned_of c) t s u (subst (λ a. user_at a s ≡ Some u) (assigned_of-release c t held) is));
-  allowed = λ s below unfinished. valid.allowed s below (subst (λ f. is_member f s ≡ false) (finished_of-release c t held) unfinished);
-  obeyed = valid.obeyed;
-}
+valid_freed p c t plan held valid = grind (arith, less_given, assigned_of-release, finished_of-release)

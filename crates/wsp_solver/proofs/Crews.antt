@@ -1,6 +1,6 @@
 -- What a search knows of each user.
-use Rattle.std.proofs.Common.{◌≡◌, ◌≢◌, refl, sym, ap, ◌∙◌, ℕ, zero, suc, ◌+◌, ◌<◌, ◌≤◌, Bool, true, false, not, ◌&&◌, ◌||◌, ◌==◌, nat_lt, List, [], ◌∷◌}
-use Rattle.std.proofs.Common.{length, Option, None, Some, slice_get, slice_set, if◌then◌else◌, subst, leb, ◌⊎◌, inl, inr, arith}
+use Rattle.std.proofs.Common.{◌≡◌, ◌≢◌, refl, sym, ap, ◌∙◌, ℕ, zero, suc, ◌<◌, ◌≤◌, Bool, true, false, not, ◌&&◌, ◌||◌, ◌==◌, nat_lt, List, [], ◌∷◌}
+use Rattle.std.proofs.Common.{length, Option, None, Some, slice_get, slice_set, if◌then◌else◌, subst, ◌⊎◌, inl, inr, arith}
 use Rattle.std.proofs.lemmas.Bool.{false≢true}
 use Rattle.std.proofs.lemmas.Bool.Decides.{leb_tells}
 use Rattle.std.proofs.lemmas.List.{length-replicate}
@@ -26,28 +26,17 @@ use Rattle.wsp_solver.proofs.Members.{length_set, member_added, passing_more}
 
 duties-length : (p : Problem) (u n : ℕ) → length no_steps ≡ STEP_LIMIT → length (duties_below p u n) ≡ STEP_LIMIT
 duties-length p u zero none = none
-duties-length p u (suc n) none = at (p.authorised n u) (duties-length p u n none)
-  where
-    at : (b : Bool) → length (duties_below p u n) ≡ STEP_LIMIT → length (if b then slice_set (duties_below p u n) n true else duties_below p u n) ≡ STEP_LIMIT
-    at true known = length_set (duties_below p u n) n true ∙ known
-    at false known = known
+duties-length p u (suc n) none = grind (arith, length_set, (duties-length p u n none))
 
 -- who is in a set with one more step where that is wanted
 pub member_if : (set : List Bool) (n t : ℕ) (b : Bool) → n < length set →
     is_member (if b then slice_set set n true else set) t ≡ (is_member set t || (b && t == n))
-member_if set n t true below = member_added set n t below
-member_if set n t false below = sym (or-false (is_member set t))
+member_if set n t b below = grind (arith, member_added, or-false)
 
 duties-member : (p : Problem) (u n t : ℕ) → length no_steps ≡ STEP_LIMIT → ((s : ℕ) → is_member no_steps s ≡ false) → n ≤ STEP_LIMIT →
     is_member (duties_below p u n) t ≡ (nat_lt t n && p.authorised t u)
 duties-member p u zero t long none few = none t ∙ sym (ap (λ b. b && p.authorised t u) (lt_no t 0 (omega arith)))
-duties-member p u (suc n) t long none few =
-    let below : n < length (duties_below p u n) = omega (arith, few, duties-length p u n long) in
-    let last : n + 1 ≡ suc n = omega arith in
-    member_if (duties_below p u n) n t (p.authorised n u) below
-    ∙ ap (λ b. b || (p.authorised n u && t == n)) (duties-member p u n t long none (omega (arith, few)))
-    ∙ passing_more (λ s. p.authorised s u) false n t
-    ∙ ap (λ k. nat_lt t k && p.authorised t u) last
+duties-member p u (suc n) t long none few = grind (arith, duties-length, member_if, passing_more, (duties-member p u n t long none (omega (arith, few))))
 
 no_steps-length : length no_steps ≡ STEP_LIMIT
 unfolding no_steps
@@ -59,9 +48,7 @@ duties-known p u s few below = duties-member p u p.steps s no_steps-length none_
 
 duties-same : (p : Problem) (u v n : ℕ) → ((s : ℕ) → s < n → p.authorised s u ≡ p.authorised s v) → duties_below p u n ≡ duties_below p v n
 duties-same p u v zero same = refl
-duties-same p u v (suc n) same =
-    ap (λ b. if b then slice_set (duties_below p u n) n true else duties_below p u n) (same n (omega arith))
-    ∙ ap (λ d. if p.authorised n v then slice_set d n true else d) (duties-same p u v n (λ s below. same s (omega (arith, below))))
+duties-same p u v (suc n) same = grind (arith, (duties-same p u v n (λ s below. same s (omega (arith, below)))))
 
 -- users with different steps are no twins
 pub apart_by_duties : (p : Problem) (duties : List (List Bool)) (u v : ℕ) → u < p.users → v < p.users → AreDutiesBelow p duties →
@@ -132,10 +119,7 @@ apart_by_rule p k r u v w known is below apart =
         (one_fails p.users w (λ x. (x == u || x == v) || is_alike_to holds u v x) below (unlike _ told))
 
 pub told_apart : (p : Problem) (k u v w : ℕ) (o : Option Rule) → slice_get p.rules k ≡ o → is_told_apart p u v w o ≡ true → are_related_alike p u v ≡ false
-told_apart p k u v w None is apart = absurd (false≢true apart)
-told_apart p k u v w (Some r) is apart =
-    let both = and_both (nat_lt w p.users) (any_read r (λ rho. tells_apart (p.related rho) u v w)) apart in
-    apart_by_rule p k r u v w (slice_get_within p.rules k r is) is (lt_back w p.users both.0) both.1
+told_apart p k u v w o is apart = grind (arith, false≢true, and_both, apart_by_rule, slice_get_within, lt_back)
 
 pub apart_by_rules : (p : Problem) (u v : ℕ) → are_related_alike p u v ≡ false → are_twins p [] u v ≡ false
 apart_by_rules p u v apart = ap (λ b. may_do_the_same p u v && b) apart ∙ and-false (may_do_the_same p u v)
@@ -149,11 +133,7 @@ busy_alone p a u (v ∷ vs) busy = ap (λ b. b || has_twin p a u vs) (busy_no_tw
 
 -- the first twin is no later than any twin
 no_later : (p : Problem) (u first v : ℕ) → IsFirstTwin p u first → are_twins p [] v u ≡ true → first ≤ v
-no_later p u first v is twins = at (leb_tells first v)
-  where
-    at : ((leb first v ≡ true) × (first ≤ v)) ⊎ ((leb first v ≡ false) × (v < first)) → first ≤ v
-    at (inl known) = known.1
-    at (inr earlier) = absurd (false≢true (sym (is.least v earlier.1) ∙ twins))
+no_later p u first v is twins = grind (arith, leb_tells, false≢true)
 
 -- users are twins exactly where they have one first twin
 pub one_first_twin : (p : Problem) (u v c d : ℕ) → u < p.users → v < p.users → IsFirstTwin p u c → IsFirstTwin p v d → (c == d) ≡ are_twins p [] u v

@@ -16,10 +16,7 @@ use Rattle.wsp_solver.proofs.Searching.{users_skip, users_end}
 -- nobody below n passes, nor n itself
 pub none_more : (test : ℕ → Bool) (k n m : ℕ) → ((w : ℕ) → k ≤ w → w < n → test w ≡ false) → test n ≡ false → m ≡ n → (w : ℕ) → k ≤ w → w < m + 1 →
     test w ≡ false
-none_more test k n m before here same w from below = elim (cases_eq w n) [
-  | inl e ↦ ap test e ∙ here
-  | inr ne ↦ before w from (omega (arith, below, same, ne))
-]
+none_more test k n m before here same w from below = grind (arith, cases_eq)
 
 -- a user who has other steps is no twin
 pub none_between : (p : Problem) (duties : List (List Bool)) (steps : List Bool) (u from v : ℕ) → AreDutiesBelow p duties → u < p.users → v ≤ u →

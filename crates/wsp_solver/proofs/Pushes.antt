@@ -1,5 +1,5 @@
 -- Branches with one more at the end: with a tree, or with the leaf of a twin.
-use Rattle.std.proofs.Common.{◌≡◌, refl, ap, ◌∙◌, ℕ, ◌+◌, ◌-◌, ◌<◌, Bool, true, not, ◌&&◌, ◌==◌, List, ◌∷◌, Option, Some, slice_set, if◌then◌else◌, eq-eqb}
+use Rattle.std.proofs.Common.{◌≡◌, refl, ℕ, ◌+◌, ◌<◌, Bool, true, not, ◌&&◌, List, ◌∷◌, Option, Some, slice_set, eq-eqb}
 use Rattle.std.proofs.Common.{arith}
 use Rattle.std.proofs.lemmas.Bool.{and_from}
 use Rattle.basics.proofs.Booleans.{and_both}
@@ -7,7 +7,7 @@ use Rattle.refutation_tree.specs.Tree.{Shape, Kids, no_kids, tree_kid, twin_kid,
 use Rattle.refutation_tree.proofs.ShapeLaws.{joined-assoc}
 use Rattle.policy_book.specs.Laws.Plans.{Problem}
 use Rattle.policy_book.specs.Laws.Twins.{are_twins, has_twin, is_one_of}
-use Rattle.policy_book.specs.Laws.Refuting.{refutes, all_refute, have_users, mentions, passing}
+use Rattle.policy_book.specs.Laws.Refuting.{refutes, all_refute, mentions}
 use Rattle.policy_book.specs.Laws.Lean.{is_lean, are_lean}
 use Rattle.certificate_check.specs.Walks.{AreUsersBelow}
 use Rattle.policy_book.proofs.Passing.{passing_at}
@@ -18,19 +18,11 @@ use Rattle.wsp_solver.specs.Lean.{kid_users}
 
 pub users_push : (test : ℕ → Bool) (u n : ℕ) (front : Kids) (t : Shape) → u < n → test u ≡ true → AreOfUsersBelow test u n front →
     AreOfUsersBelow test (u + 1) n (joined front (tree_kid u t no_kids))
-users_push test u n front t below passes so_far rest have =
-    let take = passing_at test u n below ∙ ap (λ b. if b then u ∷ passing test (u + 1) (n - (u + 1)) else passing test (u + 1) (n - (u + 1))) passes in
-    ap (have_users (passing test 0 n)) (joined-assoc front (tree_kid u t no_kids) rest)
-    ∙ so_far (tree_kid u t rest) (ap (λ us. have_users us (tree_kid u t rest)) take ∙
-    and_from (u == u) (have_users (passing test (u + 1) (n - (u + 1))) rest) (eq-eqb u u refl) have)
+users_push test u n front t below passes so_far = grind (arith, passing_at, joined-assoc, and_from, eq-eqb)
 
 pub users_push_twin : (test : ℕ → Bool) (u v n : ℕ) (front : Kids) → u < n → test u ≡ true → AreOfUsersBelow test u n front →
     AreOfUsersBelow test (u + 1) n (joined front (twin_kid u v no_kids))
-users_push_twin test u v n front below passes so_far rest have =
-    let take = passing_at test u n below ∙ ap (λ b. if b then u ∷ passing test (u + 1) (n - (u + 1)) else passing test (u + 1) (n - (u + 1))) passes in
-    ap (have_users (passing test 0 n)) (joined-assoc front (twin_kid u v no_kids) rest)
-    ∙ so_far (twin_kid u v rest) (ap (λ us. have_users us (twin_kid u v rest)) take ∙
-    and_from (u == u) (have_users (passing test (u + 1) (n - (u + 1))) rest) (eq-eqb u u refl) have)
+users_push_twin test u v n front below passes so_far = grind (arith, passing_at, joined-assoc, and_from, eq-eqb)
 
 pub below_push : (n u : ℕ) (t : Shape) (front : Kids) → u < n → AreUsersBelow n front → AreUsersBelow n (joined front (tree_kid u t no_kids))
 below_push n u t no_kids known h = (known, h)

@@ -97,8 +97,7 @@ twin_is_found p a done s bs i b kept steps v below is kid known users front none
 
 -- who was covered still is, with one more tree
 more_covered : (p : Problem) (a : List (Option ℕ)) (u w : ℕ) (users : List ℕ) → IsCovered p a users w → IsCovered p a (u ∷ users) w
-more_covered p a u w users (inl among) = inl (or_right (u == w) (is_one_of users w) among)
-more_covered p a u w users (inr twin) = inr (or_right (are_twins p a w u) (has_twin p a w users) twin)
+more_covered p a u w users h5 = grind (arith, or_right)
 
 some_shape : (t : Shape) → 1 ≤ nodes_of t
 some_shape (holder s) = omega arith
@@ -183,15 +182,4 @@ pub record IsTrimmedNode (p : Problem) (a : List (Option ℕ)) (done : List Bool
 
 pub front_end : (p : Problem) (a : List (Option ℕ)) (done : List Bool) (s : ℕ) (bs : List Branch) (i : ℕ) (kept : Kids) (steps : List Bool) →
     length bs ≤ i → is_unassigned p a s ≡ true → IsTrimmedFront p a done s bs i kept steps → IsTrimmedNode p a done s (kids_of_items bs) kept steps
-front_end p a done s bs i kept steps past free front = record {
-  refutes =
-      and_from (is_unassigned p a s) (have_users (authorised_users p s) kept && all_refute p a done s [] kept) free
-      (and_from (have_users (authorised_users p s) kept) (all_refute p a done s [] kept)
-      (ap (have_users (authorised_users p s)) (sym (joined-none kept) ∙ ap (joined kept) (sym none)) ∙ front.users) front.refute);
-  lean = front.lean;
-  few = omega (arith, front.few);
-  said = front.said;
-}
-  where
-    none : kids_of_items (drop i bs) ≡ no_kids
-    none = ap kids_of_items (drop_all i bs past)
+front_end p a done s bs i kept steps past free front = grind (arith, and_from, joined-none, drop_all)

@@ -1,4 +1,4 @@
-use Rattle.std.proofs.Common.{Option, ◌≡◌, ◌+◌, ◌&&◌, ℕ, [], drop, take, Bool, true, false, List, refl, sym, ap, ◌∙◌, arith}
+use Rattle.std.proofs.Common.{Option, ◌≡◌, ◌+◌, ◌&&◌, ℕ, [], drop, take, Bool, true, List, refl, sym, ap, ◌∙◌, arith}
 use denote.Param.Weighed.{at_most}
 use Rattle.refutation_tree.specs.declared.tree.Branches.TheDeep.{size-Branch}
 use Rattle.refutation_tree.specs.Laws.Views.{kids_of_items, shape_of}
@@ -50,22 +50,13 @@ all_refute-branches-preserved t c =
 node_refutes : (p : Problem) (assigned : List (Option ℕ)) (done : List Bool) (tree : Tree) (s : ℕ) (kids : Kids) (bs : List Branch) → tree ≡ Step s kids →
     kids ≡ kids_of_items bs → is_unassigned p assigned s ≡ true → (users : Bool) → users ≡ have_users (authorised_users p s) (kids_of_items bs) →
     (users && all_refute p assigned done s [] (kids_of_items bs)) ≡ refutes p assigned done (shape_of tree)
-node_refutes p assigned done tree s kids bs is items free users known =
-    ap (λ u. u && all_refute p assigned done s [] (kids_of_items bs)) known
-    ∙ ap (λ k. have_users (authorised_users p s) k && all_refute p assigned done s [] k) (sym items)
-    ∙ ap (λ b. b && (have_users (authorised_users p s) kids && all_refute p assigned done s [] kids)) (sym free)
-    ∙ ap (λ t. refutes p assigned done (shape_of t)) (sym is)
+node_refutes p assigned done tree s kids bs is items free users known = grind arith
 
 pub refutes-returns-then-not-have_users : goal.refutes-returns-then-not-have_users
-refutes-returns-then-not-have_users t c =
-    node_refutes (problem_in c.args.course.now) c.args.a.now c.args.done.now c.args.tree.now c.in-Step.s c.in-Step.branches
-    c.as_slice-branches.result.now c.in-Step.is c.as_slice-branches.ensures (sym c.if-not-is_unassigned.ensures.free) false c.if-not-have_users.ensures
+refutes-returns-then-not-have_users t c = grind (arith, node_refutes)
 
 pub refutes-returns-else-not-have_users : goal.refutes-returns-else-not-have_users
-refutes-returns-else-not-have_users t c =
-    c.all_refute.ensures
-    ∙ node_refutes (problem_in c.args.course.now) c.args.a.now c.args.done.now c.args.tree.now c.in-Step.s c.in-Step.branches
-    c.as_slice-branches.result.now c.in-Step.is c.as_slice-branches.ensures (sym c.if-not-is_unassigned.ensures.free) true c.if-not-have_users.ensures
+refutes-returns-else-not-have_users t c = grind (arith, node_refutes)
 
 pub refutes-all_refute-requires : goal.refutes-all_refute-requires
 refutes-all_refute-requires t c = (

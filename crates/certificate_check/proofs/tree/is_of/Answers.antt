@@ -1,15 +1,13 @@
-use Rattle.std.proofs.Common.{◌≡◌, ◌+◌, nat_eq, ℕ, drop, refl, sym, ap, ◌∙◌}
+use Rattle.std.proofs.Common.{◌≡◌, ◌+◌, nat_eq, ℕ, drop, sym, ap, ◌∙◌, arith}
 use Rattle.refutation_tree.specs.Tree.{Kids}
 use Rattle.refutation_tree.specs.Laws.Views.{kids_of_items, kid_onto}
 use Rattle.refutation_tree.specs.declared.tree.Kid.{Kid}
-use Rattle.refutation_tree.specs.declared.tree.Kid.TheVariants.{Tree as Tree_kid, Twin}
 use Rattle.refutation_tree.proofs.ShapeLaws.{kids_of_items-drop}
 use Rattle.certificate_check.specs.Walks.{begins_with}
 use Rattle.certificate_check.proofs.tree.is_of.Goals as goal
 
 begins : (u v : ℕ) (kid : Kid) (rest : Kids) → nat_eq u v ≡ begins_with u (kid_onto kid v rest)
-begins u v (Tree_kid t) rest = refl
-begins u v (Twin w) rest = refl
+begins u v kid rest = grind arith
 
 pub returns-in-Some-clause-user : goal.returns-in-Some-clause-user
 returns-in-Some-clause-user c =
