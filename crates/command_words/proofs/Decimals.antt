@@ -31,13 +31,10 @@ no_minus : (ds : Text) → IsNumeral 10 ds → without_minus ds ≡ ds
 no_minus ds h = ap (λ (o : Option Text). unwrap_or o ds) (no_hyphen ds (numeral_plain ds h))
 
 pub value_of : (n : ℕ) → n < 2 ^ 64 → digits_value 10 (without_leading_plus (decimal n)) ≡ n
-value_of n small =
-    let is = decimal_is_IsNumeral n small in
-    ap (digits_value 10) (no_plus (decimal n) is.0) ∙ is.1
+value_of n small = grind (arith, decimal_is_IsNumeral, no_plus)
 
 pub value_without_minus : (n : ℕ) → n < 2 ^ 64 → digits_value 10 (without_leading_plus (without_minus (decimal n))) ≡ n
-value_without_minus n small =
-    ap (λ (t : Text). digits_value 10 (without_leading_plus t)) (no_minus (decimal n) (decimal_is_IsNumeral n small).0) ∙ value_of n small
+value_without_minus n small = grind (arith, no_minus, decimal_is_IsNumeral, value_of)
 
 signed_value : (n : ℕ) → n < 2 ^ 64 → signed_digits_value 10 (decimal n) ≡ pos n
 signed_value n small =
@@ -47,10 +44,7 @@ signed_value n small =
     ∙ ap (λ (t : Text). pos (digits_value 10 t)) (no_sign (decimal n) is.0) ∙ ap pos is.1
 
 signed_in : (least most n : ℕ) → least ≤ n → n ≤ most → n < 2 ^ 63 → IsSignedIn (pos least) (pos most) (decimal n)
-signed_in least most n low high small =
-    let is = decimal_is_IsNumeral n (omega arith) in
-    let value = signed_value n (omega arith) in
-    (rw (no_sign (decimal n) is.0) is.0, rw value (omega (arith, ints)), rw value (omega (arith, ints)), rw value (omega (arith, ints)))
+signed_in least most n low high small = grind (arith, decimal_is_IsNumeral, signed_value, no_sign, ints)
 
 pub signed_taken : (least most n : ℕ) → least ≤ n → n ≤ most → n < 2 ^ 63 → accepts false (Signed (pos least) (pos most)) (decimal n) ≡ true
 signed_taken least most n low high small = Accepts-accepts false (Signed (pos least) (pos most)) (decimal n) (signed_in least most n low high small)

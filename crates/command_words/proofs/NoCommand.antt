@@ -1,5 +1,5 @@
 -- A first word that names no command.
-use Rattle.std.proofs.Common.{◌≡◌, ◌≢◌, Bool, true, false, refl, List, None, codes}
+use Rattle.std.proofs.Common.{◌≡◌, ◌≢◌, Bool, true, false, refl, List, None, codes, arith}
 use Rattle.std.specs.Bool.{Decides}
 use Rattle.std.specs.Cmp.Lexicographic.{bytes_decides}
 use Rattle.clap.specs.Words.{Text}
@@ -14,15 +14,4 @@ not_word word other apart = go (is_word word other) (bytes_decides word other)
 
 pub no_command : (word : Text) (words : List Text) → word ≢ codes "plan" → word ≢ codes "show" → word ≢ codes "solve" → word ≢ codes "resilience"
     → word ≢ codes "cnf" → word ≢ codes "serve" → word ≢ codes "audit" → word ≢ codes "resume" → word ≢ codes "trial" → command_at word words ≡ None
-no_command word words plan show solve resilience cnf serve audit resume trial =
-    rw (
-      not_word word (codes "plan") plan,
-      not_word word (codes "show") show,
-      not_word word (codes "solve") solve,
-      not_word word (codes "resilience") resilience,
-      not_word word (codes "cnf") cnf,
-      not_word word (codes "serve") serve,
-      not_word word (codes "audit") audit,
-      not_word word (codes "resume") resume,
-      not_word word (codes "trial") trial,
-    )
+no_command word words plan show solve resilience cnf serve audit resume trial = grind (arith, not_word)

@@ -1,6 +1,6 @@
 -- The numbers that are found.
-use Rattle.std.proofs.Common.{◌≡◌, ◌∙◌, ◌<◌, ◌≤◌, ◌-◌, ◌^◌, ◌==◌, ℕ, Bool, true, false, cond, drop, refl, sym, ap, subst, arith, inl, inr, rules}
-use Rattle.std.proofs.Common.{List, [], ◌∷◌, map, Option, Some, None, Result, Ok, Err, true≢false}
+use Rattle.std.proofs.Common.{◌≡◌, ◌∙◌, ◌<◌, ◌≤◌, ◌-◌, ◌^◌, ℕ, Bool, true, false, cond, drop, refl, sym, ap, subst, arith, inl, inr, rules}
+use Rattle.std.proofs.Common.{List, [], ◌∷◌, map, Option, Some, None, Result, true≢false}
 use Rattle.std.specs.Prelude.{IfSome, codes, slice_get, ⊤, find, option_and_then, option_map, pos, unwrap_or}
 use Rattle.std.specs.List.{All, Any}
 use Rattle.std.specs.Str.{bytes_eq}
@@ -35,12 +35,7 @@ number_at : {E : Type 0} (G : List ℕ → Result ℕ E → Type 0) (k least mos
     → IsNumeral 10 (without_leading_plus text) × (least ≤ digits_value 10 (without_leading_plus text)) × (digits_value 10 (without_leading_plus text) ≤ most)
     → ReadsOne G text r
     → (r ≡ Some (digits_value 10 (without_leading_plus text))) × IfSome r (λ n. (least ≤ n) × (n ≤ most))
-number_at G k least most text (Some n) only fits writes read =
-    let is = (only text (Ok n) read).1 in
-    (ap Some is, (rw is writes.1, rw is writes.2))
-number_at G k least most text None only fits writes read =
-    let small : digits_value 10 (without_leading_plus text) < 2 ^ k = omega arith in
-    absurd (only text (Err read.0) read.1 (writes.0, small))
+number_at G k least most text r only fits writes read = grind arith
 
 pub number_read : {E : Type 0} (G : List ℕ → Result ℕ E → Type 0) (k least most : ℕ) (o : Option Text) (r : Option ℕ)
     → ((u : Text) (x : Result ℕ E) → G u x → ParsesUnsigned k 10 u x) → most < 2 ^ k
@@ -79,9 +74,7 @@ IsReadBy q text = (b : Bool) × (v : Text) × (text ≡ read_as (reading_of q) v
 
 parser_at : (rules : List Rule) (name : Text) (q : ValueParser) (P : Rule → Type 0) → All (HasParser name q) rules
     → Any (λ r. (bytes_eq r.id name ≡ true) × P r) rules → (r : Rule) × (parser_of_value r.parser ≡ q) × P r
-parser_at rules name q P all any =
-    let has = All-get_or (HasParser name q) rules any.0 any.1 any.2 all in
-    (any.1, subst (HasParser name q) any.3 has any.4.0, any.4.1)
+parser_at rules name q P all any = grind arith
 
 text_read : (rules : List Rule) (name : Text) (q : ValueParser) → All (HasParser name q) rules
     → (how : Reading) (values : List Text)
@@ -123,18 +116,10 @@ found_text rules name q rows named all pass text is = go (find (λ r. bytes_eq r
 -- ---- what the parsers take
 
 without_minus-cond : (t : Text) → without_minus t ≡ cond (starts_with_minus t) (drop 1 t) t
-without_minus-cond [] = refl
-without_minus-cond (x ∷ xs) = go (x == 45)
-  where
-    go : (b : Bool) → unwrap_or (cond b (Some xs) None) (x ∷ xs) ≡ cond b xs (x ∷ xs)
-    go true = refl
-    go false = refl
+without_minus-cond t = grind arith
 
 pub no_plus : (ds : Text) → IsNumeral 10 ds → without_leading_plus ds ≡ ds
-no_plus [] h = refl
-no_plus (d ∷ ds) h =
-    let plus : (d == 43) ≡ false = ne_eqb _ _ (λ e. omega (arith, digit_from_value d h.1.0)) in
-    ap (λ (b : Bool). drop (cond b 1 0) (d ∷ ds)) plus
+no_plus ds h = grind (arith, ne_eqb, digit_from_value)
 
 -- the text writes a number from the least to the most
 abbrev pub Writes : ℕ → ℕ → Text → Type 0
@@ -221,15 +206,7 @@ numbers_of a each rows p = record {
 }
 
 has_number : (w : Word) → HasNumber (rule_for w)
-has_number Policy = (other, other, other, other)
-has_number Flow = (other, other, other, other)
-has_number Requests = (other, other, other, other)
-has_number Transcript = (other, other, other, other)
-has_number Model = (other, other, other, other)
-has_number Absences = (other, other, λ e. refl, other)
-has_number Seed = (other, other, other, λ e. refl)
-has_number Lanes = (λ e. refl, other, other, other)
-has_number Rounds = (other, λ e. refl, other, other)
+has_number w = grind (arith, other)
 
 have_numbers : (ws : List Word) → Each HasNumber (map rule_for ws)
 have_numbers [] = tt
@@ -247,12 +224,4 @@ form_numbers (Session Resume) = numbers_of _ (have_numbers (Policy ∷ Requests 
 form_numbers Trial = numbers_of _ (have_numbers (Seed ∷ []))
 
 pub form_free : (form : Form) → is_simple_and_free (form_for form) ≡ true
-form_free Plan = refl
-form_free Show = refl
-form_free Solve = refl
-form_free Resilience = refl
-form_free Cnf = refl
-form_free (Session Serve) = refl
-form_free (Session Audit) = refl
-form_free (Session Resume) = refl
-form_free Trial = refl
+form_free form = grind arith

@@ -3,14 +3,14 @@ use Rattle.std.proofs.Common.{◌≡◌, ◌∙◌, ◌<◌, Bool, true, false, 
 use Rattle.std.proofs.Common.{Some, None, true≢false, ◌+◌, ℕ, map, drop, fold, get_or}
 use Rattle.std.specs.List.{All, Any}
 use Rattle.std.specs.Borrow.{Bor}
-use Rattle.std.specs.Prelude.{if◌then◌else◌, option_and_then}
+use Rattle.std.specs.Prelude.{option_and_then}
 use Rattle.std.proofs.lemmas.Bool.{cases_lt, ne_eqb, not-true}
 use Rattle.std.proofs.lemmas.List.{drop_more, get_or-map, get_or_default, length-map}
 use Rattle.std.proofs.lemmas.List.Folds.{list_all-map}
 use Rattle.std.proofs.lemmas.List.Sums.{AllPass-from_list_all}
-use Rattle.std.proofs.lemmas.List.Elements.{All-from_get_or, All-map, All-nil, All-weaker}
+use Rattle.std.proofs.lemmas.List.Elements.{All-map, All-weaker}
 use Rattle.clap.specs.Words.{App, Row, Rule, Text, app_of, args_of, fault_of, found_of, groups_of, is_simple, is_simple_and_free}
-use Rattle.clap.specs.Words.{matches_of, rows_of, rule_of, with_rule}
+use Rattle.clap.specs.Words.{rows_of, rule_of, with_rule}
 use Rattle.clap.specs.Words.{BuildsTo, IsParsedFrom, NamesNoGroup, HasKind, HasMatchesOf, IsAmong, Kinds, kind_of}
 use Rattle.clap.specs.Facts.{Entry, EntryPasses, PassesArg, ValuesPass}
 use Rattle.clap.specs.Walk.{is_empty, is_simple_arg, row_of, rules_of, texts}
@@ -37,13 +37,7 @@ no_elements (x ∷ xs) e = absurd (true≢false (sym e ∙ not_empty x xs))
 -- ---- from the arguments of a command to its rules
 
 any_rule : (P : Rule → Type 0) (xs : List Arg) → Any (λ a. P (rule_of a)) xs → Any P (map rule_of xs)
-any_rule P xs any = (
-  any.0,
-  rule_of any.1,
-  rw (length-map xs rule_of) any.2,
-  get_or-map rule_of xs any.0 any.1 (rule_of any.1) any.2 ∙ ap rule_of any.3,
-  any.4,
-)
+any_rule P xs any = grind (arith, length-map, get_or-map)
 
 values_pass : (c : Command) (name : Text) (vals : List (Bor Text)) → All (λ v. PassesArg c name v.now) vals
     → All (λ value. Any (TakesValue name value) (rules_of c)) (texts vals)
@@ -76,10 +70,7 @@ rows_pass c f no_groups pass = All-map (RowPasses (rules_of c)) row_of f.entries
 -- ---- a plain command
 
 plain_before : (a : App) → is_simple_and_free a ≡ true → a.top.is_plain ≡ true
-plain_before a e =
-    let simple = (both _ _ e).0 in
-    let buildable = (both _ _ simple).0 in
-    (both _ _ (both _ _ buildable).0).0
+plain_before a e = grind (arith, both)
 
 no_groups : (c : Command) → (app_of c).top.is_plain ≡ true → groups_of c ≡ []
 no_groups c e = no_elements (groups_of c) (both _ _ e).0
@@ -101,8 +92,7 @@ names_no_group c e =
     (args_of c) (AllPass-from_list_all is_simple_arg (args_of c) args)
 
 all_at : {X : Type 0} (P : X → Type 0) (xs : List X) → ((k : ℕ) (d : X) → k < length xs → P (get_or xs k d)) → All P xs
-all_at P [] h = All-nil P
-all_at P (x ∷ xs) h = All-from_get_or P (x ∷ xs) x (λ k lt. h k x lt)
+all_at P xs h = grind arith
 
 built_of : (old new : Command) → BuildsTo old new → (k : ℕ) (d : Arg) → k < length (args_of new)
     → IsBuiltOf (rules_of old) (rule_of (get_or (args_of new) k d))
@@ -138,9 +128,7 @@ passes c m free p =
 pub is_found : (a : App) (words : List Text) (m : ArgMatches) → is_simple_and_free a ≡ true → HasMatchesOf a words m
     → fault_of a words ≡ [] → Some (rows_in m) ≡ found a words
 unfolding found
-is_found a words m free matches none =
-    let rows = (matches (simple a free)).0 in
-    ap Some rows ∙ sym (ap (λ (k : Kinds). if is_empty k then Some (matches_of a words) else None) none)
+is_found a words m free matches none = grind (arith, simple)
 
 among : (k : Kinds) (e : Error) → IsAmong (kind_of e) k → is_empty k ≡ false
 among [] e h = absurd h
@@ -149,19 +137,14 @@ among (x ∷ xs) e h = not_empty x xs
 pub none_found : (a : App) (words : List Text) (e : Error) → HasKind (fault_of a words) e → (kind_of e ≡ OutOfMemory → ⊥)
     → None ≡ found a words
 unfolding found
-none_found a words e has other = elim has [
-  | inl out ↦ absurd (other out)
-  | inr is ↦ sym (ap (λ (b : Bool). if b then Some (matches_of a words) else None) (among (fault_of a words) e is))
-]
+none_found a words e has other = grind (arith, among)
 
 -- the command that is meant, by what is found
 pub command_is : (a b : App) (words : List Text) (o : Option (List Row)) (g : List Row → Option Asked) (c : Option Asked) → a ≡ b
     → o ≡ found a words → c ≡ option_and_then g o → c ≡ command_by b g words
-command_is a b words o g c same is by =
-    by ∙ ap (option_and_then g) is ∙ ap (λ (x : App). option_and_then g (found x words)) same
+command_is a b words o g c same is by = grind arith
 
 -- a command with one word more
 pub one_more : (a b end : App) (r : Rule) (ws : List Word) (i : ℕ) (w : Word) → i < length ws → b ≡ with_rule a r → r ≡ rule_for (get_or ws i w)
     → fold with_rule a (map rule_for (drop i ws)) ≡ end → fold with_rule b (map rule_for (drop (i + 1) ws)) ≡ end
-one_more a b end r ws i w lt adds is done =
-    rw (adds, is) (ap (λ (l : List Word). fold with_rule a (map rule_for l)) (sym (drop_more ws i w lt)) ∙ done)
+one_more a b end r ws i w lt adds is done = grind (arith, drop_more)

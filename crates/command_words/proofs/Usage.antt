@@ -1,5 +1,5 @@
 -- Words in the form of the usage are taken, and are read as their command.
-use Rattle.std.proofs.Common.{◌≡◌, ◌∙◌, ◌<◌, ◌≤◌, ◌^◌, ◌-◌, ℕ, true, false, refl, ap, ap₂, arith, List, [], ◌∷◌, ◌++◌, Option, Some, None}
+use Rattle.std.proofs.Common.{◌≡◌, ◌∙◌, ◌<◌, ◌≤◌, ◌^◌, ◌-◌, ℕ, true, false, refl, ap, arith, List, [], ◌∷◌, ◌++◌, Option, Some, None}
 use Rattle.std.specs.Prelude.{codes, pos, option_and_then}
 use Rattle.std.specs.Fmt.{decimal}
 use Rattle.std.specs.Str.Parse.{digits_value, without_leading_plus}
@@ -20,7 +20,7 @@ use Rattle.wf_names.specs.declared.limits.TheConstants.{DEFAULT_LANES, DEFAULT_R
 use Rattle.command_words.specs.Laws.Words.{AreOptions, Options, command_of, found}
 use Rattle.command_words.specs.Laws.Words.{audit, cnf, plan, resilience, resume, serve, show, solve, trial}
 use Rattle.command_words.specs.Laws.Words.{audit_form, cnf_form, plan_form, resilience_form, resume_form, serve_form, show_form, solve_form, trial_form}
-use Rattle.command_words.specs.Laws.Words.{audit_asked, cnf_in, plan_asked, resilience_in, resume_in, serve_in, show_in, solve_in, trial_in}
+use Rattle.command_words.specs.Laws.Words.{audit_asked, cnf_in, plan_asked, resume_in, serve_in, show_in, solve_in, trial_in}
 use Rattle.command_words.specs.Laws.Usage.{IsPlain, option_words, options_with}
 use Rattle.command_words.proofs.Decimals.{decimal_plain, signed_taken, unsigned_taken, value_of, value_without_minus}
 use Rattle.command_words.proofs.Walking.{as_option, as_value, at, end_fault, found_by, none_at_end}
@@ -294,10 +294,7 @@ abbrev with_numbers : ℕ → ℕ → Options
 with_numbers lanes rounds = record { lanes = lanes; rounds = rounds }
 
 numbers_are : (o : Options) → AreOptions o → with_numbers (number o.lanes) (number o.rounds) ≡ o
-numbers_are o are =
-    let few_lanes : o.lanes ≤ 8 = are.lanes in
-    let few_rounds : o.rounds ≤ 8 = are.rounds in
-    ap₂ with_numbers (value_without_minus o.lanes (omega arith)) (value_without_minus o.rounds (omega arith))
+numbers_are o are = grind (arith, value_without_minus)
 
 pub plan_read : (p f : Text) → IsPlain p → IsPlain f → command_of (codes "plan" ∷ p ∷ f ∷ []) ≡ Some (plan p f)
 plan_read p f plain plain_f = ap (option_and_then plan_asked) (plan_found p f plain plain_f)
@@ -310,24 +307,15 @@ solve_read p plain = ap (option_and_then solve_in) (solve_found p plain)
 
 serve_rows : (p : Text) (lanes rounds : Option ℕ) → serve_in (serve_files p ++ option_rows lanes rounds)
     ≡ Some (serve p (with_numbers (number (options_with lanes rounds).lanes) (number (options_with lanes rounds).rounds)))
-serve_rows p None None = refl
-serve_rows p (Some lanes) None = refl
-serve_rows p None (Some rounds) = refl
-serve_rows p (Some lanes) (Some rounds) = refl
+serve_rows p lanes rounds = grind arith
 
 audit_rows : (p q : Text) (lanes rounds : Option ℕ) → audit_asked (audit_files p q ++ option_rows lanes rounds)
     ≡ Some (audit p q (with_numbers (number (options_with lanes rounds).lanes) (number (options_with lanes rounds).rounds)))
-audit_rows p q None None = refl
-audit_rows p q (Some lanes) None = refl
-audit_rows p q None (Some rounds) = refl
-audit_rows p q (Some lanes) (Some rounds) = refl
+audit_rows p q lanes rounds = grind arith
 
 resume_rows : (p q t : Text) (lanes rounds : Option ℕ) → resume_in (resume_files p q t ++ option_rows lanes rounds)
     ≡ Some (resume p q t (with_numbers (number (options_with lanes rounds).lanes) (number (options_with lanes rounds).rounds)))
-resume_rows p q t None None = refl
-resume_rows p q t (Some lanes) None = refl
-resume_rows p q t None (Some rounds) = refl
-resume_rows p q t (Some lanes) (Some rounds) = refl
+resume_rows p q t lanes rounds = grind arith
 
 pub cnf_read : (p f : Text) → IsPlain p → IsPlain f → command_of (codes "cnf" ∷ p ∷ f ∷ []) ≡ Some (cnf p f None)
 cnf_read p f plain plain_f = ap (option_and_then cnf_in) (cnf_found p f plain plain_f)
@@ -362,7 +350,4 @@ trial_read seed small =
 
 pub resilience_read : (p f : Text) (n : ℕ) → IsPlain p → IsPlain f → n ≤ ABSENCE_LIMIT
     → command_of (codes "resilience" ∷ p ∷ f ∷ decimal n ∷ []) ≡ Some (resilience p f n)
-resilience_read p f n plain plain_f few =
-    let below : n ≤ 3 = few in
-    ap (option_and_then resilience_in) (resilience_found p f n plain plain_f few)
-    ∙ ap (λ (m : ℕ). Some (resilience p f m)) (value_without_minus n (omega arith))
+resilience_read p f n plain plain_f few = grind (arith, resilience_found, value_without_minus)

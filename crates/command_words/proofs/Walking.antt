@@ -1,17 +1,16 @@
 -- The walk of `clap` over words that are written out, but for those that begin with no hyphen.
-use Rattle.std.proofs.Common.{◌≡◌, ◌∙◌, ℕ, Bool, true, false, refl, ap, ap₂, sym, subst, List, [], ◌∷◌, Option, Some, None}
-use Rattle.std.specs.Prelude.{⊤, fold, if◌then◌else◌, is_some, option_and_then, slice_index}
-use Rattle.std.specs.Option.{option_map_or}
+use Rattle.std.proofs.Common.{◌≡◌, ◌∙◌, ℕ, false, refl, ap, ap₂, sym, subst, List, [], ◌∷◌, Option, Some, None, arith}
+use Rattle.std.specs.Prelude.{⊤, fold, is_some, option_and_then}
 use Rattle.std.specs.Str.{bytes_eq}
 use Rattle.std.proofs.lemmas.Slice.Eq.{bytes_eq-Decides}
 use Rattle.clap.specs.Lexer.{long_of, long_of_rest, short_of, short_of_rest, strip_byte}
-use Rattle.clap.specs.Words.{App, Kinds, Row, Rule, Text, built, fault_of, matches_of}
-use Rattle.clap.specs.Faults.{bundle_fault, check_fault, defaults_fault, entered_fault, flag_word_fault, other_fault, settle_fault, step_fault}
+use Rattle.clap.specs.Words.{App, Kinds, Row, Rule, Text, built}
+use Rattle.clap.specs.Faults.{check_fault, defaults_fault, entered_fault, settle_fault, step_fault}
 use Rattle.clap.specs.Faults.{turn_fault, walk_fault, word_fault}
 use Rattle.clap.specs.Kinds.{or_else}
 use Rattle.clap.specs.Simple.{Shape, argument_words, entered, names_of}
-use Rattle.clap.specs.Walk.{Held, Names, Step, Waiting, trailing, Walk, after_step, finished, idle, is_empty, long_or_other, nothing_held, option}
-use Rattle.clap.specs.Walk.{plain_word, positional, settled, short_or_plain, subcommand_met, subcommand_or_other, walk, walk_from, walked, word_met}
+use Rattle.clap.specs.Walk.{Held, Step, Waiting, Walk, after_step, finished, nothing_held}
+use Rattle.clap.specs.Walk.{plain_word, settled, subcommand_met, walk, walk_from, walked, word_met}
 use Rattle.command_words.specs.Laws.Words.{found}
 use Rattle.command_words.specs.Laws.Usage.{IsPlain}
 use Rattle.command_words.proofs.Plain.{no_hyphen}
@@ -25,34 +24,18 @@ no_short : (word : Text) → IsPlain word → short_of word ≡ None
 no_short word plain = ap (option_and_then short_of_rest) (no_hyphen word plain)
 
 no_dashes : (word : Text) → IsPlain word → bytes_eq word (45 ∷ 45 ∷ []) ≡ false
-no_dashes word plain = elim_bool (bytes_eq word (45 ∷ 45 ∷ [])) refl
-  where
-    elim_bool : (b : Bool) → bytes_eq word (45 ∷ 45 ∷ []) ≡ b → b ≡ false
-    elim_bool false e = refl
-    elim_bool true e =
-        let same : word ≡ 45 ∷ 45 ∷ [] = (bytes_eq-Decides word (45 ∷ 45 ∷ [])).0 e in
-        absurd (plain (ap (λ (w : Text). slice_index w 0) same))
+no_dashes word plain = grind (arith, bytes_eq-Decides)
 
 none_met : (waiting : Waiting) (word : Text) → subcommand_met [] waiting word ≡ None
-none_met idle word = refl
-none_met (option id) word = refl
-none_met positional word = refl
+none_met waiting word = grind arith
 
 plain_met : (c : List Rule) (waiting : Waiting) (position : ℕ) (word : Text) (h : Held) → IsPlain word
     → word_met c [] false waiting position word h ≡ plain_word c waiting word h
-plain_met c waiting position word h plain =
-    ap (λ (o : Option Text). subcommand_or_other c o waiting position word h) (none_met waiting word)
-    ∙ ap (λ (b : Bool). if b then (h, trailing position) else long_or_other c waiting word (long_of word) h) (no_dashes word plain)
-    ∙ ap (λ (o : Option (Text × Option Text)). long_or_other c waiting word o h) (no_long word plain)
-    ∙ ap (λ (o : Option Text). short_or_plain c waiting word o h) (no_short word plain)
+plain_met c waiting position word h plain = grind (arith, none_met, no_dashes, no_long, no_short)
 
 plain_fault : (s : Shape) (waiting : Waiting) (word : Text) (h : Held) → IsPlain word
     → word_fault s [] false waiting word h ≡ []
-plain_fault s waiting word h plain =
-    ap (λ (o : Option Text). other_fault s o word h) (none_met waiting word)
-    ∙ ap (λ (b : Bool). if b then [] else flag_word_fault s.rules s.args_override_self (long_of word) word h) (no_dashes word plain)
-    ∙ ap (λ (o : Option (Text × Option Text)). flag_word_fault s.rules s.args_override_self o word h) (no_long word plain)
-    ∙ ap (λ (o : Option Text). option_map_or (λ flags. bundle_fault s.rules s.args_override_self flags h) o []) (no_short word plain)
+plain_fault s waiting word h plain = grind (arith, none_met, no_dashes, no_long, no_short)
 
 -- ---- the walk, word by word
 
@@ -68,10 +51,7 @@ ends s w = record { fault = refl; walk = refl }
 pub goes : (s : Shape) (w next end : Walk) (word : Text) (words : List Text)
     → turn_fault s [] w word ≡ [] → walked s.rules [] w word ≡ next → Goes s next words end → Goes s w (word ∷ words) end
 unfolding walk_fault
-goes s w next end word words none step rest = record {
-  fault = ap₂ or_else none (ap (λ (v : Walk). walk_fault s [] v words) step ∙ rest.fault);
-  walk = ap (λ (v : Walk). fold (walked s.rules []) v words) step ∙ rest.walk;
-}
+goes s w next end word words none step rest = grind arith
 
 -- where the walk stands, at no trailing word
 abbrev pub at : Held → Waiting → ℕ → Walk
@@ -105,24 +85,13 @@ end_fault b w = or_else (entered_fault b w.stopped)
 pub none_at_end : (b : App) (w : Walk) → entered_fault b w.stopped ≡ [] → settle_fault b.top.rules b.top.args_override_self w.held ≡ []
     → defaults_fault (settled b.top.rules w.held).rows b.top.rules ≡ []
     → check_fault b.top (finished b.top.rules w.held) (is_some (entered b w.stopped)) ≡ [] → end_fault b w ≡ []
-none_at_end b w entered_none settle_none defaults_none check_none =
-    ap₂ or_else entered_none (ap₂ or_else settle_none (ap₂ or_else defaults_none check_none))
+none_at_end b w entered_none settle_none defaults_none check_none = grind arith
 
 pub taken : (a : App) (words : List Text) (end : Walk) (rows : List Row) → names_of (built a) ≡ []
     → Goes (built a).top (walk_from nothing_held) (argument_words a words) end
     → end_fault (built a) end ≡ [] → finished (built a).top.rules end.held ≡ rows → found a words ≡ Some rows
 unfolding found
-taken a words end rows no_names over none rows_are =
-    let b = built a in
-    let ws = argument_words a words in
-    let fault : fault_of a words ≡ [] =
-    ap (λ (names : Names). or_else (walk_fault b.top names (walk_from nothing_held) ws)
-    (end_fault b (walk b.top.rules names nothing_held ws))) no_names
-    ∙ ap₂ (λ (k : Kinds) (w : Walk). or_else k (end_fault b w)) over.fault over.walk ∙ none in
-    let is : matches_of a words ≡ rows =
-    ap (λ (names : Names). finished b.top.rules (walk b.top.rules names nothing_held ws).held) no_names
-    ∙ ap (λ (w : Walk). finished b.top.rules w.held) over.walk ∙ rows_are in
-    ap₂ (λ (k : Kinds) (found_rows : List Row). if is_empty k then Some found_rows else None) fault is
+taken a words end rows no_names over none rows_are = grind arith
 
 -- ---- words in a form
 

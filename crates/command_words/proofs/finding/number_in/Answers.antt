@@ -1,17 +1,7 @@
-use Rattle.std.proofs.Common.{◌∙◌, rules}
-use Rattle.std.specs.Str.Parse.{ParsesUnsigned, ExplainsUnsignedError, HasUnsignedDigitsIfOk}
-use Rattle.clap.specs.Words.{found_of, one_of}
+use Rattle.std.proofs.Common.{arith}
 use Rattle.clap.proofs.WalkLemmas.{one_text-rows}
-use Rattle.command_words.specs.Finding.{rows_in}
 use Rattle.command_words.proofs.Numbers.{number_read}
 use Rattle.command_words.proofs.finding.number_in.Goals as goal
 
 pub returns : goal.returns
-returns c =
-    let f = found_of c.args.matches.now in
-    let rows = one_text-rows f c.args.name.now in
-    let got = number_read (λ bs r. ParsesUnsigned 8 10 bs r × ExplainsUnsignedError 10 bs r × HasUnsignedDigitsIfOk bs r)
-    8 c.args.least c.args.most (one_of c.args.name.now (rows_in c.args.matches.now)) c.get_one.result
-    (λ u x g. g.0) (search rules) c.requires.within
-    (λ e. c.get_one.ensures.none (rows ∙ e)) (λ t e. c.get_one.ensures.value t (rows ∙ e)) in
-    record { number = got.0; within = got.1 }
+returns c = grind (arith, one_text-rows, number_read)
