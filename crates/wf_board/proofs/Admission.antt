@@ -1,27 +1,23 @@
 -- Whether a reply that somebody else gave is a step.
-use Rattle.wf_board.proofs.Common.{◌≡◌, ◌≢◌, ℕ, Bool, true, false, List, [], ◌∷◌, Option, None, Some, Result, Ok, Err, refl, sym, ap, arith, subst, ◌∙◌, ◌>>=◌}
-use Rattle.wf_board.proofs.Common.{or_fault, is_done, Tree, shape_of, PolicyShape, IsSoundPolicy, problem_of, CaseShape, assigned_of, finished_case}
-use Rattle.wf_board.proofs.Common.{finished_of, CasesShape, case_in, AscendFrom, Amendment, EditCause, amended, changes_keep_policies_sound, first_cause}
-use Rattle.wf_board.proofs.Common.{unless, Ask, Reply, Denial, Fault, NotStep, Deed, Duty, Verdict, View, has_no_tree, HasAdmitted, EditionShape, book_of}
+use Rattle.wf_board.proofs.Common.{◌≡◌, ◌≢◌, ℕ, Bool, true, false, List, Option, None, Some, Result, Ok, Err, refl, sym, ap, arith, subst, ◌∙◌, ◌>>=◌}
+use Rattle.wf_board.proofs.Common.{is_done, Tree, shape_of, PolicyShape, IsSoundPolicy, problem_of, CaseShape, assigned_of, finished_case}
+use Rattle.wf_board.proofs.Common.{finished_of, CasesShape, case_in, AscendFrom, Amendment, amended, changes_keep_policies_sound}
+use Rattle.wf_board.proofs.Common.{Ask, Reply, Denial, Fault, NotStep, Deed, Duty, Verdict, View, has_no_tree, HasAdmitted, EditionShape, book_of}
 use Rattle.wf_board.proofs.Common.{state_on, cause_aside, cause_full, decision_aside, decision_of, unless_denied, CanAllBeCompleted, IsFirstStranded, IsTreeOf}
-use Rattle.wf_board.proofs.Common.{IsAllowed, on_edit, on_step, open_case_at, Book, State, is_full, open_cases, IsSoundState, Answers, IsReplyTo, IsStep}
+use Rattle.wf_board.proofs.Common.{IsAllowed, Book, State, is_full, open_cases, IsSoundState, Answers, IsReplyTo, IsStep}
 use Rattle.wf_board.proofs.Common.{state_after_decision, board_of, full_or, HasTakenStep, IsKept, IsEditionFor, IsMadeOf, IsStrandingFor, IsViewFor, rows_after}
-use Rattle.std.proofs.Common.{option_map}
 use Rattle.std.specs.Prelude.{◌↔◌}
-use Rattle.basics.specs.Laws.Reading.{check}
 use Rattle.policy_book.specs.Laws.Refuting.{refutes}
 use Rattle.admin_edits.specs.declared.fault.EditCause.TheVariants as fault
-use Rattle.admin_edits.specs.ClaimCauses.{first_of}
 use Rattle.wf_talk.specs.declared.reply.Reply.TheVariants as reply
 use Rattle.wf_talk.specs.declared.reply.Denial.TheVariants as denial
 use Rattle.wf_board.specs.declared.deed.Deed.TheVariants as deed
 use Rattle.wf_board.specs.declared.verdict.Verdict.TheVariants as verdict
 use Rattle.wf_board.specs.Admission.{is_view_deed, reply_of, when, IsNoAnswer, IsVerdictFor}
-use Rattle.wf_board.specs.Resolve.{edit_denial, resolve}
+use Rattle.wf_board.specs.Resolve.{resolve}
 use Rattle.wf_board.specs.Views.{AreStranded, IsWorkOf}
 use Rattle.wf_talk.specs.declared.reply.WorkItem.{WorkItem}
 use Rattle.wf_board.proofs.Amended.{IsFoundCase, change_decided, edition_change, plans_complete, same_case, stranded_case}
-use Rattle.wf_board.proofs.Answering.{same_taken}
 use Rattle.wf_board.proofs.Exact.{stranded_not}
 use Rattle.wf_board.proofs.Fixed.{one_stranded}
 use Rattle.wf_board.proofs.Listed.{one_list}
@@ -37,53 +33,23 @@ FaultOf P (Err fault) = P fault
 then_fault : {A B F : Type 0} (P : F → Type 0) (r : Result A F) (f : A → Result B F) → FaultOf P r → ((x : A) → FaultOf P (f x)) → FaultOf P (r >>= f)
 then_fault P r f first each = grind arith
 
-there_fault : {A F : Type 0} (P : F → Type 0) (o : Option A) (fault : F) → P fault → FaultOf P (or_fault o fault)
-there_fault P o fault holds = grind arith
-
-check_fault : {F : Type 0} (P : F → Type 0) (b : Bool) (fault : F) → P fault → FaultOf P (check b fault)
-check_fault P b fault holds = grind arith
-
 -- a denial shows no tree
 abbrev IsBare : Denial → Type 0
 IsBare d = has_no_tree d ≡ true
 
-bare_open : (b : Book) (n : ℕ) → FaultOf IsBare (open_case_at b n)
-bare_open b n = grind (arith, then_fault, there_fault, check_fault)
-
-bare_step : (b : Book) (make : Duty → Deed) (n : ℕ) (step user : List ℕ) → FaultOf IsBare (on_step make b n step user)
-bare_step b make n step user = grind (arith, then_fault, bare_open, there_fault)
-
-bare_edit : (f : EditCause) → IsBare (edit_denial f)
-bare_edit f = grind arith
-
-bare_change : (make : Amendment → Deed) (r : Result Amendment EditCause) → FaultOf IsBare (on_edit make r)
-bare_change make r = grind (arith, bare_edit)
-
 bare_resolve : (b : Book) (what : Ask) → FaultOf IsBare (resolve b what)
-bare_resolve b what = grind (arith, then_fault, there_fault, bare_step, check_fault, bare_open, bare_change)
+bare_resolve b what = grind arith
 
 -- a cause, if there is one, shows no tree
 abbrev IsBareCause : Option Denial → Type 0
 IsBareCause None = Unit {0}
 IsBareCause (Some d) = IsBare d
 
-bare_unless : (b : Bool) (d : Denial) → IsBare d → IsBareCause (unless b d)
-bare_unless b d is = grind arith
-
-bare_map : (make : ℕ → Denial) (o : Option ℕ) → ((n : ℕ) → IsBare (make n)) → IsBareCause (option_map make o)
-bare_map make o is = grind arith
-
-bare_first : (a b c d : Option Denial) → IsBareCause a → IsBareCause b → IsBareCause c → IsBareCause d → IsBareCause (first_of (a ∷ b ∷ c ∷ d ∷ []))
-bare_first a b c d first second third last = grind arith
-
-bare_claim : (p : PolicyShape) (c : CaseShape) (s u : ℕ) → IsBareCause (first_cause p c s u)
-bare_claim p c s u = grind (arith, bare_first, bare_map, bare_unless)
-
 bare_aside : (b : Book) (d : Deed) → IsBareCause (cause_aside b d)
-bare_aside b d = grind (arith, bare_unless, bare_claim)
+bare_aside b d = grind arith
 
 bare_full : (b : Book) (d : Deed) → IsBareCause (cause_full b d)
-bare_full b d = grind (arith, bare_unless)
+bare_full b d = grind arith
 
 bare_denied : (d : Deed) (o : Option Denial) → IsBareCause o → FaultOf IsBare (unless_denied d o)
 bare_denied d o is = grind arith
@@ -94,21 +60,13 @@ bare_decision b what = grind (arith, then_fault, bare_resolve, bare_denied, bare
 pub cause_bare : (b : Book) (what : Ask) (d : Denial) → decision_of b what ≡ Err d → has_no_tree d ≡ true
 cause_bare b what d is = subst (FaultOf IsBare) is (bare_decision b what)
 
--- ---- what is taken and changes nothing
-
-pub want_stays : (s : State) (r : Result Deed Denial) → state_after_decision s r reply.NoMemory ≡ s
-want_stays s r = grind arith
-
-pub want_answers : (s : State) (r : Result Deed Denial) → Answers s r reply.NoMemory
-want_answers s r = grind arith
-
 -- a reply that changes nothing is taken where a test of it passes
 pub test_admitted : (p : PolicyShape) (t : CasesShape) (r : Result Deed Denial) (given : Reply) (b : Bool) (result : Result (Unit {0}) (Fault NotStep)) →
     IsKept p t → result ≡ when b →
     (b ≡ true → (edits : ℕ) → Answers (state_on (board_of p t edits)) r given) → (b ≡ false → IsNoAnswer p t r given) →
     ((s : State) → state_after_decision s r given ≡ s) →
     rows_after p t r given ≡ t.rows → HasAdmitted p t t r given result
-test_admitted p t r given b result kept is passes fails stays rows = grind (arith, same_taken)
+test_admitted p t r given b result kept is passes fails stays rows = grind arith
 
 -- ---- which replies a deed has
 

@@ -7,8 +7,6 @@ use Rattle.wf_board.proofs.Common.{open_cases, EditionShape, numbered, state_on,
 use Rattle.wf_board.proofs.Common.{CanAllBeCompleted, CanBeCompleted, IsFirstStranded, IsTreeOf, EachRow, IsOfPolicy, IsPlanned, with_edited, board_of, IsKept}
 use Rattle.wf_board.proofs.Common.{IsEditionFor, IsStrandingFor}
 use Rattle.std.proofs.Common.{nat_eq}
-use Rattle.std.specs.Option.{option_map}
-use Rattle.grant_table.specs.Cases.{look_up}
 use Rattle.grant_table.specs.Kept as table
 use Rattle.admin_edits.proofs.Keeping.{within_after}
 use Rattle.wf_board.specs.declared.deed.Deed.TheVariants as deed
@@ -23,15 +21,7 @@ same_case c d h = cc
 pub open_can : (p : PolicyShape) (cases : List Numbered) → CanAllBeCompleted p (open_cases cases) → (n : ℕ) (c : CaseShape) →
     numbered_case cases n ≡ Some c → is_open c ≡ true → CanBeCompleted p c
 open_can p [] all n c h live = cc
-open_can p (x ∷ xs) all n c h live = at_first (is_open x.case) (nat_eq x.number n) refl all h (λ rest found. open_can p xs rest n c found live)
-  where
-    at_first : (b d : Bool) → is_open x.case ≡ b → CanAllBeCompleted p (if b then x ∷ open_cases xs else open_cases xs) →
-        option_map (λ (e : Numbered). e.case) (if d then Some x else look_up (λ (e : Numbered). e.number) n xs) ≡ Some c →
-        (CanAllBeCompleted p (open_cases xs) → numbered_case xs n ≡ Some c → CanBeCompleted p c) → CanBeCompleted p c
-    at_first true true is can found rest = subst (CanBeCompleted p) (same_case x.case c found) can.0
-    at_first true false is can found rest = rest can.1 found
-    at_first false true is can found rest = let apart : true ≡ false = sym live ∙ ap is_open (sym (same_case x.case c found)) ∙ is in cc
-    at_first false false is can found rest = rest can found
+open_can p (x ∷ xs) all n c h live = grind (arith, (open_can p xs))
 
 -- a case of the policy is one of the policy after a change
 pub of_policy_amended : (p : PolicyShape) (a : Amendment) (c : CaseShape) → IsKnownChange p a → IsOfPolicy p c → IsOfPolicy (amended p a) c
@@ -45,19 +35,15 @@ of_policy_amended p a c found known =
 
 -- where there are plans, cases can be completed
 pub plans_complete : (p : PolicyShape) (cases : List Numbered) (plans : List (List ℕ)) → ArePlansOf p cases plans → CanAllBeCompleted p cases
-plans_complete p [] [] is = tt
-plans_complete p [] (plan ∷ plans) is = absurd is
-plans_complete p (e ∷ es) [] is = absurd is
-plans_complete p (e ∷ es) (plan ∷ plans) is = ((plan, is.0), plans_complete p es plans is.1)
+plans_complete p [] plans is = grind arith
+plans_complete p (e ∷ es) plans is = grind (arith, (plans_complete p es))
 
 -- ---- rows of a table
 
 -- other plans leave the cases as they are
 pub numbered_replanned : (rows : List Row) (plans : List (List ℕ)) → map numbered (replanned rows plans) ≡ map numbered rows
 numbered_replanned [] plans = refl
-numbered_replanned (r ∷ rs) [] = refl
-numbered_replanned (r ∷ rs) (plan ∷ plans) =
-    grind (arith, bool_cases, replanned_open, replanned_closed, (numbered_replanned rs plans), (numbered_replanned rs (plan ∷ plans)))
+numbered_replanned (r ∷ rs) plans = grind (arith, (numbered_replanned rs))
 
 pub there_replanned : (n : ℕ) (rows : List Row) (plans : List (List ℕ)) → case_in n (replanned rows plans) ≡ case_in n rows
 there_replanned n rows plans =

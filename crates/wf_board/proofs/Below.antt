@@ -1,5 +1,5 @@
 -- Numbers that are all below a limit.
-use Rattle.std.proofs.Common.{◌≡◌, ℕ, zero, suc, ◌+◌, ◌<◌, ◌≤◌, inl, inr, Bool, true, ◌==◌, List, [], ◌∷◌, length, if◌then◌else◌, subst, arith}
+use Rattle.std.proofs.Common.{◌≡◌, ℕ, zero, suc, ◌+◌, ◌<◌, ◌≤◌, Bool, true, List, [], ◌∷◌, length, if◌then◌else◌, arith}
 use Rattle.basics.proofs.Booleans.{eq_back, or_cases}
 use Rattle.constraint_forms.specs.Assign.{planned}
 use Rattle.policy_book.specs.Laws.Twins.{is_one_of}
@@ -19,10 +19,7 @@ passing_all n test k (suc count) within = grind (arith, below_if, (passing_all n
 
 pub one_below : (n : ℕ) (us : List ℕ) (v : ℕ) → AllBelow n us → is_one_of us v ≡ true → v < n
 one_below n [] v below one = cc
-one_below n (u ∷ us) v below one = elim (or_cases (u == v) (is_one_of us v) one) [
-  | inl here ↦ subst (λ m. m < n) (eq_back u v here) below.0
-  | inr later ↦ one_below n us v below.1 later
-]
+one_below n (u ∷ us) v below one = grind (arith, or_cases, eq_back, (one_below n us))
 
 -- each user of a plan, where each step's is
 pub planned_below : (n : ℕ) (plan : List ℕ) → ((s : ℕ) → s < length plan → planned plan s < n) → AllBelow n plan

@@ -16,8 +16,7 @@ count_from_more test n entries e within = ap (count_of test) (drop-append-le n e
 
 count_some : (test : Entry → Bool) (n : ℕ) (entries : List Entry) → count_of test (drop n entries) ≤ count_of test entries
 count_some test zero entries = omega arith
-count_some test (suc n) [] = omega arith
-count_some test (suc n) (x ∷ xs) = let rest = count_some test n xs in omega (arith, rest)
+count_some test (suc n) entries = grind (arith, (count_some test n))
 
 -- from a later place on no more pass
 pub count_later : (test : Entry → Bool) (entries : List Entry) (m n : ℕ) → m ≤ n → count_of test (drop n entries) ≤ count_of test (drop m entries)
@@ -49,7 +48,7 @@ next_within n before b known = grind arith
 pub end_within : (n before : ℕ) (test : Entry → Bool) (entries : List Entry) → before ≤ n → last_end_from n before test entries ≤ n + length entries
 end_within n before test [] known = omega (arith, known)
 end_within n before test (x ∷ xs) known =
-    grind (arith, next_within, (end_within (n + 1) (if test x then n + 1 else before) test xs (next_within n before (test x) known)))
+    grind (arith, (end_within (n + 1) (if test x then n + 1 else before) test xs (next_within n before (test x) known)))
 
 -- nor before the place where none passes
 pub end_above : (n before : ℕ) (test : Entry → Bool) (entries : List Entry) → before ≤ n → before ≤ last_end_from n before test entries

@@ -1,6 +1,6 @@
 -- Each entry of a legal history decides exactly what was asked.
-use Rattle.wf_board.proofs.Common.{◌≡◌, ℕ, zero, suc, ◌+◌, ◌<◌, ◌≤◌, ◌⊎◌, inl, inr, Bool, true, false, List, [], ◌∷◌, ◌++◌, take, None, Some, Result, Ok, Err}
-use Rattle.wf_board.proofs.Common.{if◌then◌else◌, append_assoc, append-nil, refl, sym, ap, subst, ◌∙◌, arith, nat_tests, eq_is, Tree, shape_of, PolicyShape}
+use Rattle.wf_board.proofs.Common.{◌≡◌, ℕ, zero, suc, ◌+◌, ◌<◌, ◌≤◌, ◌⊎◌, inl, inr, Bool, true, false, List, [], ◌∷◌, ◌++◌, take, Some, Result, Ok, Err}
+use Rattle.wf_board.proofs.Common.{if◌then◌else◌, append_assoc, append-nil, refl, sym, ap, subst, ◌∙◌, arith, eq_is, Tree, shape_of, PolicyShape}
 use Rattle.wf_board.proofs.Common.{IsSoundPolicy, problem_of, refutes_soundly, CaseShape, assigned_of, finished_of, is_open, Edit, Entry, Ask, Reply, Denial}
 use Rattle.wf_board.proofs.Common.{Amendment, amended, amendment_of, HoldsOf, changes_keep_policies_sound, Deed, Numbered, State, numbered_case, open_cases}
 use Rattle.wf_board.proofs.Common.{opening_state, CanBeCompleted, IsFirstStranded, decision_of, Answers, IsReplyTo, IsStep, with_edited, EachAfter, IsRetry}
@@ -16,7 +16,7 @@ use Rattle.wf_board.specs.declared.deed.Deed.TheVariants as deed
 use Rattle.wf_board.specs.Laws.Histories.{state_after}
 use Rattle.wf_board.specs.Laws.Decided.{IsChangeExact, IsDeniedByTree, IsEditExact, IsExact, IsGrantExact, IsLeastStranded, IsRefuted}
 use Rattle.wf_board.specs.Laws.{HistoriesAreExact}
-use Rattle.wf_board.proofs.Amended.{open_can, same_case}
+use Rattle.wf_board.proofs.Amended.{open_can}
 use Rattle.wf_board.proofs.Exact.{finished_assigned, refuted_claim, well_formed_any}
 use Rattle.wf_board.proofs.Fixed.{none_assigned}
 use Rattle.wf_board.proofs.Grants.{grants_are_exact}
@@ -37,7 +37,7 @@ record IsLeast (p : PolicyShape) (cases : List Numbered) (n f : ℕ) (tree : Tre
 
 least_later : (p : PolicyShape) (x : Numbered) (xs : List Numbered) (n f : ℕ) (tree : Tree) → x.number < n →
     (is_open x.case ≡ true → CanBeCompleted p x.case) → IsLeast p xs n f tree → IsLeast p (x ∷ xs) n f tree
-least_later p x xs n f tree above first is = grind (arith, nat_tests, same_case)
+least_later p x xs n f tree above first is = grind arith
 
 least_from : (p : PolicyShape) (k : ℕ) (cases : List Numbered) (n f : ℕ) (tree : Tree) → IsSoundPolicy p → AreNumberedFrom k cases →
     IsFirstStranded p (open_cases cases) n f tree → (k ≤ n) × IsLeast p cases n f tree
@@ -63,10 +63,7 @@ least_from p k (x ∷ xs) n f tree sound order is = at_first (is_open x.case) re
               incomplete = refutes_soundly (problem_of p x.case.flow) (assigned_of x.case) (finished_of x.case) (shape_of tree)
                   (well_formed_any p x.case.flow sound) (finished_assigned x.case) here.1.1;
             };
-            least = λ m other below found live.
-                let none = none_below k m (x ∷ xs) order (omega (arith, below, at_place)) in
-                let never : None ≡ Some other = sym none ∙ found in
-                cc;
+            least = grind (arith, none_below);
           },
         )
     at_first true live (inr there) rest = later (λ live. there.0) (rest there.1)
@@ -140,8 +137,7 @@ denied_by_tree s (deed.Claim d) (denial.Stranded g tree) known its is = (
     incomplete = refuted_claim s d tree known.sound its (refl, is.1);
   },
 )
-denied_by_tree s (deed.Change a) (denial.Strands n f tree) known its is = least_stranded s a n f tree (sound_after s a known.sound its) known.numbers is
-denied_by_tree s made d known its is = absurd is
+denied_by_tree s made d known its is = grind (arith, least_stranded, sound_after)
 
 same_denial : (x y : Denial) → reply.Denied x ≡ reply.Denied y → x ≡ y
 same_denial x y h = cc

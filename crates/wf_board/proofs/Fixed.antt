@@ -40,8 +40,7 @@ fixed_unsatisfiable : (s : State) (f g : ℕ) (t : Tree) (other : Reply) → IsS
     ¬ (other ≡ reply.NoMemory) → HasSame s (Ok (deed.Open f)) (reply.Denied (denial.Unsatisfiable g t)) other
 fixed_unsatisfiable s f g t reply.NoMemory sound a b memory = absurd (memory refl)
 fixed_unsatisfiable s f g t (reply.Opened m q) sound a b memory = absurd (refuted_opening s f m g q t sound b a)
-fixed_unsatisfiable s f g t (reply.Denied (denial.Unsatisfiable h u)) sound a b memory = grind arith
-fixed_unsatisfiable s f g t other sound a b memory = absurd b
+fixed_unsatisfiable s f g t other sound a b memory = grind arith
 
 fixed_opening : (s : State) (f : ℕ) (one other : Reply) → IsSoundState s → IsReplyTo s (deed.Open f) one → IsReplyTo s (deed.Open f) other →
     ¬ (one ≡ reply.NoMemory) → ¬ (other ≡ reply.NoMemory) →
@@ -66,8 +65,7 @@ fixed_stranded : (s : State) (d : Duty) (g : ℕ) (x : Tree) (other : Reply) →
     HasSame s (Ok (deed.Claim d)) (reply.Denied (denial.Stranded g x)) other
 fixed_stranded s d g x reply.NoMemory sound known a b memory = absurd (memory refl)
 fixed_stranded s d g x (reply.Granted q) sound known a b memory = absurd (refuted_claim s d x sound known (refl, a.1) (q, b))
-fixed_stranded s d g x (reply.Denied (denial.Stranded h y)) sound known a b memory = grind arith
-fixed_stranded s d g x other sound known a b memory = absurd b
+fixed_stranded s d g x other sound known a b memory = grind arith
 
 fixed_claim : (s : State) (d : Duty) (one other : Reply) → IsSoundState s → IsTold s.book (deed.Claim d) →
     IsReplyTo s (deed.Claim d) one →
@@ -167,18 +165,14 @@ fixed_deed s (deed.Withdraw n) one other sound known a b m memory = same_this s 
 fixed_deed s (deed.Change a) one other sound known x y m memory =
     let its = known.0 sound.policy in
     fixed_change s a one other (changes_keep_policies_sound s.book.policy a sound.policy its.found its.allowed) x y m memory
-fixed_deed s (deed.Show c) one other sound known a b m memory = same_this s (deed.Show c) (reply.Shown (face_of c)) one other (showing_this s c) a b m memory
-fixed_deed s (deed.Work u) one other sound known a b m memory = work_fixed s u one other a b m memory
-fixed_deed s (deed.WhatIf a) one other sound known x y m memory = what_if_fixed s a one other x y m memory
-fixed_deed s (deed.TurnAway bad) one other sound known a b m memory = same_this s (deed.TurnAway bad) (reply.Bad bad) one other (bad_this s bad) a b m memory
+fixed_deed s d one other sound known a b m memory = grind (arith, same_this, showing_this, work_fixed, what_if_fixed, bad_this)
 
 fixed_decision : (s : State) (r : Result Deed Denial) (one other : Reply) → IsSoundState s → HoldsOf (IsTold s.book) r → Answers s r one →
     Answers s r other → ¬ (one ≡ reply.NoMemory) → ¬ (other ≡ reply.NoMemory) →
     HasSame s r one other
 fixed_decision s (Ok d) one other sound known a b m memory = fixed_deed s d one other sound known a b m memory
 fixed_decision s (Err d) one other sound known (inl a) (inl b) m memory = (ap bare (a ∙ sym b), refl)
-fixed_decision s (Err d) one other sound known (inr a) b m memory = absurd (m a)
-fixed_decision s (Err d) one other sound known (inl a) (inr b) m memory = absurd (memory b)
+fixed_decision s r one other sound known h6 b m memory = grind arith
 
 pub outcome_is_fixed : OutcomeIsFixed
 outcome_is_fixed s what one other sound a b m memory = fixed_decision s (decision_of s.book what) one other sound (told s.book what) a b m memory

@@ -1,7 +1,7 @@
 -- What does not count for a request leaves what its decision rests on.
 use Rattle.wf_board.proofs.Common.{◌≡◌, ℕ, ◌+◌, inl, Bool, false, is_some, List, [], ◌∷◌, ◌++◌, take, Option, Some, Result, if◌then◌else◌, refl, sym, ap, subst}
-use Rattle.wf_board.proofs.Common.{◌∙◌, arith, take-append-drop, eq_back, eq_is, or_false, CaseShape, Entry, Ask, Reply, Denial, Deed, Duty, Verdict, Book}
-use Rattle.wf_board.proofs.Common.{Numbered, State, numbered_case, with_case_changed, Amendment, EditCause, on_edit, on_step, decision_of, Answers, IsReplyTo}
+use Rattle.wf_board.proofs.Common.{◌∙◌, arith, take-append-drop, eq_back, eq_is, or_false, CaseShape, Entry, Ask, Reply, Denial, Deed, Verdict, Book}
+use Rattle.wf_board.proofs.Common.{Numbered, State, numbered_case, with_case_changed, decision_of, Answers, IsReplyTo}
 use Rattle.wf_board.proofs.Common.{IsStep, state_after_decision, state_after_deed, state_after_step, is_edited, EachAfter, IsRightAfter, IsRight, HoldsOf}
 use Rattle.std.proofs.Common.{nat_eq, drop}
 use Rattle.wf_talk.specs.Requests.{case_of_ask}
@@ -9,14 +9,11 @@ use Rattle.wf_talk.specs.declared.request.Request.TheVariants as request
 use Rattle.wf_talk.specs.declared.request.Ask.TheVariants as ask
 use Rattle.wf_talk.specs.declared.reply.Reply.TheVariants as reply
 use Rattle.wf_board.specs.declared.deed.Deed.TheVariants as deed
-use Rattle.wf_board.specs.Resolve.{resolve}
 use Rattle.wf_board.specs.Counting.{IsFresh, changed_case, changes_any, counted, counts_for, is_number}
 use Rattle.wf_board.specs.Laws.Histories.{IsLegal, state_after}
-use Rattle.wf_board.proofs.HistoryLaws.{after_all, after_more, again_stays, each_from, policy_stays}
-use Rattle.admin_edits.proofs.Keeping.{always, then_holds}
-use Rattle.wf_board.proofs.Told.{unless_holds}
-use Rattle.wf_board.proofs.Snaps.{claim_no_change, finish_plain, opening_no_change, plain_right, release_plain, return_plain, right_same, same_claim}
-use Rattle.wf_board.proofs.Snaps.{same_opening, show_plain, with_cases, withdraw_plain}
+use Rattle.wf_board.proofs.HistoryLaws.{after_all, after_more, again_stays, each_from}
+use Rattle.wf_board.proofs.Snaps.{claim_no_change, opening_no_change, right_same, same_claim}
+use Rattle.wf_board.proofs.Snaps.{same_opening, with_cases}
 
 -- ---- what is the same
 
@@ -61,19 +58,8 @@ IsNamed what (deed.Work u) = Unit {0}
 IsNamed what (deed.WhatIf a) = Unit {0}
 IsNamed what (deed.TurnAway bad) = Unit {0}
 
-named_step : (what : Ask) (b : Book) (make : Duty → Deed) (n : ℕ) (step user : List ℕ) →
-    ((c : CaseShape) (t u : ℕ) → IsNamed what (make record { number = n; case = c; step = t; user = u })) → HoldsOf (IsNamed what) (on_step make b n step user)
-named_step what b make n step user named = grind (arith, then_holds, always)
-
-change_named : (what : Ask) (make : Amendment → Deed) (r : Result Amendment EditCause) → ((a : Amendment) → IsNamed what (make a)) →
-    HoldsOf (IsNamed what) (on_edit make r)
-change_named what make r named = grind arith
-
-resolve_named : (b : Book) (what : Ask) → HoldsOf (IsNamed what) (resolve b what)
-resolve_named b what = grind (arith, then_holds, always, named_step, change_named)
-
 decision_named : (b : Book) (what : Ask) → HoldsOf (IsNamed what) (decision_of b what)
-decision_named b what = grind (arith, then_holds, resolve_named, unless_holds)
+decision_named b what = grind arith
 
 -- another case than the one that was changed
 not_this : (m n : ℕ) (o : Option ℕ) → o ≡ Some n → is_number m o ≡ false → nat_eq n m ≡ false
@@ -109,7 +95,7 @@ same_book s e other =
 
 -- a step that does not count leaves what a verdict rests on
 pub step_same : (s : State) (e : Entry) (what : Ask) → IsStep s e.ask e.reply → counts_for e what ≡ false → SameFor what s (state_after_step s e.ask e.reply)
-step_same s e what is other = grind (arith, policy_stays, or_false, decision_case, decision_named, same_book)
+step_same s e what is other = grind (arith, or_false, decision_case, decision_named, same_book)
 
 -- ---- histories
 
@@ -151,18 +137,7 @@ right_stays (ask.Request (request.Claim n step user)) s t v same is =
     (same_claim p s.book.cases t.book.cases s.book.ever t.book.ever n step user same.1)
     (inl (claim_no_change (with_cases p s.book.cases s.book.ever) n step user))
     (subst (λ q. IsRight (with_cases q s.book.cases s.book.ever) (ask.Request (request.Claim n step user)) v) same.0 is)
-right_stays (ask.Request (request.Finish n step user)) s t v same is =
-    plain_right s.book t.book (ask.Request (request.Finish n step user)) v (finish_plain n step user) is
-right_stays (ask.Request (request.GiveBack n step user)) s t v same is =
-    plain_right s.book t.book (ask.Request (request.GiveBack n step user)) v (return_plain n step user) is
-right_stays (ask.Request (request.Release by n step)) s t v same is =
-    plain_right s.book t.book (ask.Request (request.Release by n step)) v (release_plain by n step) is
-right_stays (ask.Request (request.Withdraw by n)) s t v same is = plain_right s.book t.book (ask.Request (request.Withdraw by n)) v (withdraw_plain by n) is
-right_stays (ask.Request (request.Change by edit)) s t v same is = subst (λ b. IsRight b (ask.Request (request.Change by edit)) v) same is
-right_stays (ask.Request (request.Show n)) s t v same is = plain_right s.book t.book (ask.Request (request.Show n)) v (show_plain n) is
-right_stays (ask.Request (request.Worklist user)) s t v same is = subst (λ b. IsRight b (ask.Request (request.Worklist user)) v) same is
-right_stays (ask.Request (request.WhatIf by edit)) s t v same is = subst (λ b. IsRight b (ask.Request (request.WhatIf by edit)) v) same is
-right_stays (ask.Bad bad) s t v same is = plain_right s.book t.book (ask.Bad bad) v (λ b. refl) is
+right_stays what s t v same is = grind arith
 
 -- a fresh verdict that was right is right
 pub fresh_right : (start : State) (rounds n : ℕ) (entries : List Entry) (what : Ask) (v : Verdict) → IsLegal start rounds entries → IsFresh entries n what →

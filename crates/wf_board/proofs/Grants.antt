@@ -1,6 +1,6 @@
 -- A claim is granted exactly where its user is authorised, its step is ready, and its case can then be completed.
 use Rattle.wf_board.proofs.Common.{◌≡◌, ℕ, suc, ◌+◌, ◌<◌, Bool, true, false, ◌&&◌, List, [], ◌∷◌, length, Option, None, Some, if◌then◌else◌, ◌⊎◌, refl, sym, ap}
-use Rattle.wf_board.proofs.Common.{subst, ◌∙◌, arith, false≢true, nat_tests, and_from, user_of, StepState, Free, Rule, user_at, Relating, PolicyShape}
+use Rattle.wf_board.proofs.Common.{subst, ◌∙◌, arith, user_of, StepState, Free, Rule, user_at, Relating, PolicyShape}
 use Rattle.wf_board.proofs.Common.{IsSoundPolicy, flow_at, is_authorised, problem_of, AreAssigned, IsCompletable, refutes_soundly, CaseShape, assigned_of}
 use Rattle.wf_board.proofs.Common.{finished_of, state_at, Row, plan_of, Reply, Denial, assigned_with, first_cause, unless, Deed, Duty, Book, State, decision_of}
 use Rattle.wf_board.proofs.Common.{unless_denied, Answers, CanBeCompleted, AreFound, ArePlanned}
@@ -26,28 +26,17 @@ use Rattle.wf_board.specs.declared.deed.Deed.TheVariants as deed
 use Rattle.wf_board.specs.Laws.Grants.{AreNamed, MayBeGranted}
 use Rattle.wf_board.specs.Laws.{GrantsAreExact}
 use Rattle.wf_board.proofs.Giving.{kept_valid, may_planned, valid_with}
-use Rattle.wf_board.proofs.Told.{place_within, unless_tells}
+use Rattle.wf_board.proofs.Told.{place_within}
 use Rattle.wf_board.proofs.Exact.{claimed_assigned, claims_are_exact, finished_assigned, well_formed}
-
--- ---- what no cause tells
-
-all_none : (a b c d : Option Denial) → first_of (a ∷ b ∷ c ∷ d ∷ []) ≡ None → (a ≡ None) × ((b ≡ None) × ((c ≡ None) × (d ≡ None)))
-all_none a b c d h = grind arith
 
 none_all : (a b c d : Option Denial) → a ≡ None → b ≡ None → c ≡ None → d ≡ None → first_of (a ∷ b ∷ c ∷ d ∷ []) ≡ None
 none_all a b c d h i j k = rw (h, i, j, k) refl
-
-free_of_users : (x : StepState) (make : ℕ → Denial) → option_map make (user_of x) ≡ None → is_free x ≡ true
-free_of_users x make h = grind arith
 
 users_of_free : (x : StepState) (make : ℕ → Denial) → is_free x ≡ true → option_map make (user_of x) ≡ None
 users_of_free x make h = grind arith
 
 free_is : (x : StepState) → is_free x ≡ true → x ≡ Free
 free_is x h = grind arith
-
-nothing_made : (o : Option ℕ) (make : ℕ → Denial) → option_map make o ≡ None → is_none o ≡ true
-nothing_made o make h = grind arith
 
 made_of_nothing : (o : Option ℕ) (make : ℕ → Denial) → is_none o ≡ true → option_map make o ≡ None
 made_of_nothing o make h = grind arith
@@ -79,8 +68,7 @@ falsified_found related users k m (r ∷ rs) h = at_first (is_falsified related 
       number = omega (arith, found.number);
       the_rule = found.the_rule;
       there = found.there;
-      falsified =
-          found.falsified;
+      falsified = grind arith;
     }
 
     at_first : (b : Bool) → is_falsified related r users ≡ b → (if b then Some k else first_falsified related users (k + 1) rs) ≡ Some m →
@@ -137,8 +125,7 @@ still_none : (related : Relating) (c : CaseShape) (t u k : ℕ) (rules : List Ru
     list_any (λ r. names r t && is_falsified related r (user_at (assigned_with c t u))) rules ≡ false
     → first_falsified related (user_at (assigned_of c)) k rules ≡ None → first_falsified related (user_at (assigned_with c t u)) k rules ≡ None
 still_none related c t u k [] quiet before = refl
-still_none related c t u k (r ∷ rs) quiet before =
-    grind (arith, falsified_by_named, given_other, false≢true, none_later, (still_none related c t u (k + 1) rs))
+still_none related c t u k (r ∷ rs) quiet before = grind (arith, falsified_by_named, given_other, none_later, (still_none related c t u (k + 1) rs))
 
 nothing : (o : Option ℕ) → is_none o ≡ true → o ≡ None
 nothing o h = grind arith
@@ -181,7 +168,7 @@ planned_none p rows d plan sound are found ready kept gives =
 -- where there is no cause, the user is authorised and the step ready
 none_granted : (s : State) (c : CaseShape) (t u : ℕ) → t < length c.states → first_cause s.book.policy c t u ≡ None →
     IsCompletable (problem_of s.book.policy c.flow) (assigned_with c t u) (finished_of c) → MayBeGranted s.book.policy c t u
-none_granted s c t u below none complete = grind (arith, all_none, nat_tests, unless_tells, and_from, free_of_users, nothing_made)
+none_granted s c t u below none complete = grind arith
 
 no_grant : (d : Denial) (given : Reply) (plan : List ℕ) → (given ≡ reply.Denied d) ⊎ (given ≡ reply.NoMemory) → given ≡ reply.Granted plan → ⊥
 no_grant d given plan h3 granted = grind arith

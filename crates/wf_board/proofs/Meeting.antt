@@ -75,8 +75,7 @@ satisfied_among a b (AtLeast limit group) n f names same = refl
 kind_there : (rs : List RelationShape) (n : ℕ) (kind old : RelationKind) → option_map (λ (r : RelationShape). r.kind) (slice_get rs n) ≡ Some old →
     option_map (λ (r : RelationShape). r.kind) (slice_get (change_kind rs n kind) n) ≡ Some kind
 kind_there [] n kind old is = cc
-kind_there (r ∷ rs) zero kind old is = refl
-kind_there (r ∷ rs) (suc n) kind old is = kind_there rs n kind old is
+kind_there (r ∷ rs) n kind old is = grind (arith, (kind_there rs))
 
 -- a relation that is listed has the new kind
 kind_here : (rs : List RelationShape) (rho : ℕ) (kind old : RelationKind) → kind_of rs rho ≡ Some old → kind_of (with_kind rs rho kind) rho ≡ Some kind

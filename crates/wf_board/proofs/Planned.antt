@@ -147,7 +147,7 @@ opened_state p t f plan edits = grind (arith, numbered_added)
 
 pub planned_open : (p : PolicyShape) (c : CaseShape) (o : Option (List ℕ)) → is_open c ≡ true → IsPlanned p c o →
     IsCompletable (problem_of p c.flow) (assigned_of c) (finished_of c)
-planned_open p c o live planned = grind (arith, live_apart)
+planned_open p c o live planned = grind arith
 
 -- an open case can be completed by its plan
 pub plan_kept : (p : PolicyShape) (rows : List Row) (n : ℕ) (c : CaseShape) → ArePlanned p rows → case_in n rows ≡ Some c → is_open c ≡ true →

@@ -1,37 +1,22 @@
 -- Which plans a board keeps after a reply.
-use Rattle.wf_board.proofs.Common.{◌≡◌, ◌≢◌, ◌≤◌, ◌+◌, ℕ, inl, inr, Bool, List, [], ◌∷◌, map, Option, Some, Result, if◌then◌else◌, refl, sym, ap, arith, subst}
+use Rattle.wf_board.proofs.Common.{◌≡◌, ◌≢◌, ◌≤◌, ◌+◌, ℕ, inl, inr, Bool, List, [], ◌∷◌, map, Option, Some, if◌then◌else◌, sym, ap, arith, subst}
 use Rattle.wf_board.proofs.Common.{◌∙◌, bool_cases, PolicyShape, Row, CasesShape, is_open_row, open_rows, replanned, replanned_closed, replanned_none}
-use Rattle.wf_board.proofs.Common.{replanned_open, Ask, Reply, Denial, Deed, Verdict, Answered, Done, open_cases, BoardShape, EditionShape, book_of, numbered}
-use Rattle.wf_board.proofs.Common.{decision_aside, decision_of, ArePlansOf, rows_after, board_of, IsEditionFor, room_used}
+use Rattle.wf_board.proofs.Common.{replanned_open, Ask, Verdict, Answered, Done, open_cases, EditionShape, book_of, numbered}
+use Rattle.wf_board.proofs.Common.{decision_aside, decision_of, ArePlansOf, board_of, IsEditionFor, room_used}
 use Rattle.grant_table.specs.Cases.{replanned_row}
 use Rattle.wf_talk.specs.declared.reply.Reply.TheVariants as reply
 use Rattle.wf_board.specs.declared.verdict.Verdict.TheVariants as verdict
 use Rattle.wf_board.specs.Deeds.{LeavesBy}
-use Rattle.wf_board.specs.Laws.KeptPlans.{KeepsPlans, kept_plans}
+use Rattle.wf_board.specs.Laws.KeptPlans.{kept_plans}
 use Rattle.wf_board.specs.Taking.{HasRowsAfter}
 use Rattle.wf_board.proofs.Amended.{edition_change, with_plans}
-
--- ---- nothing changes
-
-pub want_rows : (p : PolicyShape) (t : CasesShape) (r : Result Deed Denial) → rows_after p t r reply.NoMemory ≡ t.rows
-want_rows p t r = grind arith
-
-pub keeps_want : (b : BoardShape) (what : Ask) (v : Verdict) → KeepsPlans b b what v reply.NoMemory
-keeps_want b what v = grind (arith, want_rows)
-
--- ---- the policy stays
-
-pub keeps_rows : (p : PolicyShape) (before after : CasesShape) (edits : ℕ) (what : Ask) (v : Verdict) (given : Reply) →
-    ((edition : EditionShape) → v ≢ verdict.Edited edition) →
-    after.rows ≡ rows_after p before (decision_of (book_of p before) what) given → KeepsPlans (board_of p before edits) (board_of p after edits) what v given
-keeps_rows p before after edits what v given other rows = grind arith
 
 -- what is left besides, where the table is as it was after want of memory and only an opening takes room
 pub leaves_by : (p : PolicyShape) (before after : CasesShape) (edits : ℕ) (what : Ask) (v : Verdict) (given : Answered) →
     ((edition : EditionShape) → v ≢ verdict.Edited edition) →
     HasRowsAfter p before after (decision_of (book_of p before) what) given → (given ≡ Done reply.NoMemory → after ≡ before) →
     before.spare ≤ after.spare + room_used given → LeavesBy (board_of p before edits) (board_of p after edits) what v given
-leaves_by p before after edits what v given other rows lacking room = grind (arith, keeps_rows)
+leaves_by p before after edits what v given other rows lacking room = grind arith
 
 -- ---- an edit
 
@@ -45,8 +30,7 @@ plans_onto p b r rs plans = ArePlansOf p (if b then numbered r ∷ open_cases (m
 -- the plans that are kept are those that were handed in
 kept_replanned : (p : PolicyShape) (rows : List Row) (plans : List (List ℕ)) → ArePlansOf p (open_cases (map numbered rows)) plans →
     kept_plans (replanned rows plans) ≡ map Some plans
-kept_replanned p [] [] are = refl
-kept_replanned p [] (plan ∷ plans) are = absurd are
+kept_replanned p [] plans are = grind arith
 kept_replanned p (r ∷ rs) [] are = elim (bool_cases (is_open_row r)) [
   | inl live ↦ absurd (subst (λ b. plans_onto p b r rs []) live are)
   | inr closed ↦

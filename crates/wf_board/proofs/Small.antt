@@ -1,16 +1,14 @@
 -- What a board answers shows no tree that is too large.
-use Rattle.wf_board.proofs.Common.{◌≡◌, ℕ, inl, inr, Bool, true, false, Result, Err, refl, sym, ap, ◌∙◌, arith, bool_cases, CasesShape, PolicyShape, Ask, Reply}
+use Rattle.wf_board.proofs.Common.{◌≡◌, ℕ, inl, inr, true, false, Result, Err, refl, arith, bool_cases, CasesShape, PolicyShape, Ask, Reply}
 use Rattle.wf_board.proofs.Common.{Denial, Deed, Verdict, Answered, has_no_tree, BoardShape, book_of, state_on, decision_of, needs_plan, needs_verdict, State}
 use Rattle.wf_board.proofs.Common.{Answers, IsReplyTo, IsKept, board_of, shows_large, HasAnswered, IsMadeOf}
 use Rattle.wf_talk.specs.declared.reply.Reply.TheVariants as reply
-use Rattle.wf_board.specs.declared.verdict.Verdict.TheVariants as verdict
 use Rattle.wf_board.specs.declared.verdict.Answered.TheVariants as answered
 use Rattle.wf_board.specs.declared.verdict.Stepped.{Stepped}
 use Rattle.wf_board.specs.Deeds.{HasStepped, IsLeftTo, answered_of}
 use Rattle.wf_board.specs.Taking.{HasAnsweredAlone, HasAnsweredBy}
 use Rattle.wf_board.specs.Verdicts.{HasUsed, has_shown_large, is_unusable}
-use Rattle.wf_board.proofs.Admission.{cause_bare, want_answers, want_stays}
-use Rattle.wf_board.proofs.PlansKept.{want_rows}
+use Rattle.wf_board.proofs.Admission.{cause_bare}
 
 -- a reply that is made of a verdict
 made_small : (v : Verdict) (given : Reply) → IsMadeOf v given → shows_large given ≡ false
@@ -45,23 +43,12 @@ pub stepped_small : (p : PolicyShape) (before after : CasesShape) (edits : ℕ) 
     HasStepped (board_of p before edits) (board_of p after edits) what given
 stepped_small p before after edits what given alone left = grind (arith, plain_small, cause_bare)
 
--- ---- a verdict that no reply can be made of
-
-apart_from_nothing : {X : Type 0} (v : Verdict) → is_unusable v ≡ true → v ≡ verdict.Nothing → X
-apart_from_nothing v unusable is = let apart : false ≡ true = sym (ap is_unusable is) ∙ unusable in cc
-
-apart_needs : {X : Type 0} (b : Bool) → b ≡ true → b ≡ false → X
-apart_needs b needs none = let apart : true ≡ false = sym needs ∙ none in cc
-
-same_reply : (one other : Reply) → answered.Done one ≡ answered.Done other → one ≡ other
-same_reply one other same = cc
-
 -- what was answered without one
 pub done_unusable : (p : PolicyShape) (before after : CasesShape) (what : Ask) (v : Verdict) (given : Reply) → is_unusable v ≡ true →
     HasAnsweredAlone p before after (decision_of (book_of p before) what) (answered.Done given) → HasAnsweredBy p before after what v (answered.Done given)
-done_unusable p before after what v given unusable alone = grind (arith, apart_from_nothing, apart_needs, same_reply)
+done_unusable p before after what v given unusable alone = grind arith
 
 -- and where one is needed
 pub needed_unusable : (p : PolicyShape) (before after : CasesShape) (what : Ask) (v : Verdict) → is_unusable v ≡ true → IsKept p before →
     HasAnsweredAlone p before after (decision_of (book_of p before) what) answered.Needs → HasAnsweredBy p before after what v (answered.Done reply.NoMemory)
-needed_unusable p before after what v unusable kept alone = grind (arith, want_answers, want_stays, apart_from_nothing, want_rows)
+needed_unusable p before after what v unusable kept alone = grind arith

@@ -1,5 +1,5 @@
 -- A snapshot has what a verdict on what is asked rests on.
-use Rattle.wf_board.proofs.Common.{◌≡◌, ℕ, ◌⊎◌, inl, inr, true, false, List, [], ◌∷◌, map, Option, Result, Ok, Err, refl, ap, ◌∙◌, arith, ◌>>=◌, or_fault}
+use Rattle.wf_board.proofs.Common.{◌≡◌, ℕ, ◌⊎◌, inl, true, false, List, [], ◌∷◌, map, Option, Result, Ok, Err, refl, ap, ◌∙◌, arith, ◌>>=◌, or_fault}
 use Rattle.wf_board.proofs.Common.{PolicyShape, Row, open_rows, Tree, Edit, Ask, Denial, Deed, Duty, Verdict, View, Book, Numbered, numbered_case, open_cases}
 use Rattle.wf_board.proofs.Common.{on_step, cause_aside, decision_aside, decision_of, needs_plan, needs_verdict, unless_denied, BoardShape, EditionShape}
 use Rattle.wf_board.proofs.Common.{numbered, state_on, IsEditionFor, IsRight, IsStrandingFor, IsViewFor}
@@ -43,7 +43,7 @@ same_decision p xs ys m k what same = grind (arith, same_rest, same_cause)
 -- a claim is decided alike over cases that have its case alike
 pub same_claim : (p : PolicyShape) (xs ys : List Numbered) (m k n : ℕ) (step user : List ℕ) → numbered_case xs n ≡ numbered_case ys n →
     decision_aside (with_cases p xs m) (ask.Request (request.Claim n step user)) ≡ decision_aside (with_cases p ys k) (ask.Request (request.Claim n step user))
-same_claim p xs ys m k n step user same = grind (arith, same_decision)
+same_claim p xs ys m k n step user same = grind arith
 
 -- and an opening over all
 pub same_opening : (p : PolicyShape) (xs ys : List Numbered) (m k : ℕ) (flow : List ℕ) →
@@ -67,15 +67,6 @@ pub opening_alone : (b : BoardShape) (flow : List ℕ) (spare : ℕ) →
     ≡ decision_aside (state_on b).book (ask.Request (request.OpenCase flow))
 opening_alone b flow spare = same_opening b.policy [] (map numbered b.cases.rows) b.cases.ever b.cases.ever flow
 
--- and a view over the open cases
-same_work : (p : PolicyShape) (xs ys : List Numbered) (m k : ℕ) (user : List ℕ) →
-    decision_aside (with_cases p xs m) (ask.Request (request.Worklist user)) ≡ decision_aside (with_cases p ys k) (ask.Request (request.Worklist user))
-same_work p xs ys m k user = same_decision p xs ys m k (ask.Request (request.Worklist user)) refl
-
-same_what_if : (p : PolicyShape) (xs ys : List Numbered) (m k : ℕ) (by : List ℕ) (e : Edit) →
-    decision_aside (with_cases p xs m) (ask.Request (request.WhatIf by e)) ≡ decision_aside (with_cases p ys k) (ask.Request (request.WhatIf by e))
-same_what_if p xs ys m k by e = same_decision p xs ys m k (ask.Request (request.WhatIf by e)) refl
-
 -- what is no opening, no claim, no edit and no view over the open cases
 abbrev pub IsPlain : Result Deed Denial → Type 0
 IsPlain (Ok given) = needs_plan given ≡ false
@@ -92,7 +83,7 @@ plain_aside b r plain = grind (arith, denied_plain)
 
 plain_step : (b : Book) (make : Duty → Deed) (n : ℕ) (step user : List ℕ) →
     ((d : Duty) → needs_plan (make d) ≡ false) → IsPlain (on_step make b n step user)
-plain_step b make n step user plain = grind (arith, then_plain)
+plain_step b make n step user plain = grind arith
 
 -- what rests on no plan
 abbrev pub IsAside : Book → Ask → Type 0
@@ -105,39 +96,24 @@ pub return_plain : (n : ℕ) (step user : List ℕ) (b : Book) → IsAside b (as
 return_plain n step user b = plain_aside b (on_step deed.GiveBack b n step user) (plain_step b deed.GiveBack n step user (λ d. refl))
 
 pub release_plain : (by : List ℕ) (n : ℕ) (step : List ℕ) (b : Book) → IsAside b (ask.Request (request.Release by n step))
-release_plain by n step b = grind (arith, plain_aside, then_plain)
+release_plain by n step b = grind arith
 
 pub withdraw_plain : (by : List ℕ) (n : ℕ) (b : Book) → IsAside b (ask.Request (request.Withdraw by n))
-withdraw_plain by n b = grind (arith, plain_aside, then_plain)
+withdraw_plain by n b = grind arith
 
 pub show_plain : (n : ℕ) (b : Book) → IsAside b (ask.Request (request.Show n))
 show_plain n b = plain_aside b (resolve_request b (request.Show n)) (then_plain (or_fault (numbered_case b.cases n) NoCase) _ (λ c. refl))
 
-pub plain_needs : (r : Result Deed Denial) → IsPlain r → needs_verdict r ≡ false
-plain_needs r plain = grind arith
-
 -- what rests on no plan over any book
 abbrev pub IsAlwaysAside : Ask → Type 0
 IsAlwaysAside what = (b : Book) → IsAside b what
-
-both_plain : (b : BoardShape) (what : Ask) (spare : ℕ) → IsAlwaysAside what →
-    needs_verdict (decision_aside (book_on (snap_of b what spare)) what) ≡ needs_verdict (decision_aside (state_on b).book what)
-both_plain b what spare plain = grind (arith, plain_needs)
 
 -- a snapshot needs a verdict exactly where its board does
 pub needs_same : (b : BoardShape) (what : Ask) (spare : ℕ) →
     needs_verdict (decision_aside (book_on (snap_of b what spare)) what) ≡ needs_verdict (decision_aside (state_on b).book what)
 needs_same b (ask.Request (request.OpenCase flow)) spare = ap needs_verdict (opening_alone b flow spare)
 needs_same b (ask.Request (request.Claim n step user)) spare = ap needs_verdict (claim_alone b n step user spare)
-needs_same b (ask.Request (request.Finish n step user)) spare = both_plain b (ask.Request (request.Finish n step user)) spare (finish_plain n step user)
-needs_same b (ask.Request (request.GiveBack n step user)) spare = both_plain b (ask.Request (request.GiveBack n step user)) spare (return_plain n step user)
-needs_same b (ask.Request (request.Release by n step)) spare = both_plain b (ask.Request (request.Release by n step)) spare (release_plain by n step)
-needs_same b (ask.Request (request.Withdraw by n)) spare = both_plain b (ask.Request (request.Withdraw by n)) spare (withdraw_plain by n)
-needs_same b (ask.Request (request.Change by e)) spare = grind (arith, same_change)
-needs_same b (ask.Request (request.Show n)) spare = both_plain b (ask.Request (request.Show n)) spare (show_plain n)
-needs_same b (ask.Request (request.Worklist user)) spare = grind (arith, same_work)
-needs_same b (ask.Request (request.WhatIf by e)) spare = grind (arith, same_what_if)
-needs_same b (ask.Bad bad) spare = refl
+needs_same b what spare = grind arith
 
 denied_needs : (given : Deed) (o : Option Denial) → needs_verdict (unless_denied given o) ≡ true → needs_plan given ≡ true
 denied_needs given o needs = grind arith
@@ -192,7 +168,7 @@ pub opening_no_change : (b : Book) (flow : List ℕ) → IsNoChange (decision_as
 opening_no_change b flow = aside_no_change b (resolve_request b (request.OpenCase flow)) (then_no_change (or_fault (flow_named b flow) NoFlow) _ (λ f. tt))
 
 pub claim_no_change : (b : Book) (n : ℕ) (step user : List ℕ) → IsNoChange (decision_aside b (ask.Request (request.Claim n step user)))
-claim_no_change b n step user = grind (arith, aside_no_change, then_no_change)
+claim_no_change b n step user = grind arith
 
 -- ---- what is right
 
@@ -235,25 +211,4 @@ snaps_suffice b (ask.Request (request.Claim n step user)) spare v is =
     v (claim_alone b n step user spare) (inl (claim_no_change (with_cases b.policy (map numbered (only n b.cases.rows)) b.cases.ever) n step user)) is
 snaps_suffice b (ask.Request (request.Finish n step user)) spare v is = plain_right (book_on (snap_of b (ask.Request (request.Finish n step user)) spare))
     (state_on b).book (ask.Request (request.Finish n step user)) v (finish_plain n step user) is
-snaps_suffice b (ask.Request (request.GiveBack n step user)) spare v is =
-    plain_right (book_on (snap_of b (ask.Request (request.GiveBack n step user)) spare)) (state_on b).book (ask.Request (request.GiveBack n step user)) v
-    (return_plain n step user) is
-snaps_suffice b (ask.Request (request.Release by n step)) spare v is = plain_right (book_on (snap_of b (ask.Request (request.Release by n step)) spare))
-    (state_on b).book (ask.Request (request.Release by n step)) v (release_plain by n step) is
-snaps_suffice b (ask.Request (request.Withdraw by n)) spare v is = plain_right (book_on (snap_of b (ask.Request (request.Withdraw by n)) spare))
-    (state_on b).book (ask.Request (request.Withdraw by n)) v (withdraw_plain by n) is
-snaps_suffice b (ask.Request (request.Change by e)) spare v is =
-    let live = map numbered (open_rows b.cases.rows) in
-    right_same b.policy live (map numbered b.cases.rows) b.cases.ever b.cases.ever (ask.Request (request.Change by e)) v
-    (same_change b.policy live (map numbered b.cases.rows) b.cases.ever b.cases.ever by e) (inr (open_alone b.cases.rows)) is
-snaps_suffice b (ask.Request (request.Show n)) spare v is =
-    plain_right (book_on (snap_of b (ask.Request (request.Show n)) spare)) (state_on b).book (ask.Request (request.Show n)) v (show_plain n) is
-snaps_suffice b (ask.Request (request.Worklist user)) spare v is =
-    let live = map numbered (open_rows b.cases.rows) in
-    right_same b.policy live (map numbered b.cases.rows) b.cases.ever b.cases.ever (ask.Request (request.Worklist user)) v
-    (same_work b.policy live (map numbered b.cases.rows) b.cases.ever b.cases.ever user) (inr (open_alone b.cases.rows)) is
-snaps_suffice b (ask.Request (request.WhatIf by e)) spare v is =
-    let live = map numbered (open_rows b.cases.rows) in
-    right_same b.policy live (map numbered b.cases.rows) b.cases.ever b.cases.ever (ask.Request (request.WhatIf by e)) v
-    (same_what_if b.policy live (map numbered b.cases.rows) b.cases.ever b.cases.ever by e) (inr (open_alone b.cases.rows)) is
-snaps_suffice b (ask.Bad bad) spare v is = plain_right (book_on (snap_of b (ask.Bad bad) spare)) (state_on b).book (ask.Bad bad) v (λ a. refl) is
+snaps_suffice b h1 spare v is = grind (arith, plain_right, return_plain, release_plain, withdraw_plain, right_same, same_change, open_alone, show_plain)

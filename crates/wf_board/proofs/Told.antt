@@ -1,13 +1,12 @@
 -- What a decision tells of the state in which it is made.
-use Rattle.wf_board.proofs.Common.{◌≡◌, ℕ, ◌<◌, Bool, true, List, [], ◌∷◌, length, Option, None, Some, Result, Ok, refl, arith, or_fault, is_held, user_of}
+use Rattle.wf_board.proofs.Common.{◌≡◌, ℕ, ◌<◌, Bool, true, List, [], ◌∷◌, length, Option, None, Some, Result, Ok, arith, is_held, user_of}
 use Rattle.wf_board.proofs.Common.{StepState, Free, flow_at, IsSoundPolicy, Edit, CaseShape, is_open, state_at, Ask, Denial, amendment_of, Amendment, EditCause}
-use Rattle.wf_board.proofs.Common.{first_cause, unless, Deed, Duty, Book, numbered_case, on_edit, on_step, open_case_at, cause_aside, decision_aside}
+use Rattle.wf_board.proofs.Common.{first_cause, unless, Deed, Duty, Book, numbered_case, on_edit, on_step, cause_aside, decision_aside}
 use Rattle.wf_board.proofs.Common.{decision_of, unless_denied}
 use Rattle.std.proofs.Common.{option_map}
 use Rattle.std.specs.Prelude.{nat_eq}
 use Rattle.std.specs.Cmp.Lexicographic.{pointwise}
 use Rattle.std.proofs.lemmas.List.Quantifiers.{position-Some}
-use Rattle.basics.specs.Laws.Reading.{check}
 use Rattle.wf_names.specs.Table.{place_of}
 use Rattle.wf_talk.specs.declared.request.Request.TheVariants as request
 use Rattle.wf_talk.specs.declared.request.Ask.TheVariants as ask
@@ -18,12 +17,6 @@ use Rattle.wf_board.specs.Laws.Found as found
 use Rattle.wf_board.specs.Decisions.{is_held_by}
 use Rattle.admin_edits.proofs.Keeping.{amendment_found}
 pub use Rattle.admin_edits.proofs.Keeping.{HoldsOf, then_holds}
-
-pub there_holds : {A F : Type 0} (o : Option A) (fault : F) → HoldsOf (λ x. o ≡ Some x) (or_fault o fault)
-there_holds o fault = grind arith
-
-pub passed_holds : {F : Type 0} (b : Bool) (fault : F) → HoldsOf (λ _. b ≡ true) (check b fault)
-passed_holds b fault = grind arith
 
 -- a name stands at one of the places
 pub place_within : (names : List (List ℕ)) (name : List ℕ) (i : ℕ) → place_of names name ≡ Some i → i < length names
@@ -56,12 +49,9 @@ IsThere b (deed.Work u) = u < length b.policy.roster.users
 IsThere b (deed.WhatIf a) = IsSoundPolicy b.policy → found.IsAllowed b.policy a
 IsThere b given = Unit {0}
 
-open_there : (b : Book) (n : ℕ) → HoldsOf (IsOpenCase b n) (open_case_at b n)
-open_there b n = grind (arith, then_holds, there_holds, passed_holds)
-
 step_there : (b : Book) (make : Duty → Deed) (n : ℕ) (step user : List ℕ) →
     ((d : Duty) → IsClaim b d → IsThere b (make d)) → HoldsOf (IsThere b) (on_step make b n step user)
-step_there b make n step user made = grind (arith, then_holds, open_there, there_holds, place_within)
+step_there b make n step user made = grind arith
 
 change_allowed : (b : Book) (by : List ℕ) (e : Edit) (a : Amendment) → amendment_of b.policy by e ≡ Ok a → IsSoundPolicy b.policy → found.IsAllowed b.policy a
 change_allowed b by e a is sound = grind (arith, amendment_found)
@@ -75,17 +65,8 @@ what_if_there : (b : Book) (by : List ℕ) (e : Edit) (r : Result Amendment Edit
 what_if_there b by e r is = grind (arith, change_allowed)
 
 resolve_there : (b : Book) (what : Ask) → HoldsOf (IsThere b) (resolve b what)
-resolve_there b (ask.Request (request.OpenCase flow)) = grind (arith, then_holds, there_holds, place_within)
-resolve_there b (ask.Request (request.Claim n step user)) = step_there b deed.Claim n step user (λ d is. is)
-resolve_there b (ask.Request (request.Finish n step user)) = step_there b deed.Finish n step user (λ d is. is.there)
-resolve_there b (ask.Request (request.GiveBack n step user)) = step_there b deed.GiveBack n step user (λ d is. is.there)
-resolve_there b (ask.Request (request.Release by n step)) = grind (arith, then_holds, passed_holds, open_there, there_holds, place_within)
-resolve_there b (ask.Request (request.Withdraw by n)) = grind (arith, then_holds, passed_holds, open_there)
-resolve_there b (ask.Request (request.Change by edit)) = change_there b by edit (amendment_of b.policy by edit) refl
-resolve_there b (ask.Request (request.Show n)) = grind (arith, then_holds, there_holds)
-resolve_there b (ask.Request (request.Worklist user)) = grind (arith, then_holds, there_holds, place_within)
-resolve_there b (ask.Request (request.WhatIf by edit)) = what_if_there b by edit (amendment_of b.policy by edit) refl
-resolve_there b (ask.Bad bad) = tt
+resolve_there b (ask.Request (request.OpenCase flow)) = grind arith
+resolve_there b what = grind (arith, step_there, change_there, what_if_there)
 
 -- no cause is against a deed
 abbrev pub IsAllowed : Book → Deed → Type 0
@@ -106,7 +87,7 @@ pub unless_holds : (P : Deed → Type 0) (given : Deed) (o : Option Denial) → 
 unless_holds P given o allowed = grind arith
 
 allowed_told : (b : Book) (given : Deed) → IsThere b given → HoldsOf (IsTold b) (unless_denied given (cause_aside b given))
-allowed_told b given there = grind (arith, unless_holds, unless_tells)
+allowed_told b given there = grind arith
 
 pub aside_told : (b : Book) (what : Ask) → HoldsOf (IsTold b) (decision_aside b what)
 aside_told b what = then_holds (IsThere b) (IsTold b) (resolve b what) _ (resolve_there b what) (allowed_told b)

@@ -12,7 +12,6 @@ use Rattle.std.specs.FinSet as set
 use Rattle.std.proofs.lemmas.Option.{slice_get_within}
 use Rattle.basics.proofs.Lists.{take_next}
 use Rattle.basics.proofs.Booleans.{not_true, second_false}
-use Rattle.rbac_state.specs.Laws.Rosters.{has_role}
 use Rattle.user_relations.specs.Laws.Relations.{kind_of, listed, listed_pairs}
 use Rattle.constraint_forms.specs.Assign.{is_member, planned}
 use Rattle.constraint_forms.proofs.Reading.{none_read}
@@ -67,10 +66,7 @@ members_unbroken p members c plan u keep none valid =
     let within : s < length plan = omega (arith, h, valid.whole) in
     elim (eqb_tells (planned plan s) u) [
       | inl hers ↦ still_hers q c plan u s none within open_ hers.0
-      | inr other ↦ more_below (length p.roster.roles) (λ r. has_role p.roster (planned plan s) r && set.contains (flow_at p c.flow).flow.permits (r, s))
-          (λ r. set.contains members (planned plan s, r) && set.contains (flow_at p c.flow).flow.permits (r, s))
-          (λ r both. first_still (has_role p.roster (planned plan s) r) (set.contains members (planned plan s, r))
-          (set.contains (flow_at p c.flow).flow.permits (r, s)) (keep (planned plan s) r other.1) both) is
+      | inr other ↦ grind (arith, more_below, first_still)
     ])
     (λ k rule is obeyed. obeyed) valid
 
@@ -145,13 +141,7 @@ forbidden_unbroken p g r s c plan within none valid =
                 subst (λ (n : ℕ). is_barred q c plan n ≡ false) (sym here.1)
                 (second_false (c.flow == g) (is_barred q c plan s) none (eq_is c.flow g new.0)) in
                 subst (λ (x : WorkflowShape). (problem_with p x).authorised t (planned plan t) ≡ true) new.1 (may_still q c plan t free open_)
-            | inr other ↦ more_below (length p.roster.roles)
-                (λ n. has_role p.roster (planned plan t) n && set.contains (flow_at p c.flow).flow.permits (n, t))
-                (λ n. has_role p.roster (planned plan t) n && set.contains w.flow.permits (n, t))
-                (λ n both. second_still (has_role p.roster (planned plan t) n) (set.contains (flow_at p c.flow).flow.permits (n, t))
-                (set.contains w.flow.permits (n, t))
-                (λ permitted. not_taken (flow_at p g).flow.permits (r, s) (n, t) (λ e. other.1 (ap (λ (x : ℕ × ℕ). x.1) e))
-                (subst (λ (x : WorkflowShape). set.contains x.flow.permits (n, t) ≡ true) was permitted)) both) is
+            | inr other ↦ grind (arith, more_below, second_still, not_taken)
           ])
           (λ k rule is obeyed. obeyed) valid)
     ]
@@ -218,9 +208,7 @@ planned_before : (q : PolicyShape) (n : ℕ) (rows : List Row) → ArePlannedWhi
     EachRow (λ r. IsPlanned q r.case r.plan) (drop n rows) →
     EachRow (λ r. IsPlanned q r.case r.plan) rows
 planned_before q zero rows kept none each = each
-planned_before q (suc n) [] kept none each = tt
-planned_before q (suc n) (r ∷ rs) kept none each =
-    (closed_planned q r.case r.plan kept.0 (closed_first n r rs none), planned_before q n rs kept.1 (closed_rest n r rs none) each)
+planned_before q (suc n) rows kept none each = grind (arith, closed_planned, closed_first, closed_rest, (planned_before q n))
 
 pub planned_whole : (q : PolicyShape) (rows part : List Row) → IsOpenPart rows part → ArePlannedWhileOpen rows → EachRow (λ r. IsPlanned q r.case r.plan) part →
     EachRow (λ r. IsPlanned q r.case r.plan) rows

@@ -10,7 +10,6 @@ use Rattle.wf_board.specs.declared.verdict.Verdict.TheVariants as verdict
 use Rattle.wf_board.specs.Deeds.{HasSettled, IsUndecided, is_harmless}
 use Rattle.wf_board.specs.Taking.{KeepsAll}
 use Rattle.wf_board.proofs.Amended.{of_policy_amended}
-use Rattle.wf_board.proofs.Planned.{planned_open}
 
 hurts_none : (p : PolicyShape) (a : Amendment) (f : ℕ) (finished : List Bool) (plan : List ℕ) → is_harmless a ≡ true → may_hurt p a f finished plan ≡ false
 hurts_none p a f finished plan h = grind arith
@@ -28,7 +27,7 @@ planned_still p a c (Some plan) found harmless planned =
 -- where each row is planned, all open cases can be completed
 planned_complete : (p : PolicyShape) (rows : List Row) → EachRow (λ r. IsPlanned p r.case r.plan) rows → CanAllBeCompleted p (open_cases (map numbered rows))
 planned_complete p [] planned = tt
-planned_complete p (r ∷ rs) planned = grind (arith, planned_open, (planned_complete p rs planned.1))
+planned_complete p (r ∷ rs) planned = grind (arith, (planned_complete p rs planned.1))
 
 -- what a board then keeps, and what it has answered
 abbrev pub HasChangedTo : PolicyShape → CasesShape → ℕ → Ask → PolicyShape → Type 0

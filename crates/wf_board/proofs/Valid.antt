@@ -1,5 +1,5 @@
 -- A valid plan stays valid where its case is opened, and where a step is claimed, finished or let go of.
-use Rattle.wf_board.proofs.Common.{◌≡◌, ℕ, zero, suc, ◌<◌, Bool, true, false, List, [], ◌∷◌, length, Option, None, Some, sym, ap, ◌∙◌, arith, Free, Held}
+use Rattle.wf_board.proofs.Common.{◌≡◌, ℕ, ◌<◌, Bool, true, false, List, [], ◌∷◌, length, Option, None, Some, sym, ap, ◌∙◌, arith, Free, Held}
 use Rattle.wf_board.proofs.Common.{is_held, user_of, user_at, none_member, IsValidPlan, Problem, CaseShape, assigned_of, finished_case, finished_of, fresh_case}
 use Rattle.wf_board.proofs.Common.{state_at, with_state, assigned_of-at, assigned_of-finish, assigned_of-hold, assigned_of-release, none_not_some}
 use Rattle.wf_board.proofs.Common.{assigned_with}
@@ -31,10 +31,7 @@ valid_claimed p c t u plan below free valid = grind (arith, assigned_of-hold, fi
 
 less_member : (group : List Bool) (t s : ℕ) → is_member (slice_set group t true) s ≡ false → is_member group s ≡ false
 less_member [] t s h = h
-less_member (x ∷ xs) zero zero h = cc
-less_member (x ∷ xs) zero (suc s) h = h
-less_member (x ∷ xs) (suc t) zero h = h
-less_member (x ∷ xs) (suc t) (suc s) h = less_member xs t s h
+less_member (x ∷ xs) t s h = grind (arith, (less_member xs))
 
 -- a valid plan stays valid where a held step is finished
 pub valid_finished : (p : Problem) (c : CaseShape) (t : ℕ) (plan : List ℕ) → is_held (state_at c t) ≡ true →
@@ -45,10 +42,7 @@ valid_finished p c t plan held valid = grind (arith, assigned_of-finish, less_me
 -- where a step is taken away, nobody has a step that nobody had
 pub less_given : (a : List (Option ℕ)) (t s u : ℕ) → user_at (slice_set a t None) s ≡ Some u → user_at a s ≡ Some u
 less_given [] t s u h = h
-less_given (x ∷ xs) zero zero u h = none_not_some u h
-less_given (x ∷ xs) zero (suc s) u h = h
-less_given (x ∷ xs) (suc t) zero u h = h
-less_given (x ∷ xs) (suc t) (suc s) u h = less_given xs t s u h
+less_given (x ∷ xs) t s u h = grind (arith, (less_given xs))
 
 -- and where it is free again
 pub valid_freed : (p : Problem) (c : CaseShape) (t : ℕ) (plan : List ℕ) → is_held (state_at c t) ≡ true → IsValidPlan p (assigned_of c) (finished_of c) plan →
