@@ -1,5 +1,5 @@
 -- The rule of a turn table holds at the start, and what it says at the end.
-use Rattle.std.proofs.Common.{◌≡◌, ◌≢◌, ℕ, zero, suc, ◌<◌, true, List, [], ◌∷◌, ◌++◌, slice_index, sym, refl, ap, ◌∙◌, subst, inl, inr, ⊎_elim, arith, Option}
+use Rattle.std.proofs.Common.{◌≡◌, ◌≢◌, ℕ, ◌<◌, true, List, [], ◌∷◌, ◌++◌, slice_index, sym, refl, ap, ◌∙◌, inl, inr, arith, Option}
 use Rattle.std.proofs.Common.{Some, None}
 use Rattle.std.specs.List.{Contains}
 use Rattle.std.proofs.lemmas.List.{append-nil}
@@ -21,23 +21,11 @@ module _ {D G I : Type 0} (fixed_part : D → G) (list : D → List (ℕ × I)) 
     front = starting (Some (fixed_part x)) (list x) lanes
 
     first_fits : Fits (fixed_part x) (list x) (list x) lanes 0 0 0 0 (λ _. 0) 0 front
-    first_fits = record {
-      fixed = refl;
-      opens = refl;
-      limit = refl;
-      begins = ([], sym (append-nil (list x)));
-      holds = λ not. absurd (not refl);
-      quiet = quiet_self _ (list x);
-      told = (list x, refl);
-      own = λ n mine. cc;
-      unnumbered = λ _. (refl, refl);
-      numbers = λ n h. ⊎_elim (λ mine. cc) (λ c. absurd (contains_none n c)) h;
-    }
+    first_fits = grind (arith, append-nil, quiet_self, contains_none)
 
     alone : (seat : ℕ) (v : View G I) → get_elem? (front ∷ []) seat ≡ some v → v.live ≡ true →
         Fits (fixed_part x) (list x) (list x) lanes 0 0 0 0 (λ _. 0) seat v
-    alone zero v e live = subst (Fits (fixed_part x) (list x) (list x) lanes 0 0 0 0 (λ _. 0) 0) (some-injective front v e) first_fits
-    alone (suc j) v e live = absurd (some-ne-none v (sym e))
+    alone seat v e live = grind (arith, some-injective, first_fits, some-ne-none)
 
     pub starts : TurnRule fixed_part list (fixed_part x) (list x) lanes (opening (0 ∷ []) (Some x ∷ []) front)
     starts = (

@@ -35,27 +35,14 @@ module _ {D G I : Type 0} (fixed_part : D → G) (list : D → List (ℕ × I)) 
   -- a step that changes nothing
   unmoved : (s : St) (id : ℕ) (me : Me (Option D) (View G I)) → Rule s → get_elem? s.views id ≡ some me.0 →
       Rule (stepped s 0 (slice_index s.words 0) id me.1 me.0 keeps)
-  unmoved s id me r at = subst (λ (z : List ℕ × List (View G I)). Rule record { words = z.0; homes = s.homes; views = z.1 })
-      (λ i. (sym (set-get_or s.words 0 0) i, sym (set_again s.views id me.0 at) i)) r
+  unmoved s id me r at = grind (arith, set-get_or, set_again)
 
   module _ (now : List (ℕ × I)) (made first : ℕ) (owner : ℕ → ℕ) where
     -- a seat's fact where the lock changes hands
     reheld : (word word' holder holder' seat : ℕ) (v : View G I) → Fits g opening now lanes made word first holder owner seat v
         → (hold_word v.hold ≢ 0 → (hold_word v.hold ≡ word') × (seat ≡ holder') × (v.seen ≡ now)) →
         Fits g opening now lanes made word' first holder' owner seat v
-    reheld word word' holder holder' seat v p h = record {
-      fixed = p.fixed;
-      opens = p.opens;
-      limit = p.limit;
-      begins = p.begins;
-      holds = h;
-      quiet =
-          p.quiet;
-      told = p.told;
-      own = p.own;
-      unnumbered = p.unnumbered;
-      numbers = p.numbers;
-    }
+    reheld word word' holder holder' seat v p h = grind arith
 
   -- The lock
 

@@ -1,6 +1,6 @@
 -- Beginnings of lists, and the pairs of one number.
 use Rattle.std.proofs.Common.{◌≡◌, ◌≢◌, ℕ, ◌≤◌, ◌==◌, eqb, cond, Bool, true, false, List, [], ◌∷◌, ◌++◌, length, drop, nat_lt, sym, refl, ap, ◌∙◌, subst, inl}
-use Rattle.std.proofs.Common.{inr, append_assoc, arith, eq-eqb, ne_eqb, if◌then◌else◌}
+use Rattle.std.proofs.Common.{inr, append_assoc, arith, eq-eqb, if◌then◌else◌}
 use Rattle.std.proofs.lemmas.List.{append-nil, append_cancel_left}
 use Rattle.std.proofs.lemmas.List.Elements.{filter-append}
 use Rattle.std.proofs.lemmas.Bool.Decides.{nat_tests}
@@ -50,12 +50,6 @@ module _ {I : Type 0} where
   pub pairs-append : (n : ℕ) (xs ys : List (ℕ × I)) → pairs_under n (xs ++ ys) ≡ pairs_under n xs ++ pairs_under n ys
   pairs-append n xs ys = filter-append (λ p. p.0 == n) xs ys
 
-  pub own_pair : (n : ℕ) (i : I) → pairs_under n ((n, i) ∷ []) ≡ (n, i) ∷ []
-  own_pair n i = ap (λ b. cond b ((n, i) ∷ []) []) (eq-eqb n n refl)
-
-  pub other_pair : (m n : ℕ) (i : I) → m ≢ n → pairs_under m ((n, i) ∷ []) ≡ []
-  other_pair m n i ne = ap (λ b. cond b ((n, i) ∷ []) []) (ne_eqb n m (λ e. ne (sym e)))
-
   -- a list of which no number has a pair is empty
   pub no_pairs : (xs : List (ℕ × I)) → ((n : ℕ) → pairs_under n xs ≡ []) → xs ≡ []
   no_pairs [] h = refl
@@ -79,17 +73,10 @@ module _ {I : Type 0} where
   -- what lies between two beginnings of a list, and what lies past the longer, has no pair that all past the shorter has not
   pub quiet_parts : (n : ℕ) (now front mid more rest : List (ℕ × I)) → now ≡ front ++ more → pairs_under n more ≡ [] → now ≡ (front ++ mid) ++ rest →
       (pairs_under n mid ≡ []) × (pairs_under n rest ≡ [])
-  quiet_parts n now front mid more rest e none f =
-      let same : mid ++ rest ≡ more = append_cancel_left front (mid ++ rest) more (sym (append_assoc front mid rest) ∙ (sym f ∙ e)) in
-      let nil : pairs_under n mid ++ pairs_under n rest ≡ [] = sym (pairs-append n mid rest) ∙ (ap (pairs_under n) same ∙ none) in
-      (left_nil (pairs_under n mid) (pairs_under n rest) nil, right_nil (pairs_under n mid) (pairs_under n rest) nil)
+  quiet_parts n now front mid more rest e none f = grind (arith, append_cancel_left, append_assoc, pairs-append, left_nil, right_nil)
 
   pub own_more : (n : ℕ) (xs ys own zs rest : List (ℕ × I)) → OwnPast n xs ys own → zs ≡ xs ++ rest → OwnPast n zs ys (own ++ pairs_under n rest)
-  own_more n xs ys own zs rest o e = (
-    o.0 ++ rest,
-    e ∙ (ap (λ l. l ++ rest) o.1 ∙ append_assoc ys o.0 rest),
-    pairs-append n o.0 rest ∙ ap (λ l. l ++ pairs_under n rest) o.2,
-  )
+  own_more n xs ys own zs rest o e = grind (arith, append_assoc, pairs-append)
 
   pub own_quiet : (n : ℕ) (xs ys own zs rest : List (ℕ × I)) → OwnPast n xs ys own → zs ≡ xs ++ rest → pairs_under n rest ≡ [] → OwnPast n zs ys own
   own_quiet n xs ys own zs rest o e none = subst (OwnPast n zs ys) (ap (λ l. own ++ l) none ∙ append-nil own) (own_more n xs ys own zs rest o e)
@@ -98,5 +85,4 @@ module _ {I : Type 0} where
   pub grown : (n : ℕ) (xs ys : List (ℕ × I)) → GrowsByOne n xs ys
       → (rest : List (ℕ × I)) × (xs ≡ ys ++ rest) × (drop (length ys) xs ≡ rest) × (pairs_under n rest ≡ rest) × ((m : ℕ) → m ≢ n → pairs_under m rest ≡ [])
   grown n xs ys (inl e) = let f : xs ≡ ys ++ [] = e ∙ sym (append-nil ys) in ([], f, ap (drop (length ys)) f ∙ drop-append_seam ys [], refl, λ m ne. refl)
-  grown n xs ys (inr p) = let new : List (ℕ × I) = (n, p.0) ∷ [] in
-      (new, p.1, ap (drop (length ys)) p.1 ∙ drop-append_seam ys new, own_pair n p.0, λ m ne. other_pair m n p.0 ne)
+  grown n xs ys (inr p) = grind (arith, drop-append_seam)

@@ -25,9 +25,6 @@ placed_hit made to owner n e = ap (λ b. cond b to (owner n)) (eq-eqb n made e)
 pub placed_miss : (made to : ℕ) (owner : ℕ → ℕ) (n : ℕ) → n ≢ made → placed made to owner n ≡ owner n
 placed_miss made to owner n ne = ap (λ b. cond b to (owner n)) (ne_eqb n made ne)
 
-only : (m n : ℕ) → Contains (m ∷ []) n → m ≡ n
-only m n h2 = grind arith
-
 pub brought_has : (o : Option ℕ) (joined : List ℕ) (n : ℕ) → (o ≡ Some n) ⊎ Contains joined n → Contains (brought o joined) n
 brought_has None joined n (inl e) = cc
 brought_has None joined n (inr h) = h
@@ -35,7 +32,7 @@ brought_has (Some m) joined n (inl e) = Contains-append_left (m ∷ []) joined n
 brought_has (Some m) joined n (inr h) = Contains-append_right (m ∷ []) joined n h
 
 pub brought_from : (o : Option ℕ) (joined : List ℕ) (n : ℕ) → Contains (brought o joined) n → (o ≡ Some n) ⊎ Contains joined n
-brought_from o joined n h = grind (arith, only)
+brought_from o joined n h = grind arith
 
 pub contains_none : (n : ℕ) → Contains [] n → ⊥
 contains_none n (k, lt, e) = omega arith
@@ -56,4 +53,4 @@ outside o e = cc
 
 -- only a lane with a number has the value out
 pub inside : (out : Bool) (o : Option ℕ) → (out ≡ true → IsSome o) → o ≡ None → out ≡ false
-inside out o h e = grind (arith, some_of)
+inside out o h e = grind arith

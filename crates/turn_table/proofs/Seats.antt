@@ -43,9 +43,7 @@ module _ {D G I : Type 0} (fixed_part : D → G) (list : D → List (ℕ × I)) 
     older n j h = let lt = h.0 in (omega arith, placed_miss k.made size k.owner n (λ e. omega arith) ∙ h.1)
 
     newer : (n j : ℕ) → j < size → (n < k.made + 1) × (owner n ≡ j) → (n < k.made) × (k.owner n ≡ j)
-    newer n j below h = dite (ℕ_discrete n k.made)
-        (λ e. let there : size ≡ j = sym (placed_hit k.made size k.owner n e) ∙ h.1 in absurd (omega arith))
-        (λ ne. let lt = h.0 in (omega arith, sym (placed_miss k.made size k.owner n ne) ∙ h.1))
+    newer n j below h = grind (arith, dite, placed_hit, placed_miss)
 
     -- the fact of a seat that was there, where its view changed at most in how many lanes it made
     aged : (j : ℕ) (u : View G I) → j < size → Fits g opening k.now lanes k.made word k.first k.holder k.owner j u → (made : ℕ) →
@@ -156,9 +154,7 @@ module _ {D G I : Type 0} (fixed_part : D → G) (list : D → List (ℕ × I)) 
 
     -- a number of neither lane stands where it stood; the numbers of both stand at the one seat
     elsewhere : (n j : ℕ) → j ≢ id → j ≢ other → holder_of n ≡ j → k.owner n ≡ j
-    elsewhere n j ne ne' e = dite (ℕ_discrete (k.owner n) other)
-        (λ hit. absurd (ne (sym e ∙ moved_hit other id (k.owner n) hit)))
-        (λ miss. sym (moved_miss other id (k.owner n) miss) ∙ e)
+    elsewhere n j ne ne' e = grind (arith, dite, moved_hit, moved_miss)
 
     stays : (n j : ℕ) → j ≢ other → k.owner n ≡ j → holder_of n ≡ j
     stays n j ne e = moved_miss other id (k.owner n) (λ f. ne (sym e ∙ f)) ∙ e
@@ -209,8 +205,7 @@ module _ {D G I : Type 0} (fixed_part : D → G) (list : D → List (ℕ × I)) 
 
     -- a view that holds the lock is at neither seat
     not_holding : (j : ℕ) (x u : View G I) → get_elem? views j ≡ some x → x.hold ≡ Free → get_elem? views j ≡ some u → hold_word u.hold ≡ word → word ≢ 0 → ⊥
-    not_holding j x u e free f is ne = let same : x ≡ u = some-injective x u (sym e ∙ f) in
-        ne (sym is ∙ (ap (λ (y : View G I). hold_word y.hold) (sym same) ∙ ap hold_word free))
+    not_holding j x u e free f is ne = grind (arith, some-injective)
 
     joined : Keeps word homes gathered
     joined =

@@ -1,5 +1,5 @@
 -- Views in a list, at their seats, and the slot that a seat has.
-use Rattle.std.proofs.Common.{◌≡◌, ◌≢◌, ◌⊎◌, ℕ, zero, suc, ◌<◌, List, [], ◌∷◌, ◌++◌, length, set, sym, refl, ap, ◌∙◌, subst, ⊎_elim, inl, inr, arith}
+use Rattle.std.proofs.Common.{◌≡◌, ◌≢◌, ◌⊎◌, ℕ, ◌<◌, List, [], ◌∷◌, ◌++◌, length, set, sym, ap, ◌∙◌, subst, arith}
 use mathlib.Core.Option.{some, some-injective, some-ne-none}
 use mathlib.Core.Logic.{dite}
 use native.Mathlib.Decide.{ℕ_discrete}
@@ -11,21 +11,17 @@ module _ {V : Type 0} where
   -- an element that is there lies below the length
   pub there_below : (vs : List V) (i : ℕ) (v : V) → get_elem? vs i ≡ some v → i < length vs
   there_below [] i v e = absurd (some-ne-none v (sym e))
-  there_below (x ∷ vs) zero v e = omega arith
-  there_below (x ∷ vs) (suc i) v e = let t = there_below vs i v e in omega arith
+  there_below (x ∷ vs) i v e = grind (arith, (there_below vs))
 
   -- with one element more, an element that is there was there, or is the new one at the end
   pub at_one_more : (vs : List V) (w u : V) (j : ℕ) → get_elem? (vs ++ w ∷ []) j ≡ some u → (get_elem? vs j ≡ some u) ⊎ ((j ≡ length vs) × (w ≡ u))
-  at_one_more [] w u zero e = inr (refl, some-injective w u e)
-  at_one_more [] w u (suc j) e = absurd (some-ne-none u (sym e))
-  at_one_more (x ∷ vs) w u zero e = inl e
-  at_one_more (x ∷ vs) w u (suc j) e = ⊎_elim (λ t. inl t) (λ t. inr (ap suc t.0, t.1)) (at_one_more vs w u j e)
+  at_one_more [] w u j e = grind (arith, some-injective, some-ne-none)
+  at_one_more (x ∷ vs) w u j e = grind (arith, (at_one_more vs))
 
   -- what holds of the seat that changes, and of the others, holds of all
   pub seats : (F : ℕ → V → Type 0) (vs : List V) (id : ℕ) (w : V) → F id w → ((j : ℕ) (u : V) → j ≢ id → get_elem? vs j ≡ some u → F j u)
       → (j : ℕ) (u : V) → get_elem? (set vs id w) j ≡ some u → F j u
-  seats F vs id w mine others j u there =
-      ⊎_elim (λ t. subst (λ k. F k u) (sym t.0) (subst (F id) t.1 mine)) (λ t. others j u t.0 t.1) (at_set vs id j w u there)
+  seats F vs id w mine others j u there = grind (arith, at_set)
 
   -- a seat with a fact is still there after a change that keeps the fact
   pub still : (P : V → Type 0) (vs : List V) (id : ℕ) (v w : V) → get_elem? vs id ≡ some v → (P v → P w) → (j : ℕ) → ((u : V) × (get_elem? vs j ≡ some u) × P u)
