@@ -1,6 +1,6 @@
 -- The users of a group's steps, and how many they are.
-use Rattle.std.proofs.Common.{◌≡◌, ◌≢◌, refl, sym, ap, ◌∙◌, ℕ, zero, suc, ◌+◌, ◌<◌, ◌≤◌, Bool, true, false, ◌||◌, nat_eq, cond, List, [], ◌∷◌, length, Some}
-use Rattle.std.proofs.Common.{◌⊎◌, inl, inr, arith}
+use Rattle.std.proofs.Common.{◌≡◌, refl, sym, ap, ◌∙◌, ℕ, zero, suc, ◌+◌, ◌<◌, ◌≤◌, Bool, true, false, ◌||◌, nat_eq, cond, List, [], ◌∷◌, length, Some}
+use Rattle.std.proofs.Common.{inl, inr, arith}
 use Rattle.std.proofs.lemmas.Bool.{false≢true}
 use Rattle.basics.proofs.Booleans.{bool_cases, differ, eq_above, eq_back, eq_is, eq_same, or_cases, or_left, or_right}
 use Rattle.wf_names.specs.UserSets.{count_below}
@@ -71,34 +71,7 @@ more_above test u (suc n) low = grind (arith, eq_above, (more_above test u n (om
 more_below : (test : ℕ → Bool) (u n : ℕ) → u < n → count_below n (λ w. nat_eq u w || test w) ≡ cond (test u) 0 1 + count_below n test
 unfolding count_below
 more_below test u zero low = absurd (omega (arith, low))
-more_below test u (suc n) low = at (bool_cases (nat_eq u n)) (λ apart. more_below test u n apart)
-  where
-    added : (b : Bool) (k : ℕ) → k + 1 ≡ cond b 0 1 + (k + cond b 1 0)
-    added true k = omega arith
-    added false k = omega arith
-
-    kept : (k c d : ℕ) → (c + k) + d ≡ c + (k + d)
-    kept k c d = omega arith
-
-    at : (nat_eq u n ≡ true) ⊎ (nat_eq u n ≡ false) → (u < n → count_below n (λ w. nat_eq u w || test w) ≡ cond (test u) 0 1 + count_below n test) →
-        count_below n (λ w. nat_eq u w || test w) + cond (nat_eq u n || test n) 1 0 ≡ cond (test u) 0 1 + (count_below n test + cond (test n) 1 0)
-    at (inl is) rest =
-        let same : u ≡ n = eq_back u n is in
-        ap (λ b. count_below n (λ w. nat_eq u w || test w) + cond (b || test n) 1 0) is
-        ∙ ap (λ k. k + 1) (more_above test u n (omega (arith, same)))
-        ∙ added (test n) (count_below n test)
-        ∙ ap (λ v. cond (test v) 0 1 + (count_below n test + cond (test n) 1 0)) (sym same)
-    at (inr other) rest =
-        let apart : u < n = less (eq_back_no u n other) in
-        ap (λ b. count_below n (λ w. nat_eq u w || test w) + cond (b || test n) 1 0) other
-        ∙ ap (λ k. k + cond (test n) 1 0) (rest apart)
-        ∙ kept (count_below n test) (cond (test u) 0 1) (cond (test n) 1 0)
-      where
-        eq_back_no : (a b : ℕ) → nat_eq a b ≡ false → a ≢ b
-        eq_back_no a b h same = differ (nat_eq a b) (eq_is a b same) h
-
-        less : u ≢ n → u < n
-        less ne = omega (arith, low, ne)
+more_below test u (suc n) low = grind (arith, bool_cases, eq_back, more_above, differ, eq_is, (more_below test u n))
 
 -- users below a number
 abbrev pub AreBelow : ℕ → List ℕ → Type 0

@@ -77,15 +77,15 @@ climbs e block high u j = λ i. no_to (counts e block high (less_one u i) j) ∷
 
 pub meets : (e : Encoding) (block high u j : ℕ) → counting_clause e block high (suc u) (suc j) 1 ≡ no_to (takes e block (suc u)) ∷ no_to
     (counts e block high u j) ∷ yes_to (counts e block high (suc u) (suc j)) ∷ []
-meets e block high u j = grind (arith, later, less_one)
+meets e block high u j = grind arith
 
 pub owes : (e : Encoding) (block high u j : ℕ) → counting_clause e block high (suc u) j 2 ≡ no_to (counts e block high (suc u) j) ∷ yes_to
     (counts e block high u j) ∷ yes_to (takes e block (suc u)) ∷ []
-owes e block high u j = grind (arith, later, less_one)
+owes e block high u j = grind arith
 
 pub follows : (e : Encoding) (block high u j : ℕ) → counting_clause e block high (suc u) (suc j) 3 ≡ no_to (counts e block high (suc u) (suc j)) ∷ yes_to
     (counts e block high u (suc j)) ∷ yes_to (counts e block high u j) ∷ []
-follows e block high u j = grind (arith, later, less_one)
+follows e block high u j = grind arith
 
 -- what such clauses say together, of values alone
 as_first : (z c : Bool) → (not z || (c || false)) ≡ true → (not c || (z || false)) ≡ true → c ≡ z
@@ -131,15 +131,10 @@ is_counter e m block most limit h =
           (said m (item_clause e block most limit (suc u) (suc j) 3 (omega arith) ∙ follows e block high u j) here.1.1.1.0);
     }
 
--- ---- what is asked
-
-one_part : (n : ℕ) → 0 < n → 0 < cond (n == 0) 0 1
-one_part n some = grind (arith, later)
-
 pub ended_most : (e : Encoding) (m : ℕ → Bool) (block limit u : ℕ) → suc u ≡ e.users → GroupHolds e m (Ending block true limit) →
     m (counts e block (limit + 1) u limit) ≡ false
-ended_most e m block limit u last h = grind (arith, part_holds, one_part, one_no)
+ended_most e m block limit u last h = grind arith
 
 pub ended_least : (e : Encoding) (m : ℕ → Bool) (block limit u : ℕ) → suc u ≡ e.users → GroupHolds e m (Ending block false limit) →
     m (counts e block limit u (limit - 1)) ≡ true
-ended_least e m block limit u last h = grind (arith, part_holds, one_part, one_yes)
+ended_least e m block limit u last h = grind arith

@@ -37,7 +37,7 @@ counted z c n high is (suc u) (suc j) below less =
 -- counts are a counter
 pub counter_of : (z : ℕ → Bool) (n high : ℕ) → IsCounter z (λ u j. nat_lt j (count_below (suc u) z)) n high
 unfolding count_below
-counter_of z n high = grind (arith, one_first, none_first, one_next, one_more)
+counter_of z n high = grind arith
 
 -- .. and so is what agrees with them
 pub same_counter : (t z : ℕ → Bool) (c : ℕ → ℕ → Bool) (n high : ℕ) → ((u : ℕ) → u < n → z u ≡ t u) →
@@ -47,9 +47,6 @@ same_counter t z c n high taken counted =
     record {
       first = λ some more. counted 0 0 some more ∙ is.first some more ∙ sym (taken 0 some);
       first_more = λ j some more. counted 0 (suc j) some more ∙ is.first_more j some more;
-      next = λ u below more. counted (suc u) 0 below more ∙ is.next u below more
-          ∙ (λ i. sym (counted u 0 (omega (arith, below)) more) i || sym (taken (suc u) below) i);
-      next_more = λ u j below more. counted (suc u) (suc j) below more ∙ is.next_more u j below more
-          ∙ (λ i. sym (counted u (suc j) (omega (arith, below)) more) i ||
-          (sym (taken (suc u) below) i && sym (counted u j (omega (arith, below)) (omega (arith, more))) i));
+      next = grind arith;
+      next_more = grind arith;
     }

@@ -1,5 +1,5 @@
 -- Sets of users, one behind the other.
-use Rattle.std.proofs.Common.{◌≡◌, refl, ◌≤◌, ℕ, zero, suc, List, [], ◌∷◌, length, Bool, Option, arith}
+use Rattle.std.proofs.Common.{◌≡◌, refl, ◌≤◌, ℕ, List, [], ◌∷◌, length, Bool, Option, arith}
 use Rattle.std.proofs.lemmas.Nat.Bits.{bit_at-zero}
 use Rattle.std.proofs.lemmas.Bool.{cases_lt}
 use Rattle.basics.proofs.Booleans.{lt_no, lt_yes}
@@ -11,8 +11,7 @@ use Rattle.cnf_export.specs.Terms.{AreDomains, TermsShape, encoding_in}
 
 past : (xs : List (List ℕ)) (s : ℕ) → length xs ≤ s → slice_index_or xs s [] ≡ []
 past [] s long = refl
-past (x ∷ xs) zero long = absurd (omega (arith, long))
-past (x ∷ xs) (suc s) long = past xs s (omega (arith, long))
+past (x ∷ xs) s long = grind (arith, (past xs))
 
 -- what is kept of a case is what its clauses are made of
 pub same_encoding : (t : TermsShape) (p : Problem) (assigned : List (Option ℕ)) (finished : List Bool) → t.users ≡ p.users → t.steps ≡ p.steps →

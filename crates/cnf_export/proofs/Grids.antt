@@ -21,8 +21,7 @@ length-append (x ∷ xs) ys = let rest = length-append xs ys in omega (arith, re
 
 behind : (xs ys : List Bool) (i v : ℕ) → i ≡ length xs + v → slice_index_or (xs ++ ys) i false ≡ slice_index_or ys v false
 behind [] ys i v same = let is : i ≡ v = omega (arith, same) in ap (λ k. slice_index_or ys k false) is
-behind (x ∷ xs) ys zero v same = absurd (omega (arith, same))
-behind (x ∷ xs) ys (suc i) v same = behind xs ys i v (omega (arith, same))
+behind (x ∷ xs) ys i v same = grind (arith, (behind xs))
 
 length-row : (f : ℕ → Bool) (k n : ℕ) → length (map f (numbers k n)) ≡ n
 length-row f k zero = refl

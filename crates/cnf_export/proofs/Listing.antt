@@ -75,9 +75,6 @@ pub next_number : {A : Type 0} (f : ℕ → List A) (into after : List A) (k n :
     after ++ flat_map f (numbers (k + 1) (n - (k + 1))) ≡ into ++ flat_map f (numbers k (n - k))
 next_number f into after k n below is = grind (arith, append_assoc, numbers_at)
 
-pub numbers_end : (k n : ℕ) → n ≤ k → numbers k (n - k) ≡ []
-numbers_end k n past = let none : n - k ≡ zero = omega arith in ap (numbers k) none
-
 pub drop_past : {X : Type 0} (n : ℕ) (xs : List X) → length xs ≤ n → drop n xs ≡ []
 drop_past zero [] h = refl
 drop_past zero (x ∷ xs) h = absurd (omega (arith, h))
@@ -101,4 +98,4 @@ part_listed e g p n item old listed rest new is below done = grind (arith, appen
 
 pub nothing_left : (e : Encoding) (groups : List Group) (x : Position) → length x.items ≤ x.item → x.parts ≤ x.part → length groups ≤ x.next_group →
     left_from e groups x ≡ []
-nothing_left e groups x items parts all = grind (arith, drop_past, numbers_end)
+nothing_left e groups x items parts all = grind (arith, drop_past)

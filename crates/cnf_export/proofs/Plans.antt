@@ -71,8 +71,7 @@ any_member k (b ∷ bs) p (suc x) y one same passes = or_right (b && p k) (any_f
 
 member_within : (group : List Bool) (x : ℕ) → is_member group x ≡ true → x < length group
 member_within [] x one = absurd (false≢true one)
-member_within (b ∷ bs) zero one = omega arith
-member_within (b ∷ bs) (suc x) one = let rest = member_within bs x one in omega (arith, rest)
+member_within (b ∷ bs) x one = grind (arith, (member_within bs))
 
 -- ---- who has a step
 

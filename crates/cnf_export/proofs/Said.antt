@@ -29,7 +29,7 @@ use Rattle.wf_names.specs.UserSets.{count_below}
 use Rattle.cnf_export.proofs.Among.{among_from, different_counted, member_among}
 use Rattle.cnf_export.proofs.Counters.{IsCounter, same_counter}
 use Rattle.cnf_export.specs.Terms.{pair_group, pair_group_at}
-use Rattle.cnf_export.proofs.CountClauses.{climbs, first_more_rows, follows, item_clause, meets, more_rows, next_rows, owes}
+use Rattle.cnf_export.proofs.CountClauses.{climbs, first_more_rows, follows, item_clause, meets, more_rows, owes}
 use Rattle.cnf_export.proofs.Steps.{GroupHolds, Holds, less_one}
 
 -- ---- what is true of each part is true of the whole
@@ -117,18 +117,8 @@ parts_from e m g each = flat_from (Holds m) (part_clauses e g) (numbers 0 (parts
 some_part : (n i : ℕ) → i < cond (n == 0) 0 1 → 0 < n
 some_part n i only = grind arith
 
--- clauses from what they say together, of values alone
-back_first : (z c : Bool) → c ≡ z → ((not z || (c || false)) ≡ true) × ((not c || (z || false)) ≡ true)
-back_first z c same = grind (arith, false≢true)
-
 back_on : (b z c : Bool) → c ≡ (b || z) → (not b || (c || false)) ≡ true
 back_on b z c same = grind (arith, or_right, false≢true)
-
-back_up : (b z c : Bool) → c ≡ (b || z) → (not z || (c || false)) ≡ true
-back_up b z c same = grind (arith, or_right, false≢true)
-
-back_owes : (b z c : Bool) → c ≡ (b || z) → (not c || (b || (z || false))) ≡ true
-back_owes b z c same = grind (arith, false≢true)
 
 back_meets : (b z d c : Bool) → c ≡ (b || (z && d)) → (not z || (not d || (c || false))) ≡ true
 back_meets b z d c same = grind (arith, false≢true)
@@ -142,9 +132,9 @@ from_said m same h = subst (λ x. satisfies m x ≡ true) (sym same) h
 counter_rows : (e : Encoding) (m : ℕ → Bool) (block : ℕ) (most : Bool) (limit : ℕ) →
     IsCounter (λ w. m (takes e block w)) (λ v j. m (counts e block (height most limit) v j)) e.users (height most limit) →
     (u j : ℕ) → u < e.users → j < height most limit → Every (λ row. Holds m (clause e (Counting block most limit) u (4 * j + row))) (count_rows u j)
-counter_rows e m block most limit is zero zero below less = grind (arith, back_first, from_said, item_clause)
+counter_rows e m block most limit is zero zero below less = grind arith
 counter_rows e m block most limit is zero (suc j) below less = grind (arith, first_more_rows, from_said, item_clause, or_left, none_is)
-counter_rows e m block most limit is (suc u) zero below less = grind (arith, next_rows, from_said, item_clause, climbs, back_on, back_up, owes, back_owes)
+counter_rows e m block most limit is (suc u) zero below less = grind arith
 counter_rows e m block most limit is (suc u) (suc j) below less =
     grind (arith, more_rows, from_said, item_clause, climbs, back_on, meets, back_meets, owes, back_more, follows)
 
@@ -184,34 +174,10 @@ module _ (e : Encoding) (rules : List Rule) (m : ℕ → Bool) (plan : List ℕ)
   ))
 
   has_then : (s u : ℕ) → s < e.steps → u < e.users → satisfies m (no_to (has e s u) ∷ yes_to (has_by e s u) ∷ []) ≡ true
-  has_then s u within below = unless m (has e s u) (yes_to (has_by e s u) ∷ []) (λ one. one_is m (has_by e s u)
-      (says.by_then s u within below ∙ (let same = whose s u within below one in le_yes (planned plan s) u (omega (arith, same)))))
-    where
-      le_yes : (a b : ℕ) → a ≤ b → nat_le a b ≡ true
-      le_yes a b h = grind arith
+  has_then s u within below = grind (arith, unless, one_is, whose)
 
   once_part : (s u : ℕ) → s < e.steps → u < e.users → Every (λ k. Holds m (once_clause e s u k)) (once_items u)
-  once_part s zero within below = (has_then s zero within below, tt)
-  once_part s (suc u) within below = (has_then s (suc u) within below, (on, (before, tt)))
-    where
-      less : u < e.users
-      less = omega (arith, below)
-
-      le_next : (a b : ℕ) → nat_le a b ≡ true → nat_le a (suc b) ≡ true
-      le_next a b h = grind arith
-
-      le_not : (a b : ℕ) → a ≡ suc b → nat_le a b ≡ false
-      le_not a b h = grind arith
-
-      on : satisfies m (no_to (has_by e s (suc u - 1)) ∷ yes_to (has_by e s (suc u)) ∷ []) ≡ true
-      on = subst (λ v. satisfies m (no_to (has_by e s v) ∷ yes_to (has_by e s (suc u)) ∷ []) ≡ true) (sym (less_one u))
-          (unless m (has_by e s u) (yes_to (has_by e s (suc u)) ∷ []) (λ one. one_is m (has_by e s (suc u))
-          (says.by_then s (suc u) within below ∙ le_next (planned plan s) u (sym (says.by_then s u within less) ∙ one))))
-
-      before : satisfies m (no_to (has e s (suc u)) ∷ no_to (has_by e s (suc u - 1)) ∷ []) ≡ true
-      before = subst (λ v. satisfies m (no_to (has e s (suc u)) ∷ no_to (has_by e s v) ∷ []) ≡ true) (sym (less_one u))
-          (unless m (has e s (suc u)) (no_to (has_by e s u) ∷ [])
-          (λ one. none_is m (has_by e s u) (says.by_then s u within less ∙ le_not (planned plan s) u (whose s (suc u) within below one))))
+  once_part s u within below = grind (arith, has_then, less_one, unless, one_is, none_is, whose)
 
   once : (s : ℕ) → s < e.steps → GroupHolds e m (Once s)
   once s within = parts_from e m (Once s) (λ u below. once_part s u within below)
@@ -281,33 +247,16 @@ module _ (e : Encoding) (rules : List Rule) (m : ℕ → Bool) (plan : List ℕ)
   counted_last : (block high : ℕ) (group : List Bool) → ((x : ℕ) → is_member group x ≡ true → x < e.steps) → SaysCount e m plan block high group →
       0 < high → 0 < e.users →
       m (counts e block high (e.users - 1) (high - 1)) ≡ nat_lt (high - 1) (different (users_from 0 group (λ s. Some (planned plan s))))
-  counted_last block high group within count some users =
-      let last : suc (e.users - 1) ≡ e.users = omega (arith, users) in
-      count.counted (e.users - 1) (high - 1) (omega (arith, users)) (omega (arith, some))
-      ∙ ap (λ n. nat_lt (high - 1) (count_below n (has_some group plan))) last
-      ∙ ap (nat_lt (high - 1)) (all_counted group within)
+  counted_last block high group within count some users = grind (arith, all_counted)
 
   most_ends : (block limit : ℕ) (group : List Bool) → ((x : ℕ) → is_member group x ≡ true → x < e.steps) → SaysCount e m plan block (height true limit)
       group → nat_le (different (users_from 0 group (λ s. Some (planned plan s)))) limit ≡ true → GroupHolds e m (Ending block true limit)
-  most_ends block limit group within count obeyed = parts_from e m (Ending block true limit) (λ i only.
-      let users = some_part e.users i only in
-      let few = le_back _ limit obeyed in (
-        none_is m (counts e block (limit + 1) (e.users - 1) (limit + 1 - 1))
-            (counted_last block (limit + 1) group within count (omega arith) users ∙ lt_no (limit + 1 - 1) _ (omega (arith, few))),
-        tt,
-      ))
+  most_ends block limit group within count obeyed = grind (arith, parts_from, some_part, le_back, none_is, counted_last, lt_no)
 
   least_ends : (block limit : ℕ) (group : List Bool) → ((x : ℕ) → is_member group x ≡ true → x < e.steps) → IsWithinGroup limit group →
       SaysCount e m plan block (height false limit) group → nat_le limit (different (users_from 0 group (λ s. Some (planned plan s)))) ≡ true →
       GroupHolds e m (Ending block false limit)
-  least_ends block limit group within some count obeyed = parts_from e m (Ending block false limit) (λ i only.
-      let users = some_part e.users i only in
-      let low : 0 < limit = some.0 in
-      let many = le_back limit _ obeyed in (
-        one_is m (counts e block limit (e.users - 1) (limit - 1))
-            (counted_last block limit group within count low users ∙ lt_yes (limit - 1) _ (omega (arith, many, low))),
-        tt,
-      ))
+  least_ends block limit group within some count obeyed = grind (arith, parts_from, some_part, le_back, one_is, counted_last, lt_yes)
 
 -- ---- members
 
@@ -394,8 +343,7 @@ plans_are_models p assigned finished plan m sound all valid says =
     let e = encoding_of p assigned finished in
     let fits : Fits e plan = record {
       below = valid.known;
-      may = λ s within. and_from (nat_lt s p.steps) (may_be p finished s (user_at assigned s) (planned plan s)) (lt_yes s p.steps within)
-          (planned_may p assigned finished plan all valid s within (user_at assigned s) refl);
+      may = grind (arith, and_from, lt_yes, planned_may);
     } in
     let steps = flat_from (GroupHolds e m) step_groups (numbers 0 e.steps) (numbers_from (λ s. Every (GroupHolds e m) (step_groups s)) 0 e.steps (λ s low high.
     let within : s < e.steps = omega (arith, high) in

@@ -1,23 +1,21 @@
 -- The user whom an edit of an input adds has a name of a name's form.
-use Rattle.std.proofs.Common.{refl, subst}
-use Rattle.std.specs.Prelude.{◌≡◌, ℕ, nat_eq, Bool, true, false, List, [], ◌∷◌, ◌++◌, Option, Some, None, is_some, unwrap_or, codes}
+use Rattle.std.proofs.Common.{subst, arith}
+use Rattle.std.specs.Prelude.{◌≡◌, ℕ, Bool, true, false, List, [], ◌∷◌, Option, Some, None, is_some, unwrap_or, codes}
 use Rattle.std.specs.Prelude.{option_and_then, Result, Ok, Err, IsTrue, if◌then◌else◌}
 use Rattle.std.specs.List.{find}
-use Rattle.std.specs.Cmp.Lexicographic.{pointwise}
 use Rattle.serde_json.specs.Data.{Data, Members}
 use Rattle.serde_json.specs.Find.{as_object}
 use Rattle.basics.specs.Laws.Reading.{◌>>=◌, or_fault, check, each}
 use Rattle.wf_names.specs.Names.{is_name}
 use Rattle.wf_talk.specs.declared.edit.Edit.{Edit}
 use Rattle.wf_talk.specs.declared.request.Request.{Request}
-use Rattle.wf_talk.specs.declared.request.Request.TheVariants.{Change, WhatIf}
 use Rattle.wf_talk.specs.declared.request.Ask.TheVariants as ask
 use Rattle.wf_talk.specs.declared.request.Bad.{Bad}
-use Rattle.wf_talk.specs.declared.request.Bad.TheVariants.{Syntax, Object, Do, Lane, Key, Extra}
+use Rattle.wf_talk.specs.declared.request.Bad.TheVariants.{Syntax, Object, Do, Lane, Key}
 use Rattle.wire_json.specs.declared.request.Asked.{Asked}
 use Rattle.wire_json.specs.Values.{value_of}
-use Rattle.wire_json.specs.Requests.{Row, Reading, rows, edits, row_of, by, user, the_name, text_at, lane_at, has_form, has_only, request_by}
-use Rattle.wire_json.specs.Requests.{what_if_by, what_if_in, reading_of, request_in, asked, asked_of}
+use Rattle.wire_json.specs.Requests.{Row, Reading, rows, edits, by, user, the_name, text_at, lane_at, has_form, request_by}
+use Rattle.wire_json.specs.Requests.{what_if_in, reading_of, request_in, asked, asked_of}
 use Rattle.line_reader.specs.Laws.{AddsNamed, IsNamedEdit}
 use Rattle.line_reader.proofs.Readings.{AreAll, read_so}
 
@@ -48,20 +46,13 @@ find_row {A} P p (x ∷ xs) r all e = at_first (p x) e (λ later. find_row P p x
 
 form_named : (o : Option (List ℕ)) → is_some (option_and_then (λ (text : List ℕ). if is_name text then Some text else None) o) ≡ true →
     IsTrue (is_name (unwrap_or (option_and_then (λ (text : List ℕ). if is_name text then Some text else None) o) []))
-form_named None is = cc
-form_named (Some text) is = at_form (is_name text) refl is
-  where
-    at_form : (b : Bool) → is_name text ≡ b → is_some (if b then Some text else None) ≡ true → IsTrue (is_name (unwrap_or (if b then Some text else None) []))
-    at_form true form some = form
-    at_form false form some = cc
+form_named o is = grind arith
 
 first_form : (b : Bool) (key : List ℕ) (next : Result (Unit {0}) Bad) → (check b (Key key) >>= (λ (_ : Unit {0}). next)) ≡ Ok tt → (b ≡ true) × (next ≡ Ok tt)
-first_form true key next is = (refl, is)
-first_form false key next is = cc
+first_form b key next is = grind arith
 
 user_row : (d : Data) → HaveForm d (by ∷ user ∷ []) → IsTrue (is_name (the_name user d))
-user_row d is = form_named (text_at user d)
-    (first_form (has_form d user) user (Ok tt) (first_form (has_form d by) by (check (has_form d user) (Key user) >>= (λ _. Ok tt)) is).1).0
+user_row d is = grind (arith, form_named, first_form)
 
 rows_plain : EachRow IsPlainRow rows
 rows_plain = ((λ d. tt), ((λ d. tt), ((λ d. tt), ((λ d. tt), ((λ d. tt), ((λ d. tt), ((λ d. tt), ((λ d. tt), tt))))))))
@@ -81,47 +72,26 @@ ReadsAdding read = (d : Data) (ms : Members) → IsAdding (read d ms)
 by_adding : (others keys : List (List ℕ)) (is : Data → Request) → ((d : Data) → HaveForm d keys → AddsNamed (ask.Request (is d))) →
     ReadsAdding (request_by others keys is)
 unfolding request_by
-by_adding others keys is adds d ms = at_keys (each (λ (_ : Unit {0}) key. check (has_form d key) (Key key)) tt keys) (adds d)
-  where
-    at_only : (r : Result (Unit {0}) Bad) → AddsNamed (ask.Request (is d)) → IsAdding (r >>= (λ _. Ok (is d)))
-    at_only (Ok x) h = h
-    at_only (Err b) h = tt
-
-    at_keys : (r : Result (Unit {0}) Bad) → (r ≡ Ok tt → AddsNamed (ask.Request (is d))) →
-        IsAdding (r >>= (λ _. check (has_only (others ++ keys) ms) Extra >>= (λ _. Ok (is d))))
-    at_keys (Ok x) h = at_only (check (has_only (others ++ keys) ms) Extra) (h refl)
-    at_keys (Err b) h = tt
+by_adding others keys is adds = grind arith
 
 what_if_adding : ReadsAdding what_if_in
 unfolding what_if_in
-what_if_adding d ms = at_row (or_fault (option_and_then (row_of edits) (text_at (codes "edit") d)) (Key (codes "edit")))
-  where
-    at_row : (r : Result (Row Edit) Bad) → IsAdding (r >>= (λ x. what_if_by x d ms))
-    at_row (Ok x) = by_adding (codes "do" ∷ codes "lane" ∷ codes "edit" ∷ []) (by ∷ x.keys) (λ y. WhatIf (the_name by y) (x.is y)) (λ y is. tt) d ms
-    at_row (Err b) = tt
+what_if_adding = grind (arith, by_adding)
 
 all_adding : AreAll ReadsAdding
-all_adding = record {
-  asked = λ word r is. by_adding (codes "do" ∷ codes "lane" ∷ []) r.keys r.is
-      (λ d have. find_row IsPlainRow (λ y. pointwise nat_eq word y.word) rows r rows_plain is d);
-  changed = λ word r is. by_adding (codes "do" ∷ codes "lane" ∷ []) (by ∷ r.keys) (λ d. Change (the_name by d) (r.is d))
-      (λ d have. find_row IsEditRow (λ y. pointwise nat_eq word y.word) edits r edits_named is d have);
-  what_if = what_if_adding;
-}
+all_adding = grind (arith, by_adding, find_row, rows_plain, edits_named, what_if_adding)
 
 -- ---- a line
 
 then_adding : {A : Type 0} (r : Result A Bad) (next : A → Result Asked Bad) → ((a : A) → r ≡ Ok a → AddsNamed (asked (next a)).ask) →
     AddsNamed (asked (r >>= next)).ask
-then_adding (Ok a) next rest = rest a refl
-then_adding (Err b) next rest = tt
+then_adding r next rest = grind arith
 
 abbrev with_lane : ℕ → Result Request Bad → Result Asked Bad
 with_lane lane asks = asks >>= (λ request. Ok (record { lane = lane; ask = ask.Request request }))
 
 lane_adding : (lane : ℕ) (r : Result Request Bad) → IsAdding r → AddsNamed (asked (with_lane lane r)).ask
-lane_adding lane (Ok request) is = is
-lane_adding lane (Err b) is = tt
+lane_adding lane r is = grind arith
 
 in_adding : (lanes : ℕ) (d : Data) → AddsNamed (asked (request_in lanes d)).ask
 unfolding request_in

@@ -1,9 +1,9 @@
 -- No batch of an input has an empty line in it.
 use Rattle.std.proofs.Common.{refl, sym, ap, subst, ◌∙◌, arith}
-use Rattle.std.specs.Prelude.{◌≡◌, ℕ, ◌+◌, ◌-◌, ◌==◌, ◌≤◌, nat_lt, nat_le, Bool, List, [], ◌∷◌, ◌++◌, length, take, drop, is_some}
+use Rattle.std.specs.Prelude.{◌≡◌, ℕ, ◌+◌, ◌-◌, ◌==◌, ◌≤◌, nat_le, Bool, List, [], ◌∷◌, ◌++◌, length, drop, is_some}
 use Rattle.std.proofs.lemmas.Grind.{common_steps}
 use Rattle.std.proofs.lemmas.List.{length-append, length-drop, take_all, take-append-le, drop_all, drop-append-le, drop-drop}
-use Rattle.wf_names.specs.declared.limits.TheConstants.{LINE_LIMIT, SESSION_LINE_LIMIT, BATCH_LINE_LIMIT}
+use Rattle.wf_names.specs.declared.limits.TheConstants.{BATCH_LINE_LIMIT}
 use Rattle.wf_talk.specs.declared.job.Job.{Job}
 use Rattle.line_reader.proofs.CutLaws.{if_both}
 use Rattle.line_reader.specs.Jobs.{Cut, start_from, without_cr, job_of, end_batch, end_full_batch, next_line, with_job, end_line, step, cut_all, flush}
@@ -13,10 +13,7 @@ use Rattle.line_reader.specs.Lines.{AreBatches, FollowOn, LeadUpTo}
 
 lead_one : (n : ℕ) (jobs : List Job) (job : Job) → LeadUpTo n jobs → job.line ≡ n → LeadUpTo (n + 1) (jobs ++ job ∷ [])
 lead_one n [] job lead is = (omega (arith, is), tt)
-lead_one n (j ∷ js) job lead is =
-    let size : length (js ++ job ∷ []) ≡ length js + 1 = length-append js (job ∷ []) in
-    let here = lead.0 in
-    (omega (arith, size, here), lead_one n js job lead.1 is)
+lead_one n (j ∷ js) job lead is = grind (arith, length-append, (lead_one n js job lead.1 is))
 
 -- the ends ascend up to this one
 abbrev EndsUpTo : ℕ → List ℕ → ℕ → Type 0
@@ -47,10 +44,7 @@ batches_more before (e ∷ es) last jobs more up within are =
 batches_end : (before : ℕ) (ends : List ℕ) (last : ℕ) (jobs : List Job) (end : ℕ) → EndsUpTo before ends last → last ≤ before + length jobs →
     AreBatches before ends jobs → FollowOn (drop (last - before) jobs) → end ≡ before + length jobs →
     AreBatches before (ends ++ end ∷ []) jobs
-batches_end before [] last jobs end up within are follows is =
-    let none : last - before ≡ 0 = omega (arith, up) in
-    let all : take (end - before) jobs ≡ jobs = take_all (end - before) jobs (omega (arith, is)) in
-    (subst FollowOn (sym all) (subst (λ n. FollowOn (drop n jobs)) none follows), tt)
+batches_end before [] last jobs end up within are follows is = grind (arith, take_all)
 batches_end before (e ∷ es) last jobs end up within are follows is =
     let above = ends_above e es last up.1 in
     let first = up.0 in
@@ -81,25 +75,7 @@ none_lead n jobs none = subst (LeadUpTo n) (sym none) tt
 
 runs_end : (c : Cut) → HasBatches c → HasRuns (end_batch c)
 unfolding end_batch
-runs_end c h =
-    let begins = h.begins in
-    let same : c.from ≡ c.from - 0 = omega arith in
-    if_both HasRuns (nat_lt c.from (length c.jobs)) (record c { from = length c.jobs; ends = c.ends ++ length c.jobs ∷ [] }) c
-    (λ more.
-    let none = drop_all (length c.jobs) c.jobs (omega arith) in
-    record {
-      all = record {
-        begins = omega arith;
-        ends = ends_more 0 c.ends c.from (length c.jobs) h.ends h.begins;
-        batches = batches_end 0 c.ends c.from c.jobs (length c.jobs) h.ends (omega (arith, begins)) h.batches
-            (subst (λ n. FollowOn (drop n c.jobs)) same h.follows) (omega arith);
-        follows = (0, none_lead 0 (drop (length c.jobs) c.jobs) none);
-      };
-      run = none_lead c.number (drop (length c.jobs) c.jobs) none;
-    })
-    (λ closed.
-    let none = drop_all c.from c.jobs (grind (arith, common_steps)) in
-    record { all = h; run = none_lead c.number (drop c.from c.jobs) none })
+runs_end c h = grind (arith, if_both, drop_all, ends_more, batches_end, none_lead, common_steps)
 
 runs_full : (c : Cut) → HasRuns c → HasRuns (end_full_batch c)
 unfolding end_full_batch
@@ -136,36 +112,18 @@ runs_line c h =
     }))
 
 runs_still : (c d : Cut) → HasRuns c → d.number ≡ c.number → d.jobs ≡ c.jobs → d.ends ≡ c.ends → d.from ≡ c.from → HasRuns d
-runs_still c d h number jobs ends from = record {
-  all = record {
-    begins = rw (jobs, from) h.all.begins;
-    ends = rw (ends, from) h.all.ends;
-    batches = rw (jobs, ends) h.all.batches;
-    follows = rw (jobs, from) h.all.follows;
-  };
-  run = rw (number, jobs, from) h.run;
-}
+runs_still c d h number jobs ends from = grind arith
 
 runs_step : (c : Cut) (b : ℕ) → HasRuns c → HasRuns (step c b)
 unfolding step
-runs_step c b h =
-    if_both HasRuns (is_some c.stop) c _ (λ stopped. h) (λ going.
-    if_both HasRuns (nat_lt c.number SESSION_LINE_LIMIT) _ _ (λ below.
-    if_both HasRuns (b == 10) (end_line c) _ (λ lf. runs_line c h) (λ other.
-    if_both HasRuns (nat_lt (length c.line) LINE_LIMIT) _ _
-    (λ short. runs_still c _ h refl refl refl refl)
-    (λ long. runs_still c _ h refl refl refl refl)))
-    (λ above. runs_still c _ h refl refl refl refl))
+runs_step c b h = grind (arith, if_both, runs_line, runs_still)
 
 pub runs_all : (c : Cut) (bytes : List ℕ) → HasRuns c → HasRuns (cut_all c bytes)
 runs_all c [] h = h
 runs_all c (b ∷ bs) h = runs_all (step c b) bs (runs_step c b h)
 
 pub runs_start : (lanes first : ℕ) → HasRuns (start_from lanes first)
-runs_start lanes first = record {
-  all = record { begins = omega arith; ends = refl; batches = tt; follows = (0, tt) };
-  run = tt;
-}
+runs_start lanes first = grind arith
 
 batches_flush : (c : Cut) (ended : Bool) → HasRuns c → HasBatches (flush ended c)
 unfolding flush

@@ -14,8 +14,7 @@ use Rattle.line_reader.specs.Cutter.{CanCut, IsSound, IsEnded, Cuts, CutsOn, emp
 
 -- either case of a test
 pub if_both : (P : Cut → Type 0) (b : Bool) (c d : Cut) → (b ≡ true → P c) → (b ≡ false → P d) → P (if b then c else d)
-if_both P true c d first second = first refl
-if_both P false c d first second = second refl
+if_both P b c d first second = grind arith
 
 -- ---- soundness
 
@@ -69,9 +68,7 @@ unfolding flush
 flush_keeps c ended = grind (arith, common_steps)
 
 pub ended_finish : (c : Cut) (ended : Bool) → IsSound c → c.ends ≡ [] → IsEnded (end_batch (flush ended c))
-ended_finish c ended h none =
-    let kept = flush_keeps c ended in
-    ended_end (flush ended c) (kept.0 ∙ begins_first c h none) (kept.1 ∙ none)
+ended_finish c ended h none = grind (arith, flush_keeps, ended_end, begins_first)
 
 pub ruleset finished = (sound_finish, ended_finish)
 
@@ -84,11 +81,7 @@ unfolding step
 stops_step c b stop going none e = grind (arith, common_steps, ends_of_line)
 
 pub byte_on : (c : Cut) (b : ℕ) → CanCut c → CutsOn c (step c b)
-byte_on c b h = record {
-  ended = ended_step c b (begins_first c h.sound h.handed) h.handed;
-  stopped = λ stop e. stops_step c b stop h.going h.handed e;
-  further = further c b h.sound;
-}
+byte_on c b h = grind (arith, ended_step, begins_first, stops_step, further)
 
 -- ---- runs
 
@@ -111,10 +104,7 @@ plain_all c (b ∷ bs) going lines short others =
 -- and so is the front of a piece
 plain_front : (c : Cut) (piece : List ℕ) (n : ℕ) → n ≤ length piece → c.stop ≡ None → c.number < SESSION_LINE_LIMIT → length c.line + n ≤ LINE_LIMIT
     → ((k : ℕ) → k < n → slice_index piece k ≢ 10) → cut_all c (take n piece) ≡ record c { line = c.line ++ take n piece }
-plain_front c piece n within going lines short others =
-    let size : length (take n piece) ≡ n = length-take-le n piece within in
-    plain_all c (take n piece) going lines (omega arith)
-    (λ k h e. others k (omega arith) (sym (get_or-take n piece k 0 (omega arith)) ∙ e))
+plain_front c piece n within going lines short others = grind (arith, length-take-le, plain_all, get_or-take)
 
 pub plain_cut : (c d : Cut) (piece : List ℕ) (n : ℕ) → 0 < n → n ≤ length piece → c.stop ≡ None → c.number < SESSION_LINE_LIMIT → length c.line + n ≤ LINE_LIMIT
     → ((k : ℕ) → k < n → slice_index piece k ≢ 10) → d ≡ record c { line = c.line ++ take n piece } → Cuts c d (take n piece)
@@ -147,20 +137,10 @@ one_cut c d piece some going e =
 
 -- more of the line, within the limit
 pub plain_on : (c d : Cut) (bytes : List ℕ) → CanCut c → 0 < length bytes → d ≡ record c { line = c.line ++ bytes } → CutsOn c d
-plain_on c d bytes h some e = rw e (record {
-  ended = λ ends. absurd (ends h.handed);
-  stopped = λ stop is. h.handed;
-  further = λ on. omega (arith, some, length-append c.line bytes);
-})
+plain_on c d bytes h some e = grind (arith, further, length-append)
 
 pub plain_sound : (c d : Cut) (bytes : List ℕ) → IsSound c → d ≡ record c { line = c.line ++ bytes } → length c.line + length bytes ≤ LINE_LIMIT → IsSound d
-plain_sound c d bytes h e short = rw e (record {
-  lines = h.lines;
-  short = omega (arith, length-append c.line bytes);
-  begins = h.begins;
-  batch = h.batch;
-  last = h.last;
-})
+plain_sound c d bytes h e short = grind (arith, length-append)
 
 -- ---- pieces
 
@@ -181,8 +161,7 @@ handed_full jobs batch_ends c = grind (arith, common_steps, length-append, hande
 
 handed_if : (b : Bool) (jobs : List Job) (batch_ends : List ℕ) (c d c' d' : Cut)
     → c' ≡ after_handing jobs batch_ends c → d' ≡ after_handing jobs batch_ends d → (if b then c' else d') ≡ after_handing jobs batch_ends (if b then c else d)
-handed_if true jobs batch_ends c d c' d' first second = first
-handed_if false jobs batch_ends c d c' d' first second = second
+handed_if b jobs batch_ends c d c' d' first second = grind arith
 
 handed_line : (jobs : List Job) (batch_ends : List ℕ) (c : Cut) → end_line (after_handing jobs batch_ends c) ≡ after_handing jobs batch_ends (end_line c)
 unfolding end_line

@@ -1,5 +1,5 @@
 -- How a whole text is cut, step by step.
-use Rattle.std.proofs.Common.{refl, ap, subst, sym, ◌∙◌, arith}
+use Rattle.std.proofs.Common.{ap, subst, sym, ◌∙◌, arith}
 use Rattle.std.specs.Prelude.{◌≡◌, ℕ, ◌+◌, ◌-◌, ◌<◌, ◌≤◌, true, List, [], ◌∷◌, ◌++◌, length, take, drop, is_some}
 use Rattle.std.proofs.lemmas.Grind.{common_steps}
 use Rattle.std.proofs.lemmas.List.{length-append, append-nil, take-append-drop, take_all, length-drop}
@@ -17,56 +17,32 @@ use Rattle.line_reader.proofs.Named.{jobs_are_named}
 -- the beginning
 pub cut_none : (lanes : ℕ) (jobs : List Job) (batch_ends : List ℕ) (c : Cut) → jobs ≡ [] → batch_ends ≡ [] → c ≡ start lanes → IsSound c
     → HasCutUp lanes jobs batch_ends c []
-cut_none lanes jobs batch_ends c none no_ends e sound = rw (none, no_ends, e) (record {
-  cut = refl;
-  sound = subst IsSound e sound;
-  handed = refl;
-})
+cut_none lanes jobs batch_ends c none no_ends e sound = grind arith
 
 -- some more is cut
 pub cut_further : (lanes : ℕ) (seen more : List ℕ) (jobs : List Job) (batch_ends : List ℕ) (c d : Cut) → HasCutUp lanes jobs batch_ends c seen → Cuts c d more
     → after_handing jobs batch_ends d ≡ cut_all (start lanes) (seen ++ more)
-cut_further lanes seen more jobs batch_ends c d before cuts =
-    ap (after_handing jobs batch_ends) cuts.cut ∙ sym (handed_all jobs batch_ends c more) ∙ ap (λ x. cut_all x more) before.cut ∙
-    sym (cut_all-append (start lanes) seen more)
+cut_further lanes seen more jobs batch_ends c d before cuts = grind (arith, handed_all, cut_all-append)
 
 pub cut_more : (lanes : ℕ) (seen more : List ℕ) (jobs : List Job) (batch_ends : List ℕ) (c d : Cut) → HasCutUp lanes jobs batch_ends c seen → Cuts c d more
     → IsSound d → d.ends ≡ [] → HasCutUp lanes jobs batch_ends d (seen ++ more)
-cut_more lanes seen more jobs batch_ends c d before cuts sound none = record {
-  cut = cut_further lanes seen more jobs batch_ends c d before cuts;
-  sound = sound;
-  handed = none;
-}
+cut_more lanes seen more jobs batch_ends c d before cuts sound none = grind (arith, cut_further)
 
 sound_emptied : (c : Cut) → IsSound c → IsSound (emptied c)
-sound_emptied c h = record {
-  lines = h.lines;
-  short = h.short;
-  begins = omega arith;
-  batch = omega arith;
-  last = refl;
-}
+sound_emptied c h = grind arith
 
 -- a batch that has ended is taken out
 pub cut_batch : (lanes : ℕ) (seen more : List ℕ) (jobs after : List Job) (batch_ends ends_new : List ℕ) (c d e : Cut) (batch : List Job)
     → HasCutUp lanes jobs batch_ends c seen → Cuts c d more → IsSound d → IsEnded d → batch ≡ d.jobs → e ≡ emptied d
     → after ≡ jobs ++ batch → ends_new ≡ ends_after batch_ends (length jobs) batch → HasCutUp lanes after ends_new e (seen ++ more)
 cut_batch lanes seen more jobs after batch_ends ends_new c d e batch before cuts sound ended is empty grown ends =
-    rw (empty, grown, ends, is) (record {
-      cut = sym (handed_over jobs batch_ends d ended) ∙ cut_further lanes seen more jobs batch_ends c d before cuts;
-      sound = sound_emptied d sound;
-      handed = refl;
-    })
+    grind (arith, handed_over, cut_further, sound_emptied)
 
 -- the same where more of a text is cut
 pub cut_rest : (lanes at count : ℕ) (bytes : List ℕ) (jobs : List Job) (batch_ends : List ℕ) (c : Cut)
     → HasCutUp lanes jobs batch_ends c (take at bytes ++ take count (take (length bytes - at) (drop at bytes))) →
     HasCutUp lanes jobs batch_ends c (take (at + count) bytes)
-cut_rest lanes at count bytes jobs batch_ends c cut =
-    let rest : take (length bytes - at) (drop at bytes) ≡ drop at bytes = take_all (length bytes - at) (drop at bytes) (omega (arith, length-drop at bytes)) in
-    let whole : take at bytes ++ take count (take (length bytes - at) (drop at bytes)) ≡ take (at + count) bytes =
-    ap (λ xs. take at bytes ++ take count xs) rest ∙ sym (take-add at count bytes) in
-    subst (λ (xs : List ℕ). HasCutUp lanes jobs batch_ends c xs) whole cut
+cut_rest lanes at count bytes jobs batch_ends c cut = grind (arith, take_all, length-drop, take-add)
 
 -- all of a text is cut
 pub cut_to_end : (lanes at : ℕ) (bytes : List ℕ) (jobs : List Job) (batch_ends : List ℕ) (c : Cut) → HasCutUp lanes jobs batch_ends c (take at bytes)
@@ -103,11 +79,7 @@ line_ended c = grind (arith, common_steps)
 
 few_step : (c : Cut) (b : ℕ) → AreFew c → AreFew (step c b)
 unfolding step
-few_step c b h = record {
-  few = grind (arith, common_steps, few_line, h.few);
-  number = grind (arith, common_steps, line_ended, h.number);
-  within = grind (arith, common_steps, line_ended, h.within);
-}
+few_step c b h = grind (arith, common_steps, few_line, line_ended)
 
 few_all : (c : Cut) (bytes : List ℕ) → AreFew c → AreFew (cut_all c bytes)
 few_all c [] h = h
@@ -134,8 +106,7 @@ few_cut lanes bytes jobs batch batch_ends c e is =
 pub whole_cut : (lanes : ℕ) (bytes : List ℕ) (jobs : List Job) (batch_ends : List ℕ) (c d : Cut) → HasCutUp lanes jobs batch_ends c bytes
     → d ≡ end_batch (flush true c) → after_handing jobs batch_ends d ≡ jobs_of_input bytes true lanes
 unfolding jobs_from
-whole_cut lanes bytes jobs batch_ends c d before is =
-    ap (after_handing jobs batch_ends) is ∙ sym (handed_finish jobs batch_ends c true) ∙ ap (λ x. end_batch (flush true x)) before.cut
+whole_cut lanes bytes jobs batch_ends c d before is = grind (arith, handed_finish)
 
 pub few_whole : (lanes : ℕ) (bytes : List ℕ) (jobs batch : List Job) (batch_ends : List ℕ) (c d : Cut) → HasCutUp lanes jobs batch_ends c bytes
     → d ≡ end_batch (flush true c) → batch ≡ d.jobs → length jobs + length batch ≤ SESSION_LINE_LIMIT
@@ -149,8 +120,7 @@ few_whole lanes bytes jobs batch batch_ends c d before is batch_is =
 
 pub whole_jobs : (lanes : ℕ) (bytes : List ℕ) (jobs batch after : List Job) (batch_ends : List ℕ) (c d : Cut) → HasCutUp lanes jobs batch_ends c bytes
     → d ≡ end_batch (flush true c) → batch ≡ d.jobs → after ≡ jobs ++ batch → after ≡ (jobs_of_input bytes true lanes).jobs
-whole_jobs lanes bytes jobs batch after batch_ends c d before is batch_is grown =
-    grown ∙ ap (λ js. jobs ++ js) batch_is ∙ ap (λ (x : Cut). x.jobs) (whole_cut lanes bytes jobs batch_ends c d before is)
+whole_jobs lanes bytes jobs batch after batch_ends c d before is batch_is grown = grind (arith, whole_cut)
 
 pub whole_ends : (lanes : ℕ) (bytes : List ℕ) (jobs batch : List Job) (batch_ends ends_new : List ℕ) (c d : Cut) → HasCutUp lanes jobs batch_ends c bytes
     → d ≡ end_batch (flush true c) → IsEnded d → batch ≡ d.jobs → ends_new ≡ ends_after batch_ends (length jobs) batch →

@@ -1,6 +1,6 @@
 -- Laws of first lines.
-use Rattle.std.proofs.Common.{refl, ap, ◌∙◌, arith}
-use Rattle.std.specs.Prelude.{◌≡◌, ℕ, suc, zero, ◌+◌, ◌<◌, ◌≤◌, true, false, List, [], ◌∷◌, ◌++◌, length, Option, None, Some}
+use Rattle.std.proofs.Common.{refl, arith}
+use Rattle.std.specs.Prelude.{◌≡◌, ℕ, suc, zero, ◌+◌, ◌<◌, ◌≤◌, true, false, List, [], ◌∷◌, ◌++◌, length, Option}
 use Rattle.std.proofs.lemmas.Grind.{common_steps}
 use Rattle.std.proofs.lemmas.List.{length-append}
 use Rattle.memchr.specs.Find.{IsFirstByte, Passes, is_byte}
@@ -24,8 +24,7 @@ no_end (b ∷ bs) none =
     grind (arith, common_steps, first, rest)
 
 pub finds_end : (bytes : List ℕ) (result : Option ℕ) → IsFirstByte (is_byte 10) bytes result → FindsEnd bytes result
-finds_end bytes None h = no_end bytes (λ k within. h k (omega arith) within)
-finds_end bytes (Some n) h = end_at bytes n h.0.high (λ k within. h.0.before k (omega arith) within) h.1
+finds_end bytes result h = grind (arith, no_end, end_at)
 
 -- a line that has not ended
 pub record IsOpen (bytes : List ℕ) : Type 0 where
@@ -101,22 +100,12 @@ ended_some [] ended = cc
 ended_some (b ∷ bs) ended = omega arith
 
 line_some : (bytes more : List ℕ) → has_end bytes ≡ true → 0 < length (first_line bytes ++ more)
-line_some bytes more ended =
-    let some = first_some bytes (ended_some bytes ended) in
-    omega (arith, some, length-append (first_line bytes) more)
+line_some bytes more ended = grind (arith, first_some, ended_some, length-append)
 
 -- a line in front of more
 pub line_before : (bytes more : List ℕ) → has_end bytes ≡ true → lines_of (first_line bytes ++ more) ≡ first_line bytes ∷ lines_of more
-line_before bytes more ended =
-    let alone = line_alone bytes in
-    let on = more_behind (first_line bytes) more (alone.ended ∙ ended) in
-    let some : 0 < length (first_line bytes ++ more) = line_some bytes more ended in
-    lines_first (first_line bytes ++ more) some ∙ ap (λ l. l ∷ lines_of (behind_line (first_line bytes ++ more))) (on.line ∙ alone.line)
-    ∙ ap (λ xs. first_line bytes ∷ lines_of xs) (on.behind ∙ ap (λ xs. xs ++ more) alone.behind)
+line_before bytes more ended = grind (arith, line_alone, more_behind, line_some, lines_first)
 
 -- a line by itself is one
 pub line_one : (bytes : List ℕ) → 0 < length bytes → lines_of (first_line bytes) ≡ first_line bytes ∷ []
-line_one bytes some =
-    let alone = line_alone bytes in
-    lines_first (first_line bytes) (first_some bytes some) ∙ ap (λ l. l ∷ lines_of (behind_line (first_line bytes))) alone.line
-    ∙ ap (λ xs. first_line bytes ∷ lines_of xs) alone.behind
+line_one bytes some = grind (arith, line_alone, lines_first, first_some)

@@ -28,28 +28,10 @@ seen_on before middle after r s bytes first second = record {
 pub reads_on : (before middle after : Option (List ℕ)) (r s t : ReaderShape) (read : Read) → HasSeen before middle r (pending s) → s.limit ≡ r.limit →
     s.room ≡ r.room
     → ReadsTo middle after s t read → ReadsTo before after r t read
-reads_on before middle after r s t Line seen limit room h = record {
-  bytes = h.bytes;
-  seen = seen_on before middle after r s h.bytes seen h.seen;
-  some = h.some;
-  handed = h.handed;
-  line = h.line;
-  behind = h.behind;
-  fits = subst (λ (n : ℕ). line_length h.bytes ≤ n) limit h.fits;
-  ended = h.ended;
-  less = subst (λ (n : ℕ). length t.ahead < n) room h.less;
-}
+reads_on before middle after r s t Line seen limit room h = grind (arith, seen_on)
 reads_on before middle after r s t End seen limit room h = record { seen = seen_on before middle after r s [] seen h.seen; none = h.none; ended = h.ended }
-reads_on before middle after r s t Failed seen limit room h = record {
-  seen = seen_on before middle after r s (pending t) seen h.seen;
-  going = h.going;
-  fits = subst (λ (n : ℕ). length (pending t) ≤ n) limit h.fits;
-}
-reads_on before middle after r s t TooLong seen limit room h = record {
-  seen = seen_on before middle after r s (pending t) seen h.seen;
-  long = subst (λ (n : ℕ). n < line_length (pending t)) limit h.long;
-  less = let e = h.less in omega (arith, limit, room, e);
-}
+reads_on before middle after r s t Failed seen limit room h = grind (arith, seen_on)
+reads_on before middle after r s t TooLong seen limit room h = grind (arith, seen_on)
 reads_on before middle after r s t NoMemory seen limit room h = seen_on before middle after r s (pending t) seen h
 
 -- a line ends in what is there
@@ -79,21 +61,7 @@ goes_behind r begun none = (goes_on r.line r.ahead begun.going).ended ∙ none
 pub line_grows : (left : Option (List ℕ)) (r s : ReaderShape) (free : ℕ) → IsReadingLine r → 0 < length r.ahead → has_end r.ahead ≡ false
     → length r.ahead ≤ free → free ≡ r.limit - length r.line
     → s ≡ record r { line = r.line ++ r.ahead; ahead = [] } → HasReadMore left left r s × (line_steps s < line_steps r)
-line_grows left r s free begun some none fits left_over is =
-    rw is (
-      record {
-        seen = seen_here left r _ (rw begun.kept (append-nil (r.line ++ r.ahead)));
-        begun = record {
-          kept = begun.kept;
-          going = goes_behind r begun none;
-          short = omega (arith, length-append r.line r.ahead, fits, left_over, begun.short);
-          room = begun.room;
-        };
-        limit = refl;
-        room = refl;
-      },
-      omega (arith, length-append r.line r.ahead),
-    )
+line_grows left r s free begun some none fits left_over is = grind (arith, seen_here, append-nil, goes_behind, length-append)
 
 -- the line is too long
 pub line_passes : (left : Option (List ℕ)) (r : ReaderShape) (free : ℕ) → IsReadingLine r → length r.ahead ≤ r.room → free ≡ r.limit - length r.line →
@@ -132,13 +100,7 @@ line_is_last before after r s begun none some is taken ended =
 -- no piece was taken
 pub piece_failed : (before after : Option (List ℕ)) (r s : ReaderShape) → IsReadingLine r → r.ahead ≡ [] → s ≡ r → HasTaken before after [] →
     HasStopped before after r s
-piece_failed before after r s begun none is taken =
-    let line : pending r ≡ r.line = open_pending r begun.kept ∙ ap (λ xs. r.line ++ xs) none ∙ append-nil r.line in
-    rw is (record {
-      seen = record { more = []; taken = taken; whole = sym (append-nil (pending r)) };
-      going = rw line begun.going;
-      fits = rw line begun.short;
-    })
+piece_failed before after r s begun none is taken = grind (arith, open_pending, append-nil)
 
 -- one step more of reading a line
 pub steps_on : (before middle after : Option (List ℕ)) (r s t : ReaderShape) (result : Option Read) (read : Read) → HasSeen before middle r (pending s) →
@@ -152,9 +114,7 @@ steps_on before middle after r s t (Some x) read seen limit room steps is =
 pub goes_further : (before middle after : Option (List ℕ)) (r s t : ReaderShape) (result : Option Read) → HasSeen before middle r (pending s) →
     StepsTo middle after s t result → result ≡ None
     → HasSeen before after r (pending t) × IsReadingLine t × (line_steps t < line_steps s)
-goes_further before middle after r s t None seen steps is = (seen_on before middle after r s (pending t) seen steps.0.seen, steps.0.begun, steps.1)
-goes_further before middle after r s t (Some x) seen steps is = cc
+goes_further before middle after r s t result seen steps is = grind (arith, seen_on)
 
 pub counts_still : (result : Option Read) (before after : ℕ) → CountsStep result before after → result ≡ None → after ≡ before
-counts_still None before after counts is = counts
-counts_still (Some x) before after counts is = cc
+counts_still result before after counts is = grind arith

@@ -1,6 +1,6 @@
 -- The jobs of an input are those of its lines.
 use Rattle.std.proofs.Common.{◌⊎◌, inl, inr, None, Some, refl, sym, ap, subst, ◌∙◌, arith}
-use Rattle.std.specs.Prelude.{◌≡◌, ℕ, suc, ◌+◌, ◌==◌, ◌<◌, ◌≤◌, nat_lt, Bool, true, false, not, ◌&&◌, List, [], ◌∷◌, ◌++◌, length, take, is_some, if◌then◌else◌}
+use Rattle.std.specs.Prelude.{◌≡◌, ℕ, ◌+◌, ◌==◌, ◌<◌, ◌≤◌, Bool, true, false, not, ◌&&◌, List, [], ◌∷◌, ◌++◌, length, is_some, if◌then◌else◌}
 use Rattle.std.proofs.lemmas.Grind.{common_steps}
 use Rattle.basics.proofs.Booleans.{bool_cases}
 use Rattle.std.proofs.lemmas.List.{append_assoc, append-nil, length-append}
@@ -41,15 +41,12 @@ length_alone l none = (open_line l none).counted
 
 -- its text
 text_with : (l : List ℕ) (b : ℕ) (e : Bool) → has_end l ≡ false → (b == 10) ≡ true → text_of e (l ++ b ∷ []) ≡ without_cr l
-text_with l b e none lf =
-    rw (ends_with l b none lf) (ap (λ n. without_cr (take n (l ++ b ∷ []))) (length_with l b none lf) ∙ ap without_cr (take-append_seam l (b ∷ [])))
+text_with l b e none lf = grind (arith, ends_with, length_with, take-append_seam)
 
 -- ---- lines one behind the other
 
 some_lines : (l : List ℕ) (b : ℕ) → 0 < length (lines_of (l ++ b ∷ []))
-some_lines l b =
-    let some : 0 < length (l ++ b ∷ []) = omega (arith, length-append l (b ∷ [])) in
-    omega (arith, ap length (lines_first (l ++ b ∷ []) some))
+some_lines l b = grind (arith, length-append, lines_first)
 
 within_more : (xs ys : List (List ℕ)) → AreWithin xs → AreWithin ys → AreWithin (xs ++ ys)
 within_more [] ys some more = more
@@ -62,12 +59,7 @@ within_last (x ∷ xs) y all = within_last xs y all.1
 jobs_more : (lanes : ℕ) (e : Bool) (n : ℕ) (xs ys : List (List ℕ)) →
     jobs_of_lines lanes e n (xs ++ ys) ≡ jobs_of_lines lanes e n xs ++ jobs_of_lines lanes e (n + length xs) ys
 jobs_more lanes e n [] ys = ap (λ k. jobs_of_lines lanes e k ys) (omega arith)
-jobs_more lanes e n (x ∷ xs) ys =
-    let rest = jobs_more lanes e (n + 1) xs ys in
-    let same : n + 1 + length xs ≡ n + suc (length xs) = omega arith in
-    let one = job_at lanes n (text_of e x) in
-    ap (λ js. one ++ js) (rest ∙ ap (λ k. jobs_of_lines lanes e (n + 1) xs ++ jobs_of_lines lanes e k ys) same)
-    ∙ sym (append_assoc one (jobs_of_lines lanes e (n + 1) xs) (jobs_of_lines lanes e (n + suc (length xs)) ys))
+jobs_more lanes e n (x ∷ xs) ys = grind (arith, append_assoc, (jobs_more lanes e (n + 1) xs ys))
 
 -- ---- how far the cutting is
 
@@ -86,19 +78,7 @@ record HasCut (lanes first : ℕ) (front : List ℕ) (c : Cut) : Type 0 where
   pub jobs : (e : Bool) → c.jobs ≡ jobs_of_lines lanes e first lines
 
 has_start : (lanes first : ℕ) → first ≤ SESSION_LINE_LIMIT → HasCut lanes first [] (start_from lanes first)
-has_start lanes first few = record {
-  lines = [];
-  cut = λ more. refl;
-  stop = refl;
-  same = refl;
-  number = omega arith;
-  going = refl;
-  short = tt;
-  size = omega arith;
-  few = few;
-  within = λ some. absurd (omega (arith, some));
-  jobs = λ e. refl;
-}
+has_start lanes first few = grind arith
 
 -- what the end of a line leaves
 record HasEndedLine (c d : Cut) : Type 0 where
@@ -110,13 +90,7 @@ record HasEndedLine (c d : Cut) : Type 0 where
 
 line_ended : (c : Cut) → HasEndedLine c (end_line c)
 unfolding end_line end_full_batch end_batch
-line_ended c = record {
-  number = grind (arith, common_steps);
-  line = grind (arith, common_steps);
-  stop = grind (arith, common_steps);
-  lanes = grind (arith, common_steps);
-  jobs = grind (arith, common_steps, append-nil);
-}
+line_ended c = grind (arith, common_steps, append-nil)
 
 -- a byte in front of more
 byte_first : (front : List ℕ) (b : ℕ) (more : List ℕ) → (front ++ b ∷ []) ++ more ≡ front ++ b ∷ more
@@ -125,53 +99,12 @@ byte_first front b more = append_assoc front (b ∷ []) more
 has_line : (lanes first : ℕ) (front : List ℕ) (c : Cut) (b : ℕ) → HasCut lanes first front c → c.number < SESSION_LINE_LIMIT → (b == 10) ≡ true →
     HasCut lanes first (front ++ b ∷ []) (end_line c)
 has_line lanes first front c b h below lf =
-    let ended = line_ended c in
-    let line = c.line ++ b ∷ [] in
-    let size : length (h.lines ++ line ∷ []) ≡ length h.lines + 1 = length-append h.lines (line ∷ []) in
-    let long : line_length line ≡ length c.line = length_with c.line b h.going lf in
-    record {
-      lines = h.lines ++ line ∷ [];
-      cut = λ more.
-          ap lines_of (byte_first front b more) ∙ h.cut (b ∷ more) ∙ ap (λ ls. h.lines ++ ls) (line_before c.line b more h.going lf)
-          ∙ sym (append_assoc h.lines (line ∷ []) (lines_of more))
-          ∙ ap (λ l. (h.lines ++ line ∷ []) ++ lines_of (l ++ more)) (sym ended.line);
-      stop = ended.stop ∙ h.stop;
-      same = ended.lanes ∙ h.same;
-      number = let e = ended.number in let n = h.number in omega (arith, e, n, size);
-      going = ap has_end ended.line;
-      short = within_more h.lines (line ∷ []) h.short (let s = h.size in omega (arith, s, long), tt);
-      size = let e = ap length ended.line in omega (arith, e);
-      few = let e = ended.number in omega (arith, e, below);
-      within = λ some. let e = ap length ended.line in absurd (omega (arith, e, some));
-      jobs = λ e.
-          ended.jobs
-          ∙ ap (λ js. js ++ job_at c.lanes c.number (without_cr c.line)) (h.jobs e)
-          ∙ ap (λ k. jobs_of_lines lanes e first h.lines ++ job_at k c.number (without_cr c.line)) h.same
-          ∙ ap (λ k. jobs_of_lines lanes e first h.lines ++ job_at lanes k (without_cr c.line)) h.number
-          ∙ ap (λ t. jobs_of_lines lanes e first h.lines ++ job_at lanes (first + length h.lines) t) (sym (text_with c.line b e h.going lf))
-          ∙ ap (λ js. jobs_of_lines lanes e first h.lines ++ js) (sym (append-nil (job_at lanes (first + length h.lines) (text_of e line))))
-          ∙ sym (jobs_more lanes e first h.lines (line ∷ []));
-    }
+    grind (arith, line_ended, length-append, length_with, byte_first, line_before, append_assoc, within_more, text_with, append-nil, jobs_more)
 
 has_byte : (lanes first : ℕ) (front : List ℕ) (c : Cut) (b : ℕ) → HasCut lanes first front c → c.number < SESSION_LINE_LIMIT → length c.line < LINE_LIMIT →
     (b == 10) ≡ false →
     HasCut lanes first (front ++ b ∷ []) (record c { line = c.line ++ b ∷ [] })
-has_byte lanes first front c b h below room other =
-    let size : length (c.line ++ b ∷ []) ≡ length c.line + 1 = length-append c.line (b ∷ []) in
-    record {
-      lines = h.lines;
-      cut = λ more.
-          ap lines_of (byte_first front b more) ∙ h.cut (b ∷ more) ∙ ap (λ l. h.lines ++ lines_of l) (sym (byte_first c.line b more));
-      stop = h.stop;
-      same = h.same;
-      number = h.number;
-      going = goes_with c.line b h.going other;
-      short = h.short;
-      size = omega (arith, size, room);
-      few = h.few;
-      within = λ some. below;
-      jobs = h.jobs;
-    }
+has_byte lanes first front c b h below room other = grind (arith, length-append, byte_first, goes_with)
 
 -- ---- one byte
 
@@ -199,11 +132,7 @@ unfolding step
 step_many c b going above = grind (arith, common_steps)
 
 number_cases : (a b : ℕ) → (a < b) ⊎ (b ≤ a)
-number_cases a b = at_test (nat_lt a b) refl
-  where
-    at_test : (t : Bool) → nat_lt a b ≡ t → (a < b) ⊎ (b ≤ a)
-    at_test true is = inl (grind (arith, common_steps))
-    at_test false is = inr (grind (arith, common_steps))
+number_cases a b = grind (arith, common_steps)
 
 -- a line that is too long is the last
 meets_long : (lanes first : ℕ) (front : List ℕ) (c : Cut) (b : ℕ) → HasCut lanes first front c → c.number < SESSION_LINE_LIMIT → (b == 10) ≡ false →
@@ -228,13 +157,7 @@ meets_long lanes first front c b h below other full =
 
 meets_many : (lanes first : ℕ) (front : List ℕ) (c : Cut) (b : ℕ) → HasCut lanes first front c → SESSION_LINE_LIMIT ≤ c.number →
     MeetsLimit first (front ++ b ∷ []) TooManyLines
-meets_many lanes first front c b h above =
-    let all = ap length (h.cut (b ∷ [])) in
-    let count : length (h.lines ++ lines_of (c.line ++ b ∷ [])) ≡ length h.lines + length (lines_of (c.line ++ b ∷ [])) =
-    length-append h.lines (lines_of (c.line ++ b ∷ [])) in
-    let some = some_lines c.line b in
-    let n = h.number in
-    omega (arith, all, count, some, n, above)
+meets_many lanes first front c b h above = grind (arith, length-append, some_lines)
 
 steps_on : (lanes first : ℕ) (front : List ℕ) (c : Cut) (b : ℕ) → HasCut lanes first front c → StepsOn lanes first front c b (step c b)
 steps_on lanes first front c b h = elim (number_cases c.number SESSION_LINE_LIMIT) [
@@ -283,14 +206,8 @@ open_lines (x ∷ xs) none = inr (one_line x xs none, omega arith)
 
 -- the jobs of what stands behind the last LF
 jobs_open : (lanes : ℕ) (e : Bool) (n : ℕ) (l : List ℕ) → has_end l ≡ false → jobs_of_lines lanes e n (lines_of l) ≡ job_at lanes n (if e then l else [])
-jobs_open lanes e n [] none = at_end e
-  where
-    at_end : (t : Bool) → [] ≡ job_at lanes n (if t then [] else [])
-    at_end true = refl
-    at_end false = refl
-jobs_open lanes e n (x ∷ xs) none =
-    ap (jobs_of_lines lanes e n) (one_line x xs none) ∙ append-nil (job_at lanes n (text_of e (x ∷ xs))) ∙
-    ap (λ t. job_at lanes n (if t then without_cr (take (line_length (x ∷ xs)) (x ∷ xs)) else (if e then x ∷ xs else []))) none
+jobs_open lanes e n [] none = grind arith
+jobs_open lanes e n (x ∷ xs) none = grind (arith, one_line, append-nil)
 
 flushed : (c : Cut) (ended : Bool) → (end_batch (flush ended c)).jobs ≡ c.jobs ++ job_at c.lanes c.number (if ended && not (is_some c.stop) then c.line else [])
 unfolding flush end_batch

@@ -1,6 +1,6 @@
 -- The key that a bad line lacks has the form of a name.
-use Rattle.std.proofs.Common.{refl, subst}
-use Rattle.std.specs.Prelude.{◌≡◌, ℕ, ◌==◌, ◌+◌, nat_lt, nat_le, Bool, true, false, ◌&&◌, List, [], ◌∷◌, ◌++◌, length, Option, Some, None, is_some, codes}
+use Rattle.std.proofs.Common.{refl, subst, arith}
+use Rattle.std.specs.Prelude.{◌≡◌, ℕ, ◌+◌, nat_lt, nat_le, Bool, true, ◌&&◌, List, [], ◌∷◌, ◌++◌, length, Option, Some, None, codes}
 use Rattle.std.specs.Prelude.{nat_eq, option_and_then, Result, Ok, Err, if◌then◌else◌}
 use Rattle.std.specs.List.{list_all, find}
 use Rattle.std.specs.Cmp.Lexicographic.{pointwise}
@@ -8,19 +8,18 @@ use Rattle.serde_json.specs.Data.{Data, Members}
 use Rattle.serde_json.specs.Find.{as_object}
 use Rattle.basics.specs.Laws.Reading.{◌>>=◌, or_fault, check, each}
 use Rattle.wf_names.specs.Names.{is_name}
-use Rattle.wf_names.specs.declared.limits.TheConstants.{LINE_LIMIT, SESSION_LINE_LIMIT, BATCH_LINE_LIMIT}
+use Rattle.wf_names.specs.declared.limits.TheConstants.{BATCH_LINE_LIMIT}
 use Rattle.wf_talk.specs.declared.job.Job.{Job}
 use Rattle.wf_talk.specs.declared.edit.Edit.{Edit}
 use Rattle.wf_talk.specs.declared.request.Request.{Request}
 use Rattle.wf_talk.specs.declared.request.Request.TheVariants.{Change, WhatIf}
 use Rattle.wf_talk.specs.declared.request.Ask.TheVariants as ask
 use Rattle.wf_talk.specs.declared.request.Bad.{Bad}
-use Rattle.wf_talk.specs.declared.request.Bad.TheVariants.{Syntax, Object, Do, Lane, Key, Extra}
+use Rattle.wf_talk.specs.declared.request.Bad.TheVariants.{Object, Do, Lane, Key}
 use Rattle.wire_json.specs.declared.request.Asked.{Asked}
-use Rattle.wire_json.specs.Values.{value_of}
-use Rattle.wire_json.specs.Requests.{Row, Reading, rows, edits, row_of, by, the_name, text_at, lane_at, has_form, has_only, request_by, asked_by, change_by}
+use Rattle.wire_json.specs.Requests.{Row, Reading, rows, edits, row_of, by, the_name, text_at, lane_at, has_form, request_by, asked_by, change_by}
 use Rattle.wire_json.specs.Requests.{what_if_by, what_if_in, reading_of, request_in, asked, asked_of}
-use Rattle.line_reader.specs.Jobs.{Cut, start, without_cr, job_of, end_batch, end_full_batch, next_line, with_job, end_line, step, cut_all, flush}
+use Rattle.line_reader.specs.Jobs.{Cut, start, job_of, end_batch, end_full_batch, end_line, step, cut_all, flush}
 use Rattle.line_reader.specs.Jobs.{jobs_from}
 use Rattle.wf_talk.specs.Jobs.{IsNamedAsk, IsNamedBad}
 use Rattle.line_reader.specs.Laws.{AddsNamed, AreNamedJobs, JobsAreNamed}
@@ -35,31 +34,24 @@ IsNamed (Ok a) = Unit {0}
 IsNamed (Err b) = IsNamedBad b
 
 and_first : (a b : Bool) → (a && b) ≡ true → a ≡ true
-and_first true b h = refl
-and_first false b h = cc
+and_first a b h = grind arith
 
 and_second : (a b : Bool) → (a && b) ≡ true → b ≡ true
-and_second true b h = h
-and_second false b h = cc
+and_second a b h = grind arith
 
 then_named : {A B : Type 0} (r : Result A Bad) (next : A → Result B Bad) → IsNamed r → ((a : A) → r ≡ Ok a → IsNamed (next a)) → IsNamed (r >>= next)
-then_named (Ok a) next h rest = rest a refl
-then_named (Err b) next h rest = h
+then_named r next h rest = grind arith
 
 or_named : {A : Type 0} (o : Option A) (b : Bad) → IsNamedBad b → IsNamed (or_fault o b)
-or_named (Some a) b h = tt
-or_named None b h = h
+or_named o b h = grind arith
 
 check_named : (c : Bool) (b : Bad) → IsNamedBad b → IsNamed (check c b)
-check_named true b h = tt
-check_named false b h = h
+check_named c b h = grind arith
 
 keys_named : (d : Data) (keys : List (List ℕ)) → list_all is_name keys ≡ true → IsNamed (each (λ (_ : Unit {0}) key. check (has_form d key) (Key key)) tt keys)
 keys_named d [] h = tt
 keys_named d (key ∷ keys) h =
-    then_named (check (has_form d key) (Key key)) (λ next. each (λ (_ : Unit {0}) key. check (has_form d key) (Key key)) next keys)
-    (check_named (has_form d key) (Key key) (and_first (is_name key) (list_all is_name keys) h))
-    (λ a is. keys_named d keys (and_second (is_name key) (list_all is_name keys) h))
+    grind (arith, then_named, check_named, and_first, and_second, (keys_named d keys (and_second (is_name key) (list_all is_name keys) h)))
 
 -- what is read for a word: a fault of it that is of a key is of one with the form of a name
 abbrev ReadsNamed : Reading → Type 0
@@ -67,10 +59,7 @@ ReadsNamed read = (d : Data) (ms : Members) → IsNamed (read d ms)
 
 by_named : (others keys : List (List ℕ)) (is : Data → Request) → list_all is_name keys ≡ true → ReadsNamed (request_by others keys is)
 unfolding request_by
-by_named others keys is h d ms =
-    then_named (each (λ (_ : Unit {0}) key. check (has_form d key) (Key key)) tt keys)
-    (λ _. check (has_only (others ++ keys) ms) Extra >>= (λ _. Ok (is d))) (keys_named d keys h)
-    (λ a is_a. then_named (check (has_only (others ++ keys) ms) Extra) (λ _. Ok (is d)) (check_named (has_only (others ++ keys) ms) Extra tt) (λ b is_b. tt))
+by_named others keys is h = grind (arith, then_named, keys_named, check_named)
 
 -- each request and each edit has keys that are names
 abbrev has_names : {A : Type 0} → Row A → Bool
@@ -94,14 +83,11 @@ edit_is_name = refl
 
 pick_named : {A : Type 0} (b : Bool) (x r : Row A) (found : Option (Row A)) → has_names x ≡ true → (found ≡ Some r → has_names r ≡ true)
     → (if b then Some x else found) ≡ Some r → has_names r ≡ true
-pick_named true x r found first rest e = let same : x ≡ r = cc in subst (λ y. has_names y ≡ true) same first
-pick_named false x r found first rest e = rest e
+pick_named b x r found first rest e = grind arith
 
 find_named : {A : Type 0} (p : Row A → Bool) (rs : List (Row A)) (r : Row A) → list_all has_names rs ≡ true → find p rs ≡ Some r → has_names r ≡ true
 find_named p [] r h e = cc
-find_named p (x ∷ xs) r h e =
-    pick_named (p x) x r (find p xs) (and_first (has_names x) (list_all has_names xs) h)
-    (find_named p xs r (and_second (has_names x) (list_all has_names xs) h)) e
+find_named p (x ∷ xs) r h e = grind (arith, pick_named, and_first, and_second, (find_named p xs r (and_second (has_names x) (list_all has_names xs) h)))
 
 with_by : (r : Row Edit) → has_names r ≡ true → list_all is_name (by ∷ r.keys) ≡ true
 with_by r h = rw (by_is_name, h) refl
@@ -132,16 +118,11 @@ what_if_named d ms =
     named_edit (Some word) r e = of_word (row_of edits word) r (λ x is. find_named (λ y. pointwise nat_eq word y.word) edits x edits_named is) e
 
 all_named : AreAll ReadsNamed
-all_named = record {
-  asked = λ word r is. asked_named r (find_named (λ y. pointwise nat_eq word y.word) rows r rows_named is);
-  changed = λ word r is. change_named r (find_named (λ y. pointwise nat_eq word y.word) edits r edits_named is);
-  what_if = what_if_named;
-}
+all_named = grind (arith, asked_named, find_named, rows_named, change_named, edits_named, what_if_named)
 
 then_asked : {A : Type 0} (r : Result A Bad) (next : A → Result Asked Bad) → IsNamed r → ((a : A) → r ≡ Ok a → IsNamedAsk (asked (next a)).ask)
     → IsNamedAsk (asked (r >>= next)).ask
-then_asked (Ok a) next h rest = rest a refl
-then_asked (Err b) next h rest = h
+then_asked r next h rest = grind arith
 
 abbrev with_lane : ℕ → Result Request Bad → Result Asked Bad
 with_lane lane asks = asks >>= (λ request. Ok (record { lane = lane; ask = ask.Request request }))
@@ -163,8 +144,7 @@ in_named lanes d =
 
 line_named : (lanes : ℕ) (line : List ℕ) → IsNamedAsk (asked_of lanes line).ask
 unfolding asked_of
-line_named lanes line =
-    then_asked (or_fault (value_of line) Syntax) (request_in lanes) (or_named (value_of line) Syntax tt) (λ d is. in_named lanes d)
+line_named lanes line = grind (arith, then_asked, or_named, in_named)
 
 -- ---- jobs
 
@@ -173,8 +153,7 @@ named_push [] job all h = (h, tt)
 named_push (j ∷ js) job all h = (all.0, named_push js job all.1 h)
 
 named_if : (b : Bool) (c d : Cut) → AreNamedJobs c.jobs → AreNamedJobs d.jobs → AreNamedJobs (if b then c else d).jobs
-named_if true c d first second = first
-named_if false c d first second = second
+named_if b c d first second = grind arith
 
 named_end : (c : Cut) → AreNamedJobs c.jobs → AreNamedJobs (end_batch c).jobs
 unfolding end_batch
@@ -189,18 +168,11 @@ named_job c line h = named_push c.jobs (job_of c.lanes c.number line) h (line_na
 
 named_line : (c : Cut) → AreNamedJobs c.jobs → AreNamedJobs (end_line c).jobs
 unfolding end_line
-named_line c h =
-    named_if (length (without_cr c.line) == 0) (end_batch (next_line c)) (end_full_batch (with_job c (job_of c.lanes c.number (without_cr c.line))))
-    (named_end (next_line c) h)
-    (named_full (with_job c (job_of c.lanes c.number (without_cr c.line))) (named_job c (without_cr c.line) h))
+named_line c h = grind (arith, named_if, named_end, named_full, named_job)
 
 named_step : (c : Cut) (b : ℕ) → AreNamedJobs c.jobs → AreNamedJobs (step c b).jobs
 unfolding step
-named_step c b h =
-    named_if (is_some c.stop) c _ h
-    (named_if (nat_lt c.number SESSION_LINE_LIMIT) _ _
-    (named_if (b == 10) (end_line c) _ (named_line c h) (named_if (nat_lt (length c.line) LINE_LIMIT) _ _ h h))
-    h)
+named_step c b h = grind (arith, named_if, named_line)
 
 named_all : (c : Cut) (bytes : List ℕ) → AreNamedJobs c.jobs → AreNamedJobs (cut_all c bytes).jobs
 named_all c [] h = h
@@ -208,8 +180,7 @@ named_all c (b ∷ bs) h = named_all (step c b) bs (named_step c b h)
 
 named_flush : (c : Cut) (ended : Bool) → AreNamedJobs c.jobs → AreNamedJobs (flush ended c).jobs
 unfolding flush
-named_flush c ended h =
-    named_if ended _ c (named_if (is_some c.stop) c _ h (named_if (length c.line == 0) c _ h (named_job c c.line h))) h
+named_flush c ended h = grind (arith, named_if, named_job)
 
 pub jobs_stay_named : JobsStayNamed
 unfolding jobs_from

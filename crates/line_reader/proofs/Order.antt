@@ -1,6 +1,6 @@
 -- The jobs of every input are in order.
 use Rattle.std.proofs.Common.{inl, inr, nat_eq, None, refl, sym, subst, ◌∙◌, arith}
-use Rattle.std.specs.Prelude.{◌≡◌, ℕ, ◌+◌, ◌==◌, ◌<◌, ◌≤◌, nat_lt, nat_le, Bool, true, List, [], ◌∷◌, ◌++◌, length, is_some}
+use Rattle.std.specs.Prelude.{◌≡◌, ℕ, ◌+◌, ◌==◌, ◌<◌, ◌≤◌, nat_lt, Bool, true, List, [], ◌∷◌, ◌++◌, length, is_some}
 use Rattle.std.proofs.lemmas.Grind.{common_steps}
 use Rattle.basics.proofs.Booleans.{bool_cases}
 use Rattle.std.proofs.lemmas.List.{append-nil, length-append}
@@ -34,9 +34,7 @@ after_above number (j ∷ js) ascend = let later = after_above (j.line + 1) js a
 -- no line is at or behind the one after the last
 lines_below : (limit number : ℕ) (jobs : List Job) → LinesAscend number jobs → after_lines number jobs ≤ limit → AreLinesBelow limit jobs
 lines_below limit number [] ascend within = tt
-lines_below limit number (j ∷ js) ascend within =
-    let later = after_above (j.line + 1) js ascend.1 in
-    (omega (arith, later, within), lines_below limit (j.line + 1) js ascend.1 within)
+lines_below limit number (j ∷ js) ascend within = grind (arith, after_above, (lines_below limit (j.line + 1) js ascend.1 within))
 
 lanes_push : (lanes : ℕ) (jobs : List Job) (job : Job) → AreOfLanes lanes jobs → job.lane < lanes → AreOfLanes lanes (jobs ++ job ∷ [])
 lanes_push lanes [] job all below = (below, tt)
@@ -62,79 +60,22 @@ pub record Keeps (lanes spare : ℕ) (c : Cut) : Type 0 where
 
 -- a batch may have as many lines more as there is room
 keeps_spare : (lanes spare more : ℕ) (c : Cut) → Keeps lanes spare c → length c.jobs < c.from + BATCH_LINE_LIMIT + more → Keeps lanes more c
-keeps_spare lanes spare more c k room = record {
-  same = k.same;
-  number = k.number;
-  within = k.within;
-  few = k.few;
-  lines = k.lines;
-  next = k.next;
-  of_lanes = k.of_lanes;
-  ends = k.ends;
-  begins = k.begins;
-  batch = room;
-}
+keeps_spare lanes spare more c k room = grind arith
 
 keeps_end : (lanes : ℕ) (c : Cut) → Keeps lanes 1 c → Keeps lanes 0 (end_batch c)
 unfolding end_batch
-keeps_end lanes c k =
-    if_both (Keeps lanes 0) (nat_lt c.from (length c.jobs)) (record c { from = length c.jobs; ends = c.ends ++ length c.jobs ∷ [] }) c
-    (λ more.
-    let above : c.from < length c.jobs = grind (arith, common_steps) in
-    record {
-      same = k.same;
-      number = k.number;
-      within = k.within;
-      few = k.few;
-      lines = k.lines;
-      next = k.next;
-      of_lanes = k.of_lanes;
-      ends = lead_push 0 c.from (length c.jobs) c.ends k.ends above (let h = k.batch in omega arith);
-      begins = omega arith;
-      batch = omega arith;
-    })
-    (λ none.
-    let same : length c.jobs ≤ c.from = grind (arith, common_steps) in
-    keeps_spare lanes 1 0 c k (omega (arith, same)))
+keeps_end lanes c k = grind (arith, if_both, common_steps, lead_push, keeps_spare)
 
 keeps_full : (lanes : ℕ) (c : Cut) → Keeps lanes 1 c → Keeps lanes 0 (end_full_batch c)
 unfolding end_full_batch
-keeps_full lanes c k =
-    if_both (Keeps lanes 0) (nat_le (c.from + BATCH_LINE_LIMIT) (length c.jobs)) (end_batch c) c
-    (λ full. keeps_end lanes c k)
-    (λ room.
-    keeps_spare lanes 1 0 c k (grind (arith, common_steps)))
+keeps_full lanes c k = grind (arith, if_both, keeps_end, keeps_spare, common_steps)
 
 keeps_next : (lanes : ℕ) (c : Cut) → Keeps lanes 0 c → c.number < SESSION_LINE_LIMIT → Keeps lanes 1 (next_line c)
-keeps_next lanes c k within = record {
-  same = k.same;
-  number = omega arith;
-  within = λ some. absurd (omega (arith, some));
-  few = let h = k.few in omega arith;
-  lines = k.lines;
-  next = let h = k.next in omega arith;
-  of_lanes = k.of_lanes;
-  ends = k.ends;
-  begins = k.begins;
-  batch = let h = k.batch in omega arith;
-}
+keeps_next lanes c k within = grind arith
 
 keeps_job : (lanes : ℕ) (c : Cut) (job : Job) → Keeps lanes 0 c → c.number < SESSION_LINE_LIMIT → job.lane < lanes → job.line ≡ c.number →
     Keeps lanes 1 (with_job c job)
-keeps_job lanes c job k within lane line =
-    let size : length (c.jobs ++ job ∷ []) ≡ length c.jobs + 1 = length-append c.jobs (job ∷ []) in
-    record {
-      same = k.same;
-      number = omega arith;
-      within = λ some. absurd (omega (arith, some));
-      few = let h = k.few in omega arith;
-      lines = ascend_push 0 c.jobs job k.lines (let h = k.next in omega arith);
-      next = let e = after_push 0 c.jobs job in omega arith;
-      of_lanes = lanes_push lanes c.jobs job k.of_lanes lane;
-      ends = k.ends;
-      begins = let h = k.begins in omega arith;
-      batch = let h = k.batch in omega arith;
-    }
+keeps_job lanes c job k within lane line = grind (arith, length-append, ascend_push, after_push, lanes_push)
 
 -- a job is of one of the lanes
 job_below : (lanes : ℕ) (c : Cut) (line : List ℕ) → c.lanes ≡ lanes → 0 < lanes → (job_of c.lanes c.number line).lane < lanes
@@ -151,19 +92,7 @@ keeps_line lanes c some k within =
 
 keeps_still : (lanes : ℕ) (c d : Cut) → Keeps lanes 0 c → d.lanes ≡ c.lanes → d.number ≡ c.number → d.jobs ≡ c.jobs → d.ends ≡ c.ends → d.from ≡ c.from
     → (0 < length d.line → c.number < SESSION_LINE_LIMIT) → Keeps lanes 0 d
-keeps_still lanes c d k same number jobs ends from within =
-    record {
-      same = same ∙ k.same;
-      number = rw number k.number;
-      within = rw number within;
-      few = rw (jobs, number) k.few;
-      lines = rw jobs k.lines;
-      next = rw (jobs, number) k.next;
-      of_lanes = rw jobs k.of_lanes;
-      ends = rw (ends, from) k.ends;
-      begins = rw (jobs, from) k.begins;
-      batch = rw (jobs, from) k.batch;
-    }
+keeps_still lanes c d k same number jobs ends from within = grind arith
 
 keeps_step : (lanes : ℕ) (c : Cut) (b : ℕ) → 0 < lanes → Keeps lanes 0 c → Keeps lanes 0 (step c b)
 unfolding step
@@ -182,18 +111,7 @@ keeps_all lanes c [] some k = k
 keeps_all lanes c (b ∷ bs) some k = keeps_all lanes (step c b) bs some (keeps_step lanes c b some k)
 
 keeps_start : (lanes : ℕ) → Keeps lanes 0 (start lanes)
-keeps_start lanes = record {
-  same = refl;
-  number = omega arith;
-  within = λ line. omega arith;
-  few = omega arith;
-  lines = tt;
-  next = omega arith;
-  of_lanes = tt;
-  ends = refl;
-  begins = omega arith;
-  batch = omega arith;
-}
+keeps_start lanes = grind arith
 
 -- what is kept to the end, where the last line may have a job too
 record IsDone (lanes : ℕ) (c : Cut) : Type 0 where
@@ -206,15 +124,7 @@ record IsDone (lanes : ℕ) (c : Cut) : Type 0 where
   pub batch : length c.jobs ≤ c.from + BATCH_LINE_LIMIT
 
 done_kept : (lanes : ℕ) (c : Cut) → Keeps lanes 0 c → IsDone lanes c
-done_kept lanes c k = record {
-  few = let h = k.few in let i = k.number in omega arith;
-  lines = k.lines;
-  below = lines_below SESSION_LINE_LIMIT 0 c.jobs k.lines (let h = k.next in let i = k.number in omega arith);
-  of_lanes = k.of_lanes;
-  ends = k.ends;
-  begins = k.begins;
-  batch = let h = k.batch in omega arith;
-}
+done_kept lanes c k = grind (arith, lines_below)
 
 done_job : (lanes : ℕ) (c : Cut) (job : Job) → Keeps lanes 0 c → 0 < length c.line → job.lane < lanes → job.line ≡ c.number →
     IsDone lanes (record c { jobs = c.jobs ++ job ∷ [] })
@@ -241,25 +151,7 @@ done_flush lanes c ended some k =
 
 in_order_end : (lanes : ℕ) (c : Cut) → IsDone lanes c → AreInOrder lanes (end_batch c).jobs (end_batch c).ends
 unfolding end_batch
-in_order_end lanes c h =
-    if_both (λ (x : Cut). AreInOrder lanes x.jobs x.ends) (nat_lt c.from (length c.jobs))
-    (record c { from = length c.jobs; ends = c.ends ++ length c.jobs ∷ [] }) c
-    (λ more. record {
-      few = h.few;
-      lines = h.lines;
-      below = h.below;
-      of_lanes = h.of_lanes;
-      ends = lead_push 0 c.from (length c.jobs) c.ends h.ends (grind (arith, common_steps)) h.batch;
-    })
-    (λ none.
-    let same : c.from ≡ length c.jobs = grind (arith, common_steps, h.begins) in
-    record {
-      few = h.few;
-      lines = h.lines;
-      below = h.below;
-      of_lanes = h.of_lanes;
-      ends = subst (LeadTo 0 c.ends) same h.ends;
-    })
+in_order_end lanes c h = grind (arith, if_both, lead_push, common_steps)
 
 -- ---- another input
 
@@ -345,5 +237,4 @@ of_more_lanes lanes more (j ∷ js) within all = (let h = all.0 in omega (arith,
 
 -- jobs that are in order for some lanes are so for more
 pub order_within : (lanes more : ℕ) (jobs : List Job) (batch_ends : List ℕ) → lanes ≤ more → AreInOrder lanes jobs batch_ends → AreInOrder more jobs batch_ends
-order_within lanes more jobs batch_ends within h =
-    record { few = h.few; lines = h.lines; below = h.below; of_lanes = of_more_lanes lanes more jobs within h.of_lanes; ends = h.ends }
+order_within lanes more jobs batch_ends within h = grind (arith, of_more_lanes)

@@ -1,5 +1,5 @@
 -- How what was read goes on.
-use Rattle.std.proofs.Common.{◌≡◌, ℕ, ◌+◌, ◌<◌, Bool, true, false, List, [], ◌∷◌, ◌++◌, length, map, Option, None, Some, inl, inr, refl}
+use Rattle.std.proofs.Common.{◌≡◌, ℕ, ◌+◌, ◌<◌, Bool, true, false, List, [], ◌∷◌, ◌++◌, length, map, Option, None, Some, inl, inr}
 use Rattle.std.proofs.Common.{sym, ◌∙◌, ap, subst, arith, append_assoc}
 use Rattle.std.specs.Prelude.{◌≢◌, is_some}
 use Rattle.std.proofs.lemmas.Grind.{common_steps}
@@ -78,11 +78,7 @@ up_read before after h r read =
 -- what reading had read, however it paused
 pub read_by : (before after : Option (List ℕ)) (h : Handed) (r : BatchReaderShape) (paused : Paused) → PausesBy before after h r paused →
     HasRead before after h r
-read_by before after h r Batch read = read_behind before after h r read
-read_by before after h r End read = read
-read_by before after h r Failed read = read
-read_by before after h r (Stopped stop) read = read_behind before after h r read
-read_by before after h r NoMemory read = read
+read_by before after h r paused read = grind (arith, read_behind)
 
 -- a batch that has ended is handed over
 batch_over : (before after : Option (List ℕ)) (h : Handed) (r : BatchReaderShape) (cut : HasCut before after h r) → IsEnded r.cut
@@ -101,28 +97,14 @@ batch_read before after h r cut ended = record {
 batch_paused : (before after : Option (List ℕ)) (h : Handed) (r : BatchReaderShape) → HasCut before after h r → IsEnded r.cut → 0 < length r.cut.jobs →
     length r.pending < r.room
     → HasPaused before after r.room (handed_more h r.cut.jobs)
-batch_paused before after h r cut ended some ahead =
-    let one_more : length (ends_after h.batch_ends (length h.jobs) r.cut.jobs) ≡ length h.batch_ends + 1 = grind (arith, common_steps, length-append) in
-    let over = batch_over before after h r cut ended in
-    record {
-      front = cut.front;
-      last = cut.last;
-      rest = r.pending;
-      taken = cut.taken;
-      jobs = sym (append-nil (h.jobs ++ r.cut.jobs)) ∙ ap (λ (c : Cut). c.jobs) over;
-      ends = sym (append-nil (ends_after h.batch_ends (length h.jobs) r.cut.jobs)) ∙ ap (λ (c : Cut). c.ends) over;
-      before_last = let same = ap length cut.none in omega arith;
-      ahead = ahead;
-    }
+batch_paused before after h r cut ended some ahead = grind (arith, common_steps, length-append, batch_over, append-nil)
 
 -- the input was ended, and the last batch is handed over
 finish_over : (before after : Option (List ℕ)) (ended : Bool) (h : Handed) (r : BatchReaderShape) (d : Cut) (read : HasRead before after h r) →
     d ≡ end_batch (flush ended r.cut) → IsEnded d
     → jobs_from h.first read.bytes ended ≡ after_handing (h.jobs ++ d.jobs) (ends_after h.batch_ends (length h.jobs) d.jobs) (emptied d)
 unfolding jobs_from
-finish_over before after ended h r d read is closed =
-    ap (λ c. end_batch (flush ended c)) (sym read.cut) ∙ handed_finish h.jobs h.batch_ends r.cut ended ∙ ap (after_handing h.jobs h.batch_ends) (sym is)
-    ∙ handed_over h.jobs h.batch_ends d closed
+finish_over before after ended h r d read is closed = grind (arith, handed_finish, handed_over)
 
 -- so are the jobs of all that was taken, where nothing of what is pending can be cut
 all_over : (before after : Option (List ℕ)) (ended : Bool) (h : Handed) (r : BatchReaderShape) (d : Cut) (read : HasRead before after h r) →
@@ -218,8 +200,7 @@ closed_reads before after h r d (Stopped stop) result read pauses closes memory 
 pub closed_at : (before after : Option (List ℕ)) (h : Handed) (r : BatchReaderShape) (d : Cut) (jobs : List Job) (room : ℕ) (paused result : Paused)
     → PausesBy before after h r paused → PausesAs r after paused → ClosesAs r.cut d paused result → result ≢ NoMemory
     → jobs ≡ d.jobs → room ≡ r.room → HasClosed before after room (handed_more h jobs) result
-closed_at before after h r d jobs room paused result read pauses closes memory same is =
-    rw (same, is) (closed_reads before after h r d paused result read pauses closes memory)
+closed_at before after h r d jobs room paused result read pauses closes memory same is = grind (arith, closed_reads)
 
 -- after a batch reading goes on
 pub closed_on : (before after : Option (List ℕ)) (h : Handed) (r t : BatchReaderShape) (jobs : List Job) → HasCut before after h r → IsEnded r.cut
@@ -241,23 +222,13 @@ up_before before after h r paused read = up_read before after h r (read_by befor
 -- where memory was refused
 pub closed_none : (before after : Option (List ℕ)) (h : Handed) (r : BatchReaderShape) (none : List Job) (paused : Paused)
     → PausesBy before after h r paused → none ≡ [] → IsReadUp before after (handed_more h none)
-closed_none before after h r none paused read e =
-    let same : h.jobs ++ [] ≡ h.jobs = append-nil h.jobs in
-    rw (e, same) (up_before before after h r paused read)
+closed_none before after h r none paused read e = grind (arith, append-nil, up_before)
 
 -- only a batch that had ended closes so
 pub closed_batch : (c d : Cut) (paused result : Paused) → ClosesAs c d paused result → result ≡ Batch → (paused ≡ Batch) × (d ≡ c)
-closed_batch c d Batch result closes e = (refl, closes.1)
-closed_batch c d NoMemory result closes e = cc
-closed_batch c d End result closes e = elim closes [ inl done ↦ cc | inr none ↦ cc ]
-closed_batch c d Failed result closes e = elim closes [ inl done ↦ cc | inr none ↦ cc ]
-closed_batch c d (Stopped stop) result closes e = elim closes [ inl done ↦ cc | inr none ↦ cc ]
+closed_batch c d paused result closes e = grind arith
 
 -- closing counts no fault
 pub closed_counts : (c d : Cut) (paused result : Paused) (before after : ℕ) → ClosesAs c d paused result → CountsPause paused before after →
     CountsPause result before after
-closed_counts c d Batch result before after closes counts = rw closes.0 counts
-closed_counts c d NoMemory result before after closes counts = rw closes.0 counts
-closed_counts c d End result before after closes counts = elim closes [ inl done ↦ rw done.0 counts | inr none ↦ rw none.0 (omega (arith, counts)) ]
-closed_counts c d Failed result before after closes counts = elim closes [ inl done ↦ rw done.0 counts | inr none ↦ rw none.0 counts.0 ]
-closed_counts c d (Stopped stop) result before after closes counts = elim closes [ inl done ↦ rw done.0 counts | inr none ↦ rw none.0 (omega (arith, counts)) ]
+closed_counts c d paused result before after closes counts = grind arith

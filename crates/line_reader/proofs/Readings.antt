@@ -1,6 +1,6 @@
 -- What holds of each reading of a request holds of the reading of a word.
-use Rattle.std.proofs.Common.{refl, subst}
-use Rattle.std.specs.Prelude.{◌≡◌, ℕ, Bool, true, false, List, Option, Some, None, option_map, option_and_then, Ok, if◌then◌else◌}
+use Rattle.std.proofs.Common.{arith}
+use Rattle.std.specs.Prelude.{◌≡◌, ℕ, Bool, List, Option, Some, None, option_map, option_and_then, Ok, if◌then◌else◌}
 use Rattle.std.specs.Option.{option_or}
 use Rattle.basics.specs.Laws.Reading.{or_fault}
 use Rattle.wf_talk.specs.declared.edit.Edit.{Edit}
@@ -15,17 +15,14 @@ Each is_so (Some read) = is_so read
 
 mapped : {A : Type 0} (is_so : Reading → Type 0) (by_row : Row A → Reading) (found : Option (Row A)) → ((r : Row A) → found ≡ Some r → is_so (by_row r)) →
     Each is_so (option_map by_row found)
-mapped is_so by_row None h = tt
-mapped is_so by_row (Some r) h = h r refl
+mapped is_so by_row found h = grind arith
 
 or_else : (is_so : Reading → Type 0) (first second : Option Reading) → Each is_so first → Each is_so second → Each is_so (option_or first second)
-or_else is_so None second h g = g
-or_else is_so (Some read) second h g = h
+or_else is_so first second h g = grind arith
 
 if_so : (is_so : Reading → Type 0) (b : Bool) (read : Reading) (others : Option Reading) → is_so read → Each is_so others →
     Each is_so (if b then Some read else others)
-if_so is_so true read others h g = h
-if_so is_so false read others h g = g
+if_so is_so b read others h g = grind arith
 
 -- what each reading of a request is: that of a request by its row, of an edit by its row, and of what an edit would strand
 pub record AreAll (is_so : Reading → Type 0) : Type 0 where
@@ -38,8 +35,7 @@ each_word is_so all word =
     if_so is_so _ _ _ all.what_if (or_else is_so _ _ (mapped is_so asked_by _ (all.asked word)) (mapped is_so change_by _ (all.changed word)))
 
 found_so : (is_so : Reading → Type 0) (o : Option Reading) (read : Reading) → Each is_so o → or_fault o Do ≡ Ok read → is_so read
-found_so is_so None read h e = cc
-found_so is_so (Some x) read h e = let same : x ≡ read = cc in subst is_so same h
+found_so is_so o read h e = grind arith
 
 pub read_so : (is_so : Reading → Type 0) → AreAll is_so → (o : Option (List ℕ)) (read : Reading) → or_fault (option_and_then reading_of o) Do ≡ Ok read →
     is_so read

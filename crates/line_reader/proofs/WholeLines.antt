@@ -17,8 +17,7 @@ line_step : (c d : Cut) (bytes : List ℕ) → c.stop ≡ None → c.number < SE
 line_step c d bytes going lines e = e ∙ sym (ends_step (record c { line = bytes }) going lines)
 
 line_open : (c : Cut) (bytes : List ℕ) → IsSound c → length bytes ≤ LINE_LIMIT → IsSound (record c { line = bytes })
-line_open c bytes h short =
-    record { lines = h.lines; short = short; begins = h.begins; batch = h.batch; last = h.last }
+line_open c bytes h short = grind arith
 
 -- the front of a piece that fits into a line
 pub front_short : (piece : List ℕ) (n k : ℕ) → n ≤ length piece → k + n ≤ LINE_LIMIT → length (take n piece) ≤ LINE_LIMIT

@@ -16,7 +16,7 @@ use Rattle.policy_reader.proofs.RostersAgain.{roles_back, roster_back}
 use Rattle.policy_reader.proofs.RelationsAgain.{relations_back}
 use Rattle.policy_reader.proofs.FlowsAgain.{flows_back}
 use Rattle.policy_reader.proofs.RulesAgain.{HaveForms}
-use Rattle.policy_reader.specs.declared.format.Format.TheVariants.{First, Second}
+use Rattle.policy_reader.specs.declared.format.Format.TheVariants.{First}
 use Rattle.constraint_forms.specs.declared.rule.Rule.{Rule}
 use Rattle.policy_book.proofs.Counting.{any_below-at}
 use Rattle.basics.proofs.Booleans.{bool_cases, differ, not_false, not_true, or_false}
@@ -66,8 +66,7 @@ module _ (decided : OrderIsDecided) (p : PolicyShape) (h : IsNamedPolicy p) (is 
 
   format_back : (format : Format) → (format_of today (doc_with format) ≡ Ok format) × (no_others File 0 (file_keys format) (doc_with format) ≡ Ok tt)
   unfolding format_of value_at no_others known_key
-  format_back First = (refl, refl)
-  format_back Second = (refl, refl)
+  format_back format = grind arith
 
   -- what stands at the keys
   written : (format_of today doc ≡ Ok (written_format p)) × (no_others File 0 (file_keys (written_format p)) doc ≡ Ok tt) ×
@@ -79,24 +78,11 @@ module _ (decided : OrderIsDecided) (p : PolicyShape) (h : IsNamedPolicy p) (is 
 
   start_back : start_of today doc ≡ Ok (record p { flow_names = []; flows = [] })
   unfolding start_of start_named start_with staff_of start_over related_over
-  start_back = rw (
-    admin_back,
-    roles_back doc p.roster.roles h.roles (omega (arith, h.sound.admin)) h.sound.roles written.3,
-    number_back File 0 p.roster.roles p.admin h.roles h.sound.admin,
-    roster_back p.roster h.roster h.roles h.users doc is.begun.users (some_user (length p.roster.users) _ is.begun.admin) written.2,
-    is.begun.admin,
-    relations_back p.roster.users p.relations h.users h.relations h.sound.related h.related doc is.begun.relations written.4,
-  ) refl
+  start_back = grind (arith, admin_back, roles_back, number_back, roster_back, some_user, relations_back)
 
   policy_back : policy_in today doc ≡ Ok p
   unfolding policy_in rest_of
-  policy_back = rw (
-    written.0,
-    start_back,
-    flows_back decided p h.roles h.related h.flow_names h.sound.named h.flows h.sound.flows (λ f lt. active_at p.flows f is.active lt) (written_format p)
-        (forms_known p) doc is.flows is.some h.sound.few written.5,
-    written.1,
-  ) refl
+  policy_back = grind (arith, start_back, flows_back, active_at, forms_known)
 
   -- a policy that can be printed is read from what it is written as
   pub file_back : (text : List ℕ) → document_in text ≡ Ok doc → policy_of_file text ≡ Ok p

@@ -1,11 +1,11 @@
 -- The pairs of a set, row by row: they ascend, and are those of the set.
-use Rattle.std.proofs.Common.{◌≡◌, ℕ, zero, suc, ◌<◌, Bool, true, false, ◌||◌, ◌&&◌, cond, List, [], ◌∷◌, ◌++◌, map, Less, refl, sym, ap, subst, ◌∙◌}
+use Rattle.std.proofs.Common.{◌≡◌, ℕ, zero, suc, ◌<◌, Bool, true, false, ◌&&◌, cond, List, [], ◌∷◌, ◌++◌, map, Less, refl, sym, ap, subst, ◌∙◌}
 use Rattle.std.proofs.Common.{arith, length, nat_lt, Some, None, T, Ok}
 use Rattle.std.specs.FinSet as set
 use Rattle.policy_reader.proofs.Sets as part
 use Rattle.policy_reader.proofs.Prints.{eq_by_cmp, nat_cmp, ordering_then, nat_cmp_is, eq_by_cmp_equiv, list_any, AllByRecursion, IsDistinct, find, is_sorted}
-use Rattle.policy_reader.proofs.Prints.{append-nil, Pairs, pair_cmp, IsAscending, AllPairs, pair_cmp_total, pair_cmp-IsAntisymmetric, ascending_none, row, rows}
-use Rattle.policy_reader.proofs.Prints.{pair_data, IsDistinct-from_sorted, AreNames, each, PolicyPart, lt_yes, lt_no, All, or_right}
+use Rattle.policy_reader.proofs.Prints.{append-nil, Pairs, pair_cmp, IsAscending, AllPairs, pair_cmp_total, pair_cmp-IsAntisymmetric, row, rows}
+use Rattle.policy_reader.proofs.Prints.{pair_data, IsDistinct-from_sorted, AreNames, each, PolicyPart, lt_yes, lt_no, All}
 use Rattle.std.specs.List.Sorted.{IsStrictlySortedBy}
 use Rattle.std.specs.FinMap.Entries.{below_all, same_entries}
 use Rattle.std.proofs.lemmas.Map.Keys.{sorted_tail}
@@ -19,12 +19,7 @@ use Rattle.policy_reader.proofs.Sets.{itself, by_first, lines}
 module _ (n : ℕ) where
   below_each : (ps : List (ℕ × ℕ)) → AllPairs (λ a b. (a < n) × (b < n)) (set.from_list ps) → AllByRecursion (λ p. (p.0 < n) × (p.1 < n)) ps
   below_each [] h = tt
-  below_each (p ∷ ps) h = (
-    h.each p.0 p.1 (set.contains-insert pair_cmp_total (set.from_list ps) p p ∙ ap (λ b. b || set.contains {R = pair_cmp} (set.from_list ps) p) (itself p)),
-    below_each ps (record {
-      each = λ a b here. h.each a b (set.contains-insert pair_cmp_total (set.from_list ps) p (a, b) ∙ or_right (eq_by_cmp pair_cmp (a, b) p) _ here);
-    }),
-  )
+  below_each (p ∷ ps) h = grind (arith, itself, (below_each ps))
 
   -- the pairs of a list whose set is below n
   pub all_below : (ps : List (ℕ × ℕ)) → AllPairs (λ a b. (a < n) × (b < n)) (set.from_list ps) → All (λ p. (p.0 < n) × (p.1 < n)) ps
@@ -63,20 +58,8 @@ reached_row pairs s before h (suc t) = grind (arith, (reached_row pairs s before
 
 module _ (n : ℕ) (pairs : Pairs) (within : AllPairs (λ a b. (a < n) × (b < n)) pairs) where
   reached : (m : ℕ) → IsReached pairs m 0 (rows m n pairs)
-  reached zero = record {
-    whole = sym (part.no_part pairs (λ q. nat_lt q.0 0) (λ q. lt_no q.0 0 (omega arith))) ∙ row_begins 0 pairs;
-    ascend =
-        ascending_none;
-    below = tt;
-  }
-  reached (suc m) =
-      let row = reached_row pairs m (rows m n pairs) (reached m) n in
-      record {
-        whole = row.whole ∙ part.row_all by_first pairs (λ k. nat_lt k m) m (lt_no m m (omega arith)) n (λ q here. (within.each q.0 q.1 here).1) ∙
-            part.next_line pairs m ∙ row_begins (suc m) pairs;
-        ascend = row.ascend;
-        below = further (m, n) (suc m, 0) _ (pair_below (m, n) (suc m, 0) (omega arith)) row.below;
-      }
+  reached zero = grind arith
+  reached (suc m) = grind (arith, reached_row, part.row_all, part.next_line, row_begins, further, pair_below, (reached m))
 
   -- the pairs ascend, and are the whole
   pub rows_ascend : IsAscending (rows n n pairs)
@@ -148,5 +131,4 @@ module _ (t : PolicyPart) (f : ℕ) (names : List (List ℕ)) (whole : Pairs) (n
   pairs_back = list_back (next_pair t f names) (pair_data names) (λ ps. set.from_list ps) all step ∙ ap Ok (rows_whole (length names) whole within)
 
   pub pairs_count : length all ≡ set.len whole
-  pairs_count = sym (len_ascending all (rows_ascend (length names) whole within)) ∙
-      ap set.len (rows_whole (length names) whole within)
+  pairs_count = grind (arith, len_ascending, rows_ascend, rows_whole)
