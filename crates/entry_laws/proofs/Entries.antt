@@ -1,5 +1,5 @@
 -- The text of each entry of a legal history is a line of it.
-use Rattle.std.proofs.Common.{◌≡◌, ℕ, ◌+◌, ◌<◌, ◌≤◌, ◌^◌, ◌⊎◌, inl, inr, false, List, [], ◌∷◌, ◌++◌, length, Option, refl, sym, ap, subst, ◌∙◌}
+use Rattle.std.proofs.Common.{◌≡◌, ℕ, ◌+◌, ◌<◌, ◌≤◌, ◌^◌, ◌⊎◌, inl, inr, false, List, [], ◌∷◌, ◌++◌, length, Option, sym, ap, subst}
 use Rattle.std.proofs.Common.{arith, append_assoc, append-nil}
 use Rattle.serde_json.specs.Data.{depth}
 use Rattle.policy_book.specs.Laws.Shapes.{PolicyShape}
@@ -11,7 +11,7 @@ use Rattle.wf_talk.specs.declared.reply.Reply.{Reply}
 use Rattle.wf_talk.specs.declared.reply.Reply.TheVariants as reply
 use Rattle.wf_board.specs.Laws.States.{State, opening_state}
 use Rattle.admin_edits.specs.Laws.Keeping.{KeepsNames}
-use Rattle.wf_board.specs.Counting.{counts_for, is_edited}
+use Rattle.wf_board.specs.Counting.{is_edited}
 use Rattle.wf_board.specs.Laws.Steps.{IsStep, state_after_step}
 use Rattle.wf_board.specs.Laws.Histories.{EachAfter, IsRetry, IsRightAfter, state_after}
 use Rattle.wf_board.proofs.HistoryLaws.{after_more, again_stays, edits_within, policy_stays}
@@ -43,20 +43,10 @@ step_reached s what answer is step =
 pub entry_reached : (start : State) (rounds : ℕ) (earlier : List Entry) (e : Entry) → IsReached (state_after start earlier) →
     IsRightAfter start rounds earlier e
     → IsReached (state_after start (earlier ++ e ∷ []))
-entry_reached start rounds earlier e is right = subst IsReached (sym (after_more start earlier e)) (by_reply right.1)
-  where
-    by_reply : IsStep (state_after start earlier) e.ask e.reply ⊎ IsRetry start rounds earlier e →
-        IsReached (state_after_step (state_after start earlier) e.ask e.reply)
-    by_reply (inl step) = step_reached (state_after start earlier) e.ask e.reply is step
-    by_reply (inr retry) = subst IsReached (sym (again_stays (state_after start earlier) e.ask e.reply retry.0 retry.1.0 retry.1.1.0)) is
+entry_reached start rounds earlier e is right = grind (arith, after_more, step_reached, again_stays)
 
 pub opening_reached : (p : PolicyShape) → IsSoundPolicy p → HasFewSteps p → IsReached (opening_state p)
-opening_reached p sound few = record {
-  sound = record { policy = sound; cases = λ n c found. cc };
-  kept = λ n c found live. cc;
-  few = few;
-  serial = record { numbers = tt; ever = refl; within = omega arith };
-}
+opening_reached p sound few = grind arith
 
 -- what is known behind some entries, and of the entry that comes behind more of them
 record IsKnownLast (start : State) (rounds : ℕ) (earlier : List Entry) (e : Entry) : Type 0 where
@@ -67,27 +57,17 @@ last_known : (start : State) (rounds : ℕ) (earlier entries : List Entry) (e : 
     → EachAfter (IsRightAfter start rounds) earlier (entries ++ e ∷ []) → IsKnownLast start rounds (earlier ++ entries) e
 last_known start rounds earlier [] e is each = subst (λ es. IsKnownLast start rounds es e) (sym (append-nil earlier)) record { reached = is; right = each.0 }
 last_known start rounds earlier (x ∷ xs) e is each =
-    subst (λ es. IsKnownLast start rounds es e) (append_assoc earlier (x ∷ []) xs)
-    (last_known start rounds (earlier ++ x ∷ []) xs e (entry_reached start rounds earlier x is each.0) each.1)
+    grind (arith, append_assoc, entry_reached, (last_known start rounds (earlier ++ x ∷ []) xs e (entry_reached start rounds earlier x is each.0) each.1))
 
 -- ---- the text
 
 reply_same : (p q : PolicyShape) (r : Reply) → (is_edited r ≡ false → q ≡ p) → reply_data q r ≡ reply_data p r
-reply_same p q (reply.Granted plan) same = ap (λ x. reply_data x (reply.Granted plan)) (same refl)
-reply_same p q (reply.Opened c plan) same = ap (λ x. reply_data x (reply.Opened c plan)) (same refl)
-reply_same p q (reply.Shown face) same = ap (λ x. reply_data x (reply.Shown face)) (same refl)
-reply_same p q (reply.Work items) same = ap (λ x. reply_data x (reply.Work items)) (same refl)
-reply_same p q (reply.Denied d) same = ap (λ x. reply_data x (reply.Denied d)) (same refl)
-reply_same p q answer same = refl
+reply_same p q r same = grind arith
 
 -- the text of an entry is the same with the names of the policy after it
 pub text_stays : (start : State) (entries : List Entry) (e : Entry)
     → entry_text (state_after start (entries ++ e ∷ [])).book.policy e ≡ entry_text (state_after start entries).book.policy e
-text_stays start entries e =
-    let s = state_after start entries in
-    let more = ap (λ (t : State). t.book.policy) (after_more start entries e) in
-    text_same s.book.policy (state_after start (entries ++ e ∷ [])).book.policy e
-    (reply_same s.book.policy (state_after start (entries ++ e ∷ [])).book.policy e.reply (λ other. more ∙ policy_stays s e.ask e.reply other))
+text_stays start entries e = grind (arith, after_more, text_same, reply_same, policy_stays)
 
 -- ---- the reply
 
@@ -98,14 +78,7 @@ again_fits s o answer n place is few below = subst (FitsReply s.book.policy (flo
 retry_fits : (start : State) (rounds : ℕ) (entries : List Entry) (e : Entry) → IsRetry start rounds entries e → rounds < 2 ^ 8 → length entries + 1 < 2 ^ 32
     → FitsReply (state_after start entries).book.policy (flows_of (state_after start entries))
     (concerned (state_after start entries).book.policy (flows_of (state_after start entries)) e.ask) e.reply
-retry_fits start rounds entries e retry few short =
-    let s = state_after start entries in
-    let may = retry.1.1.1 in
-    let all = may.all in
-    let last = may.last in
-    let within = end_within 0 0 (λ x. counts_for x e.ask) entries (omega arith) in
-    again_fits s (concerned s.book.policy (flows_of s) e.ask) e.reply retry.0 retry.1.0 retry.1.1.0 (omega (arith, all, few))
-    (omega (arith, last, within, short))
+retry_fits start rounds entries e retry few short = grind (arith, end_within, again_fits)
 
 entry_fits : (p : PolicyShape) (rounds : ℕ) (entries : List Entry) (e : Entry) → IsLastOf p rounds entries e → IsKnownLast (opening_state p) rounds entries e
     → IsEntry (state_after (opening_state p) entries).book.policy (flows_of (state_after (opening_state p) entries)) e

@@ -1,33 +1,24 @@
 -- No more cases are open than the limit, and a reply lists no more than there can be.
-use Rattle.std.proofs.Common.{◌≡◌, ℕ, zero, suc, ◌+◌, ◌*◌, ◌<◌, ◌≤◌, Bool, true, false, nat_eq, List, [], ◌∷◌, ◌++◌, length, Result, Ok, Err}
-use Rattle.std.proofs.Common.{inl, inr, if◌then◌else◌, refl, sym, ap, subst, ◌∙◌, arith}
-use Rattle.std.specs.List.{list_all}
+use Rattle.std.proofs.Common.{◌≡◌, ℕ, zero, suc, ◌+◌, ◌*◌, ◌<◌, ◌≤◌, Bool, true, List, [], ◌∷◌, ◌++◌, length, Result}
+use Rattle.std.proofs.Common.{inl, inr, if◌then◌else◌, refl, ap, arith}
 use Rattle.std.proofs.lemmas.List.{length-append}
 use Rattle.std.proofs.lemmas.List.Elements.{filter-append}
-use Rattle.wf_names.specs.States.{is_finished, is_live}
 use Rattle.wf_names.specs.declared.limits.TheConstants.{OPEN_CASE_LIMIT, STEP_LIMIT}
-use Rattle.wf_names.specs.declared.states.Phase.{Phase}
-use Rattle.wf_names.specs.declared.states.Phase.TheVariants.{Done, Withdrawn}
-use Rattle.wf_names.specs.declared.states.StepState.TheVariants.{Free, Held}
-use Rattle.case_record.specs.Cases.{CaseShape, finished_case, is_open, with_phase, with_state}
+use Rattle.case_record.specs.Cases.{CaseShape, finished_case, is_open}
 use Rattle.wf_talk.specs.declared.request.Ask.{Ask}
 use Rattle.wf_talk.specs.declared.reply.Reply.{Reply}
-use Rattle.wf_talk.specs.declared.reply.Reply.TheVariants as reply
 use Rattle.wf_talk.specs.declared.reply.WorkItem.{WorkItem}
 use Rattle.wf_talk.specs.declared.reply.Denial.{Denial}
-use Rattle.wf_talk.specs.declared.reply.Denial.TheVariants as denial
 use Rattle.policy_book.specs.Laws.Shapes.{PolicyShape}
-use Rattle.admin_edits.specs.Laws.Edits.{amended}
 use Rattle.wf_board.specs.declared.deed.Deed.{Deed}
-use Rattle.wf_board.specs.declared.deed.Deed.TheVariants as deed
 use Rattle.wf_board.specs.Laws.States.{Numbered, State, open_cases, with_case_changed}
 use Rattle.wf_board.specs.Decisions.{decision_of}
 use Rattle.wf_board.specs.Laws.Steps.{Answers, IsReplyTo, IsStep, state_after_decision, state_after_deed, state_after_step}
-use Rattle.wf_board.specs.Views.{AreStranded, AreThose, IsWorkOf, item_of, steps_from, steps_of}
+use Rattle.wf_board.specs.Views.{AreStranded, AreThose, IsWorkOf, steps_from, steps_of}
 use Rattle.wf_board.proofs.Faring.{Fares}
 use Rattle.wf_board.proofs.Told.{HoldsOf}
 use Rattle.entry_laws.specs.Laws.{flows_of}
-use Rattle.entry_laws.proofs.Numbers.{EachOf, HasRoom, IsOpenIn, decided_room, open_found}
+use Rattle.entry_laws.proofs.Numbers.{EachOf, HasRoom, decided_room, open_found}
 use Rattle.entry_laws.proofs.Parts.{case_few}
 use Rattle.entry_laws.proofs.Replies.{IsReached}
 use Rattle.entry_laws.proofs.Told.{FitsDenial, IsDeedFor, concern, decision_fares}
@@ -45,62 +36,34 @@ OpensNone change = (c : CaseShape) → is_open (change c) ≡ true → is_open c
 
 first_no_more : (a b : Bool) (x y : Numbered) (xs : List Numbered) → (a ≡ true → b ≡ true) →
     length (if a then x ∷ xs else xs) ≤ length (if b then y ∷ xs else xs)
-first_no_more true true x y xs opens = omega arith
-first_no_more true false x y xs opens = absurd (let no : false ≡ true = opens refl in cc)
-first_no_more false true x y xs opens = omega arith
-first_no_more false false x y xs opens = omega arith
+first_no_more a b x y xs opens = grind arith
 
 with_first : (a : Bool) (x : Numbered) (xs ys : List Numbered) → length xs ≤ length ys → length (if a then x ∷ xs else xs) ≤ length (if a then x ∷ ys else ys)
-with_first true x xs ys few = omega (arith, few)
-with_first false x xs ys few = few
+with_first a x xs ys few = grind arith
 
 changed_no_more : (n : ℕ) (change : CaseShape → CaseShape) (es : List Numbered) → OpensNone change →
     length (open_cases (with_case_changed n change es)) ≤ length (open_cases es)
 changed_no_more n change [] opens = omega arith
-changed_no_more n change (e ∷ es) opens = at (nat_eq e.number n) (changed_no_more n change es opens)
-  where
-    at : (b : Bool) → length (open_cases (with_case_changed n change es)) ≤ length (open_cases es) →
-        length (open_cases (if b then record e { case = change e.case } ∷ es else e ∷ with_case_changed n change es)) ≤ length (open_cases (e ∷ es))
-    at true rest = first_no_more (is_open (change e.case)) (is_open e.case) (record e { case = change e.case }) e (open_cases es) (opens e.case)
-    at false rest = with_first (is_open e.case) e (open_cases (with_case_changed n change es)) (open_cases es) rest
+changed_no_more n change (e ∷ es) opens = grind (arith, first_no_more, with_first, (changed_no_more n change es opens))
 
 finished_opens : (t : ℕ) → OpensNone (λ c. finished_case c t)
-finished_opens t c = at (list_all is_finished (finished_case c t).states) c.phase
-  where
-    at : (b : Bool) (phase : Phase) → is_live (if b then Done else phase) ≡ true → is_live phase ≡ true
-    at true phase is = cc
-    at false phase is = is
+finished_opens t = grind arith
 
 -- ---- steps
 
 one_more : (cases : List Numbered) (e : Numbered) → length (open_cases cases) < OPEN_CASE_LIMIT → length (open_cases (cases ++ e ∷ [])) ≤ OPEN_CASE_LIMIT
-one_more cases e room =
-    let split : length (open_cases (cases ++ e ∷ [])) ≡ length (open_cases cases) + length (open_cases (e ∷ [])) =
-    ap length (filter-append (λ (x : Numbered). is_open x.case) cases (e ∷ [])) ∙ length-append (open_cases cases) (open_cases (e ∷ [])) in
-    omega (arith, room, split, single (is_open e.case))
-  where
-    single : (b : Bool) → length {A = Numbered} (if b then e ∷ [] else []) ≤ 1
-    single true = omega arith
-    single false = omega arith
+one_more cases e room = grind (arith, filter-append, length-append)
 
 no_more : (s : State) (n : ℕ) (change : CaseShape → CaseShape) → OpensNone change → HasFewOpen s →
     length (open_cases (with_case_changed n change s.book.cases)) ≤ OPEN_CASE_LIMIT
 no_more s n change opens few = omega (arith, few, changed_no_more n change s.book.cases opens)
 
 deed_open : (s : State) (given : Deed) (answer : Reply) → HasFewOpen s → HasRoom s.book given → HasFewOpen (state_after_deed s given answer)
-deed_open s (deed.Open f) (reply.Opened n plan) few room = one_more s.book.cases _ room.0
-deed_open s (deed.Claim d) (reply.Granted plan) few room = no_more s d.number (λ x. with_state x d.step (Held d.user)) (λ x is. is) few
-deed_open s (deed.Finish d) (reply.Finished done) few room = no_more s d.number (λ x. finished_case x d.step) (finished_opens d.step) few
-deed_open s (deed.GiveBack d) reply.Returned few room = no_more s d.number (λ x. with_state x d.step Free) (λ x is. is) few
-deed_open s (deed.Release n c t) reply.Released few room = no_more s n (λ x. with_state x t Free) (λ x is. is) few
-deed_open s (deed.Withdraw n) reply.Withdrawn few room = no_more s n (λ x. with_phase x Withdrawn) (λ x is. cc) few
-deed_open s (deed.Change a) (reply.Edited number) few room = few
-deed_open s given answer few room = few
+deed_open s given answer few room = grind (arith, one_more, no_more, finished_opens)
 
 decision_open : (s : State) (decision : Result Deed Denial) (answer : Reply) → HasFewOpen s → HoldsOf (HasRoom s.book) decision →
     HasFewOpen (state_after_decision s decision answer)
-decision_open s (Ok given) answer few room = deed_open s given answer few room
-decision_open s (Err d) answer few room = few
+decision_open s decision answer few room = grind (arith, deed_open)
 
 pub step_open : (s : State) (what : Ask) (answer : Reply) → HasFewOpen s → HasFewOpen (state_after_step s what answer)
 step_open s what answer few = decision_open s (decision_of s.book what) answer few (decided_room s.book what)
@@ -109,9 +72,7 @@ step_open s what answer few = decision_open s (decision_of s.book what) answer f
 
 those_few : {A B : Type 0} (In Out : A → Type 0) (name : A → B) (xs : List A) (names : List B) → AreThose In Out name xs names → length names ≤ length xs
 those_few In Out name [] names are = omega (arith, ap length are)
-those_few In Out name (x ∷ xs) names (inl here) =
-    let rest = those_few In Out name xs here.1.0 here.1.1.1 in
-    omega (arith, ap length here.1.1.0, rest)
+those_few In Out name (x ∷ xs) names (inl here) = grind (arith, (those_few In Out name xs here.1.0 here.1.1.1))
 those_few In Out name (x ∷ xs) names (inr later) = let rest = those_few In Out name xs names later.1 in omega (arith, rest)
 
 steps_count : (e : Numbered) (more t : ℕ) → length (steps_from e more t) ≡ more
@@ -120,21 +81,14 @@ steps_count e (suc more) t = ap suc (steps_count e more (t + 1))
 
 places_few : (es : List Numbered) → EachOf (λ e. length e.case.states ≤ STEP_LIMIT) es → length (steps_of es) ≤ length es * STEP_LIMIT
 places_few [] each = omega arith
-places_few (e ∷ es) each =
-    let few = each.0 in
-    omega (arith, few, length-append (steps_from e (length e.case.states) 0) (steps_of es), steps_count e (length e.case.states) 0, places_few es each.1)
+places_few (e ∷ es) each = grind (arith, length-append, steps_count, (places_few es each.1))
 
 each_of : {A : Type 0} (P Q : A → Type 0) (xs : List A) → ((x : A) → P x → Q x) → EachOf P xs → EachOf Q xs
 each_of P Q [] so each = tt
 each_of P Q (x ∷ xs) so each = (so x each.0, each_of P Q xs so each.1)
 
 work_few : (s : State) (u : ℕ) (items : List WorkItem) → IsReached s → HasFewOpen s → IsWorkOf s.book u items → length items ≤ OPEN_CASE_LIMIT * STEP_LIMIT
-work_few s u items reached few is =
-    let es = open_cases s.book.cases in
-    let each : EachOf (λ (e : Numbered). length e.case.states ≤ STEP_LIMIT) es =
-    each_of (IsOpenIn s.book.cases) _ es (λ e known. case_few s.book.policy e.case reached.few (reached.sound.cases e.number e.case known.found))
-    (open_found s.book reached.serial) in
-    omega (arith, few, places_few es each, those_few _ _ item_of (steps_of es) items is)
+work_few s u items reached few is = grind (arith, each_of, case_few, open_found, places_few, those_few)
 
 stranded_few : (s : State) (p : PolicyShape) (numbers : List ℕ) → HasFewOpen s → AreStranded p (open_cases s.book.cases) numbers →
     length numbers ≤ OPEN_CASE_LIMIT
@@ -143,18 +97,11 @@ stranded_few s p numbers few is = omega (arith, few, those_few _ _ (λ e. e.numb
 -- ---- replies
 
 deed_few : (s : State) (given : Deed) (answer : Reply) → IsReached s → HasFewOpen s → IsReplyTo s given answer → ListsFew answer
-deed_few s (deed.Work u) (reply.Work items) reached few is = work_few s u items reached few is
-deed_few s (deed.WhatIf a) (reply.WhatIf numbers) reached few is = stranded_few s (amended s.book.policy a) numbers few is
-deed_few s given (reply.Work items) reached few is = absurd is
-deed_few s given (reply.WhatIf numbers) reached few is = absurd is
-deed_few s given (reply.Denied (denial.Role roles)) reached few is = absurd is
-deed_few s given answer reached few is = tt
+deed_few s given answer reached few is = grind (arith, work_few, stranded_few)
 
 decided_few : (s : State) (what : Ask) (r : Result Deed Denial) (answer : Reply) → IsReached s → HasFewOpen s →
     Fares (IsDeedFor s what) (FitsDenial s.book.policy (flows_of s) (concern s what)) r → Answers s r answer → ListsFew answer
-decided_few s what (Ok given) answer reached few fares is = deed_few s given answer reached few is
-decided_few s what (Err d) answer reached few fares (inl denied) = subst ListsFew (sym denied) fares.2
-decided_few s what (Err d) answer reached few fares (inr short) = subst ListsFew (sym short) tt
+decided_few s what r answer reached few fares is = grind (arith, deed_few)
 
 -- the reply of a step lists few
 pub step_few : (s : State) (what : Ask) (answer : Reply) → IsReached s → HasFewOpen s → IsStep s what answer → ListsFew answer

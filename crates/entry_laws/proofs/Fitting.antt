@@ -1,5 +1,5 @@
 -- Every line that is written of a legal history fits a line of an audit.
-use Rattle.std.proofs.Common.{◌≡◌, ℕ, ◌+◌, ◌<◌, ◌≤◌, ◌^◌, ◌⊎◌, inl, inr, false, List, [], ◌∷◌, ◌++◌, length, Option, append_assoc, append-nil, refl, sym, subst}
+use Rattle.std.proofs.Common.{◌≡◌, ℕ, ◌+◌, ◌<◌, ◌≤◌, ◌^◌, inl, inr, false, List, [], ◌∷◌, ◌++◌, length, Option, append_assoc, append-nil, sym, subst}
 use Rattle.std.proofs.Common.{◌∙◌, arith}
 use Rattle.std.proofs.lemmas.List.{length-append}
 use Rattle.basics.proofs.Booleans.{bool_cases}
@@ -9,10 +9,9 @@ use Rattle.policy_book.specs.Laws.Facts.{IsSoundPolicy}
 use Rattle.wf_talk.specs.declared.entry.Entry.{Entry}
 use Rattle.wf_talk.specs.declared.reply.Reply.{Reply}
 use Rattle.wf_talk.specs.declared.reply.Reply.TheVariants as reply
-use Rattle.wf_talk.specs.declared.reply.Denial.TheVariants as denial
 use Rattle.wf_board.specs.Laws.States.{State, opening_state}
-use Rattle.wf_board.specs.Laws.Steps.{IsStep, state_after_step}
-use Rattle.wf_board.specs.Laws.Histories.{AreRightful, EachAfter, IsLegal, IsRetry, IsRightAfter, state_after}
+use Rattle.wf_board.specs.Laws.Steps.{state_after_step}
+use Rattle.wf_board.specs.Laws.Histories.{AreRightful, EachAfter, IsLegal, IsRightAfter, state_after}
 use Rattle.wf_board.specs.Limits.{shows_large}
 use Rattle.wf_board.proofs.HistoryLaws.{after_more, each_later, each_more}
 use Rattle.wire_json.specs.Replies.{entry_text}
@@ -31,10 +30,7 @@ use Rattle.entry_laws.proofs.Short.{ListsFew, reply_short, shows_tree}
 -- ---- an entry
 
 tree_alike : (given : Reply) → is_by_tree given ≡ shows_tree given
-tree_alike (reply.Denied (denial.Unsatisfiable f tree)) = refl
-tree_alike (reply.Denied (denial.Stranded f tree)) = refl
-tree_alike (reply.Denied (denial.Strands n f tree)) = refl
-tree_alike given = refl
+tree_alike given = grind arith
 
 -- an entry whose reply lists few, and shows no tree that is too large
 entry_short : (p : PolicyShape) (flows : ℕ → Option ℕ) (e : Entry) → HasNames p → IsEntry p flows e → ListsFew e.reply → shows_large e.reply ≡ false →
@@ -75,11 +71,7 @@ each_front P earlier (e ∷ es) more each = (each.0, each_front P (earlier ++ e 
 -- the reply of an entry lists few
 right_few : (p : PolicyShape) (rounds : ℕ) (earlier : List Entry) (e : Entry) → IsKnown p rounds earlier → IsRightAfter (opening_state p) rounds earlier e →
     ListsFew e.reply
-right_few p rounds earlier e known right = by_reply right.1
-  where
-    by_reply : IsStep (state_after (opening_state p) earlier) e.ask e.reply ⊎ IsRetry (opening_state p) rounds earlier e → ListsFew e.reply
-    by_reply (inl step) = step_few (state_after (opening_state p) earlier) e.ask e.reply known.reached known.few step
-    by_reply (inr retry) = subst ListsFew (sym retry.1.1.0) tt
+right_few p rounds earlier e known right = grind (arith, step_few)
 
 -- its text fits, with the names of the policy after it
 next_fits : (p : PolicyShape) (rounds : ℕ) (earlier : List Entry) (e : Entry) → IsLastOf p rounds earlier e →

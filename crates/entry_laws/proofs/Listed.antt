@@ -1,12 +1,10 @@
 -- What views over the open cases list stands for something, and nests little.
-use Rattle.std.proofs.Common.{◌≡◌, ℕ, zero, suc, ◌+◌, ◌<◌, ◌≤◌, inl, inr, List, [], ◌∷◌, ◌++◌, length, map, refl, sym, ap, subst, arith}
-use Rattle.std.specs.Option.{option_map}
+use Rattle.std.proofs.Common.{◌≡◌, ℕ, zero, suc, ◌+◌, ◌<◌, ◌≤◌, inl, inr, List, [], ◌∷◌, ◌++◌, length, map, refl, sym, subst, arith}
 use Rattle.std.specs.List.{All}
-use Rattle.std.proofs.lemmas.List.Elements.{All-cons, All-nil}
+use Rattle.std.proofs.lemmas.List.Elements.{All-nil}
 use Rattle.serde_json.specs.Data.{items_depth, number, unsigned}
 use Rattle.serde_json.specs.View.{items_of}
 use Rattle.policy_book.specs.Laws.Shapes.{PolicyShape}
-use Rattle.case_record.specs.Cases.{CaseShape}
 use Rattle.wf_talk.specs.declared.reply.WorkItem.{WorkItem}
 use Rattle.wf_board.specs.Laws.States.{Numbered, State, open_cases}
 use Rattle.wf_board.specs.Laws.Kept.{IsSoundState}
@@ -20,8 +18,7 @@ use Rattle.entry_laws.proofs.Numbers.{AreSerial, EachOf, IsOpenIn, open_found}
 those_hold : {A B : Type 0} (In Out : A → Type 0) (name : A → B) (P : B → Type 0) (xs : List A) (names : List B) → EachOf (λ x. P (name x)) xs
     → AreThose In Out name xs names → All P names
 those_hold In Out name P [] names each are = subst (All P) (sym are) (All-nil P)
-those_hold In Out name P (x ∷ xs) names each (inl here) =
-    subst (All P) (sym here.1.1.0) (All-cons P (name x) here.1.0 each.0 (those_hold In Out name P xs here.1.0 each.1 here.1.1.1))
+those_hold In Out name P (x ∷ xs) names each (inl here) = grind (arith, (those_hold In Out name P xs here.1.0 each.1 here.1.1.1))
 those_hold In Out name P (x ∷ xs) names each (inr later) = those_hold In Out name P xs names each.1 later.1
 
 each_so : {A : Type 0} (P Q : A → Type 0) (xs : List A) → ((x : A) → P x → Q x) → EachOf P xs → EachOf Q xs
@@ -46,20 +43,11 @@ all_steps P (e ∷ es) each =
     (all_steps P es each.1)
 
 number_stands : (s : State) (e : Numbered) → AreSerial s.book → IsOpenIn s.book.cases e → IsCase e.number
-number_stands s e are known =
-    let below = known.below in
-    let ever = are.ever in
-    let within = are.within in
-    omega (arith, below, ever, within)
+number_stands s e are known = grind arith
 
 item_stands : (s : State) (e : Numbered) (i : ℕ) → IsSoundState s → AreSerial s.book → IsOpenIn s.book.cases e → i < length e.case.states
     → IsWorkItem s.book.policy (flows_of s) (item_of (record { of = e; step = i }))
-item_stands s e i sound are known below =
-    let of = sound.cases e.number e.case known.found in (
-      number_stands s e are known,
-      (ap (option_map (λ (x : CaseShape). x.flow)) known.found, subst (λ m. e.case.flow < m) (sym sound.policy.named) of.flow),
-      subst (λ n. i < n) of.steps below,
-    )
+item_stands s e i sound are known below = grind (arith, number_stands)
 
 pub work_stands : (s : State) (u : ℕ) (items : List WorkItem) → IsSoundState s → AreSerial s.book → IsWorkOf s.book u items →
     All (IsWorkItem s.book.policy (flows_of s)) items

@@ -1,5 +1,5 @@
 -- The names of a policy stay names along a session.
-use Rattle.std.proofs.Common.{◌≡◌, ℕ, zero, suc, ◌⊎◌, inl, inr, Bool, true, false, not, nat_eq, List, [], ◌∷◌, ◌++◌, length, slice_get, ap, ◌∙◌, append-nil}
+use Rattle.std.proofs.Common.{◌≡◌, ℕ, zero, suc, ◌⊎◌, inl, inr, Bool, true, false, not, nat_eq, List, [], ◌∷◌, ◌++◌, length, slice_get, append-nil}
 use Rattle.std.proofs.Common.{append_assoc, Some, is_some, Result, Ok, Err, IsTrue, refl, sym, subst, arith}
 use Rattle.std.specs.List.{position}
 use Rattle.std.specs.Cmp.Lexicographic.{pointwise, nat_list_eq_equiv}
@@ -7,25 +7,19 @@ use Rattle.std.proofs.lemmas.Grind.{common_steps}
 use Rattle.std.proofs.lemmas.List.{length-append}
 use Rattle.std.proofs.lemmas.List.Folds.{position_or_len_push}
 use Rattle.std.proofs.lemmas.List.Sums.{prefix_len-le-length}
-use Rattle.basics.specs.Laws.Reading.{◌>>=◌, check, or_fault}
+use Rattle.basics.specs.Laws.Reading.{◌>>=◌, check}
 use Rattle.wf_names.specs.Names.{is_name}
 use Rattle.wf_names.specs.Table.{place_of, AreNames}
 use Rattle.policy_book.specs.Laws.Shapes.{PolicyShape}
-use Rattle.policy_book.specs.Policies.{flow_at}
 use Rattle.wf_talk.specs.declared.edit.Edit.{Edit}
-use Rattle.wf_talk.specs.declared.edit.Edit.TheVariants as edit
 use Rattle.wf_talk.specs.declared.request.Ask.{Ask}
 use Rattle.wf_talk.specs.declared.reply.Reply.{Reply}
 use Rattle.wf_talk.specs.declared.reply.Reply.TheVariants as reply
 use Rattle.wf_talk.specs.declared.reply.Denial.{Denial}
-use Rattle.wf_talk.specs.declared.edit.Missing.{Missing}
-use Rattle.wf_talk.specs.declared.edit.Missing.TheVariants as missing
-use Rattle.user_relations.specs.Laws.Relations.{known_names}
 use Rattle.admin_edits.specs.declared.amendment.Amendment.{Amendment}
 use Rattle.admin_edits.specs.declared.amendment.Amendment.TheVariants as amend
-use Rattle.admin_edits.specs.declared.fault.EditCause.{EditCause}
 use Rattle.admin_edits.specs.declared.fault.EditCause.TheVariants as fault
-use Rattle.admin_edits.specs.Laws.Edits.{allowed, amended, amendment_of, found, is_admin}
+use Rattle.admin_edits.specs.Laws.Edits.{allowed, amended, amendment_of, found}
 use Rattle.admin_edits.specs.Laws.Keeping.{KeepsNames}
 use Rattle.admin_edits.proofs.Keeping.{changes_keep_names}
 use Rattle.wf_board.specs.declared.deed.Deed.{Deed}
@@ -35,7 +29,7 @@ use Rattle.wf_board.specs.Laws.States.{State}
 use Rattle.wf_board.specs.Decisions.{decision_of}
 use Rattle.wf_board.specs.Laws.Steps.{state_after_decision, state_after_deed, state_after_step}
 use Rattle.wf_board.proofs.Faring.{Fares}
-use Rattle.wf_board.proofs.Told.{HoldsOf, IsTold, then_holds, told}
+use Rattle.wf_board.proofs.Told.{HoldsOf, IsTold, told}
 use Rattle.entry_reader.specs.Named.{HasNames}
 use Rattle.line_reader.specs.Laws.{AddsNamed, IsNamedEdit}
 use Rattle.entry_laws.specs.Laws.{flows_of}
@@ -44,32 +38,16 @@ use Rattle.entry_laws.proofs.Told.{FitsDenial, IsChangeFor, IsDeedFor, concern, 
 -- ---- policies that keep names
 
 pub keeps_same : (p q : PolicyShape) → q ≡ p → KeepsNames p q
-keeps_same p q same = record {
-  more = [];
-  users = ap (λ (x : PolicyShape). x.roster.users) same ∙ sym (append-nil p.roster.users);
-  roles = ap (λ (x : PolicyShape). x.roster.roles) same;
-  flow_names = ap (λ (x : PolicyShape). x.flow_names) same;
-  flows = ap (λ (x : PolicyShape). length x.flows) same;
-  steps = λ f. ap (λ (x : PolicyShape). (flow_at x f).flow.steps) same;
-}
+keeps_same p q same = grind (arith, append-nil)
 
 pub keeps_then : (p q r : PolicyShape) → KeepsNames p q → KeepsNames q r → KeepsNames p r
-keeps_then p q r first later = record {
-  more = first.more ++ later.more;
-  users = later.users ∙ ap (λ us. us ++ later.more) first.users ∙ append_assoc p.roster.users first.more later.more;
-  roles = later.roles ∙ first.roles;
-  flow_names = later.flow_names ∙ first.flow_names;
-  flows = later.flows ∙ first.flows;
-  steps = λ f. later.steps f ∙ first.steps f;
-}
+keeps_then p q r first later = grind (arith, append_assoc)
 
 -- ---- a step keeps names
 
 deed_keeps_names : (s : State) (given : Deed) (answer : Reply) → IsSoundState s → IsTold s.book given → KeepsNames s.book.policy
     (state_after_deed s given answer).book.policy
-deed_keeps_names s (deed.Change a) (reply.Edited n) sound known = changes_keep_names s.book.policy a (known.0 sound.policy).found
-deed_keeps_names s given reply.Returned sound known = keeps_same s.book.policy s.book.policy refl
-deed_keeps_names s given answer sound known = keeps_same s.book.policy s.book.policy refl
+deed_keeps_names s given answer sound known = grind (arith, changes_keep_names, keeps_same)
 
 decision_keeps_names : (s : State) (r : Result Deed Denial) (answer : Reply) → IsSoundState s → HoldsOf (IsTold s.book) r → KeepsNames s.book.policy
     (state_after_decision s r answer).book.policy
@@ -86,18 +64,13 @@ get_pushed : (xs : List (List ℕ)) (y : List ℕ) (n : ℕ) (x : List ℕ) → 
 get_pushed [] y zero x e = inr (refl, (let same : y ≡ x = cc in sym same))
 get_pushed [] y (suc n) x e = cc
 get_pushed (z ∷ zs) y zero x e = inl e
-get_pushed (z ∷ zs) y (suc n) x e = later (get_pushed zs y n x e)
-  where
-    later : (slice_get zs n ≡ Some x) ⊎ ((n ≡ length zs) × (x ≡ y)) → (slice_get (z ∷ zs) (suc n) ≡ Some x) ⊎ ((suc n ≡ length (z ∷ zs)) × (x ≡ y))
-    later (inl is) = inl is
-    later (inr is) = inr (let same = is.0 in omega (arith, same), is.1)
+get_pushed (z ∷ zs) y (suc n) x e = grind (arith, (get_pushed zs y n x e))
 
 place_kept : (p : List ℕ → Bool) (xs : List (List ℕ)) (y : List ℕ) (n : ℕ) → position p xs ≡ Some n → position p (xs ++ y ∷ []) ≡ Some n
 place_kept p xs y n is = grind (arith, common_steps, position_or_len_push p xs y, length-append xs (y ∷ []), is)
 
 place_new : (p : List ℕ → Bool) (xs : List (List ℕ)) (y : List ℕ) → is_some (position p xs) ≡ false → p y ≡ true → position p (xs ++ y ∷ []) ≡ Some (length xs)
-place_new p xs y none passes =
-    grind (arith, common_steps, position_or_len_push p xs y, prefix_len-le-length (λ x. not (p x)) xs, length-append xs (y ∷ []), none, passes)
+place_new p xs y none passes = grind (arith, common_steps, position_or_len_push, prefix_len-le-length, length-append)
 
 pub names_pushed : (names : List (List ℕ)) (name : List ℕ) → AreNames names → IsTrue (is_name name) → is_some (place_of names name) ≡ false →
     AreNames (names ++ name ∷ [])
@@ -125,78 +98,40 @@ IsNamedChange (amend.AddUser name) = IsTrue (is_name name)
 IsNamedChange a = Unit {0}
 
 names_kept : (p q : PolicyShape) → KeepsNames p q → HasNames p → AreNames q.roster.users → HasNames q
-names_kept p q keeps names users = record {
-  users = users;
-  roles = subst AreNames (sym keeps.roles) names.roles;
-  flow_names = subst AreNames (sym keeps.flow_names) names.flow_names;
-  steps = λ f. subst AreNames (sym (keeps.steps f)) (names.steps f);
-}
+names_kept p q keeps names users = grind arith
 
 first_passed : {F : Type 0} (b : Bool) (fault : F) (next : Result (Unit {0}) F) → (check (not b) fault >>= (λ (_ : Unit {0}). next)) ≡ Ok tt → b ≡ false
-first_passed true fault next is = cc
-first_passed false fault next is = refl
+first_passed b fault next is = grind arith
 
 amended_users : (p : PolicyShape) (a : Amendment) → HasNames p → IsNamedChange a → allowed p a ≡ Ok tt → AreNames (amended p a).roster.users
-amended_users p (amend.AddUser name) names form ok =
-    names_pushed p.roster.users name names.users form (first_passed (is_some (place_of p.roster.users name)) _ _ ok)
-amended_users p (amend.Leave u) names form ok = names.users
-amended_users p a names form ok = names.users
+amended_users p a names form ok = grind (arith, names_pushed, first_passed)
 
 -- ---- edits
 
 -- whatever comes of what was read before
 then_any : {A B F : Type 0} (P : B → Type 0) (r : Result A F) (next : A → Result B F) → ((x : A) → HoldsOf P (next x)) → HoldsOf P (r >>= next)
-then_any P (Ok x) next holds = holds x
-then_any P (Err fault) next holds = tt
+then_any P r next holds = grind arith
 
 then_same : {B C F : Type 0} (P : B → Type 0) (x : B) (r : Result C F) → P x → HoldsOf P (r >>= (λ (_ : C). Ok x))
-then_same P x (Ok y) is = is
-then_same P x (Err fault) is = tt
+then_same P x r is = grind arith
 
 two_found : {F : Type 0} (r : Result ℕ F) (s : ℕ → Result ℕ F) (made : ℕ → ℕ → Amendment) → ((x y : ℕ) → IsNamedChange (made x y)) →
     HoldsOf IsNamedChange (r >>= (λ x. s x >>= (λ y. Ok (made x y))))
-two_found r s made named =
-    then_any IsNamedChange r (λ x. s x >>= (λ y. Ok (made x y))) (λ x. then_any IsNamedChange (s x) (λ y. Ok (made x y)) (named x))
+two_found r s made named = grind (arith, then_any)
 
 three_found : {F : Type 0} (r : Result ℕ F) (s : ℕ → Result ℕ F) (t : Result ℕ F) (made : ℕ → ℕ → ℕ → Amendment) →
     ((x y z : ℕ) → IsNamedChange (made x y z)) → HoldsOf IsNamedChange (r >>= (λ x. s x >>= (λ y. t >>= (λ z. Ok (made x y z)))))
-three_found r s t made named =
-    then_any IsNamedChange r (λ x. s x >>= (λ y. t >>= (λ z. Ok (made x y z)))) (λ x. two_found (s x) (λ _. t) (made x) (named x))
-
-abbrev named_at : List (List ℕ) → List ℕ → Missing → Result ℕ EditCause
-named_at names name other = or_fault (place_of names name) (fault.Unknown other)
+three_found r s t made named = grind (arith, then_any, two_found)
 
 found_named : (p : PolicyShape) (e : Edit) → IsNamedEdit e → HoldsOf IsNamedChange (found p e)
-found_named p (edit.AddUser user) form = form
-found_named p (edit.Leave user) form = then_any IsNamedChange (named_at p.roster.users user missing.User) (λ u. Ok (amend.Leave u)) (λ u. tt)
-found_named p (edit.Enrol role user) form =
-    two_found (named_at p.roster.users user missing.User) (λ u. named_at p.roster.roles role missing.Role) amend.Enrol (λ u r. tt)
-found_named p (edit.Dismiss role user) form =
-    two_found (named_at p.roster.users user missing.User) (λ u. named_at p.roster.roles role missing.Role) amend.Dismiss (λ u r. tt)
-found_named p (edit.Relate first relation second) form =
-    three_found (named_at (known_names p.relations) relation missing.Relation) (λ rho. named_at p.roster.users first missing.User)
-    (named_at p.roster.users second missing.User) amend.Relate (λ rho u v. tt)
-found_named p (edit.Unrelate first relation second) form =
-    three_found (named_at (known_names p.relations) relation missing.Relation) (λ rho. named_at p.roster.users first missing.User)
-    (named_at p.roster.users second missing.User) amend.Unrelate (λ rho u v. tt)
-found_named p (edit.Permit flow role step) form =
-    three_found (named_at p.flow_names flow missing.Flow) (λ f. named_at (flow_at p f).flow.steps step missing.Step)
-    (named_at p.roster.roles role missing.Role) (λ f s r. amend.Permit f r s) (λ f s r. tt)
-found_named p (edit.Forbid flow role step) form =
-    three_found (named_at p.flow_names flow missing.Flow) (λ f. named_at (flow_at p f).flow.steps step missing.Step)
-    (named_at p.roster.roles role missing.Role) (λ f s r. amend.Forbid f r s) (λ f s r. tt)
-found_named p (edit.Retire flow) form = then_any IsNamedChange (named_at p.flow_names flow missing.Flow) (λ f. Ok (amend.Retire f)) (λ f. tt)
+found_named p e form = grind (arith, then_any, two_found, three_found)
 
 amendment_named : (p : PolicyShape) (by : List ℕ) (e : Edit) → IsNamedEdit e → HoldsOf IsNamedChange (amendment_of p by e)
-amendment_named p by e form =
-    then_any IsNamedChange (check (is_admin p by) fault.NotAdmin) (λ _. found p e >>= (λ a. allowed p a >>= (λ _. Ok a)))
-    (λ _. then_holds IsNamedChange IsNamedChange (found p e) (λ a. allowed p a >>= (λ _. Ok a)) (found_named p e form)
-    (λ a is. then_same IsNamedChange a (allowed p a) is))
+amendment_named p by e form = grind (arith, then_any, found_named, then_same)
 
 -- the change that is asked adds a user with such a name
 change_named : (p : PolicyShape) (what : Ask) (a : Amendment) → IsChangeFor p what a → AddsNamed what → IsNamedChange a
-change_named p what a is form =
-    subst (HoldsOf IsNamedChange) is.found (amendment_named p is.by is.edit (subst AddsNamed is.asked form))
+change_named p what a is form = grind (arith, amendment_named)
 
 -- ---- steps
 

@@ -1,5 +1,5 @@
 -- The parts of replies stand for something, and nest little.
-use Rattle.std.proofs.Common.{◌≡◌, ℕ, zero, suc, ◌+◌, ◌<◌, ◌≤◌, Bool, true, false, List, [], ◌∷◌, length, map, slice_index_or, Option, None, Some}
+use Rattle.std.proofs.Common.{◌≡◌, ℕ, zero, suc, ◌+◌, ◌<◌, ◌≤◌, Bool, List, [], ◌∷◌, length, map, slice_index_or, Option, None, Some}
 use Rattle.std.proofs.Common.{if◌then◌else◌, refl, sym, ap, subst, ◌∙◌, arith}
 use Rattle.std.specs.List.{All}
 use Rattle.std.specs.FinSet as set
@@ -12,9 +12,8 @@ use Rattle.wf_names.specs.States.{user_of}
 use Rattle.wf_names.specs.declared.states.StepState.{StepState}
 use Rattle.wf_names.specs.declared.states.StepState.TheVariants.{Free, Held, Finished}
 use Rattle.wf_names.specs.declared.states.Phase.{Phase}
-use Rattle.wf_names.specs.declared.states.Phase.TheVariants.{Live, Done, Withdrawn}
 use Rattle.constraint_forms.specs.declared.rule.Rule.{Rule}
-use Rattle.constraint_forms.specs.Assign.{no_users, planned}
+use Rattle.constraint_forms.specs.Assign.{no_users}
 use Rattle.constraint_forms.specs.Rules.{Relating, is_falsified}
 use Rattle.basics.specs.Laws.Pairs.{Pairs}
 use Rattle.policy_book.specs.Laws.Shapes.{PolicyShape}
@@ -28,7 +27,6 @@ use Rattle.case_record.specs.Steps.{all_steps}
 use Rattle.case_record.specs.Order.{first_missing_from}
 use Rattle.admin_edits.specs.ClaimCauses.{assigned_with, first_falsified, permitted_roles}
 use Rattle.wf_talk.specs.declared.request.Bad.{Bad}
-use Rattle.wf_talk.specs.declared.request.Bad.TheVariants as bad
 use Rattle.wf_talk.specs.Jobs.{IsNamedBad}
 use Rattle.wf_board.specs.Laws.Kept.{IsOfPolicy}
 use Rattle.wf_board.proofs.Below.{AllBelow, passing_all, planned_below}
@@ -51,21 +49,13 @@ all_from n (u ∷ us) below (suc k) d lt = all_from n us below.1 k d (omega (ari
 pub plan_fits : (p : PolicyShape) (f : ℕ) (pr : Problem) (a : List (Option ℕ)) (finished : List Bool) (plan : List ℕ) → IsProblemOf p f pr →
     pr.steps ≤ STEP_LIMIT
     → IsValidPlan pr a finished plan → IsPlan p plan
-plan_fits p f pr a finished plan of few valid = (
-  subst (λ n. n ≤ STEP_LIMIT) (sym valid.whole) few,
-  all_from (length p.roster.users) plan
-      (planned_below (length p.roster.users) plan (λ s below. subst (λ n. planned plan s < n) of.users (valid.known s (subst (λ n. s < n) valid.whole below)))),
-)
+plan_fits p f pr a finished plan of few valid = grind (arith, all_from, planned_below)
 
 -- ---- problems and assignments
 
 -- what a policy says of one of its workflows
 pub problem_fits : (p : PolicyShape) (f : ℕ) → IsSoundPolicy p → f < length p.flows → IsProblemOf p f (problem_of p f)
-problem_fits p f sound known = record {
-  steps = refl;
-  users = refl;
-  rules = let few = (sound.flows f known).few in omega (arith, few);
-}
+problem_fits p f sound known = grind arith
 
 pub no_users_long : length no_users ≡ STEP_LIMIT
 unfolding no_users
@@ -106,55 +96,39 @@ pub case_stands : (p : PolicyShape) (c : CaseShape) → IsOfPolicy p c → All (
 case_stands p c of = states_stand p c.states (λ s u is. user_known p c s u of is)
 
 pub state_nests : (p : PolicyShape) (x : StepState) → depth (state_data p x) ≤ 1
-state_nests p Free = omega arith
-state_nests p (Held u) = omega arith
-state_nests p (Finished u) = omega arith
+state_nests p x = grind arith
 
 seen_nests : (p : PolicyShape) (x : StepState) → depth (seen_data p x) ≤ 1
-seen_nests p Free = omega arith
-seen_nests p (Held u) = omega arith
-seen_nests p (Finished u) = omega arith
+seen_nests p x = grind arith
 
 pub states_nest : (p : PolicyShape) (states : List StepState) → items_depth (items_of (map (seen_data p) states)) ≤ 1
 states_nest p [] = omega arith
 states_nest p (x ∷ xs) = let here = seen_nests p x in let rest = states_nest p xs in omega (arith, here, rest)
 
 pub phase_flat : (phase : Phase) → depth (phase_data phase) ≡ 0
-phase_flat Live = refl
-phase_flat Done = refl
-phase_flat Withdrawn = refl
+phase_flat phase = grind arith
 
 pub bad_stands : (b : Bad) → IsNamedBad b → IsBad b
-bad_stands (bad.Key key) named = named
-bad_stands b named = tt
+bad_stands b named = grind arith
 
 pub bad_nests : (b : Bad) → depth (bad_data b) ≤ 1
-bad_nests bad.Syntax = omega arith
-bad_nests b = omega arith
+bad_nests b = grind arith
 
 -- ---- causes
 
 pub roles_stand : (p : PolicyShape) (f s : ℕ) → All (IsRole p) (permitted_roles p f s)
-roles_stand p f s =
-    all_from (length p.roster.roles) (permitted_roles p f s)
-    (passing_all (length p.roster.roles) (λ r. set.contains (flow_at p f).flow.permits (r, s)) 0 (length p.roster.roles) (omega arith))
+roles_stand p f s = grind (arith, all_from, passing_all)
 
 passing_few : (test : ℕ → Bool) (k count : ℕ) → length (passing test k count) ≤ count
 passing_few test k zero = omega arith
-passing_few test k (suc count) = by_test (test k) (passing_few test (k + 1) count)
-  where
-    by_test : (b : Bool) → length (passing test (k + 1) count) ≤ count →
-        length (if b then k ∷ passing test (k + 1) count else passing test (k + 1) count) ≤ suc count
-    by_test true rest = omega (arith, rest)
-    by_test false rest = omega (arith, rest)
+passing_few test k (suc count) = grind (arith, (passing_few test (k + 1) count))
 
 pub roles_few : (p : PolicyShape) (f t : ℕ) → IsSoundPolicy p → length (permitted_roles p f t) ≤ ROLE_LIMIT
 roles_few p f t sound = let all = sound.roles in omega (arith, all, passing_few (λ r. set.contains (flow_at p f).flow.permits (r, t)) 0 (length p.roster.roles))
 
 -- a first number: this one, or one of a rest
 first_below : (b : Bool) (k n v : ℕ) (o : Option ℕ) → k < n → (o ≡ Some v → v < n) → (if b then Some k else o) ≡ Some v → v < n
-first_below true k n v o here rest is = subst (λ m. m < n) (same_some k v is) here
-first_below false k n v o here rest is = rest is
+first_below b k n v o here rest is = grind (arith, same_some)
 
 pub falsified_there : (related : Relating) (users : ℕ → Option ℕ) (k : ℕ) (rules : List Rule) (v : ℕ) → first_falsified related users k rules ≡ Some v →
     v < k + length rules

@@ -34,7 +34,6 @@ use Rattle.wf_board.proofs.Told.{HoldsOf, IsTold, told}
 use Rattle.wf_board.proofs.Faring.{Fares}
 use Rattle.wire_json.specs.Replies.{reply_data}
 use Rattle.entry_reader.specs.Laws.Within.{IsBad, IsReply}
-use Rattle.entry_reader.specs.Laws.Lines.{concerned}
 use Rattle.entry_reader.proofs.PlainLines.{names_flat}
 use Rattle.entry_laws.specs.Laws.{HasFewSteps, flows_of}
 use Rattle.entry_laws.proofs.Trees.{tree_fits}
@@ -106,10 +105,7 @@ stranding_fits s o c t u tree is of refuted =
 edit_fits : (s : State) (o : Option ℕ) (a : Amendment) (n f : ℕ) (tree : Tree) → IsReached s → IsAllowed s.book.policy a
     → IsFirstStranded (amended s.book.policy a) (open_cases s.book.cases) n f tree →
     FitsReply s.book.policy (flows_of s) o (reply.Denied (denial.Strands n f tree))
-edit_fits s o a n f tree is allowed stranded =
-    let it = stranded_fits s a n f tree is.sound is.kept is.few is.serial allowed stranded in
-    let nests = it.fits.nests in
-    ((it.number, (it.concerned, it.flow), it.fits.stands), omega (arith, nests))
+edit_fits s o a n f tree is allowed stranded = grind (arith, stranded_fits)
 
 -- ---- what is seen
 
@@ -132,8 +128,7 @@ work_fits s o u items reached is =
 
 what_if_fits : (s : State) (o : Option ℕ) (pol : PolicyShape) (numbers : List ℕ) → IsReached s → AreStranded pol (open_cases s.book.cases) numbers
     → FitsReply s.book.policy (flows_of s) o (reply.WhatIf numbers)
-what_if_fits s o pol numbers reached is =
-    (stranded_stand s pol numbers reached.serial is, let flat = numbers_flat numbers in omega (arith, flat))
+what_if_fits s o pol numbers reached is = grind (arith, stranded_stand, numbers_flat)
 
 -- ---- deeds
 
@@ -176,10 +171,8 @@ decided_fits : (s : State) (what : Ask) (r : Result Deed Denial) (answer : Reply
     → IsNamedAsk what → Fares (IsDeedFor s what) (FitsDenial s.book.policy (flows_of s) (concern s what)) r → Answers s r answer →
     FitsReply s.book.policy (flows_of s) (concern s what) answer
 decided_fits s what (Ok given) answer edits reached known named of is = deed_fits s what given answer edits reached known named of is
-decided_fits s what (Err d) answer edits reached known named of (inl denied) =
-    subst (FitsReply s.book.policy (flows_of s) (concern s what)) (sym denied) (denied_fits s (concern s what) d of)
-decided_fits s what (Err d) answer edits reached known named of (inr short) =
-    subst (FitsReply s.book.policy (flows_of s) (concern s what)) (sym short) (tt, omega arith)
+decided_fits s what (Err d) answer edits reached known named of (inl denied) = grind (arith, denied_fits)
+decided_fits s what (Err d) answer edits reached known named of (inr short) = grind arith
 
 -- the reply of a step fits
 pub step_fits : (s : State) (what : Ask) (answer : Reply) → s.edits + 1 < 2 ^ 32 → IsReached s → IsNamedAsk what → IsStep s what answer

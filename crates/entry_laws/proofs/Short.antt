@@ -14,11 +14,9 @@ use Rattle.wf_names.specs.Table.{AreNames}
 use Rattle.wf_names.specs.declared.states.StepState.{StepState}
 use Rattle.wf_names.specs.declared.states.StepState.TheVariants.{Free, Held, Finished}
 use Rattle.wf_names.specs.declared.states.Phase.{Phase}
-use Rattle.wf_names.specs.declared.states.Phase.TheVariants.{Live, Done, Withdrawn}
 use Rattle.policy_book.specs.Laws.Shapes.{PolicyShape}
 use Rattle.policy_book.specs.Policies.{flow_at}
 use Rattle.wf_talk.specs.declared.edit.Missing.{Missing}
-use Rattle.wf_talk.specs.declared.edit.Missing.TheVariants as missing
 use Rattle.wf_talk.specs.declared.request.Bad.{Bad}
 use Rattle.wf_talk.specs.declared.request.Bad.TheVariants as bad
 use Rattle.wf_talk.specs.declared.reply.Face.{Face}
@@ -50,12 +48,10 @@ ListsFew given = Unit {0}
 
 members_long : (later : Bool) (key : List ℕ) (d : Data) (text : List ℕ) →
     length (comma_if later ++ (quoted key ++ (58 ∷ (compact_text d ++ text)))) ≤ 2 + (length (quoted key) + (length (compact_text d) + length text))
-members_long true key d text = omega (arith, length-append (quoted key) (58 ∷ (compact_text d ++ text)), length-append (compact_text d) text)
-members_long false key d text = omega (arith, length-append (quoted key) (58 ∷ (compact_text d ++ text)), length-append (compact_text d) text)
+members_long later key d text = grind (arith, length-append)
 
 items_long : (later : Bool) (d : Data) (text : List ℕ) → length (comma_if later ++ (compact_text d ++ text)) ≤ 1 + (length (compact_text d) + length text)
-items_long true d text = omega (arith, length-append (compact_text d) text)
-items_long false d text = omega (arith, length-append (compact_text d) text)
+items_long later d text = grind (arith, length-append)
 
 single_long : (key : List ℕ) (d : Data) → length (compact_text (single key d)) ≤ 4 + (length (quoted key) + length (compact_text d))
 single_long key d = omega (arith, members_long false key d (125 ∷ []))
@@ -133,14 +129,11 @@ seen_short p (Finished u) names = omega (arith, pair_short (codes "finished") (u
 states_short : (p : PolicyShape) (states : List StepState) (later : Bool) → HasNames p →
     length (items_text later (items_of (map (seen_data p) states))) ≤ 61 * length states + 1
 states_short p [] later names = omega arith
-states_short p (x ∷ xs) later names =
-    omega (arith, items_long later (seen_data p x) (items_text true (items_of (map (seen_data p) xs))), seen_short p x names, states_short p xs true names)
+states_short p (x ∷ xs) later names = grind (arith, items_long, seen_short, (states_short p xs true names))
 
 phase_short : (phase : Phase) → length (compact_text (phase_data phase)) ≤ 20
 unfolding escape_byte
-phase_short Live = omega arith
-phase_short Done = omega arith
-phase_short Withdrawn = omega arith
+phase_short phase = grind arith
 
 face_short : (p : PolicyShape) (face : Face) → HasNames p → IsFace p face → length (compact_text (face_data p face)) ≤ 1700
 unfolding escape_byte
@@ -164,8 +157,7 @@ face_short p face names is =
 
 missing_short : (what : Missing) → length (compact_text (missing_data what)) ≤ 20
 unfolding escape_byte
-missing_short missing.Flow = omega arith
-missing_short what = omega arith
+missing_short what = grind arith
 
 -- a denial by no tree
 abbrev pub has_tree : Denial → Bool

@@ -37,13 +37,7 @@ record IsStranded (pol : PolicyShape) (all : List Numbered) (n f : ℕ) (tree : 
 find_stranded : (pol : PolicyShape) (all es : List Numbered) (n f : ℕ) (tree : Tree) → EachOf (IsOpenIn all) es → IsFirstStranded pol es n f tree →
     IsStranded pol all n f tree
 find_stranded pol all [] n f tree each is = absurd is
-find_stranded pol all (e ∷ es) n f tree each (inl here) = record {
-  case = e.case;
-  found = subst (λ m. numbered_case all m ≡ Some e.case) here.0 each.0.found;
-  below = subst (λ m. m < length all) here.0 each.0.below;
-  flow = here.1.0;
-  refuted = here.1.1;
-}
+find_stranded pol all (e ∷ es) n f tree each (inl here) = grind arith
 find_stranded pol all (e ∷ es) n f tree each (inr later) = find_stranded pol all es n f tree each.1 later.1
 
 -- ---- a user who is added strands no case
@@ -61,11 +55,7 @@ still_complete s name (e ∷ es) kept each =
 
 users_stay : (s : State) (a : Amendment) (n f : ℕ) (tree : Tree) → KeepsCompletable s → AreSerial s.book → IsSoundPolicy (amended s.book.policy a)
     → IsFirstStranded (amended s.book.policy a) (open_cases s.book.cases) n f tree → (amended s.book.policy a).roster.users ≡ s.book.policy.roster.users
-users_stay s (amend.AddUser name) n f tree kept are sound is =
-    absurd (stranded_not (amended s.book.policy (amend.AddUser name)) (open_cases s.book.cases) n f tree sound is
-    (still_complete s name (open_cases s.book.cases) kept (open_found s.book are)))
-users_stay s (amend.Leave u) n f tree kept are sound is = refl
-users_stay s a n f tree kept are sound is = refl
+users_stay s a n f tree kept are sound is = grind (arith, stranded_not, still_complete, open_found)
 
 -- ---- together
 
@@ -79,10 +69,7 @@ pub record FitsStranded (s : State) (n f : ℕ) (tree : Tree) : Type 0 where
 amended_problem : (p : PolicyShape) (a : Amendment) (f : ℕ) → edits.IsKnownChange p a → IsSoundPolicy (amended p a) → f < length p.flows →
     (amended p a).roster.users ≡ p.roster.users
     → IsProblemOf p f (problem_of (amended p a) f)
-amended_problem p a f found sound known same =
-    let names = changes_keep_names p a found in
-    let of = problem_fits (amended p a) f sound (subst (λ n. f < n) (sym names.flows) known) in
-    record { steps = ap length (names.steps f); users = ap length same; rules = of.rules }
+amended_problem p a f found sound known same = grind (arith, changes_keep_names, problem_fits)
 
 -- the tree of the case that an edit strands stands for something
 pub stranded_tree : (s : State) (a : Amendment) (n f : ℕ) (tree : Tree) → IsSoundState s → KeepsCompletable s → AreSerial s.book →

@@ -1,5 +1,5 @@
 -- No byte of a text of JSON is LF.
-use Rattle.std.proofs.Common.{◌≡◌, ◌≢◌, ℕ, zero, suc, ◌+◌, ◌/◌, ◌%◌, ◌<◌, ◌==◌, ◌||◌, inl, inr, Bool, true, false, ◌&&◌, cond, nat_lt, List, [], ◌∷◌, ◌++◌, pos}
+use Rattle.std.proofs.Common.{◌≡◌, ◌≢◌, ℕ, zero, suc, ◌+◌, ◌/◌, ◌%◌, ◌<◌, ◌==◌, Bool, true, false, ◌&&◌, cond, nat_lt, List, [], ◌∷◌, ◌++◌, pos}
 use Rattle.std.proofs.Common.{negsuc, if◌then◌else◌, refl, arith}
 use Rattle.std.specs.List.{All}
 use Rattle.std.specs.Char.{digit_char}
@@ -32,13 +32,10 @@ above n more is = omega (arith, more, is)
 -- ---- digits
 
 glyph_at : (low upper : Bool) (d : ℕ) → (if low then 48 + d else (if upper then 55 + d else 87 + d)) ≢ 10
-glyph_at true upper d = above (48 + d) (omega arith)
-glyph_at false true d = above (55 + d) (omega arith)
-glyph_at false false d = above (87 + d) (omega arith)
+glyph_at low upper d = grind (arith, above)
 
 either_none : (b : Bool) (xs ys : List ℕ) → NoEnds xs → NoEnds ys → NoEnds (if b then xs else ys)
-either_none true xs ys first other = first
-either_none false xs ys first other = other
+either_none b xs ys first other = grind arith
 
 digits_none : (k base : ℕ) (upper : Bool) (n : ℕ) (acc : List ℕ) → NoEnds acc → NoEnds (digits_onto k base upper n acc)
 digits_none zero base upper n acc none = none
@@ -53,41 +50,20 @@ decimal_none n = digits_none 64 10 false n [] tt
 -- ---- strings
 
 cond_apart : (b : Bool) (m n : ℕ) → (b ≡ true → m ≢ 10) → n ≢ 10 → cond b m n ≢ 10
-cond_apart true m n first other = first refl
-cond_apart false m n first other = other
+cond_apart b m n first other = grind arith
 
 letter_apart : (x : ℕ) → escape_letter x ≢ 10
-letter_apart x =
-    cond_apart ((x == 34) || (x == 92)) x _ own
-    (cond_apart (x == 8) 98 _ (λ _. above 98 (omega arith))
-    (cond_apart (x == 12) 102 _ (λ _. above 102 (omega arith))
-    (cond_apart (x == 10) 110 _ (λ _. above 110 (omega arith))
-    (cond_apart (x == 13) 114 _ (λ _. above 114 (omega arith))
-    (cond_apart (x == 9) 116 0 (λ _. above 116 (omega arith)) (λ is. omega (arith, is)))))))
-  where
-    own : ((x == 34) || (x == 92)) ≡ true → x ≢ 10
-    own one = elim (or_cases (x == 34) (x == 92) one) [
-      | inl quote ↦ let is = eq_back x 34 quote in above x (omega (arith, is))
-      | inr slash ↦ let is = eq_back x 92 slash in above x (omega (arith, is))
-    ]
+letter_apart x = grind (arith, cond_apart, above, or_cases, eq_back)
 
 char_apart : (d : ℕ) → digit_char d ≢ 10
 char_apart d = cond_apart (nat_lt d 10) (48 + d) (87 + d) (λ _. above (48 + d) (omega arith)) (above (87 + d) (omega arith))
 
 cond_none : (b : Bool) (xs ys : List ℕ) → (b ≡ true → NoEnds xs) → (b ≡ false → NoEnds ys) → NoEnds (cond b xs ys)
-cond_none true xs ys first other = first refl
-cond_none false xs ys first other = other refl
+cond_none b xs ys first other = grind arith
 
 byte_none : (x : ℕ) → NoEnds (escape_byte x)
 unfolding escape_byte
-byte_none x =
-    cond_none (nat_lt 0 (escape_letter x)) _ _ (λ _. (above 92 (omega arith), (letter_apart x, tt)))
-    (λ _. cond_none (nat_lt x 32) _ _
-    (λ _. (
-      above 92 (omega arith),
-      (above 117 (omega arith), (above 48 (omega arith), (above 48 (omega arith), (char_apart (x / 16), (char_apart (x % 16), tt))))),
-    ))
-    (λ high. (let least = lt_back_no x 32 high in above x (omega (arith, least)), tt)))
+byte_none x = grind (arith, cond_none, above, letter_apart, char_apart, lt_back_no)
 
 escape_none : (s : List ℕ) → NoEnds (escape s)
 escape_none [] = tt
@@ -108,8 +84,7 @@ known_none [] is = tt
 known_none (x ∷ xs) is = let all = and_both (nat_lt 10 x) (has_no_end xs) is in (above x (lt_back 10 x all.0), known_none xs all.1)
 
 comma_none : (later : Bool) → NoEnds (comma_if later)
-comma_none true = known_none (44 ∷ []) refl
-comma_none false = tt
+comma_none later = grind (arith, known_none)
 
 mutual
   text_none : (d : Data) → NoEnds (compact_text d)

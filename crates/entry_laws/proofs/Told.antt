@@ -1,17 +1,15 @@
 -- What is decided on in a state: a deed of what is asked, or a denial that stands for something, nests little and lists few roles.
-use Rattle.std.proofs.Common.{◌≡◌, ℕ, ◌<◌, ◌≤◌, List, length, Option, None, Some, Result, Ok, Err, refl, sym, ap, subst, arith}
-use Rattle.std.specs.Option.{option_map}
+use Rattle.std.proofs.Common.{◌≡◌, ℕ, ◌<◌, ◌≤◌, List, length, Option, None, Some, Result, Ok, refl, arith}
 use Rattle.serde_json.specs.Data.{depth}
 use Rattle.basics.specs.Laws.Reading.{check, or_fault}
 use Rattle.wf_names.specs.States.{user_of}
 use Rattle.constraint_forms.specs.Assign.{user_at}
 use Rattle.policy_book.specs.Laws.Shapes.{PolicyShape}
 use Rattle.policy_book.specs.Policies.{flow_at, problem_of}
-use Rattle.case_record.specs.Cases.{CaseShape, is_open, state_at}
+use Rattle.case_record.specs.Cases.{CaseShape, state_at}
 use Rattle.case_record.specs.Order.{first_missing}
 use Rattle.wf_talk.specs.declared.edit.Edit.{Edit}
 use Rattle.wf_talk.specs.declared.edit.Missing.{Missing}
-use Rattle.wf_talk.specs.declared.edit.Missing.TheVariants as missing
 use Rattle.wf_talk.specs.declared.request.Request.TheVariants as request
 use Rattle.wf_talk.specs.declared.request.Ask.{Ask}
 use Rattle.wf_talk.specs.declared.request.Ask.TheVariants as ask
@@ -20,14 +18,13 @@ use Rattle.wf_talk.specs.declared.reply.Denial.TheVariants as denial
 use Rattle.admin_edits.specs.ClaimCauses.{assigned_with, first_cause, first_falsified, permitted_roles}
 use Rattle.admin_edits.specs.declared.amendment.Amendment.{Amendment}
 use Rattle.admin_edits.specs.declared.fault.EditCause.{EditCause}
-use Rattle.admin_edits.specs.declared.fault.EditCause.TheVariants as fault
 use Rattle.admin_edits.specs.Laws.Edits.{amendment_of, is_admin}
 use Rattle.wf_board.specs.declared.deed.Deed.{Deed}
 use Rattle.wf_board.specs.declared.deed.Duty.{Duty}
 use Rattle.wf_board.specs.declared.deed.Deed.TheVariants as deed
 use Rattle.wf_board.specs.Laws.States.{State, numbered_case, flow_named, step_named, user_named}
 use Rattle.wf_board.specs.Resolve.{edit_denial, on_edit, on_step, open_case_at, resolve}
-use Rattle.wf_board.specs.Decisions.{cause_aside, cause_full, decision_aside, decision_of}
+use Rattle.wf_board.specs.Decisions.{cause_aside, cause_full, decision_of}
 use Rattle.wf_board.specs.Laws.Kept.{IsOfPolicy, IsSoundState}
 use Rattle.wf_board.proofs.Told.{place_within}
 use Rattle.wf_board.proofs.Faring.{Fares, IsCauseSo, check_fares, four_so, map_so, or_fares, then_fares, unless_fares, unless_so}
@@ -78,41 +75,24 @@ abbrev Fits : State → Option ℕ → Denial → Type 0
 Fits s o d = FitsDenial s.book.policy (flows_of s) o d
 
 unknown_nests : (p : PolicyShape) (what : Missing) → depth (denial_data p (denial.Unknown what)) ≤ 80
-unknown_nests p missing.Flow = omega arith
-unknown_nests p what = omega arith
+unknown_nests p what = grind arith
 
 fault_fits : (p : PolicyShape) (flows : ℕ → Option ℕ) (o : Option ℕ) (why : EditCause) → FitsDenial p flows o (edit_denial why)
-fault_fits p flows o (fault.Unknown what) = (tt, unknown_nests p what, tt)
-fault_fits p flows o why = (tt, omega arith, tt)
+fault_fits p flows o why = grind (arith, unknown_nests)
 
 edit_fares : (s : State) (what : Ask) (make : Amendment → Deed) (r : Result Amendment EditCause) → ((a : Amendment) → r ≡ Ok a → IsDeedFor s what (make a))
     → Fares (IsDeedFor s what) (Fits s (concern s what)) (on_edit make r)
-edit_fares s what make (Ok a) made = made a refl
-edit_fares s what make (Err why) made = fault_fits s.book.policy (flows_of s) (concern s what) why
+edit_fares s what make r made = grind (arith, fault_fits)
 
 -- ---- what a line asks
 
 case_fares : (s : State) (n : ℕ) → IsSoundState s → Fares (IsOn s (flows_of s n)) (Fits s (flows_of s n)) (open_case_at s.book n)
-case_fares s n sound =
-    let Q = Fits s (flows_of s n) in
-    then_fares (λ c. numbered_case s.book.cases n ≡ Some c) (IsOn s (flows_of s n)) Q (or_fault (numbered_case s.book.cases n) denial.NoCase) _
-    (or_fares Q (numbered_case s.book.cases n) denial.NoCase (tt, omega arith, tt))
-    (λ c is. then_fares (λ _. Unit {0}) (IsOn s (flows_of s n)) Q (check (is_open c) denial.Closed) _
-    (check_fares Q (is_open c) denial.Closed (tt, omega arith, tt))
-    (λ _ _. (ap (option_map (λ (x : CaseShape). x.flow)) is, sound.cases n c is)))
+case_fares s n sound = grind (arith, then_fares, or_fares, check_fares)
 
 step_fares : (s : State) (what : Ask) (make : Duty → Deed) (n : ℕ) (step user : List ℕ) → IsSoundState s
     → ((d : Duty) → IsOn s (flows_of s n) d.case → IsDeedFor s what (make d))
     → Fares (IsDeedFor s what) (Fits s (flows_of s n)) (on_step make s.book n step user)
-step_fares s what make n step user sound made =
-    let P = IsDeedFor s what in
-    let Q = Fits s (flows_of s n) in
-    then_fares (IsOn s (flows_of s n)) P Q (open_case_at s.book n) _ (case_fares s n sound)
-    (λ c of. then_fares (λ t. step_named s.book c.flow step ≡ Some t) P Q (or_fault (step_named s.book c.flow step) denial.NoStep) _
-    (or_fares Q (step_named s.book c.flow step) denial.NoStep (tt, omega arith, tt))
-    (λ t _. then_fares (λ u. user_named s.book user ≡ Some u) P Q (or_fault (user_named s.book user) denial.NoUser) _
-    (or_fares Q (user_named s.book user) denial.NoUser (tt, omega arith, tt))
-    (λ u _. made record { number = n; case = c; step = t; user = u } of)))
+step_fares s what make n step user sound made = grind (arith, then_fares, case_fares, or_fares)
 
 resolve_fares : (s : State) (what : Ask) → IsSoundState s → Fares (IsDeedFor s what) (Fits s (concern s what)) (resolve s.book what)
 resolve_fares s (ask.Request (request.OpenCase flow)) sound =
@@ -164,24 +144,15 @@ held_so s o c t of = (step_stands s.book.policy c t of.1, (let nests = state_nes
 order_so : (s : State) (o : Option ℕ) (c : CaseShape) (t v : ℕ) → IsSoundState s → IsOn s o c →
     first_missing c (flow_at s.book.policy c.flow).flow.order t ≡ Some v
     → Fits s o (denial.Order c.flow v)
-order_so s o c t v sound of is =
-    let there = missing_there (flow_at s.book.policy c.flow).flow.order t 0 c.states v is in
-    (((of.0, subst (λ n. c.flow < n) (sym sound.policy.named) of.1.flow), subst (λ n. v < n) of.1.steps (omega (arith, there))), omega arith, tt)
+order_so s o c t v sound of is = grind (arith, missing_there)
 
 roles_so : (s : State) (o : Option ℕ) (f t : ℕ) → IsSoundState s → Fits s o (denial.Role (permitted_roles s.book.policy f t))
-roles_so s o f t sound = (
-  roles_stand s.book.policy f t,
-  (let flat = names_flat s.book.policy.roster.roles (permitted_roles s.book.policy f t) in omega (arith, flat)),
-  roles_few s.book.policy f t sound.policy,
-)
+roles_so s o f t sound = grind (arith, roles_stand, names_flat, roles_few)
 
 rule_so : (s : State) (o : Option ℕ) (c : CaseShape) (t u v : ℕ) → IsSoundState s → IsOn s o c
     → first_falsified (problem_of s.book.policy c.flow).related (user_at (assigned_with c t u)) 0 (flow_at s.book.policy c.flow).rules ≡ Some v →
     Fits s o (denial.Rule v)
-rule_so s o c t u v sound of is =
-    let below = falsified_there (problem_of s.book.policy c.flow).related (user_at (assigned_with c t u)) 0 (flow_at s.book.policy c.flow).rules v is in
-    let few = (sound.policy.flows c.flow of.1.flow).few in
-    (omega (arith, below, few), omega arith, tt)
+rule_so s o c t u v sound of is = grind (arith, falsified_there)
 
 claim_so : (s : State) (o : Option ℕ) (c : CaseShape) (t u : ℕ) → IsSoundState s → IsOn s o c → IsCauseSo (Fits s o) (first_cause s.book.policy c t u)
 claim_so s o c t u sound of =
@@ -193,25 +164,11 @@ claim_so s o c t u sound of =
     (map_so Q denial.Rule _ (λ v is. rule_so s o c t u v sound of is))
 
 cause_so : (s : State) (what : Ask) (given : Deed) → IsSoundState s → IsDeedFor s what given → IsCauseSo (Fits s (concern s what)) (cause_aside s.book given)
-cause_so s what (deed.Open f) sound of = unless_so (Fits s (concern s what)) _ denial.Retired (tt, omega arith, tt)
-cause_so s what (deed.Claim d) sound of = claim_so s (concern s what) d.case d.step d.user sound of
-cause_so s what (deed.Finish d) sound of =
-    unless_so (Fits s (concern s what)) _ (denial.NotHeld (state_at d.case d.step)) (held_so s (concern s what) d.case d.step of)
-cause_so s what (deed.GiveBack d) sound of =
-    unless_so (Fits s (concern s what)) _ (denial.NotHeld (state_at d.case d.step)) (held_so s (concern s what) d.case d.step of)
-cause_so s what (deed.Release n c t) sound of = unless_so (Fits s (concern s what)) _ (denial.NotHeld (state_at c t)) (held_so s (concern s what) c t of)
-cause_so s what given sound of = tt
+cause_so s what given sound of = grind (arith, unless_so, claim_so, held_so)
 
 full_so : (s : State) (o : Option ℕ) (given : Deed) → IsCauseSo (Fits s o) (cause_full s.book given)
-full_so s o (deed.Open f) = unless_so (Fits s o) _ denial.Full (tt, omega arith, tt)
-full_so s o given = tt
+full_so s o given = grind (arith, unless_so)
 
 -- what is decided is a deed of what is asked, or a denial that fits
 pub decision_fares : (s : State) (what : Ask) → IsSoundState s → Fares (IsDeedFor s what) (Fits s (concern s what)) (decision_of s.book what)
-decision_fares s what sound =
-    let P = IsDeedFor s what in
-    let Q = Fits s (concern s what) in
-    then_fares P P Q (decision_aside s.book what) _
-    (then_fares P P Q (resolve s.book what) _ (resolve_fares s what sound)
-    (λ given of. unless_fares P Q given (cause_aside s.book given) of (cause_so s what given sound of)))
-    (λ given of. unless_fares P Q given (cause_full s.book given) of (full_so s (concern s what) given))
+decision_fares s what sound = grind (arith, then_fares, resolve_fares, unless_fares, cause_so, full_so)

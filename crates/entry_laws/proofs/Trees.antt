@@ -48,10 +48,7 @@ record IsFree (pr : Problem) (a : List (Option ℕ)) (s : ℕ) : Type 0 where
   none : user_at a s ≡ None
 
 node_free : (pr : Problem) (a : List (Option ℕ)) (s : ℕ) → pr.steps ≤ length a → is_unassigned pr a s ≡ true → IsFree pr a s
-node_free pr a s wide is =
-    let both = and_both _ _ is in
-    let below = lt_back s pr.steps both.0 in
-    record { step = omega (arith, below, wide); none = not_some (user_at a s) both.1 }
+node_free pr a s wide is = grind (arith, and_both, lt_back, not_some)
 
 leaf_nests : (n : ℕ) → 1 ≤ 3 * n + 1
 leaf_nests n = omega arith
@@ -101,8 +98,7 @@ pub record IsProblemOf (p : PolicyShape) (f : ℕ) (pr : Problem) : Type 0 where
   pub rules : length pr.rules < 2 ^ 8
 
 broken_there : (pr : Problem) (a : List (Option ℕ)) (k : ℕ) (o : Option Rule) → slice_get pr.rules k ≡ o → is_broken pr a o ≡ true → k < length pr.rules
-broken_there pr a k None is broken = cc
-broken_there pr a k (Some r) is broken = slice_get_within pr.rules k r is
+broken_there pr a k o is broken = grind (arith, slice_get_within)
 
 step_there : (p : PolicyShape) (f : ℕ) (pr : Problem) (s : ℕ) → IsProblemOf p f pr → s < pr.steps → IsStepOf p f s
 step_there p f pr s of below = subst (λ n. s < n) of.steps below
