@@ -1,6 +1,6 @@
 -- A line is read as the entry whose text it is.
-use Rattle.std.proofs.Common.{◌≡◌, ◌≢◌, ℕ, ◌<◌, ◌^◌, List, refl, sym, ap, ◌∙◌, subst, lt-ltb}
-use Rattle.std.specs.Prelude.{codes, Option, Some, None, option_map, option_and_then}
+use Rattle.std.proofs.Common.{◌≡◌, ◌≢◌, ℕ, ◌<◌, ◌^◌, List, refl, sym, ap, ◌∙◌, subst, lt-ltb, arith}
+use Rattle.std.specs.Prelude.{codes, Option, Some, None, option_and_then}
 use Rattle.serde_json.specs.Data.{Data}
 use Rattle.serde_json.specs.Find.{get}
 use Rattle.wf_talk.specs.declared.entry.Entry.{Entry}
@@ -11,7 +11,7 @@ use Rattle.wire_json.specs.Replies.{entry_data, entry_text}
 use Rattle.wire_json.specs.Values.{value_of}
 use Rattle.entry_reader.specs.declared.place.Place.{Place}
 use Rattle.entry_reader.specs.Named.{HasNames}
-use Rattle.entry_reader.specs.Places.{number_below, place_read, place_of_line}
+use Rattle.entry_reader.specs.Places.{place_read, place_of_line}
 use Rattle.refutation_tree.specs.Tree.{Shape}
 use Rattle.wire_json.specs.Trees.{tree_data}
 use Rattle.entry_reader.proofs.TreesBack.{tree_is, tree_back}
@@ -36,10 +36,7 @@ place_back p flows e h = rw (lt-ltb e.at (2 ^ 32) h.place, lt-ltb e.lane (2 ^ 8)
 
 entry_back : (p : PolicyShape) (flows : ℕ → Option ℕ) (e : Entry) → HasNames p → IsEntry p flows e → entry_read p flows e.ask (entry_data p e) ≡ Some e
 unfolding entry_read
-entry_back p flows e k h =
-    let told = at_key (reply_read p flows (concerned p flows e.ask)) (codes "reply") (entry_data p e) in
-    ap (option_and_then (λ place. option_map (entry_at place e.ask) told)) (place_back p flows e h)
-    ∙ ap (option_map (entry_at (record { at = e.at; lane = e.lane; line = e.line }) e.ask)) (reply_back p flows (concerned p flows e.ask) e.reply k h.reply)
+entry_back p flows e k h = grind (arith, place_back, reply_back)
 
 value_back : (p : PolicyShape) (flows : ℕ → Option ℕ) (text : List ℕ) (e : Entry) → HasNames p → IsLineOf p flows text e → value_of text ≡ Some (entry_data p e)
 unfolding entry_text
@@ -76,13 +73,7 @@ pub record IsTold (p : PolicyShape) (flows : ℕ → Option ℕ) (a : Ask) (text
 
 told_parts : (p : PolicyShape) (flows : ℕ → Option ℕ) (a : Ask) (text : List ℕ) (e : Entry) → entry_of_line p flows a text ≡ Some e → IsTold p flows a text e
 unfolding entry_of_line entry_read
-told_parts p flows a text e h =
-    let r = and_then_some (value_of text) (λ d. option_and_then
-    (λ place. option_map (entry_at place a) (at_key (reply_read p flows (concerned p flows a)) (codes "reply") d)) (place_read d)) e h in
-    let q = and_then_some (place_read r.found)
-    (λ place. option_map (entry_at place a) (at_key (reply_read p flows (concerned p flows a)) (codes "reply") r.found)) e r.then_ in
-    let m = map_some (at_key (reply_read p flows (concerned p flows a)) (codes "reply") r.found) (entry_at q.found a) e q.then_ in
-    record { value = r.found; place = q.found; reply = m.found; read = r.there; placed = q.there; replied = m.there; entry = m.same }
+told_parts p flows a text e h = grind (arith, and_then_some, map_some)
 
 -- the numbers of a place fit
 pub record PlaceFits (place : Place) : Type 0 where
@@ -91,17 +82,7 @@ pub record PlaceFits (place : Place) : Type 0 where
   pub line : place.line < 2 ^ 32
 
 place_fits : (d : Data) (place : Place) → place_read d ≡ Some place → PlaceFits place
-place_fits d place e =
-    let r = and_then_some (number_below (2 ^ 32) (codes "at") d) (λ n. option_and_then (λ l. option_map (λ m. record { at = n; lane = l; line = m })
-    (number_below (2 ^ 32) (codes "line") d)) (number_below (2 ^ 8) (codes "lane") d)) place e in
-    let q = and_then_some (number_below (2 ^ 8) (codes "lane") d)
-    (λ l. option_map (λ m. record { at = r.found; lane = l; line = m }) (number_below (2 ^ 32) (codes "line") d)) place r.then_ in
-    let m = map_some (number_below (2 ^ 32) (codes "line") d) (λ m. record { at = r.found; lane = q.found; line = m }) place q.then_ in
-    subst PlaceFits m.same (record {
-      first = number_within (2 ^ 32) (codes "at") d r.found r.there;
-      lane = number_within (2 ^ 8) (codes "lane") d q.found q.there;
-      line = number_within (2 ^ 32) (codes "line") d m.found m.there;
-    })
+place_fits d place e = grind (arith, and_then_some, map_some, number_within)
 
 place_named : (p : PolicyShape) (flows : ℕ → Option ℕ) (a : Ask) (text : List ℕ) (e : Entry) → (t : IsTold p flows a text e) → place_of_line text ≡ Some t.place
 unfolding place_of_line
@@ -170,9 +151,7 @@ not_told p flows a text k none e asks h = none_some e (sym none ∙ told_for p f
 
 pub not_written : (p : PolicyShape) (flows : ℕ → Option ℕ) (a : Ask) (text : List ℕ) (e : Entry) → HasNames p → entry_of_line p flows a text ≡ Some e →
     entry_text p e ≢ text → HasNoReply p flows a text
-not_written p flows a text e k read other d asks h =
-    let same : e ≡ d = some_same e d (sym read ∙ told_for p flows a text d k asks h) in
-    other (ap (entry_text p) same ∙ h.written)
+not_written p flows a text e k read other = grind (arith, some_same, told_for)
 
 -- ---- trees
 

@@ -16,12 +16,8 @@ low_none p f height = (tt, omega arith)
 
 pub low_more : (p : PolicyShape) (f height : ℕ) (kids more : Kids) → AreLow p f height kids → AreLow p f height more → AreLow p f height (joined kids more)
 low_more p f height no_kids more here later = later
-low_more p f height (tree_kid u t kids) more here later =
-    let rest = low_more p f height kids more (here.0.2, omega (arith, here.1)) later in
-    ((here.0.0, here.0.1, rest.0), omega (arith, here.1, rest.1))
-low_more p f height (twin_kid u v kids) more here later =
-    let rest = low_more p f height kids more (here.0.2, omega (arith, here.1)) later in
-    ((here.0.0, here.0.1, rest.0), omega (arith, here.1, rest.1))
+low_more p f height (tree_kid u t kids) more here later = grind (arith, (low_more p f height kids more (here.0.2, omega (arith, here.1)) later))
+low_more p f height (twin_kid u v kids) more here later = grind (arith, (low_more p f height kids more (here.0.2, omega (arith, here.1)) later))
 
 pub low_tree : (p : PolicyShape) (f height : ℕ) (t : Tree) → IsLow p f height (shape_of t) → IsLowKid p f height (kid.Tree t)
 low_tree p f height t low u user = ((user, low.0, tt), omega (arith, low.1))

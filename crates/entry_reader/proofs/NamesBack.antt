@@ -1,10 +1,10 @@
 -- Names are read as the numbers that they were written for.
-use Rattle.std.proofs.Common.{◌≡◌, ℕ, ◌<◌, List, [], length, true, false, Bool, refl, sym, ap, ◌∙◌, IsUtf8}
+use Rattle.std.proofs.Common.{◌≡◌, ℕ, ◌<◌, List, [], length, true, Bool, sym, ap, ◌∙◌, IsUtf8, arith}
 use Rattle.std.specs.Prelude.{Some, None, slice_get, slice_index_or, nat_eq, if◌then◌else◌}
 use Rattle.std.specs.Cmp.Lexicographic.{pointwise, bytes_decides}
 use Rattle.std.proofs.lemmas.Option.{slice_get-get_or}
 use Rattle.std.proofs.lemmas.List.Quantifiers.{position-Some}
-use Rattle.serde_json.specs.Data.{Data, null, boolean, number, string, array, object}
+use Rattle.serde_json.specs.Data.{Data, string}
 use Rattle.wf_names.specs.Names.{is_name}
 use Rattle.wf_names.specs.Table.{place_of}
 use Rattle.wf_names.proofs.NameForms.{name_utf8}
@@ -32,16 +32,10 @@ pub record IsNameText (d : Data) (text : List ℕ) : Type 0 where
   pub form : is_name text ≡ true
 
 if_name : (b : Bool) (s text : List ℕ) → is_name s ≡ b → (if b then Some s else None) ≡ Some text → IsNameText (string s) text
-if_name true s text h e = let same = some_same s text e in record { is = ap string same; form = ap is_name (sym same) ∙ h }
-if_name false s text h e = absurd (none_some text e)
+if_name b s text h e = grind (arith, some_same, none_some)
 
 pub name_text : (d : Data) (text : List ℕ) → name_read d ≡ Some text → IsNameText d text
-name_text null text e = absurd (none_some text e)
-name_text (boolean b) text e = absurd (none_some text e)
-name_text (number n) text e = absurd (none_some text e)
-name_text (string s) text e = if_name (is_name s) s text refl e
-name_text (array ds) text e = absurd (none_some text e)
-name_text (object ms) text e = absurd (none_some text e)
+name_text d text e = grind (arith, none_some, if_name)
 
 -- what is read as a number is the name with that number
 pub record IsNumbered (names : List (List ℕ)) (d : Data) (n : ℕ) : Type 0 where

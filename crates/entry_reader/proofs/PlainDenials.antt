@@ -5,9 +5,7 @@ use Rattle.refutation_tree.specs.Laws.Views.{shape_of}
 use Rattle.refutation_tree.specs.declared.tree.Tree.{Tree}
 use Rattle.wf_names.specs.declared.limits.TheConstants.{STEP_LIMIT}
 use Rattle.wf_names.specs.declared.states.StepState.{StepState}
-use Rattle.wf_names.specs.declared.states.StepState.TheVariants.{Free, Held, Finished}
 use Rattle.wf_talk.specs.declared.edit.Missing.{Missing}
-use Rattle.wf_talk.specs.declared.edit.Missing.TheVariants as missing
 use Rattle.wf_talk.specs.declared.reply.Denial.{Denial}
 use Rattle.wf_talk.specs.declared.reply.Denial.TheVariants as denial
 use Rattle.policy_book.specs.Laws.Shapes.{PolicyShape}
@@ -44,16 +42,10 @@ pub by_rule : (p : PolicyShape) (flows : ℕ → Option ℕ) (o : Option ℕ) (k
 by_rule p flows o k small = (small, omega arith)
 
 pub not_held : (p : PolicyShape) (flows : ℕ → Option ℕ) (o : Option ℕ) (s : StepState) → IsState p s → IsPlainDenial p flows o (denial.NotHeld s)
-not_held p flows o Free state = (state, omega arith)
-not_held p flows o (Held u) state = (state, omega arith)
-not_held p flows o (Finished u) state = (state, omega arith)
+not_held p flows o s state = grind arith
 
 pub unknown : (p : PolicyShape) (flows : ℕ → Option ℕ) (o : Option ℕ) (what : Missing) → IsPlainDenial p flows o (denial.Unknown what)
-unknown p flows o missing.Flow = (tt, omega arith)
-unknown p flows o missing.Step = (tt, omega arith)
-unknown p flows o missing.Relation = (tt, omega arith)
-unknown p flows o missing.User = (tt, omega arith)
-unknown p flows o missing.Role = (tt, omega arith)
+unknown p flows o what = grind arith
 
 word : Unit {0} × (0 ≤ 120)
 word = (tt, omega arith)

@@ -32,22 +32,10 @@ names_flat names [] = refl
 names_flat names (n ∷ ns) = ap (max 0) (names_flat names ns)
 
 plain_nests : (p : PolicyShape) (place : Place) (a : Ask) (r : Reply) → IsPlainReply p r → depth (entry_data p (entry_at place a r)) ≤ max_depth
-plain_nests p place a (reply.Granted plan) h = rw (names_flat p.roster.users plan) (omega arith)
-plain_nests p place a (reply.Finished done) h = omega arith
-plain_nests p place a reply.Returned h = omega arith
-plain_nests p place a reply.Released h = omega arith
-plain_nests p place a (reply.Opened c plan) h = rw (names_flat p.roster.users plan) (omega arith)
-plain_nests p place a reply.Withdrawn h = omega arith
-plain_nests p place a given h = absurd h
+plain_nests p place a r h = grind (arith, names_flat)
 
 plain_within : (p : PolicyShape) (flows : ℕ → Option ℕ) (f : Option ℕ) (r : Reply) → IsPlainReply p r → IsReply p flows f r
-plain_within p flows f (reply.Granted plan) h = h
-plain_within p flows f (reply.Finished done) h = tt
-plain_within p flows f reply.Returned h = tt
-plain_within p flows f reply.Released h = tt
-plain_within p flows f (reply.Opened c plan) h = h
-plain_within p flows f reply.Withdrawn h = tt
-plain_within p flows f given h = absurd h
+plain_within p flows f r h = grind arith
 
 guessed_nests : (p : PolicyShape) (flows : ℕ → Option ℕ) (f : Option ℕ) (place : Place) (a : Ask) (r : Reply) → IsGuessed p flows f r
     → depth (entry_data p (entry_at place a r)) ≤ max_depth
@@ -55,13 +43,11 @@ guessed_nests p flows f place a (reply.Denied d) h = omega (arith, h.1)
 guessed_nests p flows f place a given h = plain_nests p place a given h
 
 guessed_within : (p : PolicyShape) (flows : ℕ → Option ℕ) (f : Option ℕ) (r : Reply) → IsGuessed p flows f r → IsReply p flows f r
-guessed_within p flows f (reply.Denied d) h = h.0
-guessed_within p flows f given h = plain_within p flows f given h
+guessed_within p flows f r h = grind (arith, plain_within)
 
 -- a plain reply is one that is guessed, whatever is concerned
 pub plain_guessed : (p : PolicyShape) (flows : ℕ → Option ℕ) (f : Option ℕ) (r : Reply) → IsPlainReply p r → IsGuessed p flows f r
-plain_guessed p flows f (reply.Denied d) h = absurd h
-plain_guessed p flows f given h = h
+plain_guessed p flows f r h = grind arith
 
 guessed_line : (p : PolicyShape) (flows : ℕ → Option ℕ) (text : List ℕ) (place : Place) (a : Ask) (r : Reply) → IsGuessed p flows (concerned p flows a) r
     → place.at < 2 ^ 32 → place.lane < 2 ^ 8 → place.line < 2 ^ 32 → entry_text p (entry_at place a r) ≡ text → IsLineOf p flows text (entry_at place a r)

@@ -48,8 +48,7 @@ all_first P x xs h = h 0 x (omega arith)
 
 plain_names : (names : List (List ℕ)) (ns : List ℕ) → AreNames names → All (λ n. n < length names) ns → ArePlain (items_of (map (named names) ns))
 plain_names names [] k h = tt
-plain_names names (n ∷ ns) k h =
-    (named_utf8 names n k (all_first (λ m. m < length names) n ns h), plain_names names ns k (all_more (λ m. m < length names) n ns h))
+plain_names names (n ∷ ns) k h = grind (arith, named_utf8, all_first, all_more, (plain_names names ns k (all_more (λ m. m < length names) n ns h)))
 
 -- ---- numbers
 
@@ -158,10 +157,7 @@ plain_items : (p : PolicyShape) (flows : ℕ → Option ℕ) (items : List WorkI
     (items_of (map (work_data p) items))
 plain_items p flows [] k h = tt
 plain_items p flows (i ∷ items) k h =
-    let first = all_first (IsWorkItem p flows) i items h in (
-      (case_small i.case first.0, (named_utf8 (flow_at p i.flow).flow.steps i.step (k.steps i.flow) first.2, tt)),
-      plain_items p flows items k (all_more (IsWorkItem p flows) i items h),
-    )
+    grind (arith, all_first, case_small, named_utf8, all_more, (plain_items p flows items k (all_more (IsWorkItem p flows) i items h)))
 
 plain_cases : (cases : List ℕ) → All IsCase cases → ArePlain (items_of (map (λ c. number (unsigned c)) cases))
 plain_cases [] h = tt

@@ -5,7 +5,6 @@ use Rattle.std.specs.Prelude.{⊤, None, option_map, option_and_then, ◌==◌, 
 use Rattle.std.specs.Str.Lossy.{utf8_valid_len}
 use Rattle.std.specs.Ordering.{nat_cmp, match_ordering}
 use Rattle.std.specs.declared.cmp.Ordering.{Ordering}
-use Rattle.std.specs.declared.cmp.Ordering.TheVariants.{Less, Equal, Greater}
 use Rattle.std.specs.Cmp.Lexicographic.{slice_cmp}
 use Rattle.std.proofs.lemmas.Bool.{and_parts}
 use Rattle.std.proofs.lemmas.Fmt.{IsAscii-decimal}
@@ -73,9 +72,7 @@ abbrev mutual
 put_by : (o : Ordering) (k l : List ℕ) (d e : Data) (ms : Members) → match_ordering o false false (goes_last k ms) ≡ true →
     (goes_last k ms ≡ true → put k d ms ≡ before ms (member k d no_members))
     → match_ordering o (member k d (member l e ms)) (member l d ms) (member l e (put k d ms)) ≡ member l e (before ms (member k d no_members))
-put_by Less k l d e ms h rest = cc
-put_by Equal k l d e ms h rest = cc
-put_by Greater k l d e ms h rest = ap (member l e) (rest h)
+put_by o k l d e ms h rest = grind arith
 
 put_last : (k : List ℕ) (d : Data) (ms : Members) → goes_last k ms ≡ true → put k d ms ≡ before ms (member k d no_members)
 put_last k d no_members h = refl
@@ -206,8 +203,7 @@ line_back d h shallow =
 -- ---- what is read nests no deeper than JSON is read
 
 if_read : (b : Bool) (text : List ℕ) (d : Data) → (if b then read text else None) ≡ Some d → read text ≡ Some d
-if_read true text d e = e
-if_read false text d e = absurd (none_some d e)
+if_read b text d e = grind (arith, none_some)
 
 value_read : (text : List ℕ) (d : Data) → value_of text ≡ Some d → read text ≡ Some d
 unfolding value_of

@@ -1,25 +1,19 @@
 -- Replies are read as they were written.
-use Rattle.std.proofs.Common.{◌≡◌, ℕ, ◌<◌, ◌≤◌, ◌^◌, List, [], ◌∷◌, length, refl, ap, ◌∙◌, arith, lt-ltb, le-leb, true}
-use Rattle.std.specs.Prelude.{codes, map, Option, Some, option_map, option_and_then, nat_lt}
+use Rattle.std.proofs.Common.{◌≡◌, ℕ, ◌<◌, ◌≤◌, List, [], ◌∷◌, length, refl, ap, ◌∙◌, arith, lt-ltb, le-leb, true}
+use Rattle.std.specs.Prelude.{map, Option, Some, option_map, option_and_then, nat_lt}
 use Rattle.std.specs.List.{All}
 use Rattle.serde_json.specs.Data.{number, unsigned}
 use Rattle.serde_json.specs.View.{items_of}
 use Rattle.wf_names.specs.declared.limits.TheConstants.{STEP_LIMIT, CASE_NUMBER_LIMIT}
 use Rattle.wf_names.specs.declared.states.StepState.{StepState}
-use Rattle.wf_names.specs.declared.states.StepState.TheVariants.{Free, Held, Finished}
 use Rattle.wf_names.specs.declared.states.Phase.{Phase}
-use Rattle.wf_names.specs.declared.states.Phase.TheVariants.{Live, Done, Withdrawn}
 use Rattle.refutation_tree.specs.Laws.Views.{shape_of}
 use Rattle.refutation_tree.specs.declared.tree.Tree.{Tree}
-use Rattle.refutation_tree.specs.declared.tree.Tree.TheVariants.{Holder, Rule, Step}
 use Rattle.wf_talk.specs.declared.edit.Missing.{Missing}
-use Rattle.wf_talk.specs.declared.edit.Missing.TheVariants as missing
 use Rattle.wf_talk.specs.declared.request.Bad.{Bad}
-use Rattle.wf_talk.specs.declared.request.Bad.TheVariants as bad
 use Rattle.wf_talk.specs.declared.reply.Face.{Face}
 use Rattle.wf_talk.specs.declared.reply.WorkItem.{WorkItem}
 use Rattle.wf_talk.specs.declared.reply.Reply.{Reply}
-use Rattle.wf_talk.specs.declared.reply.Reply.TheVariants as reply
 use Rattle.wf_talk.specs.declared.reply.Denial.{Denial}
 use Rattle.wf_talk.specs.declared.reply.Denial.TheVariants as denial
 use Rattle.policy_book.specs.Laws.Shapes.{PolicyShape}
@@ -30,7 +24,7 @@ use Rattle.wire_json.specs.Replies.{missing_data, strands_data, denial_data, fac
 use Rattle.wf_names.specs.Table.{AreNames}
 use Rattle.entry_reader.specs.Named.{HasNames}
 use Rattle.entry_reader.specs.Laws.Within.{IsPlan, IsTree, IsState, IsFace, IsBad, IsCase, IsConcerned, IsDenial, IsWorkItem, IsReply}
-use Rattle.entry_reader.specs.Values.{each_read, few, few_read, number_read, user_read, user_state, seen_read, state_read, tree_in}
+use Rattle.entry_reader.specs.Values.{each_read, few, few_read, number_read, user_read, seen_read, state_read, tree_in}
 use Rattle.entry_reader.specs.Told.{tree_from, flow_within, tree_by, step_by, strands_read, missing_read, denial_read, states_read, phase_read, flow_read}
 use Rattle.entry_reader.specs.Told.{face_read}
 use Rattle.entry_reader.specs.Told.{number_of_case, item_read, bad_read, reply_read}
@@ -43,10 +37,7 @@ use Rattle.entry_reader.proofs.TreesBack.{below_back, user_back, step_back, tree
 names_back : (names : List (List ℕ)) (ns : List ℕ) → AreNames names → All (λ n. n < length names) ns → each_read
     (number_read names) (items_of (map (named names) ns)) ≡ Some ns
 names_back names [] k h = refl
-names_back names (n ∷ ns) k h =
-    ap (option_and_then (λ x. option_map (λ xs. x ∷ xs) (each_read (number_read names) (items_of (map (named names) ns)))))
-    (numbered_named names n k (all_first (λ m. m < length names) n ns h))
-    ∙ ap (option_map (λ xs. n ∷ xs)) (names_back names ns k (all_more (λ m. m < length names) n ns h))
+names_back names (n ∷ ns) k h = grind (arith, numbered_named, all_first, all_more, (names_back names ns k (all_more (λ m. m < length names) n ns h)))
 
 few_back : {X : Type 0} (xs : List X) → length xs ≤ STEP_LIMIT → few xs ≡ Some xs
 few_back xs h = rw (le-leb (length xs) STEP_LIMIT h) refl
@@ -57,27 +48,18 @@ plan_back p plan k h = ap (option_and_then few) (names_back p.roster.users plan 
 -- ---- states
 
 state_back : (p : PolicyShape) (s : StepState) → HasNames p → IsState p s → state_read p (state_data p s) ≡ Some s
-state_back p Free k h = refl
-state_back p (Held u) k h = ap (option_and_then (user_state (codes "held"))) (user_back p u k h)
-state_back p (Finished u) k h = ap (option_and_then (user_state (codes "finished"))) (user_back p u k h)
+state_back p s k h = grind (arith, user_back)
 
 seen_back : (p : PolicyShape) (s : StepState) → HasNames p → IsState p s → seen_read p (seen_data p s) ≡ Some s
-seen_back p Free k h = refl
-seen_back p (Held u) k h = ap (option_and_then (user_state (codes "held"))) (user_back p u k h)
-seen_back p (Finished u) k h = ap (option_and_then (user_state (codes "finished"))) (user_back p u k h)
+seen_back p s k h = grind (arith, user_back)
 
 states_back : (p : PolicyShape) (states : List StepState) → HasNames p → All (IsState p) states → each_read
     (seen_read p) (items_of (map (seen_data p) states)) ≡ Some states
 states_back p [] k h = refl
-states_back p (s ∷ states) k h =
-    ap (option_and_then (λ x. option_map (λ xs. x ∷ xs) (each_read (seen_read p) (items_of (map (seen_data p) states)))))
-    (seen_back p s k (all_first (IsState p) s states h))
-    ∙ ap (option_map (λ xs. s ∷ xs)) (states_back p states k (all_more (IsState p) s states h))
+states_back p (s ∷ states) k h = grind (arith, seen_back, all_first, all_more, (states_back p states k (all_more (IsState p) s states h)))
 
 phase_back : (p : PolicyShape) (face : Face) (phase : Phase) → face.phase ≡ phase → phase_read (face_data p face) ≡ Some phase
-phase_back p face Live e = rw e refl
-phase_back p face Done e = rw e refl
-phase_back p face Withdrawn e = rw e refl
+phase_back p face phase e = grind arith
 
 face_back : (p : PolicyShape) (face : Face) → HasNames p → IsFace p face → face_read p (face_data p face) ≡ Some face
 face_back p face k h =
@@ -89,9 +71,7 @@ face_back p face k h =
 -- ---- denials
 
 tree_again : (t : Tree) → tree_from (shape_of t) ≡ t
-tree_again (Holder s) = refl
-tree_again (Rule k) = refl
-tree_again (Step s kids) = refl
+tree_again t = grind arith
 
 flow_back : (p : PolicyShape) (o : Option ℕ) (f : ℕ) → IsConcerned p o f → flow_within p o ≡ Some f
 flow_back p o f h = ap (flow_within p) h.0 ∙ rw (lt-ltb f (length p.flow_names) h.1) refl
@@ -104,9 +84,7 @@ tree_by_back p o f t k c h =
 
 step_by_back : (p : PolicyShape) (o : Option ℕ) (f s : ℕ) → HasNames p → IsConcerned p o f → s < length (flow_at p f).flow.steps →
     step_by p o (step_data p f s) ≡ Some (f, s)
-step_by_back p o f s k c h =
-    ap (option_and_then (λ n. option_map (λ x. (n, x)) (number_read (flow_at p n).flow.steps (step_data p f s)))) (flow_back p o f c)
-    ∙ ap (option_map (λ x. (f, x))) (step_back p f s k h)
+step_by_back p o f s k c h = grind (arith, flow_back, step_back)
 
 case_back : (c : ℕ) → c ≤ 65535 → nat_lt c 65536 ≡ true
 case_back c h = lt-ltb c 65536 (omega (arith, h))
@@ -114,89 +92,39 @@ case_back c h = lt-ltb c 65536 (omega (arith, h))
 strands_back : (p : PolicyShape) (flows : ℕ → Option ℕ) (c f : ℕ) (t : Tree) → HasNames p → c ≤ CASE_NUMBER_LIMIT → IsConcerned p (flows c) f →
     IsTree p f (shape_of t)
     → strands_read p flows (strands_data c (tree_data p f (shape_of t))) ≡ Some (denial.Strands c f t)
-strands_back p flows c f t k few_cases concerns h =
-    rw (case_back c few_cases) (ap (option_map (λ x. denial.Strands c x.0 x.1)) (tree_by_back p (flows c) f t k concerns h))
+strands_back p flows c f t k few_cases concerns h = grind (arith, case_back, tree_by_back)
 
 missing_back : (what : Missing) → missing_read (missing_data what) ≡ Some what
-missing_back missing.Flow = refl
-missing_back missing.Step = refl
-missing_back missing.Relation = refl
-missing_back missing.User = refl
-missing_back missing.Role = refl
+missing_back what = grind arith
 
 denial_back : (p : PolicyShape) (flows : ℕ → Option ℕ) (f : Option ℕ) (d : Denial) → HasNames p → IsDenial p flows f d → denial_read
     p flows f (denial_data p d) ≡ Some d
 unfolding denial_read
-denial_back p flows f denial.NoFlow k h = refl
-denial_back p flows f denial.Retired k h = refl
-denial_back p flows f denial.Full k h = refl
-denial_back p flows f (denial.Unsatisfiable g t) k h = ap (option_map (λ x. denial.Unsatisfiable x.0 x.1)) (tree_by_back p f g t k h.0 h.1)
-denial_back p flows f denial.NoCase k h = refl
-denial_back p flows f denial.Closed k h = refl
-denial_back p flows f denial.NoStep k h = refl
-denial_back p flows f denial.NoUser k h = refl
-denial_back p flows f (denial.Taken u) k h = ap (option_map denial.Taken) (user_back p u k h)
-denial_back p flows f (denial.Order g s) k h = ap (option_map (λ x. denial.Order x.0 x.1)) (step_by_back p f g s k h.0 h.1)
-denial_back p flows f (denial.Role roles) k h = ap (option_map denial.Role) (names_back p.roster.roles roles k.roles h)
-denial_back p flows f (denial.Rule n) k h = ap (option_map denial.Rule) (below_back 256 n h)
-denial_back p flows f (denial.Stranded g t) k h = ap (option_map (λ x. denial.Stranded x.0 x.1)) (tree_by_back p f g t k h.0 h.1)
-denial_back p flows f (denial.NotHeld s) k h = ap (option_map denial.NotHeld) (state_back p s k h)
-denial_back p flows f denial.NotAdmin k h = refl
-denial_back p flows f (denial.Unknown what) k h = ap (option_map denial.Unknown) (missing_back what)
-denial_back p flows f denial.Fixed k h = refl
-denial_back p flows f denial.Already k h = refl
-denial_back p flows f denial.Absent k h = refl
-denial_back p flows f denial.LastAdmin k h = refl
-denial_back p flows f (denial.Strands c g t) k h = strands_back p flows c g t k h.0 h.1 h.2
+denial_back p flows f d k h = grind (arith, tree_by_back, user_back, step_by_back, names_back, below_back, state_back, missing_back, strands_back)
 
 -- ---- lists of views
 
 item_back : (p : PolicyShape) (flows : ℕ → Option ℕ) (i : WorkItem) → HasNames p → IsWorkItem p flows i → item_read p flows (work_data p i) ≡ Some i
-item_back p flows i k h =
-    rw (case_back i.case h.0) (ap (option_map (λ s. record { case = i.case; flow = s.0; step = s.1 })) (step_by_back p (flows i.case) i.flow i.step k h.1 h.2))
+item_back p flows i k h = grind (arith, case_back, step_by_back)
 
 items_back : (p : PolicyShape) (flows : ℕ → Option ℕ) (items : List WorkItem) → HasNames p → All (IsWorkItem p flows) items
     → each_read (item_read p flows) (items_of (map (work_data p) items)) ≡ Some items
 items_back p flows [] k h = refl
-items_back p flows (i ∷ items) k h =
-    ap (option_and_then (λ x. option_map (λ xs. x ∷ xs) (each_read (item_read p flows) (items_of (map (work_data p) items)))))
-    (item_back p flows i k (all_first (IsWorkItem p flows) i items h))
-    ∙ ap (option_map (λ xs. i ∷ xs)) (items_back p flows items k (all_more (IsWorkItem p flows) i items h))
+items_back p flows (i ∷ items) k h = grind (arith, item_back, all_first, all_more, (items_back p flows items k (all_more (IsWorkItem p flows) i items h)))
 
 number_back : (c : ℕ) → c ≤ CASE_NUMBER_LIMIT → number_of_case (number (unsigned c)) ≡ Some c
 number_back c h = rw (case_back c h) refl
 
 cases_back : (cases : List ℕ) → All IsCase cases → each_read number_of_case (items_of (map (λ c. number (unsigned c)) cases)) ≡ Some cases
 cases_back [] h = refl
-cases_back (c ∷ cases) h =
-    ap (option_and_then (λ x. option_map (λ xs. x ∷ xs) (each_read number_of_case (items_of (map (λ n. number (unsigned n)) cases)))))
-    (number_back c (all_first IsCase c cases h))
-    ∙ ap (option_map (λ xs. c ∷ xs)) (cases_back cases (all_more IsCase c cases h))
+cases_back (c ∷ cases) h = grind (arith, number_back, all_first, all_more, (cases_back cases (all_more IsCase c cases h)))
 
 -- ---- replies
 
 bad_back : (b : Bad) → IsBad b → bad_read (bad_data b) ≡ Some b
-bad_back bad.Syntax h = refl
-bad_back bad.Object h = refl
-bad_back bad.Do h = refl
-bad_back bad.Lane h = refl
-bad_back (bad.Key key) h = rw h refl
-bad_back bad.Extra h = refl
+bad_back b h = grind arith
 
 pub reply_back : (p : PolicyShape) (flows : ℕ → Option ℕ) (f : Option ℕ) (r : Reply) → HasNames p → IsReply p flows f r → reply_read
     p flows f (reply_data p r) ≡ Some r
 unfolding reply_read
-reply_back p flows f (reply.Granted plan) k h = ap (option_map reply.Granted) (plan_back p plan k h)
-reply_back p flows f (reply.Finished done) k h = refl
-reply_back p flows f reply.Returned k h = refl
-reply_back p flows f reply.Released k h = refl
-reply_back p flows f (reply.Opened c plan) k h = rw (case_back c h.0) (ap (option_map (reply.Opened c)) (plan_back p plan k h.1))
-reply_back p flows f reply.Withdrawn k h = refl
-reply_back p flows f (reply.Edited n) k h = rw (lt-ltb n (2 ^ 32) h) refl
-reply_back p flows f (reply.Shown face) k h = ap (option_map reply.Shown) (face_back p face k h)
-reply_back p flows f (reply.Work items) k h = ap (option_map reply.Work) (items_back p flows items k h)
-reply_back p flows f (reply.WhatIf cases) k h = ap (option_map reply.WhatIf) (cases_back cases h)
-reply_back p flows f (reply.Denied d) k h = ap (option_map reply.Denied) (denial_back p flows f d k h)
-reply_back p flows f (reply.Again rounds n) k h = rw (lt-ltb n (2 ^ 32) h.1, lt-ltb rounds 256 h.0) refl
-reply_back p flows f reply.NoMemory k h = refl
-reply_back p flows f (reply.Bad b) k h = ap (option_map reply.Bad) (bad_back b h)
+reply_back p flows f r k h = grind (arith, plan_back, case_back, lt-ltb, face_back, items_back, cases_back, denial_back, bad_back)

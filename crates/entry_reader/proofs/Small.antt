@@ -33,10 +33,7 @@ pub node_told : (es : List (String Global × Value)) (k l : String Global) (v w 
     → node_at (members_view es) ≡ (if keys then Some (view v, view w) else None)
 node_told [] k l v w keys h e g is = absurd (omega (arith, h))
 node_told (x ∷ []) k l v w keys h e g is = absurd (omega (arith, h))
-node_told (x ∷ y ∷ []) k l v w keys h e g is =
-    ap₂ (λ (m n : String Global × Value). if are_node_keys (string_bytes m.0) (string_bytes n.0) then Some (view m.1, view n.1) else None)
-    (some_same x (k, v) e) (some_same y (l, w) g)
-    ∙ ap (λ (b : Bool). if b then Some (view v, view w) else None) is
+node_told (x ∷ y ∷ []) k l v w keys h e g is = grind (arith, some_same)
 node_told (x ∷ y ∷ z ∷ es) k l v w keys h e g is = absurd (omega (arith, h))
 
 pub pair_none : (vs : List Value) → (length vs ≡ 2 → ⊥) → pair_at (items_view vs) ≡ None

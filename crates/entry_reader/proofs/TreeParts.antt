@@ -1,5 +1,5 @@
 -- Trees read by their parts, which nest less deep than the whole.
-use Rattle.std.proofs.Common.{◌≡◌, ℕ, List, Bool, true, false, refl, sym, ap, ◌∙◌}
+use Rattle.std.proofs.Common.{◌≡◌, ℕ, List, Bool, refl, sym, ap, ◌∙◌, arith}
 use Rattle.std.specs.Prelude.{Option, Some, None, option_map, option_and_then}
 use Rattle.serde_json.specs.Data.{Data, null, boolean, number, string, array, object, Items, no_items, item, no_members, member}
 use Rattle.refutation_tree.specs.Tree.{Shape, Kids, no_kids, tree_kid, twin_kid, joined}
@@ -17,8 +17,7 @@ of_parts p f d None = lone_leaf p f d
 two_members : (p : PolicyShape) (f : ℕ) (k l : List ℕ) (d e : Data) (b : Bool) → are_node_keys k l ≡ b
     → tree_in p f (object (member k d (member l e no_members))) ≡ of_parts p f (object (member k d (member l e no_members)))
     (node_parts (object (member k d (member l e no_members))))
-two_members p f k l d e true h = rw h refl
-two_members p f k l d e false h = rw h refl
+two_members p f k l d e b h = grind arith
 
 pub tree_by_parts : (p : PolicyShape) (f : ℕ) (d : Data) → tree_in p f d ≡ of_parts p f d (node_parts d)
 tree_by_parts p f null = refl
@@ -56,41 +55,31 @@ kid_by_parts p f (object ms) rest = refl
 pub branch_twin : (p : PolicyShape) (f : ℕ) (d s x : Data) (u v : ℕ) (rest : Option Kids) → Some (s, x) ≡ pair_parts d → Some u ≡ user_read p s →
     Some v ≡ twin_read p x
     → kid_in p f d rest ≡ option_map (twin_kid u v) rest
-branch_twin p f d s x u v rest e user twin =
-    kid_by_parts p f d rest ∙ ap (kid_of_parts p f rest) (sym e) ∙ ap (option_and_then (λ n. with_kid n (twin_read p x) (tree_in p f x) rest)) (sym user)
-    ∙ ap (λ o. with_kid u o (tree_in p f x) rest) (sym twin)
+branch_twin p f d s x u v rest e user twin = grind (arith, kid_by_parts)
 
 pub branch_tree : (p : PolicyShape) (f : ℕ) (d s x : Data) (u : ℕ) (t : Shape) (rest : Option Kids) → Some (s, x) ≡ pair_parts d → Some u ≡ user_read p s →
     None ≡ twin_read p x → tree_in p f x ≡ Some t
     → kid_in p f d rest ≡ option_map (tree_kid u t) rest
-branch_tree p f d s x u t rest e user twin tree =
-    kid_by_parts p f d rest ∙ ap (kid_of_parts p f rest) (sym e) ∙ ap (option_and_then (λ n. with_kid n (twin_read p x) (tree_in p f x) rest)) (sym user)
-    ∙ ap (λ o. with_kid u o (tree_in p f x) rest) (sym twin) ∙ ap (λ o. with_kid u None o rest) tree
+branch_tree p f d s x u t rest e user twin tree = grind (arith, kid_by_parts)
 
 pub branch_bad : (p : PolicyShape) (f : ℕ) (d s x : Data) (u : ℕ) (rest : Option Kids) → Some (s, x) ≡ pair_parts d → Some u ≡ user_read p s → None ≡ twin_read
     p x → tree_in p f x ≡ None
     → kid_in p f d rest ≡ None
-branch_bad p f d s x u rest e user twin tree =
-    kid_by_parts p f d rest ∙ ap (kid_of_parts p f rest) (sym e) ∙ ap (option_and_then (λ n. with_kid n (twin_read p x) (tree_in p f x) rest)) (sym user)
-    ∙ ap (λ o. with_kid u o (tree_in p f x) rest) (sym twin) ∙ ap (λ o. with_kid u None o rest) tree
+branch_bad p f d s x u rest e user twin tree = grind (arith, kid_by_parts)
 
 -- ---- branches one after the other
 
 with_next : (so_far : Kids) (b : Branch) (o : Option Kids) →
     option_map (joined so_far) (option_map (branch_onto b) o) ≡ option_map (joined (joined so_far (branch_onto b no_kids))) o
-with_next so_far b (Some kids) =
-    ap Some (ap (joined so_far) (sym (kid_onto-joined b.kid b.user no_kids kids)) ∙ sym (joined-assoc so_far (branch_onto b no_kids) kids))
-with_next so_far b None = refl
+with_next so_far b o = grind (arith, kid_onto-joined, joined-assoc)
 
 pub kids_more : (p : PolicyShape) (f : ℕ) (whole : Option Kids) (so_far new : Kids) (b : Branch) (d : Data) (ds : Items)
     → whole ≡ option_map (joined so_far) (kids_in p f (item d ds)) → kid_in p f d (kids_in p f ds) ≡ option_map (branch_onto b) (kids_in p f ds)
     → new ≡ joined so_far (branch_onto b no_kids) → whole ≡ option_map (joined new) (kids_in p f ds)
-kids_more p f whole so_far new b d ds e here is =
-    e ∙ ap (option_map (joined so_far)) here ∙ with_next so_far b (kids_in p f ds) ∙ ap (λ n. option_map (joined n) (kids_in p f ds)) (sym is)
+kids_more p f whole so_far new b d ds e here is = grind (arith, with_next)
 
 pub kids_end : (whole : Option Kids) (so_far : Kids) → whole ≡ option_map (joined so_far) (Some no_kids) → whole ≡ Some so_far
 kids_end whole so_far e = e ∙ ap Some (joined-none so_far)
 
 pub kids_start : (o : Option Kids) → o ≡ option_map (joined no_kids) o
-kids_start (Some kids) = refl
-kids_start None = refl
+kids_start o = grind arith

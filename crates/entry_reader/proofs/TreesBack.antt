@@ -1,9 +1,9 @@
 -- Trees are read as they were written, and what is read as a tree is what is written for it.
-use Rattle.std.proofs.Common.{◌≡◌, ℕ, ◌<◌, List, Bool, true, false, refl, sym, ap, ap₂, ◌∙◌, subst, lt-ltb, ltb-true}
+use Rattle.std.proofs.Common.{◌≡◌, ℕ, ◌<◌, List, Bool, true, false, refl, sym, ap, ap₂, ◌∙◌, subst, lt-ltb, ltb-true, arith}
 use Rattle.std.specs.Prelude.{Option, Some, None, option_map, option_and_then, codes, nat_lt, nat_eq, if◌then◌else◌}
 use Rattle.std.specs.Cmp.Lexicographic.{pointwise, bytes_decides}
 use Rattle.std.proofs.lemmas.Bool.{and_parts}
-use Rattle.serde_json.specs.Data.{Data, unsigned, negative, float, null, boolean, number, string, array, object, Items, no_items, item, Members, no_members}
+use Rattle.serde_json.specs.Data.{Data, unsigned, null, boolean, number, string, array, object, Items, no_items, item, Members, no_members}
 use Rattle.serde_json.specs.Data.{member}
 use Rattle.serde_json.specs.View.{items_of}
 use Rattle.refutation_tree.specs.Tree.{Shape, Kids, holder, rule, node, no_kids, tree_kid, twin_kid}
@@ -64,20 +64,10 @@ pub record IsBelow (bound : ℕ) (d : Data) (n : ℕ) : Type 0 where
   pub written : number (unsigned n) ≡ d
 
 if_below : (b : Bool) (bound m n : ℕ) → nat_lt m bound ≡ b → (if b then Some m else None) ≡ Some n → IsBelow bound (number (unsigned m)) n
-if_below true bound m n h e =
-    let same = some_same m n e in
-    record { below = subst (λ (x : ℕ). x < bound) same (ltb-true m bound h); written = ap (λ x. number (unsigned x)) (sym same) }
-if_below false bound m n h e = absurd (none_some n e)
+if_below b bound m n h e = grind (arith, some_same, ltb-true, none_some)
 
 pub below_is : (bound : ℕ) (d : Data) (n : ℕ) → below bound d ≡ Some n → IsBelow bound d n
-below_is bound null n e = absurd (none_some n e)
-below_is bound (boolean b) n e = absurd (none_some n e)
-below_is bound (number (unsigned m)) n e = if_below (nat_lt m bound) bound m n refl e
-below_is bound (number (negative z)) n e = absurd (none_some n e)
-below_is bound (number (float x)) n e = absurd (none_some n e)
-below_is bound (string s) n e = absurd (none_some n e)
-below_is bound (array ds) n e = absurd (none_some n e)
-below_is bound (object ms) n e = absurd (none_some n e)
+below_is bound d n e = grind (arith, none_some, if_below)
 
 pub record IsTreeOf (p : PolicyShape) (f : ℕ) (d : Data) (t : Shape) : Type 0 where
   pub tree : IsTree p f t
@@ -153,14 +143,7 @@ twin_key p k d v true h e =
 twin_key p k d v false h e = absurd (none_some v e)
 
 twin_is : (p : PolicyShape) (x : Data) (v : ℕ) → twin_read p x ≡ Some v → IsUser p v × (single (codes "twin") (user_data p v) ≡ x)
-twin_is p null v e = absurd (none_some v e)
-twin_is p (boolean b) v e = absurd (none_some v e)
-twin_is p (number n) v e = absurd (none_some v e)
-twin_is p (string s) v e = absurd (none_some v e)
-twin_is p (array ds) v e = absurd (none_some v e)
-twin_is p (object no_members) v e = absurd (none_some v e)
-twin_is p (object (member k d no_members)) v e = twin_key p k d v (pointwise nat_eq k (codes "twin")) refl e
-twin_is p (object (member k d (member l g ms))) v e = absurd (none_some v e)
+twin_is p x v e = grind (arith, none_some, twin_key)
 
 kid_is : (p : PolicyShape) (f u : ℕ) (d x : Data) (ds : Items) (o : Option ℕ) (kids : Kids) → twin_read p x ≡ o → IsNumbered p.roster.users d u
     → ((t : Shape) → tree_in p f x ≡ Some t → IsTreeOf p f x t) → ((k : Kids) → kids_in p f ds ≡ Some k → AreKidsIn p f ds k)

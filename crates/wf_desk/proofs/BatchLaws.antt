@@ -1,5 +1,5 @@
 -- The entries of a batch follow those before.
-use Rattle.std.proofs.Common.{◌≡◌, ℕ, zero, suc, ◌+◌, ◌<◌, ◌≤◌, inl, inr, nat_lt, List, [], ◌∷◌, ◌++◌, length, take, drop, map, sym, ap, subst, ◌∙◌, arith}
+use Rattle.std.proofs.Common.{◌≡◌, ℕ, ◌+◌, ◌<◌, ◌≤◌, inl, inr, nat_lt, List, [], ◌∷◌, ◌++◌, length, take, drop, map, sym, ap, ◌∙◌, arith}
 use Rattle.std.proofs.lemmas.Grind.{common_steps}
 use Rattle.std.proofs.lemmas.List.{map-append, length-map, length-append, take-append-le, get_or_append_left}
 use Rattle.std.proofs.Math.Seq.{drop-append_seam, take-length, get_or-append_seam}
@@ -19,8 +19,7 @@ pub end_last : (ends : List ℕ) (x : ℕ) → batch_end (ends ++ x ∷ []) (len
 end_last ends x = get_or-append_seam ends x [] 0
 
 start_within : (ends : List ℕ) (count k : ℕ) → EndAt ends count → k < length ends → batch_start ends k ≤ count
-start_within ends count zero are lt = omega arith
-start_within ends count (suc k) are lt = are.within k (omega (arith, lt))
+start_within ends count k are lt = grind arith
 
 part_old : {A : Type 0} (s e : ℕ) (xs ys : List A) → e ≤ length xs → drop s (take e (xs ++ ys)) ≡ drop s (take e xs)
 part_old s e xs ys within = ap (drop s) (take-append-le e xs ys within)
@@ -34,8 +33,7 @@ part_moved : {A : Type 0} (s t e f : ℕ) (xs : List A) → s ≡ t → e ≡ f 
 part_moved s t e f xs same last = ap (λ n. drop n (take e xs)) same ∙ ap (λ n. drop t (take n xs)) last
 
 rests_moved : (s t : ℕ) (xs ys old new : List Entry) → s ≡ t → xs ≡ ys → old ≡ new → EachAfter (RestsFrom s) xs old → EachAfter (RestsFrom t) ys new
-rests_moved s t xs ys old new first before batch rests =
-    subst (λ n. EachAfter (RestsFrom n) ys new) first (subst (λ zs. EachAfter (RestsFrom s) zs new) before (subst (EachAfter (RestsFrom s) xs) batch rests))
+rests_moved s t xs ys old new first before batch rests = grind arith
 
 entries_whole : (es : List Entry) (js : List Job) (ends : List ℕ) → FillsJobs es js ends → length (map job_of_entry es) ≡ length js
 entries_whole es js ends fills = length-map es job_of_entry ∙ fills.whole
@@ -58,48 +56,15 @@ old_jobs es new js more ends x k lane fills are lt =
 new_jobs : (es new : List Entry) (js more : List Job) (ends : List ℕ) (lane : ℕ) → AnswersNext es new js more ends
     → lane_jobs lane (batch_jobs (ends ++ (length js + length more) ∷ []) (length ends) (map job_of_entry (es ++ new)))
     ≡ lane_jobs lane (batch_jobs (ends ++ (length js + length more) ∷ []) (length ends) (js ++ more))
-new_jobs es new js more ends lane next =
-    let x = length js + length more in
-    let ys = map job_of_entry es in
-    let zs = map job_of_entry new in
-    let size = entries_whole es js ends next.fills in
-    let more_size : length zs ≡ length more = length-map new job_of_entry ∙ next.answers.whole in
-    let begins = start_before ends x (length ends) (omega arith) ∙ next.at_end.closed in
-    let stops = end_last ends x in
-    let s = batch_start (ends ++ x ∷ []) (length ends) in
-    let e = batch_end (ends ++ x ∷ []) (length ends) in
-    ap (lane_jobs lane)
-    (ap (λ all. drop s (take e all)) (map-append job_of_entry es new) ∙ part_new s e ys zs (begins ∙ sym size) (omega (arith, stops, size, more_size)))
-    ∙ next.answers.lanes lane
-    ∙ sym (ap (lane_jobs lane) (part_new s e js more begins stops))
+new_jobs es new js more ends lane next = grind (arith, entries_whole, length-map, start_before, end_last, map-append, part_new)
 
 old_rests : (es new : List Entry) (js : List Job) (ends : List ℕ) (x k : ℕ) → FillsJobs es js ends → EndAt ends (length js) → k < length ends
     → BatchRests (ends ++ x ∷ []) k (es ++ new)
-old_rests es new js ends x k fills are lt =
-    let s = batch_start ends k in
-    let e = batch_end ends k in
-    let begins = start_before ends x k (omega (arith, lt)) in
-    let stops = end_before ends x k lt in
-    let within = are.within k lt in
-    let first = start_within ends (length js) k are lt in
-    let size = fills.whole in
-    rests_moved s _ (take s es) _ (drop s (take e es)) _ (sym begins)
-    (sym (ap (λ n. take n (es ++ new)) begins ∙ take-append-le s es new (omega (arith, first, size))))
-    (sym (part_moved _ s _ e (es ++ new) begins stops ∙ part_old s e es new (omega (arith, within, size))))
-    (fills.rests k lt)
+old_rests es new js ends x k fills are lt = grind (arith, start_before, end_before, start_within, rests_moved, take-append-le, part_moved, part_old)
 
 new_rests : (es new : List Entry) (js more : List Job) (ends : List ℕ) → AnswersNext es new js more ends
     → BatchRests (ends ++ (length js + length more) ∷ []) (length ends) (es ++ new)
-new_rests es new js more ends next =
-    let x = length js + length more in
-    let size = next.fills.whole in
-    let begins = start_before ends x (length ends) (omega arith) ∙ next.at_end.closed ∙ sym size in
-    let stops = end_last ends x in
-    let more_size = next.answers.whole in
-    rests_moved (length es) _ es _ new _ (sym begins)
-    (sym (ap (λ n. take n (es ++ new)) begins ∙ take-append-le (length es) es new (omega arith) ∙ take-length es))
-    (sym (part_new _ _ es new begins (omega (arith, stops, size, more_size))))
-    next.answers.rests
+new_rests es new js more ends next = grind (arith, start_before, end_last, rests_moved, take-append-le, take-length, part_new)
 
 -- with one more batch, whose entries answer its jobs, the entries fill the jobs
 pub batch_fills : (es new : List Entry) (js more : List Job) (ends : List ℕ) → AnswersNext es new js more ends

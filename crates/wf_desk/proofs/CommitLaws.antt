@@ -27,7 +27,7 @@ use Rattle.wf_desk.specs.declared.loss.Loss.{Loss}
 use Rattle.wf_desk.specs.declared.task.Task.{Task}
 use Rattle.wf_desk.specs.declared.outcome.Outcome.{Outcome}
 use Rattle.wf_desk.specs.declared.outcome.Outcome.TheVariants as outcome
-use Rattle.wf_desk.specs.Desks.{DeskShape, HasAdded, loss_of, next_job, no_loss, served}
+use Rattle.wf_desk.specs.Desks.{DeskShape, HasAdded, loss_of, next_job, no_loss}
 use Rattle.wf_desk.specs.Laws.Commits.{HasCommittedChecked, IsNext, IsReplyWhere, IsRightFor, IsTask, floor_of, is_fresh, is_fresh_or_change, is_last_round}
 use Rattle.wf_desk.specs.Laws.Commits.{is_lost}
 use Rattle.wf_desk.specs.Laws.Commits.{job_of_task}
@@ -53,28 +53,10 @@ record LostFacts (d : DeskShape) (t : Task) : Type 0 where
   pub floor : floor_of d t.lane ≤ t.number
 
 lost_facts : (d : DeskShape) (t : Task) → is_lost d t ≡ true → LostFacts d t
-lost_facts d t lost =
-    let first = and_both (nat_le 1 d.rounds) _ lost in
-    let next = and_both (not (is_view t.ask)) _ first.1 in
-    let second = and_both (needs_verdict (decision_of (state_on d.board).book t.ask)) _ next.1 in
-    let one = first.0 in
-    let floor = second.1 in
-    record {
-      positive = grind (arith, common_steps, one);
-      deed = not_yes (is_view t.ask) next.0;
-      undecided = second.0;
-      floor = grind (arith, common_steps, floor);
-    }
+lost_facts d t lost = grind (arith, and_both, common_steps, not_yes)
 
 pub may_lose : (d : DeskShape) (t : Task) → IsNext d t → is_fresh d t ≡ false → is_lost d t ≡ true → MayLose d t.lane t.ask
-may_lose d t next stale lost =
-    let facts = lost_facts d t lost in
-    let later = count_later (λ e. counts_for e t.ask) d.entries (floor_of d t.lane) t.number facts.floor in
-    let some : 1 ≤ counted t.ask (drop t.number d.entries) = grind (arith, common_steps) in
-    record {
-      next = λ j is. let same : job_of_task t ≡ j = cc in ap (λ (k : Job). k.ask) (sym same);
-      some = omega (arith, later, some);
-    }
+may_lose d t next stale lost = grind (arith, lost_facts, count_later, common_steps)
 
 -- enough counts behind the lane's last entry of the batch
 enough_rounds : (d : DeskShape) (places : List ℕ) (t : Task) → IsDesk d places → IsNext d t → MayLose d t.lane t.ask → is_last_round d t.lane ≡ true →
@@ -161,39 +143,24 @@ none_end test m before (x ∷ xs) none = elim (bool_cases (test x)) [
 ]
 
 next_before : (b : Bool) (m before : ℕ) → before ≤ m → (if b then m + 1 else before) ≤ m + 1
-next_before true m before known = omega arith
-next_before false m before known = omega (arith, known)
+next_before b m before known = grind arith
 
 end_up_to : (test : Entry → Bool) (m before n : ℕ) (entries : List Entry) → before ≤ m → count_of test (drop n entries) ≡ 0 →
     last_end_from m before test entries ≤ m + n
 end_up_to test m before n [] known none = omega (arith, known)
 end_up_to test m before zero (x ∷ xs) known none = let same = none_end test m before (x ∷ xs) none in omega (arith, known, same)
 end_up_to test m before (suc n) (x ∷ xs) known none =
-    let rest = end_up_to test (m + 1) (if test x then m + 1 else before) n xs (next_before (test x) m before known) none in
-    omega (arith, rest)
+    grind (arith, next_before, (end_up_to test (m + 1) (if test x then m + 1 else before) n xs (next_before (test x) m before known) none))
 
 end_past : (test : Entry → Bool) (m before n : ℕ) (entries : List Entry) → 1 ≤ count_of test (drop n entries) → m + n + 1 ≤ last_end_from m before test entries
 end_past test m before zero entries some = let there = end_there m before test entries some in omega (arith, there)
 end_past test m before (suc n) [] some = absurd (omega (arith, some))
-end_past test m before (suc n) (x ∷ xs) some =
-    let rest = end_past test (m + 1) (if test x then m + 1 else before) n xs some in
-    omega (arith, rest)
+end_past test m before (suc n) (x ∷ xs) some = grind (arith, (end_past test (m + 1) (if test x then m + 1 else before) n xs some))
 
 -- a lane's last entry stands before a place exactly where none of the later ones is of the lane
 pub lane_end_test : (lane n : ℕ) (entries : List Entry) →
     nat_le (lane_end lane entries) n ≡ not (nat_lt 0 (count_of (λ e. nat_eq e.lane lane) (drop n entries)))
-lane_end_test lane n entries =
-    let test : Entry → Bool = λ e. nat_eq e.lane lane in
-    elim (bool_cases (nat_lt 0 (count_of test (drop n entries)))) [
-      | inl some ↦
-          let one : 1 ≤ count_of test (drop n entries) = grind (arith, common_steps) in
-          let past = end_past test 0 0 n entries one in
-          rw some (grind (arith, common_steps, past))
-      | inr none ↦
-          let zero_of : count_of test (drop n entries) ≡ 0 = grind (arith, common_steps) in
-          let within = end_up_to test 0 0 n entries (omega arith) zero_of in
-          rw none (grind (arith, common_steps, within))
-    ]
+lane_end_test lane n entries = grind (arith, bool_cases, common_steps, end_past, end_up_to)
 
 -- ---- the last entry that counts
 
@@ -227,11 +194,7 @@ last_before what entries place e some within is miss so_far =
 
 pub last_nowhere : (what : Ask) (entries : List Entry) (place : ℕ) → place ≤ 0 → 1 ≤ counted what entries →
     counted_end what (take place entries) ≡ counted_end what entries → ⊥
-last_nowhere what entries place none some so_far =
-    let at_start : place ≡ 0 = omega arith in
-    let nothing : counted_end what (take place entries) ≡ 0 = ap (λ n. counted_end what (take n entries)) at_start in
-    let there = end_there 0 0 (λ x. counts_for x what) entries some in
-    omega (arith, nothing, there, so_far)
+last_nowhere what entries place none some so_far = grind (arith, end_there)
 
 -- ---- a desk with one more entry of its own
 
@@ -288,16 +251,7 @@ as_own job lane own = λ i. record { lane = own i; line = job.line; ask = job.as
 pub task_is : (d : DeskShape) (lane : ℕ) (job : Job) (number : ℕ) (snap : SnapShape) → next_job d lane ≡ Some job → number ≡ length d.entries →
     snap ≡ snap_of d.board job.ask snap.cases.spare → (t : Task) →
     Some (record { lane = lane; line = job.line; ask = job.ask; number = number; snap = snap }) ≡ Some t → IsTask d lane t
-task_is d lane job number snap next count made t is =
-    let task : Task = record { lane = lane; line = job.line; ask = job.ask; number = number; snap = snap } in
-    let same : task ≡ t = cc in
-    let own = next_lane lane (length (served d lane)) d.jobs job next in
-    subst (IsTask d lane) same record {
-      lane = refl;
-      next = next ∙ ap (λ (k : Job). Some k) (as_own job lane own);
-      number = count;
-      snap = made;
-    }
+task_is d lane job number snap next count made t is = grind (arith, next_lane, as_own)
 
 -- the floor, where the batch and the last loss are before a place
 pub floor_test : (d : DeskShape) (lane n : ℕ) → max d.start (loss_of d.losses lane).end ≤ n →
@@ -308,10 +262,7 @@ floor_test d lane n before =
     (λ within. grind (arith, common_steps, before))
 
 by_count : (n : ℕ) → not (nat_lt 0 n) ≡ true → (n == 0) ≡ true
-by_count n none = elim (bool_cases (nat_lt 0 n)) [
-  | inl some ↦ let no = rw some at none in absurd (cc)
-  | inr nothing ↦ let at_zero : n ≡ 0 = grind (arith, common_steps) in eq_is n 0 at_zero
-]
+by_count n none = grind (arith, bool_cases, common_steps, eq_is)
 
 pub fresh_test : (d : DeskShape) (t : Task) → not (nat_lt 0 (counted t.ask (drop t.number d.entries))) ≡ true → is_fresh d t ≡ true
 fresh_test d t none = by_count (counted t.ask (drop t.number d.entries)) none
@@ -320,23 +271,7 @@ fresh_test d t none = by_count (counted t.ask (drop t.number d.entries)) none
 
 pub added_as : (d e : DeskShape) (j : Job) (place : ℕ) (P Q : Reply → Type 0) → ((given : Reply) → P given → Q given) → HasAdded d e j place P →
     HasAdded d e j place Q
-added_as d e j place P Q as_well added = record {
-  entry = added.entry;
-  last = added.last;
-  stands = added.stands;
-  answers = added.answers;
-  reply = as_well added.entry.reply added.reply;
-  lacking = added.lacking;
-  added = added.added;
-  opening = added.opening;
-  lanes = added.lanes;
-  rounds = added.rounds;
-  earlier = added.earlier;
-  jobs = added.jobs;
-  start = added.start;
-  restored = added.restored;
-  losses = added.losses;
-}
+added_as d e j place P Q as_well added = grind arith
 
 -- where its verdict is none that decides
 pub checked_none : (d e : DeskShape) (t : Task) (v : Verdict) (out : Outcome) → IsNext d t → ¬ IsCertified (state_on d.board).book t.ask v →

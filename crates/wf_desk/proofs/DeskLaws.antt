@@ -1,6 +1,6 @@
 -- A desk keeps what it is with one more entry, with one more loss, and with another batch.
 use Rattle.std.proofs.Common.{◌≡◌, ◌≢◌, ℕ, zero, suc, ◌+◌, ◌<◌, ◌≤◌, inl, inr, max, Bool, true, false, nat_eq, List, [], ◌∷◌, ◌++◌, length, take, drop, get_or}
-use Rattle.std.proofs.Common.{set, slice_get, slice_set, slice_index_or, Some, refl, sym, ap, subst, ◌∙◌, arith, if◌then◌else◌}
+use Rattle.std.proofs.Common.{set, slice_get, slice_set, slice_index_or, Some, refl, sym, ap, subst, ◌∙◌, arith}
 use Rattle.std.proofs.lemmas.Grind.{common_steps}
 use Rattle.std.proofs.lemmas.List.{drop-append-le, length-append, get_or-set_same, get_or-set_other, take_more}
 use Rattle.std.proofs.lemmas.Option.{get_or_from_slice_get, slice_get_within}
@@ -13,7 +13,7 @@ use Rattle.wf_board.specs.Boards.{BoardShape, state_on}
 use Rattle.wf_board.specs.Counting.{counted, counts_for, lane_end}
 use Rattle.wf_board.specs.Laws.Histories.{AreRightful, IsRightAfter, IsRightful, RestsFrom, job_of_entry, lane_jobs}
 use Rattle.wf_board.proofs.HistoryLaws.{after_more, each_more, edits_within, rests_more, wants_more}
-use Rattle.wf_board.specs.Laws.States.{State, opening_state}
+use Rattle.wf_board.specs.Laws.States.{opening_state}
 use Rattle.wf_board.specs.Laws.Steps.{state_after_step}
 use Rattle.wf_board.proofs.Counted.{count_from_more, count_later, count_past, end_more, end_within}
 use Rattle.wf_desk.specs.declared.loss.Loss.{Loss}
@@ -56,30 +56,16 @@ floor_within d lane begun ends = let within = lane_end_within lane d in omega (a
 
 -- where a lane's job was not lost, nothing is to be shown
 pub fresh_rests : (d : DeskShape) (lane : ℕ) (what : Ask) → loss_of d.losses lane ≡ no_loss → LossRests d lane what
-fresh_rests d lane what none =
-    let count : (loss_of d.losses lane).count ≡ 0 = ap (λ (l : Loss). l.count) none in
-    let later = count_later (λ e. counts_for e what) d.entries (own_start d lane) (floor_of d lane) (omega arith) in
-    omega (arith, count, later)
+fresh_rests d lane what none = grind (arith, count_later)
 
 end_other : (entries : List Entry) (e : Entry) (lane : ℕ) → nat_eq e.lane lane ≡ false → lane_end lane (entries ++ e ∷ []) ≡ lane_end lane entries
-end_other entries e lane other =
-    end_more 0 0 (λ x. nat_eq x.lane lane) entries e ∙ ap (λ b. if b then 0 + length entries + 1 else lane_end lane entries) other
+end_other entries e lane other = grind (arith, end_more)
 
 -- another lane's entry adds the same to both sides
 other_rests : (d : DeskShape) (e : Entry) (b : BoardShape) (spare lane : ℕ) (what : Ask) → d.start ≤ length d.entries →
     (loss_of d.losses lane).end ≤ length d.entries →
     nat_eq e.lane lane ≡ false → LossRests d lane what → LossRests (with_entry d e b spare) lane what
-other_rests d e b spare lane what begun ends other rests =
-    let new = with_entry d e b spare in
-    let test : Entry → Bool = λ x. counts_for x what in
-    let loss = loss_other d.losses e.lane lane no_loss other in
-    let own : own_start new lane ≡ own_start d lane = ap (λ n. max n d.start) (end_other d.entries e lane other) in
-    let floor : floor_of new lane ≡ floor_of d lane = ap (λ n. max n (loss_of new.losses lane).end) own ∙
-    ap (λ (l : Loss). max (own_start d lane) l.end) loss in
-    let count = ap (λ (l : Loss). l.count) loss in
-    let above = ap (λ n. counted what (drop n new.entries)) floor ∙ count_from_more test (floor_of d lane) d.entries e (floor_within d lane begun ends) in
-    let all = ap (λ n. counted what (drop n new.entries)) own ∙ count_from_more test (own_start d lane) d.entries e (own_within d lane begun) in
-    omega (arith, count, above, all, rests)
+other_rests d e b spare lane what begun ends other rests = grind (arith, loss_other, end_other, count_from_more, floor_within, own_within)
 
 -- ---- one more entry
 
@@ -102,17 +88,7 @@ pub record Grows (d : DeskShape) (places : List ℕ) (e : Entry) (b : BoardShape
 
 front_grown : (d : DeskShape) (places : List ℕ) (e : Entry) (b : BoardShape) (spare place lane : ℕ) → IsDesk d places → Grows d places e b spare place →
     served (with_entry d e b spare) lane ≡ take (length (served (with_entry d e b spare) lane)) (lane_jobs lane d.jobs)
-front_grown d places e b spare place lane is grows = elim (bool_cases (nat_eq e.lane lane)) [
-  | inl own ↦
-      let same : e.lane ≡ lane = eq_back e.lane lane own in
-      let more = served_own d.start d.entries e lane is.sound.begun same in
-      let next : slice_get (lane_jobs lane d.jobs) (length (served d lane)) ≡ Some (job_of_entry e) =
-      subst (λ n. next_job d n ≡ Some (job_of_entry e)) same grows.next in
-      subst (λ js. js ≡ take (length js) (lane_jobs lane d.jobs)) (sym more)
-      (front_more (served d lane) (lane_jobs lane d.jobs) (job_of_entry e) (is.sound.front lane) next)
-  | inr other ↦
-      subst (λ js. js ≡ take (length js) (lane_jobs lane d.jobs)) (sym (served_other d.start d.entries e lane is.sound.begun other)) (is.sound.front lane)
-]
+front_grown d places e b spare place lane is grows = grind (arith, bool_cases, eq_back, served_own, front_more, served_other)
 
 sound_grown : (d : DeskShape) (places : List ℕ) (e : Entry) (b : BoardShape) (spare place : ℕ) → IsDesk d places → Grows d places e b spare place →
     IsSoundDesk (with_entry d e b spare)
@@ -166,16 +142,7 @@ place_grown d places e b spare place lane is grows known = elim (bool_cases (nat
 
 ends_grown : (d : DeskShape) (places : List ℕ) (e : Entry) (b : BoardShape) (spare lane : ℕ) → IsDesk d places →
     (loss_of (slice_set d.losses e.lane no_loss) lane).end ≤ length (d.entries ++ e ∷ [])
-ends_grown d places e b spare lane is = elim (bool_cases (nat_eq e.lane lane)) [
-  | inl own ↦
-      let same : e.lane ≡ lane = eq_back e.lane lane own in
-      let none = ap (λ (l : Loss). l.end) (ap (loss_of (slice_set d.losses e.lane no_loss)) (sym same) ∙ no_loss_own d.losses e.lane) in
-      omega (arith, none)
-  | inr other ↦
-      let old = is.ends lane in
-      let same = ap (λ (l : Loss). l.end) (loss_other d.losses e.lane lane no_loss other) in
-      omega (arith, old, same, length-append d.entries (e ∷ []))
-]
+ends_grown d places e b spare lane is = grind (arith, bool_cases, eq_back, no_loss_own, loss_other, length-append)
 
 losses_grown : (d : DeskShape) (places : List ℕ) (e : Entry) (b : BoardShape) (spare lane : ℕ) (j : Job) → IsDesk d places →
     next_job (with_entry d e b spare) lane ≡ Some j →
@@ -241,15 +208,7 @@ lost_own d lane what some rests =
 lost_losses : (d : DeskShape) (places : List ℕ) (lane : ℕ) (what : Ask) (other : ℕ) (j : Job) → IsDesk d places → MayLose d lane what →
     next_job d other ≡ Some j →
     LossRests (with_loss d lane) other j.ask
-lost_losses d places lane what other j is may next = elim (bool_cases (nat_eq lane other)) [
-  | inl own ↦
-      let same : other ≡ lane = sym (eq_back lane other own) in
-      let asks : j.ask ≡ what = may.next j (subst (λ n. next_job d n ≡ Some j) same next) in
-      subst (λ n. LossRests (with_loss d lane) n j.ask) (sym same)
-      (lost_own d lane j.ask (subst (λ a. 1 ≤ counted a (drop (floor_of d lane) d.entries)) (sym asks) may.some)
-      (subst (λ n. LossRests d n j.ask) same (is.losses other j next)))
-  | inr away ↦ subst (rests_by d other j.ask) (sym (loss_other d.losses lane other (lost_now d lane) away)) (is.losses other j next)
-]
+lost_losses d places lane what other j is may next = grind (arith, bool_cases, eq_back, lost_own, loss_other)
 
 -- with one more loss
 pub desk_lost : (d : DeskShape) (places : List ℕ) (lane : ℕ) (what : Ask) → IsDesk d places → MayLose d lane what → IsDesk (with_loss d lane) places
@@ -280,15 +239,7 @@ desk_lost d places lane what is may = record {
 pub places_more : (jobs : List Job) (places : List ℕ) (lane place : ℕ) → lane < length places →
     ((n : ℕ) → n < lane → IsNextPlace jobs n 0 (slice_index_or places n 0)) → IsNextPlace jobs lane 0 place →
     (n : ℕ) → n < lane + 1 → IsNextPlace jobs n 0 (slice_index_or (slice_set places lane place) n 0)
-places_more jobs places lane place sized before here n below = elim (bool_cases (nat_eq lane n)) [
-  | inl own ↦
-      let same : lane ≡ n = eq_back lane n own in
-      subst (λ m. IsNextPlace jobs m 0 (slice_index_or (slice_set places lane place) m 0)) same
-      (subst (IsNextPlace jobs lane 0) (sym (get_or-set_same places lane place 0 sized)) here)
-  | inr other ↦
-      let less : n < lane = grind (arith, common_steps) in
-      subst (IsNextPlace jobs n 0) (sym (get_or-set_other places lane n place 0 (differs lane n other))) (before n less)
-]
+places_more jobs places lane place sized before here n below = grind (arith, bool_cases, eq_back, get_or-set_same, common_steps, get_or-set_other, differs)
 
 -- ---- what the calls of a desk need of it
 
@@ -296,26 +247,15 @@ pub desk_small : (d : DeskShape) (places : List ℕ) → IsDesk d places → len
 desk_small d places is = let within = batch_within d is.sound in let small = is.small in omega (arith, within, small)
 
 pub has_room : (d : DeskShape) (places : List ℕ) (lane : ℕ) (j : Job) → IsDesk d places → next_job d lane ≡ Some j → 0 < d.spare
-has_room d places lane j is next =
-    let short = batch_short d lane j is.sound.begun is.sound.front next in
-    let room = is.room in
-    omega (arith, short, room)
+has_room d places lane j is next = grind (arith, batch_short)
 
 -- there were fewer edits than there can be entries
 pub few_edits : (d : DeskShape) (places : List ℕ) (lane : ℕ) (j : Job) → IsDesk d places → next_job d lane ≡ Some j → d.board.edits < 4294967295
-few_edits d places lane j is next =
-    let short = batch_short d lane j is.sound.begun is.sound.front next in
-    let small = is.small in
-    let within = edits_within d.opening d.entries in
-    let now = ap (λ (s : State). s.edits) is.sound.state in
-    omega (arith, short, small, within, now)
+few_edits d places lane j is next = grind (arith, batch_short, edits_within)
 
 pub stands_here : (d : DeskShape) (places : List ℕ) (lane : ℕ) (j : Job) → IsDesk d places → lane < d.lanes → next_job d lane ≡ Some j →
     slice_index_or places lane 0 < length d.jobs
-stands_here d places lane j is known next =
-    let few = is.few in
-    let place = slice_index_or places lane 0 in
-    slice_get_within d.jobs place j (sym (next_at d lane place (is.placed lane (omega (arith, few, known)))) ∙ next)
+stands_here d places lane j is known next = grind (arith, slice_get_within, next_at)
 
 -- the lane of an entry went on to its next job
 abbrev pub HasMoved : List Job → List ℕ → List ℕ → ℕ → Type 0

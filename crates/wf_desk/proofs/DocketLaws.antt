@@ -35,21 +35,15 @@ lane_split lane place jobs = ap (lane_jobs lane) (sym (take-append-drop place jo
 -- a lane's answered jobs with one more entry
 pub served_more : (start : ℕ) (entries : List Entry) (e : Entry) (lane : ℕ) → start ≤ length entries →
     served_jobs start (entries ++ e ∷ []) lane ≡ served_jobs start entries lane ++ lane_jobs lane (job_of_entry e ∷ [])
-served_more start entries e lane begun =
-    ap (λ es. lane_jobs lane (map job_of_entry es)) (drop-append-le start entries (e ∷ []) begun)
-    ∙ ap (lane_jobs lane) (map-append job_of_entry (drop start entries) (e ∷ []))
-    ∙ lane_both lane (map job_of_entry (drop start entries)) (job_of_entry e ∷ [])
+served_more start entries e lane begun = grind (arith, drop-append-le, map-append, lane_both)
 
 pub served_other : (start : ℕ) (entries : List Entry) (e : Entry) (lane : ℕ) → start ≤ length entries → nat_eq e.lane lane ≡ false →
     served_jobs start (entries ++ e ∷ []) lane ≡ served_jobs start entries lane
-served_other start entries e lane begun other =
-    served_more start entries e lane begun ∙ ap (λ js. served_jobs start entries lane ++ js) (lane_other lane (job_of_entry e) other)
-    ∙ append-nil (served_jobs start entries lane)
+served_other start entries e lane begun other = grind (arith, served_more, lane_other, append-nil)
 
 pub served_own : (start : ℕ) (entries : List Entry) (e : Entry) (lane : ℕ) → start ≤ length entries → e.lane ≡ lane →
     served_jobs start (entries ++ e ∷ []) lane ≡ served_jobs start entries lane ++ job_of_entry e ∷ []
-served_own start entries e lane begun own =
-    served_more start entries e lane begun ∙ ap (λ js. served_jobs start entries lane ++ js) (lane_own lane (job_of_entry e) own)
+served_own start entries e lane begun own = grind (arith, served_more, lane_own)
 
 -- the first items are the first items with the next one
 pub front_more : (front whole : List Job) (j : Job) → front ≡ take (length front) whole → slice_get whole (length front) ≡ Some j →
@@ -103,9 +97,7 @@ left_at d lane place is =
 -- a lane past the last has no jobs
 pub none_of_lanes : (lanes lane : ℕ) (jobs : List Job) → AreOfLanes lanes jobs → lanes ≤ lane → lane_jobs lane jobs ≡ []
 none_of_lanes lanes lane [] of_lanes past = refl
-none_of_lanes lanes lane (j ∷ js) of_lanes past =
-    let other : nat_eq j.lane lane ≡ false = let below = of_lanes.0 in grind (arith, common_steps) in
-    rw other (none_of_lanes lanes lane js of_lanes.1 past)
+none_of_lanes lanes lane (j ∷ js) of_lanes past = grind (arith, common_steps, (none_of_lanes lanes lane js of_lanes.1 past))
 
 -- the first jobs are of the lanes of all
 pub first_of_lanes : (lanes n : ℕ) (jobs : List Job) → AreOfLanes lanes jobs → AreOfLanes lanes (take n jobs)
@@ -172,8 +164,7 @@ none_past (x ∷ xs) (suc n) none = let rest = none_past xs n none in omega (ari
 
 lane_done : (d : DeskShape) (lane : ℕ) → served d lane ≡ take (length (served d lane)) (lane_jobs lane d.jobs) → next_job d lane ≡ None →
     served d lane ≡ lane_jobs lane d.jobs
-lane_done d lane front none = front ∙
-    take_all (length (served d lane)) (lane_jobs lane d.jobs) (none_past (lane_jobs lane d.jobs) (length (served d lane)) none)
+lane_done d lane front none = grind (arith, take_all, none_past)
 
 -- where no lane has a job left, the entries of the batch answer its jobs
 pub all_done : (d : DeskShape) → d.start ≤ length d.entries → ((lane : ℕ) → served d lane ≡ take (length (served d lane)) (lane_jobs lane d.jobs)) →

@@ -1,5 +1,5 @@
 -- One more end of a batch.
-use Rattle.std.proofs.Common.{◌≡◌, ℕ, zero, suc, ◌+◌, ◌<◌, ◌≤◌, List, [], ◌∷◌, ◌++◌, length, ap, ◌∙◌, arith}
+use Rattle.std.proofs.Common.{◌≡◌, ℕ, zero, suc, ◌<◌, ◌≤◌, List, [], ◌∷◌, ◌++◌, length, ap, ◌∙◌, arith}
 use Rattle.std.proofs.lemmas.List.{length-append}
 use Rattle.std.proofs.Math.Seq.{get_or-append_seam}
 use Rattle.wf_board.specs.Laws.Histories.{batch_end, batch_start}
@@ -18,7 +18,4 @@ end_within (e ∷ ends) x zero n within last lt = within zero (omega arith)
 end_within (e ∷ ends) x (suc k) n within last lt = end_within ends x k n (λ i below. within (suc i) (omega (arith, below))) last (omega (arith, lt))
 
 pub end_more : (ends : List ℕ) (n x : ℕ) → EndAt ends n → n ≤ x → EndAt (ends ++ x ∷ []) x
-end_more ends n x are more = record {
-  within = λ k lt. end_within ends x k x (λ i below. let h = are.within i below in omega (arith, h, more)) (omega arith) lt;
-  closed = ends_last ends x;
-}
+end_more ends n x are more = grind (arith, end_within, ends_last)

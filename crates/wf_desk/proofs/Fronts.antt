@@ -1,5 +1,5 @@
 -- Of each lane the first items are done, of a list of items.
-use Rattle.std.proofs.Common.{◌≡◌, ℕ, ◌+◌, ◌<◌, ◌≤◌, inl, inr, true, false, nat_eq, List, [], ◌∷◌, length, take, if◌then◌else◌, refl, sym, ap, subst, arith}
+use Rattle.std.proofs.Common.{◌≡◌, ℕ, ◌+◌, ◌<◌, ◌≤◌, inl, inr, false, nat_eq, List, [], ◌∷◌, length, take, if◌then◌else◌, refl, subst, arith}
 use Rattle.std.specs.List.{filter}
 use Rattle.std.proofs.lemmas.Grind.{common_steps}
 use Rattle.basics.proofs.Booleans.{bool_cases}
@@ -23,21 +23,12 @@ rest_of (x ∷ xs) = xs
 
 own_lane : {A : Type 0} (key : A → ℕ) (lane : ℕ) (xs : List A) → of_lane key lane (without key lane xs) ≡ rest_of (of_lane key lane xs)
 own_lane key lane [] = refl
-own_lane key lane (x ∷ xs) = elim (bool_cases (nat_eq (key x) lane)) [
-  | inl hit ↦ rw hit refl
-  | inr miss ↦ rw (miss, miss) (own_lane key lane xs)
-]
+own_lane key lane (x ∷ xs) = grind (arith, bool_cases, (own_lane key lane xs))
 
 other_lane : {A : Type 0} (key : A → ℕ) (lane other : ℕ) (xs : List A) → nat_eq other lane ≡ false →
     of_lane key other (without key lane xs) ≡ of_lane key other xs
 other_lane key lane other [] differ = refl
-other_lane key lane other (x ∷ xs) differ = elim (bool_cases (nat_eq (key x) lane)) [
-  | inl hit ↦ let miss : nat_eq (key x) other ≡ false = grind (arith, common_steps) in rw (hit, miss) refl
-  | inr miss ↦ elim (bool_cases (nat_eq (key x) other)) [
-    | inl own ↦ rw (miss, own) (ap (λ ys. x ∷ ys) (other_lane key lane other xs differ))
-    | inr away ↦ rw (miss, away) (other_lane key lane other xs differ)
-  ]
-]
+other_lane key lane other (x ∷ xs) differ = grind (arith, bool_cases, common_steps, (other_lane key lane other xs differ))
 
 one_less : {A : Type 0} (key : A → ℕ) (lane : ℕ) (xs : List A) → 0 < length (of_lane key lane xs) → length xs ≡ length (without key lane xs) + 1
 one_less key lane [] some = omega (arith, some)
@@ -47,44 +38,27 @@ one_less key lane (x ∷ xs) some = elim (bool_cases (nat_eq (key x) lane)) [
 ]
 
 begins_cons : {A : Type 0} (x : A) (front whole : List A) → Begins (x ∷ front) whole → (whole ≡ x ∷ rest_of whole) × Begins front (rest_of whole)
-begins_cons x front [] begins = absurd (cc)
-begins_cons x front (y ∷ ys) begins = (ap (λ z. z ∷ ys) (cc), cc)
+begins_cons x front whole begins = grind arith
 
 -- what is left to do in a lane
 pub record Fronts {A : Type 0} (key : A → ℕ) (done all : List A) : Type 0 where
   pub front : (lane : ℕ) → Begins (of_lane key lane done) (of_lane key lane all)
 
 next_fronts : {A : Type 0} (key : A → ℕ) (x : A) (done all : List A) → Fronts key (x ∷ done) all → Fronts key done (without key (key x) all)
-next_fronts key x done all fronts = record {
-  front = λ lane. elim (bool_cases (nat_eq (key x) lane)) [
-    | inl hit ↦
-        let same : key x ≡ lane = grind (arith, common_steps) in
-        let cut = begins_cons x (of_lane key lane done) (of_lane key lane all) (rw hit at (fronts.front lane)) in
-        rw same (subst (Begins (of_lane key lane done)) (sym (own_lane key lane all)) cut.1)
-    | inr miss ↦
-        let own : nat_eq lane (key x) ≡ false = grind (arith, common_steps) in
-        subst (Begins (of_lane key lane done)) (sym (other_lane key (key x) lane all own)) (rw miss at (fronts.front lane))
-  ];
-}
+next_fronts key x done all fronts = grind (arith, bool_cases, common_steps, begins_cons, own_lane, other_lane)
 
 -- there is an item for one that is done
 has_own : {A : Type 0} (key : A → ℕ) (x : A) (done all : List A) → Fronts key (x ∷ done) all → 0 < length (of_lane key (key x) all)
-has_own key x done all fronts =
-    let hit : nat_eq (key x) (key x) ≡ true = grind (arith, common_steps) in
-    let cut = begins_cons x (of_lane key (key x) done) (of_lane key (key x) all) (rw hit at (fronts.front (key x))) in
-    rw cut.0 (omega arith)
+has_own key x done all fronts = grind (arith, common_steps, begins_cons)
 
 -- no more are done than there are
 pub fronts_within : {A : Type 0} (key : A → ℕ) (done all : List A) → Fronts key done all → length done ≤ length all
 fronts_within key [] all fronts = omega arith
 fronts_within key (x ∷ done) all fronts =
-    let less = fronts_within key done (without key (key x) all) (next_fronts key x done all fronts) in
-    let size = one_less key (key x) all (has_own key x done all fronts) in
-    omega arith
+    grind (arith, next_fronts, one_less, has_own, (fronts_within key done (without key (key x) all) (next_fronts key x done all fronts)))
 
 rest_length : {A : Type 0} (xs : List A) → 0 < length xs → length xs ≡ length (rest_of xs) + 1
-rest_length [] some = omega (arith, some)
-rest_length (x ∷ xs) some = omega arith
+rest_length xs some = grind arith
 
 -- where in one lane fewer are done than there are, fewer are done of all
 pub fronts_short : {A : Type 0} (key : A → ℕ) (lane : ℕ) (done all : List A) → Fronts key done all →

@@ -1,8 +1,8 @@
 -- The job that stands at a lane's place.
-use Rattle.std.proofs.Common.{◌≡◌, ℕ, zero, suc, ◌<◌, ◌≤◌, List, [], ◌∷◌, length, slice_get, slice_index_or, None, Some, refl, sym, subst, ◌∙◌, arith}
+use Rattle.std.proofs.Common.{◌≡◌, ℕ, zero, suc, ◌<◌, ◌≤◌, List, [], ◌∷◌, length, slice_get, slice_index_or, None, Some, refl, ◌∙◌, arith}
 use Rattle.std.proofs.lemmas.Option.{slice_get_past}
 use Rattle.wf_talk.specs.declared.job.Job.{Job}
-use Rattle.wf_desk.specs.Desks.{DeskShape, next_job, served}
+use Rattle.wf_desk.specs.Desks.{DeskShape, next_job}
 use Rattle.wf_desk.specs.Keeping.{HasNext, IsDesk}
 use Rattle.wf_desk.proofs.DeskLaws.{stands_here}
 use Rattle.wf_desk.proofs.DocketLaws.{next_at, next_lane}
@@ -10,9 +10,7 @@ use Rattle.wf_desk.proofs.DocketLaws.{next_at, next_lane}
 -- a lane's next job is the one at its place
 pub next_of : (d : DeskShape) (places : List ℕ) (lane : ℕ) → IsDesk d places → lane < d.lanes →
     next_job d lane ≡ slice_get d.jobs (slice_index_or places lane 0)
-next_of d places lane is known =
-    let few = is.few in
-    next_at d lane (slice_index_or places lane 0) (is.placed lane (omega (arith, few, known)))
+next_of d places lane is known = grind (arith, next_at)
 
 -- a job is the next one of a lane, which is its own
 pub record StandsNext (d : DeskShape) (lane : ℕ) (j : Job) : Type 0 where
@@ -23,22 +21,12 @@ pub record StandsNext (d : DeskShape) (lane : ℕ) (j : Job) : Type 0 where
 
 pub stands_next : (d : DeskShape) (places : List ℕ) (lane : ℕ) (js : List Job) (j : Job) → IsDesk d places → lane < d.lanes → js ≡ d.jobs →
     slice_get js (slice_index_or places lane 0) ≡ Some j → StandsNext d lane j
-stands_next d places lane js j is known same stands =
-    let here : next_job d lane ≡ Some j =
-    next_of d places lane is known ∙ subst (λ ks. slice_get ks (slice_index_or places lane 0) ≡ Some j) same stands in
-    let own : j.lane ≡ lane = next_lane lane (length (served d lane)) d.jobs j here in
-    record {
-      own = own;
-      known = subst (λ n. n < d.lanes) (sym own) known;
-      next = subst (λ n. next_job d n ≡ Some j) (sym own) here;
-      here = here;
-    }
+stands_next d places lane js j is known same stands = grind (arith, next_of, next_lane)
 
 -- where a lane has a job left, its place is one of the jobs
 pub place_within : (d : DeskShape) (places : List ℕ) (lane : ℕ) (js : List Job) → IsDesk d places → lane < d.lanes → js ≡ d.jobs → HasNext d lane →
     slice_index_or places lane 0 < length js
-place_within d places lane js is known same next =
-    subst (λ ks. slice_index_or places lane 0 < length ks) (sym same) (stands_here d places lane next.0 is known next.1)
+place_within d places lane js is known same next = grind (arith, stands_here)
 
 -- two next jobs of a lane are one
 pub one_next : (d : DeskShape) (lane : ℕ) (j k : Job) → next_job d lane ≡ Some j → next_job d lane ≡ Some k → j ≡ k

@@ -70,8 +70,7 @@ get_behind (x ∷ xs) ys y = get_behind xs ys y
 
 -- all entries: those before one, that one, and the others
 split_at : (entries : List Entry) (i : ℕ) (e : Entry) → i < length entries → e ≡ get_or entries i e → entries ≡ take i entries ++ e ∷ drop (i + 1) entries
-split_at entries i e within is =
-    sym (take-append-drop i entries) ∙ ap (λ es. take i entries ++ es) (drop_more entries i e within ∙ ap (λ x. x ∷ drop (i + 1) entries) (sym is))
+split_at entries i e within is = grind (arith, take-append-drop, drop_more)
 
 -- the entry at a place answers its lane's job that comes next behind those before it
 job_is : (jobs : List Job) (entries : List Entry) (i : ℕ) (e : Entry) → AnswersFirst jobs entries → i < length entries → e ≡ get_or entries i e →
@@ -129,10 +128,7 @@ moved_on jobs entries i e places new of_lanes first within is placed sized moved
 
 pub place_within : (jobs : List Job) (entries : List Entry) (i : ℕ) (e : Entry) (places : List ℕ) → AreOfLanes LANE_LIMIT jobs → AnswersFirst jobs entries →
     i < length entries → e ≡ get_or entries i e → ArePlacesBehind jobs (take i entries) places → slice_index_or places e.lane 0 < length jobs
-place_within jobs entries i e places of_lanes first within is placed =
-    let own = lane_known jobs entries i e of_lanes first within is in
-    slice_get_within jobs (slice_index_or places e.lane 0) (job_of_entry e)
-    (job_stands jobs entries i e (slice_index_or places e.lane 0) first within is (placed e.lane own))
+place_within jobs entries i e places of_lanes first within is placed = grind (arith, lane_known, slice_get_within, job_stands)
 
 -- ---- the desk
 

@@ -32,17 +32,7 @@ use Rattle.wf_desk.specs.Holding.{AreHeld, IsHeld, standing}
 
 -- a desk that is the same but for what it lost
 grown_but : (d e : DeskShape) → record e { losses = d.losses } ≡ d → HasGrown d e
-grown_but d e same = record {
-  more = [];
-  extends = ap (λ (x : DeskShape). x.entries) same ∙ sym (append-nil d.entries);
-  opening = ap (λ (x : DeskShape). x.opening) same;
-  lanes = ap (λ (x : DeskShape). x.lanes) same;
-  rounds = ap (λ (x : DeskShape). x.rounds) same;
-  earlier = ap (λ (x : DeskShape). x.earlier) same;
-  jobs = ap (λ (x : DeskShape). x.jobs) same;
-  start = ap (λ (x : DeskShape). x.start) same;
-  restored = ap (λ (x : DeskShape). x.restored) same;
-}
+grown_but d e same = grind (arith, append-nil)
 
 pub grown_none : (d e : DeskShape) → e ≡ d → HasGrown d e
 grown_none d e same = grown_but d e (ap (λ (x : DeskShape). record x { losses = d.losses }) same)
@@ -51,30 +41,10 @@ grown_lost : (d e : DeskShape) (lane : ℕ) → e ≡ with_loss d lane → HasGr
 grown_lost d e lane same = grown_but d e (ap (λ (x : DeskShape). record x { losses = d.losses }) same)
 
 unfoldable pub grown_added : (d e : DeskShape) (job : Job) (place : ℕ) (Is : Reply → Type 0) → HasAdded d e job place Is → HasGrown d e
-grown_added d e job place Is added = record {
-  more = added.entry ∷ [];
-  extends = added.added;
-  opening = added.opening;
-  lanes = added.lanes;
-  rounds = added.rounds;
-  earlier = added.earlier;
-  jobs = added.jobs;
-  start = added.start;
-  restored = added.restored;
-}
+grown_added d e job place Is added = grind arith
 
 unfoldable pub grown_then : (d e f : DeskShape) → HasGrown d e → HasGrown e f → HasGrown d f
-grown_then d e f first later = record {
-  more = first.more ++ later.more;
-  extends = later.extends ∙ ap (λ es. es ++ later.more) first.extends ∙ append_assoc d.entries first.more later.more;
-  opening = later.opening ∙ first.opening;
-  lanes = later.lanes ∙ first.lanes;
-  rounds = later.rounds ∙ first.rounds;
-  earlier = later.earlier ∙ first.earlier;
-  jobs = later.jobs ∙ first.jobs;
-  start = later.start ∙ first.start;
-  restored = later.restored ∙ first.restored;
-}
+grown_then d e f first later = grind (arith, append_assoc)
 
 pub grown_committed : (d e : DeskShape) (t : Task) (v : Verdict) (result : Outcome) → HasCommitted d e t v result → HasGrown d e
 grown_committed d e t v outcome.NotNext done = grown_none d e done.1
@@ -82,8 +52,7 @@ grown_committed d e t v outcome.Lost done = grown_lost d e t.lane done.1.1.1.1
 grown_committed d e t v (outcome.Recorded place) done = grown_added d e (job_of_task t) place _ done.1
 
 pub grown_served : (d e : DeskShape) (lane : ℕ) (any : Bool) → HasServed d e lane any → HasGrown d e
-grown_served d e lane true done = grown_added d e done.0 (length d.entries) _ done.1.1
-grown_served d e lane false done = grown_none d e done.1
+grown_served d e lane any done = grind (arith, grown_added, grown_none)
 
 -- each lane's further entries are its next jobs
 pub goes_on : (d e : DeskShape) → IsSoundDesk d → IsSoundDesk e → HasGrown d e → HasGoneOn d e
@@ -112,21 +81,11 @@ goes_on d e before after grown = record { grown = grown; next = next }
 -- ---- what lanes hold
 
 state_stays : (d e : DeskShape) (n : ℕ) → HasGrown d e → n ≤ length d.entries → state_after_first e n ≡ state_after_first d n
-state_stays d e n grown within =
-    ap (λ p. state_after (opening_state p) (take n e.entries)) grown.opening
-    ∙ ap (λ es. state_after (opening_state d.opening) (take n es)) grown.extends
-    ∙ ap (state_after (opening_state d.opening)) (take-append-le n d.entries grown.more within)
+state_stays d e n grown within = grind (arith, take-append-le)
 
 -- a task that is held stays right
 pub held_on : (d e : DeskShape) (lane : ℕ) (x : Solved) → HasGrown d e → IsHeld d lane x → IsHeld e lane x
-held_on d e lane x grown held = record {
-  lane = held.lane;
-  number =
-      let longer = ap length grown.extends ∙ length-append d.entries grown.more in
-      let within = held.number in
-      omega (arith, longer, within);
-  right = subst (λ s. IsRight s.book x.task.ask x.verdict) (sym (state_stays d e x.task.number grown held.number)) held.right;
-}
+held_on d e lane x grown held = grind (arith, length-append, state_stays)
 
 pub all_held_on : (d e : DeskShape) (held : List (Option Solved)) → HasGrown d e → AreHeld d held → AreHeld e held
 all_held_on d e held grown are lane x is = held_on d e lane x grown (are lane x is)
@@ -138,29 +97,17 @@ read_put [] lane m put x is = inr is
 read_put (y ∷ ys) zero zero put x is = inl (refl, is)
 read_put (y ∷ ys) zero (suc m) put x is = inr is
 read_put (y ∷ ys) (suc lane) zero put x is = inr is
-read_put (y ∷ ys) (suc lane) (suc m) put x is = up (read_put ys lane m put x is)
-  where
-    up : ((m ≡ lane) × (put ≡ Some x)) ⊎ (held_by ys m ≡ Some x) → ((suc m ≡ suc lane) × (put ≡ Some x)) ⊎ (held_by ys m ≡ Some x)
-    up (inl here) = inl (ap suc here.0, here.1)
-    up (inr before) = inr before
+read_put (y ∷ ys) (suc lane) (suc m) put x is = grind (arith, (read_put ys lane m put x is))
 
 unsome : (x y : Solved) → Some x ≡ Some y → x ≡ y
 unsome x y h = cc
 
 pub held_put : (d : DeskShape) (held : List (Option Solved)) (lane : ℕ) (x : Solved) → AreHeld d held → IsHeld d lane x →
     AreHeld d (slice_set held lane (Some x))
-held_put d held lane x are here m y is = by_read (read_put held lane m (Some x) y is)
-  where
-    by_read : ((m ≡ lane) × (Some x ≡ Some y)) ⊎ (held_by held m ≡ Some y) → IsHeld d m y
-    by_read (inl put) = subst (λ n. IsHeld d n y) (sym put.0) (subst (IsHeld d lane) (unsome x y put.1) here)
-    by_read (inr before) = are m y before
+held_put d held lane x are here = grind (arith, read_put, unsome)
 
 pub held_none : (d : DeskShape) (held : List (Option Solved)) (lane : ℕ) → AreHeld d held → AreHeld d (slice_set held lane None)
-held_none d held lane are m y is = by_read (read_put held lane m None y is)
-  where
-    by_read : ((m ≡ lane) × (None ≡ Some y)) ⊎ (held_by held m ≡ Some y) → IsHeld d m y
-    by_read (inl put) = let no = put.1 in cc
-    by_read (inr before) = are m y before
+held_none d held lane are = grind (arith, read_put)
 
 -- where there are no tasks, none is held
 nothing_held : (n lane : ℕ) → held_by (replicate n None) lane ≡ None
@@ -211,9 +158,7 @@ placed_after : (s : State) (rounds : ℕ) (earlier entries : List Entry) (i : �
 placed_after s rounds earlier [] i d legal below = absurd (omega (arith, below))
 placed_after s rounds earlier (e ∷ es) zero d legal below = let at = legal.0.0 in omega (arith, at)
 placed_after s rounds earlier (e ∷ es) (suc i) d legal below =
-    let rest = placed_after s rounds (earlier ++ e ∷ []) es i d legal.1 (omega (arith, below)) in
-    let longer = length-append earlier (e ∷ []) in
-    omega (arith, rest, longer)
+    grind (arith, length-append, (placed_after s rounds (earlier ++ e ∷ []) es i d legal.1 (omega (arith, below))))
 
 -- the last entry of a desk stands at its end
 pub last_placed : (d : DeskShape) (entries : List Entry) (e : Entry) → IsSoundDesk d → entries ≡ d.entries → 0 < length d.entries →
@@ -232,19 +177,13 @@ committed_done s lane x (outcome.Recorded place) m t is held done none = subst (
 
 -- there is an entry where a job was served
 pub served_some : (d e : DeskShape) (lane : ℕ) (any : Bool) → any ≡ true → HasServed d e lane any → 0 < length e.entries
-served_some d e lane any is done =
-    let served = subst (HasServed d e lane) is done in
-    let longer = ap length served.1.1.added ∙ length-append d.entries (served.1.1.entry ∷ []) in
-    omega (arith, longer)
+served_some d e lane any is done = grind (arith, length-append)
 
 -- what serving a lane did, by its mark
 pub served_done : (d e : DeskShape) (held : List (Option Solved)) (lane place : ℕ) (any : Bool) → any ≡ true → HasServed d e lane any →
     place + 1 ≡ length e.entries →
     HasDone (standing d held) (Serve lane) (Served place) (standing e held)
-served_done d e held lane place any is done last =
-    let served = subst (HasServed d e lane) is done in
-    let longer = ap length served.1.1.added ∙ length-append d.entries (served.1.1.entry ∷ []) in
-    (served, (omega (arith, last, longer), refl))
+served_done d e held lane place any is done last = grind (arith, length-append)
 
 pub unserved_done : (d e : DeskShape) (held : List (Option Solved)) (lane : ℕ) (any : Bool) → any ≡ false → HasServed d e lane any →
     HasDone (standing d held) (Serve lane) NoJob (standing e held)

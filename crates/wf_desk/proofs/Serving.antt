@@ -1,6 +1,5 @@
 -- What became of a lane's next job.
-use Rattle.std.proofs.Common.{◌≡◌, ℕ, List, [], ◌∷◌, ◌++◌, length, slice_set, Some, Bool, true, false, inl, refl, sym, ap, subst, ◌∙◌}
-use Rattle.std.proofs.Common.{◌⊎◌}
+use Rattle.std.proofs.Common.{◌≡◌, ℕ, List, [], ◌∷◌, ◌++◌, length, Some, Bool, false, arith}
 use Rattle.wf_talk.specs.declared.entry.Entry.{Entry}
 use Rattle.wf_talk.specs.declared.job.Job.{Job}
 use Rattle.wf_talk.specs.declared.reply.Reply.{Reply}
@@ -17,7 +16,7 @@ use Rattle.wf_desk.specs.declared.task.Task.{Task}
 use Rattle.wf_desk.specs.declared.outcome.Outcome.{Outcome}
 use Rattle.wf_desk.specs.declared.outcome.Outcome.TheVariants as outcome
 use Rattle.wf_desk.specs.Desks.{DeskShape, HasAdded, no_loss}
-use Rattle.wf_desk.specs.Laws.Commits.{HasCommitted, HasCommittedChecked, IsNext, IsReplyWhere, is_fresh, is_fresh_or_change, is_lost, job_of_task}
+use Rattle.wf_desk.specs.Laws.Commits.{HasCommitted, HasCommittedChecked, IsNext, IsReplyWhere, is_fresh, job_of_task}
 use Rattle.wf_desk.specs.Docket.{entry_for}
 use Rattle.wf_desk.specs.Keeping.{HasLookedAt, HasMissed}
 use Rattle.wf_desk.proofs.CommitLaws.{added_as}
@@ -28,67 +27,28 @@ pub added_parts : (inner d : DeskShape) (j k : Job) (v : Verdict) (given : Reply
     (at : ℕ) → inner ≡ d → j ≡ k → IsDecided inner.board j.ask v given → (given ≡ reply.NoMemory → b ≡ inner.board) → at ≡ length inner.entries →
     entries ≡ inner.entries ++ entry_for j (length inner.entries) given ∷ [] → loss ≡ no_loss →
     HasAdded d (with_parts inner j.lane entries b spare loss) k at (IsDecided d.board k.ask v)
-added_parts inner d j k v given entries b spare loss at is same decided lacking place added none =
-    let e = with_parts inner j.lane entries b spare loss in
-    subst (λ (x : DeskShape). HasAdded x e k at (IsDecided x.board k.ask v)) is
-    (subst (λ (x : Job). HasAdded inner e x at (IsDecided inner.board x.ask v)) same (record {
-      entry = entry_for j (length inner.entries) given;
-      last = place;
-      stands = sym place;
-      answers = refl;
-      reply = decided;
-      lacking = lacking;
-      added = added;
-      opening = refl;
-      lanes = refl;
-      rounds = refl;
-      earlier = refl;
-      jobs = refl;
-      start = refl;
-      restored = refl;
-      losses = ap (slice_set inner.losses j.lane) none;
-    }))
+added_parts inner d j k v given entries b spare loss at is same decided lacking place added none = grind arith
 
 -- a job was looked at, and its deed is left to decide
 pub looked_left : (inner d : DeskShape) (b : BoardShape) (j k : Job) (left : Deed) → inner ≡ d → j ≡ k →
     IsUndecided inner.board.policy inner.board.cases j.ask left → b ≡ inner.board → HasLookedAt d (record inner { board = b }) k (Some left)
-looked_left inner d b j k left is same undecided stays =
-    let e : DeskShape = record inner { board = b } in
-    subst (λ (x : DeskShape). HasLookedAt x e k (Some left)) is
-    (subst (λ (x : Job). HasLookedAt inner e x (Some left)) same
-    (ap (λ (c : BoardShape). record inner { board = c }) stays, (ap needs_verdict undecided.decided ∙ undecided.needs, undecided)))
+looked_left inner d b j k left is same undecided stays = grind arith
 
 pub needs_none : (inner d : DeskShape) (j k : Job) → inner ≡ d → j ≡ k → needs_verdict (decision_of (state_on inner.board).book j.ask) ≡ false →
     needs_verdict (decision_of (state_on d.board).book k.ask) ≡ false
-needs_none inner d j k is same none =
-    subst (λ (x : DeskShape). needs_verdict (decision_of (state_on x.board).book k.ask) ≡ false) is
-    (subst (λ (x : Job). needs_verdict (decision_of (state_on inner.board).book x.ask) ≡ false) same none)
+needs_none inner d j k is same none = grind arith
 
 -- what is said of a stale task holds whatever its verdict is
 any_verdict : (d : DeskShape) (t : Task) (v : Verdict) (lost : Bool) (given : Reply) → IsReplyWhere false lost d t verdict.Nothing given →
     IsReplyWhere false lost d t v given
-any_verdict d t v true given is = is
-any_verdict d t v false given is = is
+any_verdict d t v lost given is = grind arith
 
 -- a stale task was committed
 pub missed_committed : (d e : DeskShape) (t : Task) (v : Verdict) (out : Outcome) → IsNext d t → is_fresh d t ≡ false → HasMissed d e t out →
     HasCommitted d e t v out
-missed_committed d e t v outcome.NotNext next stale has = absurd has
-missed_committed d e t v outcome.Lost next stale has = (next, (stale, has))
-missed_committed d e t v (outcome.Recorded place) next stale has = (
-  next,
-  subst (λ b. HasAdded d e (job_of_task t) place (IsReplyWhere b (is_lost d t) d t v)) (sym stale)
-      (added_as d e (job_of_task t) place (IsReplyWhere false (is_lost d t) d t verdict.Nothing) (IsReplyWhere false (is_lost d t) d t v)
-      (λ given is. any_verdict d t v (is_lost d t) given is) has),
-)
+missed_committed d e t v out next stale has = grind (arith, added_as, any_verdict)
 
 -- a task was committed with a verdict that is right now
 pub checked_some : (d e : DeskShape) (t : Task) (v : Verdict) (place : ℕ) → IsNext d t → IsCertified (state_on d.board).book t.ask v →
     HasAdded d e (job_of_task t) place (IsDecided d.board t.ask v) → HasCommittedChecked d e t v (outcome.Recorded place)
-checked_some d e t v place next certified has = (
-  next,
-  added_as d e (job_of_task t) place (IsDecided d.board t.ask v)
-      (λ given. (IsCertified (state_on d.board).book t.ask v × IsDecided d.board t.ask v given)
-      ⊎ (¬ IsCertified (state_on d.board).book t.ask v × IsReplyWhere (is_fresh_or_change d t) (is_lost d t) d t verdict.Nothing given))
-      (λ given is. inl (certified, is)) has,
-)
+checked_some d e t v place next certified has = grind (arith, added_as)
