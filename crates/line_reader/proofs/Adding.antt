@@ -1,8 +1,7 @@
 -- The user whom an edit of an input adds has a name of a name's form.
-use Rattle.std.proofs.Common.{subst, arith}
-use Rattle.std.specs.Prelude.{◌≡◌, ℕ, Bool, true, false, List, [], ◌∷◌, Option, Some, None, is_some, unwrap_or, codes}
+use Rattle.std.proofs.Common.{arith}
+use Rattle.std.specs.Prelude.{◌≡◌, ℕ, Bool, true, List, [], ◌∷◌, Option, Some, None, is_some, unwrap_or, codes}
 use Rattle.std.specs.Prelude.{option_and_then, Result, Ok, Err, IsTrue, if◌then◌else◌}
-use Rattle.std.specs.List.{find}
 use Rattle.serde_json.specs.Data.{Data, Members}
 use Rattle.serde_json.specs.Find.{as_object}
 use Rattle.basics.specs.Laws.Reading.{◌>>=◌, or_fault, check, each}
@@ -35,14 +34,6 @@ IsEditRow r = (d : Data) → HaveForm d (by ∷ r.keys) → IsNamedEdit (r.is d)
 abbrev EachRow : {A : Type 0} → (Row A → Type 0) → List (Row A) → Type 0
 EachRow P [] = Unit {0}
 EachRow P (r ∷ rs) = P r × EachRow P rs
-
-find_row : {A : Type 0} (P : Row A → Type 0) (p : Row A → Bool) (rs : List (Row A)) (r : Row A) → EachRow P rs → find p rs ≡ Some r → P r
-find_row P p [] r all e = cc
-find_row {A} P p (x ∷ xs) r all e = at_first (p x) e (λ later. find_row P p xs r all.1 later)
-  where
-    at_first : (b : Bool) → (if b then Some x else find p xs) ≡ Some r → (find p xs ≡ Some r → P r) → P r
-    at_first true found rest = let same : x ≡ r = cc in subst P same all.0
-    at_first false found rest = rest found
 
 form_named : (o : Option (List ℕ)) → is_some (option_and_then (λ (text : List ℕ). if is_name text then Some text else None) o) ≡ true →
     IsTrue (is_name (unwrap_or (option_and_then (λ (text : List ℕ). if is_name text then Some text else None) o) []))
@@ -79,7 +70,7 @@ unfolding what_if_in
 what_if_adding = grind (arith, by_adding)
 
 all_adding : AreAll ReadsAdding
-all_adding = grind (arith, by_adding, find_row, rows_plain, edits_named, what_if_adding)
+all_adding = grind (arith, by_adding, rows_plain, edits_named, what_if_adding)
 
 -- ---- a line
 

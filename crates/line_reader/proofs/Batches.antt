@@ -1,5 +1,5 @@
 -- No batch of an input has an empty line in it.
-use Rattle.std.proofs.Common.{refl, sym, ap, subst, ◌∙◌, arith}
+use Rattle.std.proofs.Common.{refl, sym, subst, arith}
 use Rattle.std.specs.Prelude.{◌≡◌, ℕ, ◌+◌, ◌-◌, ◌==◌, ◌≤◌, nat_le, Bool, List, [], ◌∷◌, ◌++◌, length, drop, is_some}
 use Rattle.std.proofs.lemmas.Grind.{common_steps}
 use Rattle.std.proofs.lemmas.List.{length-append, length-drop, take_all, take-append-le, drop_all, drop-append-le, drop-drop}
@@ -31,30 +31,13 @@ ends_more before (e ∷ es) last more up above = (up.0, ends_more e es last more
 batches_more : (before : ℕ) (ends : List ℕ) (last : ℕ) (jobs more : List Job) → EndsUpTo before ends last → last ≤ before + length jobs →
     AreBatches before ends jobs → AreBatches before ends (jobs ++ more)
 batches_more before [] last jobs more up within are = tt
-batches_more before (e ∷ es) last jobs more up within are =
-    let above = ends_above e es last up.1 in
-    let first = up.0 in
-    let few : e - before ≤ length jobs = omega (arith, above, first, within) in
-    let size : length (drop (e - before) jobs) ≡ length jobs - (e - before) = length-drop (e - before) jobs in (
-      subst FollowOn (sym (take-append-le (e - before) jobs more few)) are.0,
-      subst (AreBatches e es) (sym (drop-append-le (e - before) jobs more few))
-          (batches_more e es last (drop (e - before) jobs) more up.1 (omega (arith, size, above, first, within)) are.1),
-    )
+batches_more before (e ∷ es) last jobs more up within are = grind (arith, ends_above, length-drop, take-append-le, drop-append-le, (batches_more e es))
 
 batches_end : (before : ℕ) (ends : List ℕ) (last : ℕ) (jobs : List Job) (end : ℕ) → EndsUpTo before ends last → last ≤ before + length jobs →
     AreBatches before ends jobs → FollowOn (drop (last - before) jobs) → end ≡ before + length jobs →
     AreBatches before (ends ++ end ∷ []) jobs
 batches_end before [] last jobs end up within are follows is = grind (arith, take_all)
-batches_end before (e ∷ es) last jobs end up within are follows is =
-    let above = ends_above e es last up.1 in
-    let first = up.0 in
-    let size : length (drop (e - before) jobs) ≡ length jobs - (e - before) = length-drop (e - before) jobs in
-    let far : drop (last - e) (drop (e - before) jobs) ≡ drop (last - before) jobs = drop-drop (last - e) (e - before) jobs ∙
-    ap (λ n. drop n jobs) (omega (arith, above, first)) in (
-      are.0,
-      batches_end e es last (drop (e - before) jobs) end up.1 (omega (arith, size, above, first, within)) are.1 (subst FollowOn (sym far) follows)
-          (omega (arith, size, above, first, within, is)),
-    )
+batches_end before (e ∷ es) last jobs end up within are follows is = grind (arith, ends_above, length-drop, drop-drop, (batches_end e es))
 
 -- ---- what the cutting keeps
 

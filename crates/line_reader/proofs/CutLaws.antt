@@ -60,15 +60,12 @@ ended_end : (c : Cut) → c.from ≡ 0 → c.ends ≡ [] → IsEnded (end_batch 
 unfolding end_batch
 ended_end c from none = record { closed = grind (arith, common_steps); ends = grind (arith, common_steps) }
 
-begins_first : (c : Cut) → IsSound c → c.ends ≡ [] → c.from ≡ 0
-begins_first c h none = h.last ∙ ap (last_or 0) none
-
 flush_keeps : (c : Cut) (ended : Bool) → ((flush ended c).from ≡ c.from) × ((flush ended c).ends ≡ c.ends)
 unfolding flush
 flush_keeps c ended = grind (arith, common_steps)
 
 pub ended_finish : (c : Cut) (ended : Bool) → IsSound c → c.ends ≡ [] → IsEnded (end_batch (flush ended c))
-ended_finish c ended h none = grind (arith, flush_keeps, ended_end, begins_first)
+ended_finish c ended h none = grind (arith, flush_keeps, ended_end)
 
 pub ruleset finished = (sound_finish, ended_finish)
 
@@ -81,7 +78,7 @@ unfolding step
 stops_step c b stop going none e = grind (arith, common_steps, ends_of_line)
 
 pub byte_on : (c : Cut) (b : ℕ) → CanCut c → CutsOn c (step c b)
-byte_on c b h = grind (arith, ended_step, begins_first, stops_step, further)
+byte_on c b h = grind (arith, ended_step, stops_step, further)
 
 -- ---- runs
 
@@ -137,7 +134,7 @@ one_cut c d piece some going e =
 
 -- more of the line, within the limit
 pub plain_on : (c d : Cut) (bytes : List ℕ) → CanCut c → 0 < length bytes → d ≡ record c { line = c.line ++ bytes } → CutsOn c d
-plain_on c d bytes h some e = grind (arith, further, length-append)
+plain_on c d bytes h some e = grind (arith, length-append)
 
 pub plain_sound : (c d : Cut) (bytes : List ℕ) → IsSound c → d ≡ record c { line = c.line ++ bytes } → length c.line + length bytes ≤ LINE_LIMIT → IsSound d
 plain_sound c d bytes h e short = grind (arith, length-append)

@@ -5,7 +5,7 @@ use Rattle.std.proofs.lemmas.List.{append-nil, append_assoc, length-append, leng
 use Rattle.wf_outside.specs.Laws.Outside.{HasTaken, IsAtEnd}
 use Rattle.wf_outside.proofs.OutsideLaws.{nothing_taken, more_taken}
 use Rattle.line_reader.specs.declared.read.Read.{Read}
-use Rattle.line_reader.specs.declared.read.Read.TheVariants.{Line, End, Failed, TooLong, NoMemory}
+use Rattle.line_reader.specs.declared.read.Read.TheVariants.{Line}
 use Rattle.line_reader.specs.Reader.{ReaderShape, pending, HasSeen, HasReadLine, HasStopped, HasPassed, ReadsTo, has_end, line_length}
 use Rattle.line_reader.specs.Steps.{IsReadingLine, HasReadMore, HasEndAt, StepsTo, CountsStep, line_steps}
 use Rattle.line_reader.proofs.FirstLines.{open_line, goes_on}
@@ -29,10 +29,7 @@ pub reads_on : (before middle after : Option (List ℕ)) (r s t : ReaderShape) (
     s.room ≡ r.room
     → ReadsTo middle after s t read → ReadsTo before after r t read
 reads_on before middle after r s t Line seen limit room h = grind (arith, seen_on)
-reads_on before middle after r s t End seen limit room h = record { seen = seen_on before middle after r s [] seen h.seen; none = h.none; ended = h.ended }
-reads_on before middle after r s t Failed seen limit room h = grind (arith, seen_on)
-reads_on before middle after r s t TooLong seen limit room h = grind (arith, seen_on)
-reads_on before middle after r s t NoMemory seen limit room h = seen_on before middle after r s (pending t) seen h
+reads_on before middle after r s t read seen limit room h = grind (arith, seen_on)
 
 -- a line ends in what is there
 pub line_ends : (left : Option (List ℕ)) (r s : ReaderShape) (n free : ℕ) → IsReadingLine r → length r.ahead ≤ r.room → HasEndAt r.ahead n → n ≤ free →

@@ -165,8 +165,7 @@ steps_on lanes first front c b h = elim (number_cases c.number SESSION_LINE_LIMI
   | inl below ↦ elim (bool_cases (b == 10)) [
     | inl lf ↦ inl (subst (HasCut lanes first (front ++ b ∷ [])) (sym (step_ended c b h.stop below lf)) (has_line lanes first front c b h below lf))
     | inr other ↦ elim (number_cases (length c.line) LINE_LIMIT) [
-      | inl room ↦ inl
-          (subst (HasCut lanes first (front ++ b ∷ [])) (sym (step_byte c b h.stop below other room)) (has_byte lanes first front c b h below room other))
+      | inl room ↦ grind (arith, step_byte, has_byte)
       | inr full ↦ inr (LineTooLong c.number, (step_long c b h.stop below other full, meets_long lanes first front c b h below other full))
     ]
   ]
@@ -225,22 +224,8 @@ within_limits lanes first front c h =
     let size = ap length all in
     let n = h.number in
     elim (open_lines c.line h.going) [
-      | inl none ↦
-          let zero = ap length none.0 in
-          let few = h.few in
-          record {
-            short = subst AreWithin (sym (all ∙ ap (λ ls. h.lines ++ ls) none.0)) (within_more h.lines [] h.short tt);
-            few = omega (arith, size, count, zero, n, few);
-          }
-      | inr some ↦
-          let one = ap length some.0 in
-          let below = h.within some.1 in
-          let long = length_alone c.line h.going in
-          let fits = h.size in
-          record {
-            short = subst AreWithin (sym (all ∙ ap (λ ls. h.lines ++ ls) some.0)) (within_more h.lines (c.line ∷ []) h.short (omega (arith, long, fits), tt));
-            few = omega (arith, size, count, one, n, below);
-          }
+      | inl none ↦ grind (arith, within_more)
+      | inr some ↦ grind (arith, length_alone, within_more)
     ]
 
 -- the jobs, where the cutting stopped so

@@ -33,9 +33,6 @@ abbrev IsNamed : {A : Type 0} → Result A Bad → Type 0
 IsNamed (Ok a) = Unit {0}
 IsNamed (Err b) = IsNamedBad b
 
-and_first : (a b : Bool) → (a && b) ≡ true → a ≡ true
-and_first a b h = grind arith
-
 and_second : (a b : Bool) → (a && b) ≡ true → b ≡ true
 and_second a b h = grind arith
 
@@ -45,13 +42,9 @@ then_named r next h rest = grind arith
 or_named : {A : Type 0} (o : Option A) (b : Bad) → IsNamedBad b → IsNamed (or_fault o b)
 or_named o b h = grind arith
 
-check_named : (c : Bool) (b : Bad) → IsNamedBad b → IsNamed (check c b)
-check_named c b h = grind arith
-
 keys_named : (d : Data) (keys : List (List ℕ)) → list_all is_name keys ≡ true → IsNamed (each (λ (_ : Unit {0}) key. check (has_form d key) (Key key)) tt keys)
 keys_named d [] h = tt
-keys_named d (key ∷ keys) h =
-    grind (arith, then_named, check_named, and_first, and_second, (keys_named d keys (and_second (is_name key) (list_all is_name keys) h)))
+keys_named d (key ∷ keys) h = grind (arith, (keys_named d keys))
 
 -- what is read for a word: a fault of it that is of a key is of one with the form of a name
 abbrev ReadsNamed : Reading → Type 0
@@ -59,7 +52,7 @@ ReadsNamed read = (d : Data) (ms : Members) → IsNamed (read d ms)
 
 by_named : (others keys : List (List ℕ)) (is : Data → Request) → list_all is_name keys ≡ true → ReadsNamed (request_by others keys is)
 unfolding request_by
-by_named others keys is h = grind (arith, then_named, keys_named, check_named)
+by_named others keys is h = grind (arith, keys_named)
 
 -- each request and each edit has keys that are names
 abbrev has_names : {A : Type 0} → Row A → Bool
@@ -81,13 +74,9 @@ edit_is_name : is_name (codes "edit") ≡ true
 unfolding is_name
 edit_is_name = refl
 
-pick_named : {A : Type 0} (b : Bool) (x r : Row A) (found : Option (Row A)) → has_names x ≡ true → (found ≡ Some r → has_names r ≡ true)
-    → (if b then Some x else found) ≡ Some r → has_names r ≡ true
-pick_named b x r found first rest e = grind arith
-
 find_named : {A : Type 0} (p : Row A → Bool) (rs : List (Row A)) (r : Row A) → list_all has_names rs ≡ true → find p rs ≡ Some r → has_names r ≡ true
 find_named p [] r h e = cc
-find_named p (x ∷ xs) r h e = grind (arith, pick_named, and_first, and_second, (find_named p xs r (and_second (has_names x) (list_all has_names xs) h)))
+find_named p (x ∷ xs) r h e = grind (arith, (find_named p xs r (and_second (has_names x) (list_all has_names xs) h)))
 
 with_by : (r : Row Edit) → has_names r ≡ true → list_all is_name (by ∷ r.keys) ≡ true
 with_by r h = rw (by_is_name, h) refl

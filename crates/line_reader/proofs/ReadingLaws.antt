@@ -4,7 +4,7 @@ use Rattle.std.proofs.Common.{sym, ◌∙◌, ap, subst, arith, append_assoc}
 use Rattle.std.specs.Prelude.{◌≢◌, is_some}
 use Rattle.std.proofs.lemmas.Grind.{common_steps}
 use Rattle.std.proofs.lemmas.List.{append-nil, length-append}
-use Rattle.wf_outside.specs.Laws.Outside.{HasTaken, IsAtEnd, bytes_before}
+use Rattle.wf_outside.specs.Laws.Outside.{HasTaken, IsAtEnd}
 use Rattle.wf_outside.proofs.OutsideLaws.{more_taken}
 use Rattle.wf_talk.specs.declared.job.Job.{Job}
 use Rattle.line_reader.specs.declared.stop.Stop.{Stop}
@@ -34,10 +34,8 @@ cut_more before after h r s more cuts none pending read =
     record {
       front = bytes ++ cuts.front;
       last = cuts.last;
-      taken = read.taken ∙
-          ap (λ xs. bytes_before xs after) (ap (λ xs. bytes ++ xs) pending ∙ sym (append_assoc bytes more s.pending) ∙ ap (λ xs. xs ++ s.pending) all);
-      cut = ap (after_handing h.jobs h.batch_ends) cuts.cut ∙ sym (handed_all h.jobs h.batch_ends r.cut more) ∙ ap (λ c. cut_all c more) read.cut
-          ∙ sym (cut_all-append h.first bytes more) ∙ ap (cut_all h.first) all;
+      taken = grind (arith, append_assoc);
+      cut = grind (arith, handed_all, cut_all-append);
       closed = read.closed;
       none = ap (λ (c : Cut). c.ends) before_last ∙ ap (λ es. h.batch_ends ++ map (λ n. length h.jobs + n) es) (cuts.none ∙ none) ∙ append-nil h.batch_ends;
       going = ap (λ (c : Cut). c.stop) before_last ∙ cuts.going;
@@ -78,7 +76,7 @@ up_read before after h r read =
 -- what reading had read, however it paused
 pub read_by : (before after : Option (List ℕ)) (h : Handed) (r : BatchReaderShape) (paused : Paused) → PausesBy before after h r paused →
     HasRead before after h r
-read_by before after h r paused read = grind (arith, read_behind)
+read_by before after h r paused read = grind arith
 
 -- a batch that has ended is handed over
 batch_over : (before after : Option (List ℕ)) (h : Handed) (r : BatchReaderShape) (cut : HasCut before after h r) → IsEnded r.cut
@@ -97,7 +95,7 @@ batch_read before after h r cut ended = record {
 batch_paused : (before after : Option (List ℕ)) (h : Handed) (r : BatchReaderShape) → HasCut before after h r → IsEnded r.cut → 0 < length r.cut.jobs →
     length r.pending < r.room
     → HasPaused before after r.room (handed_more h r.cut.jobs)
-batch_paused before after h r cut ended some ahead = grind (arith, common_steps, length-append, batch_over, append-nil)
+batch_paused before after h r cut ended some ahead = grind (arith, common_steps, length-append, append-nil)
 
 -- the input was ended, and the last batch is handed over
 finish_over : (before after : Option (List ℕ)) (ended : Bool) (h : Handed) (r : BatchReaderShape) (d : Cut) (read : HasRead before after h r) →

@@ -26,7 +26,7 @@ found r s x b e = grind arith
 
 converted_some : {A B : Type 0} (f : A → Option B) (o : Option (A × List Token)) (b : B) (r : List Token) → converted f o ≡ Some (b, r) →
     (a : A) × (o ≡ Some (a, r)) × (f a ≡ Some b)
-converted_some f o b r e = grind (arith, found)
+converted_some f o b r e = grind arith
 
 refused : {B : Type 0} (r : List Token) (x : Option B) → option_map {U = B × List Token} (λ y. (y, r)) x ≡ None → x ≡ None
 refused r x e = grind arith
@@ -80,10 +80,10 @@ whole_read o d e = let j = converted_some of_json o d [] e in ap whole j.1 ∙ j
 
 -- more follows a value
 pub more_follows : (o : Option (json.Json × List Token)) (d : Data) (r : List Token) → converted of_json o ≡ Some (d, r) → r ≢ [] → whole o ≡ None
-more_follows o d r e some = grind (arith, converted_some)
+more_follows o d r e some = grind arith
 
 whole_refused : (o : Option (json.Json × List Token)) → converted of_json o ≡ None → whole o ≡ None
-whole_refused o e = grind (arith, refused)
+whole_refused o e = grind arith
 
 begun : (after : List Token) → converted of_json (value 127 (Token.begin_object ∷ after)) ≡ parse_map object (members_behind after)
 begun after = ap (converted of_json) (value-begin_object 127 after (omega arith)) ∙ converted-object (members (value 126) (length after) after)
@@ -133,8 +133,7 @@ each_is_among keys (p ∷ ps) = list_any (pointwise nat_eq p.key.now) keys && ea
 pub out_at : (keys : List (List ℕ)) (ps : List Part) (i : ℕ) (d : Part) → i < length ps →
     list_any (pointwise nat_eq (slice_index_or ps i d).key.now) keys ≡ false → each_is_among keys (drop i ps) ≡ false
 out_at keys [] i d h e = absurd (omega (arith, h))
-out_at keys (p ∷ ps) zero d h e = ap (λ x. x && each_is_among keys ps) e
-out_at keys (p ∷ ps) (suc i) d h e = out_at keys ps i d (omega (arith, h)) e
+out_at keys (p ∷ ps) i d h e = grind (arith, (out_at keys ps))
 
 turned : (a b c : Bool) → (a && (b && c)) ≡ (b && (a && c))
 turned a b c = grind arith
@@ -166,9 +165,7 @@ module _ (keys : List (List ℕ)) where
 
   among_from : (ps : List Part) (ms : Members) → (each_is_among keys ps && has_only keys ms) ≡ has_only keys (fold put_part ms ps)
   among_from [] ms = refl
-  among_from (p ∷ ps) ms =
-      regrouped (among p.key.now) (each_is_among keys ps) (has_only keys ms)
-      ∙ ap (λ x. each_is_among keys ps && x) (sym (has_only-put p.key.now (worth_data p.worth) ms)) ∙ among_from ps (put_part ms p)
+  among_from (p ∷ ps) ms = grind (arith, regrouped, has_only-put, (among_from ps))
 
   pub only_among : (ps : List Part) → each_is_among keys ps ≡ has_only keys (members_of ps)
   only_among ps = and_true (each_is_among keys ps) ∙ among_from ps no_members

@@ -1,6 +1,6 @@
 -- Keys of two lists, one behind the other, and the keys of an edit.
 use Rattle.std.proofs.Common.{◌≡◌, ℕ, List, ◌∷◌, ◌++◌, Bool, true, refl, Result, Ok, Err, Option, Some, arith}
-use Rattle.std.specs.Prelude.{[], ◌||◌, is_some, unwrap_or, IsErrAnd}
+use Rattle.std.specs.Prelude.{◌||◌, is_some, IsErrAnd}
 use Rattle.std.specs.List.{list_any}
 use Rattle.std.proofs.lemmas.List.Folds.{list_any-append}
 use Rattle.serde_json.specs.Data.{Data, Members}
@@ -20,15 +20,9 @@ any_of_both p xs ys = list_any-append p xs ys
 err_first : {A B : Type 0} (r : Result A Bad) (x : B) (b : Bad) → (r >>= (λ _. Ok x)) ≡ Err b → r ≡ Err b
 err_first r x b h = grind arith
 
-ok_first : {B : Type 0} (r : Result (Unit {0}) Bad) (x y : B) → (r >>= (λ _. Ok x)) ≡ Ok y → r ≡ Ok tt
-ok_first r x y h = grind arith
-
 -- an edit is read exactly where its keys are
 pub no_edit : (r : Row Edit) (d : Data) (b : Bad) → edit_by r d ≡ Err b → each (λ (_ : Unit {0}) key. check (has_form d key) (Key key)) tt r.keys ≡ Err b
 no_edit r d b h = err_first (each (λ (_ : Unit {0}) key. check (has_form d key) (Key key)) tt r.keys) (r.is d) b h
-
-pub an_edit : (r : Row Edit) (d : Data) (e : Edit) → edit_by r d ≡ Ok e → each (λ (_ : Unit {0}) key. check (has_form d key) (Key key)) tt r.keys ≡ Ok tt
-an_edit r d e h = ok_first (each (λ (_ : Unit {0}) key. check (has_form d key) (Key key)) tt r.keys) (r.is d) e h
 
 -- ---- a request that asks for an edit by its row
 
@@ -45,7 +39,7 @@ pub key_refused : (others : List (List ℕ)) (r : Row Edit) (is : Data → Reque
     → known ≡ r.keys → or_fault (name_at_key by d) (Key by) ≡ Ok name → edit_by r d ≡ Ok x → check (has_only (others ++ by ∷ known) ms) Extra ≡ Err b
     → request_by others (by ∷ r.keys) is d ms ≡ Err b
 unfolding request_by
-key_refused others r is d ms known name x b same h e k = grind (arith, named_by, an_edit)
+key_refused others r is d ms known name x b same h e k = grind arith
 
 no_name : (o : Option (List ℕ)) (b : Bad) → or_fault o (Key by) ≡ Err b → check (is_some o) (Key by) ≡ Err b
 no_name o b h = grind arith
@@ -55,21 +49,12 @@ pub by_refused : (others keys : List (List ℕ)) (is : Data → Request) (d : Da
 unfolding request_by
 by_refused others keys is d ms b h = rw (no_name (name_at_key by d) b h) refl
 
-name_is : (o : Option (List ℕ)) (name : List ℕ) → or_fault o (Key by) ≡ Ok name → unwrap_or o [] ≡ name
-name_is o name h = grind arith
-
-same_ok : (r : Result (Unit {0}) Bad) (x y : Edit) → (r >>= (λ _. Ok x)) ≡ Ok y → x ≡ y
-same_ok r x y h = grind arith
-
-edit_is : (r : Row Edit) (d : Data) (e : Edit) → edit_by r d ≡ Ok e → r.is d ≡ e
-edit_is r d e h = same_ok (each (λ (_ : Unit {0}) key. check (has_form d key) (Key key)) tt r.keys) (r.is d) e h
-
 pub edit_asked : (others : List (List ℕ)) (r : Row Edit) (make : List ℕ → Edit → Request) (d : Data) (ms : Members) (known : List (List ℕ)) (name : List ℕ)
     (x : Edit) (u : Unit {0})
     → known ≡ r.keys → or_fault (name_at_key by d) (Key by) ≡ Ok name → edit_by r d ≡ Ok x → check (has_only (others ++ by ∷ known) ms) Extra ≡ Ok u
     → request_by others (by ∷ r.keys) (λ c. make (the_name by c) (r.is c)) d ms ≡ Ok (make name x)
 unfolding request_by
-edit_asked others r make d ms known name x u same h e k = grind (arith, named_by, an_edit, name_is, edit_is)
+edit_asked others r make d ms known name x u same h e k = grind arith
 
 -- code that handed on a fault
 pub handed_on : {A : Type 0} (result reading : Result A Bad) (b : Bad) → IsErrAnd result (λ e. e ≡ b) → reading ≡ Err b → Gives Some (λ r. r) result reading

@@ -10,7 +10,6 @@ use Rattle.wf_talk.specs.declared.reply.Reply.TheVariants as reply
 use Rattle.wire_json.specs.Entries.{plan_data}
 use Rattle.wire_json.specs.Pieces.{head_text, plan_ending}
 use Rattle.wire_json.specs.Replies.{entry_text, reply_data}
-use Rattle.wire_json.proofs.Heads.{line_added}
 
 -- two policies that write its reply alike write it alike
 pub text_same : (p q : PolicyShape) (e : Entry) → reply_data q e.reply ≡ reply_data p e.reply → entry_text q e ≡ entry_text p e
@@ -21,7 +20,7 @@ text_same p q e same = grind arith
 
 pub line_split : (p : PolicyShape) (e : Entry) → entry_text p e ≡ head_text e ++ (compact_text (reply_data p e.reply) ++ 125 ∷ 10 ∷ [])
 unfolding escape_byte entry_text
-line_split p e = grind (arith, line_added, append_assoc)
+line_split p e = grind (arith, append_assoc)
 
 -- what stands behind the head, at once
 pub line_of : (p : PolicyShape) (e : Entry) (r : Reply) (t x0 x1 : List ℕ) → e.reply ≡ r → compact_text (reply_data p r) ++ 125 ∷ 10 ∷ [] ≡ t

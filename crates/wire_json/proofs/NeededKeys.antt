@@ -52,11 +52,6 @@ case_there d keys n h = grind (arith, then_there)
 pub case_is : (d : Data) (n : ℕ) → or_fault (read_case d) (Key case) ≡ Ok n → the_case d ≡ n
 case_is d n h = it_is (read_case d) 0 case n h
 
--- ---- what is read by the keys
-
-edit_read : (r : Row Edit) (keys : List (List ℕ)) (d : Data) (e : Edit) → r.keys ≡ keys → keys_read d keys ≡ Ok tt → r.is d ≡ e → edit_by r d ≡ Ok e
-edit_read r keys d e same h is = rw (same, h, is) refl
-
 edit_fault : (r : Row Edit) (keys : List (List ℕ)) (result : Result Edit Bad) (d : Data) (b : Bad) → r.keys ≡ keys → keys_read d keys ≡ Err b
     → IsErrAnd result (λ e. e ≡ b) → Gives Some (λ e. e) result (edit_by r d)
 edit_fault r keys result d b same h is = handed_on result (edit_by r d) b is (rw (same, h) refl)
@@ -70,35 +65,35 @@ first_missing r result d a rest fault same oa ha is = edit_fault r (a ∷ rest) 
 pub second_missing : (r : Row Edit) (result : Result Edit Bad) (d : Data) (a b : List ℕ) (rest : List (List ℕ)) (x : List ℕ) (fault : Bad)
     → r.keys ≡ a ∷ b ∷ rest → pointwise nat_eq a case ≡ false → pointwise nat_eq b case ≡ false → or_fault (name_at_key a d) (Key a) ≡ Ok x
     → or_fault (name_at_key b d) (Key b) ≡ Err fault → IsErrAnd result (λ e. e ≡ fault) → Gives Some (λ e. e) result (edit_by r d)
-second_missing r result d a b rest x fault same oa ob ha hb is = grind (arith, edit_fault, name_there, name_missing)
+second_missing r result d a b rest x fault same oa ob ha hb is = grind arith
 
 pub third_missing : (r : Row Edit) (result : Result Edit Bad) (d : Data) (a b c : List ℕ) (x y : List ℕ) (fault : Bad) → r.keys ≡ a ∷ b ∷ c ∷ []
     → pointwise nat_eq a case ≡ false → pointwise nat_eq b case ≡ false → pointwise nat_eq c case ≡ false → or_fault (name_at_key a d) (Key a) ≡ Ok x
     → or_fault (name_at_key b d) (Key b) ≡ Ok y → or_fault (name_at_key c d) (Key c) ≡ Err fault → IsErrAnd result (λ e. e ≡ fault)
     → Gives Some (λ e. e) result (edit_by r d)
-third_missing r result d a b c x y fault same oa ob oc ha hb hc is = grind (arith, edit_fault, name_there, name_missing)
+third_missing r result d a b c x y fault same oa ob oc ha hb hc is = grind arith
 
 pub two_read : (r : Row Edit) (d : Data) (a b x y : List ℕ) (made : List ℕ → List ℕ → Edit) → r.keys ≡ a ∷ b ∷ []
     → r.is d ≡ made (the_name a d) (the_name b d) → pointwise nat_eq a case ≡ false → pointwise nat_eq b case ≡ false
     → or_fault (name_at_key a d) (Key a) ≡ Ok x → or_fault (name_at_key b d) (Key b) ≡ Ok y → edit_by r d ≡ Ok (made x y)
-two_read r d a b x y made same is oa ob ha hb = grind (arith, edit_read, name_there, name_is)
+two_read r d a b x y made same is oa ob ha hb = grind arith
 
 pub three_read : (r : Row Edit) (d : Data) (a b c x y z : List ℕ) (made : List ℕ → List ℕ → List ℕ → Edit) → r.keys ≡ a ∷ b ∷ c ∷ []
     → r.is d ≡ made (the_name a d) (the_name b d) (the_name c d) → pointwise nat_eq a case ≡ false → pointwise nat_eq b case ≡ false
     → pointwise nat_eq c case ≡ false → or_fault (name_at_key a d) (Key a) ≡ Ok x → or_fault (name_at_key b d) (Key b) ≡ Ok y
     → or_fault (name_at_key c d) (Key c) ≡ Ok z → edit_by r d ≡ Ok (made x y z)
-three_read r d a b c x y z made same is oa ob oc ha hb hc = grind (arith, edit_read, name_there, name_is)
+three_read r d a b c x y z made same is oa ob oc ha hb hc = grind arith
 
 pub key_missing : (others keys : List (List ℕ)) (is : Data → Request) (d : Data) (ms : Members) (result : Result Request Bad) (b : Bad)
     → keys_read d keys ≡ Err b → IsErrAnd result (λ e. e ≡ b) → Gives Some (λ r. r) result (request_by others keys is d ms)
 unfolding request_by
-key_missing others keys is d ms result b h same = grind (arith, handed_on)
+key_missing others keys is d ms result b h same = grind arith
 
 pub key_extra : (others keys : List (List ℕ)) (is : Data → Request) (d : Data) (ms : Members) (result : Result Request Bad) (b : Bad)
     → keys_read d keys ≡ Ok tt → check (has_only (others ++ keys) ms) Extra ≡ Err b → IsErrAnd result (λ e. e ≡ b)
     → Gives Some (λ r. r) result (request_by others keys is d ms)
 unfolding request_by
-key_extra others keys is d ms result b h k same = grind (arith, handed_on)
+key_extra others keys is d ms result b h k same = grind arith
 
 pub request_read : (others keys : List (List ℕ)) (is : Data → Request) (d : Data) (ms : Members) (u : Unit {0}) (r : Request) → keys_read d keys ≡ Ok tt
     → check (has_only (others ++ keys) ms) Extra ≡ Ok u → is d ≡ r → request_by others keys is d ms ≡ Ok r

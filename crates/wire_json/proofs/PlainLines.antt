@@ -1,9 +1,8 @@
 -- What is read of the requests about a step as they are mostly written: the rest of a line is read on from the members that
 -- are known, a part at a time.
 use Rattle.std.proofs.Common.{◌≡◌, ℕ, ◌-◌, ◌<◌, ◌≤◌, ◌^◌, List, [], ◌∷◌, ◌++◌, length, Bool, true, false, Option, Some, None, option_map, Ok}
-use Rattle.std.proofs.Common.{Less, Greater, refl, sym, ap, subst, ◌∙◌, arith, append_assoc, le-leb, decimal, nat_cmp, take_all, drop, take, get_or}
+use Rattle.std.proofs.Common.{refl, sym, ap, subst, ◌∙◌, arith, append_assoc, le-leb, decimal, take_all, drop, take, get_or}
 use Rattle.std.specs.Prelude.{codes, IsUtf8, IsTrue, is_some}
-use Rattle.std.specs.Cmp.Lexicographic.{slice_cmp}
 use Rattle.std.proofs.lemmas.Fmt.{IsAscii-decimal}
 use Rattle.std.proofs.lemmas.Str.{IsUtf8-append, IsUtf8-from_ascii}
 use Rattle.json.specs.Token.{Token, begin_object, end_object, key, string, number}
@@ -16,7 +15,7 @@ use Rattle.json.proofs.Printed.Tokens.{tokens-print_spaced}
 use Rattle.json.proofs.Printed.Decimals.{IsNumber-decimal}
 use Rattle.json.proofs.Printed.Utf8.{IsUtf8-are_ascii, IsUtf8-IsGap}
 use Rattle.serde_json.specs.Data as v
-use Rattle.serde_json.specs.Data.{Data, Members, no_members, member, object, put}
+use Rattle.serde_json.specs.Data.{Data, Members, no_members, object, put}
 use Rattle.serde_json.specs.Read.{of_json, of_members, converted}
 use Rattle.serde_json.proofs.Numbers.{number_of-decimal}
 use Rattle.basics.specs.Laws.Reading.{◌>>=◌, or_fault}
@@ -32,53 +31,26 @@ use Rattle.wire_json.specs.Requests.{request_in, request_by, asked, asked_of, ca
 use Rattle.wire_json.specs.declared.request.Asked.{Asked}
 use Rattle.wire_json.specs.Values.{value_of}
 use Rattle.wire_json.specs.Flats.{whole}
-use Rattle.wire_json.specs.Plain.{word, request_of, lane_known, member_if, at_keys, number_data, known_members, Spaced, unspaced, IsRest, joint, ReadsValue}
+use Rattle.wire_json.specs.Plain.{word, request_of, lane_known, at_keys, number_data, known_members, Spaced, unspaced, IsRest, joint, ReadsValue}
 use Rattle.wire_json.proofs.Values.{value_of_utf8}
 use Rattle.wire_json.proofs.Texts.{name_stays}
 use Rattle.wire_json.proofs.Flats.{member_read, members_over, object_read}
 
--- ---- a member more
-
--- a member goes behind those with lesser keys, and before those with greater ones
-behind : (k l : List ℕ) (d : Data) (o : Option Data) (ms : Members) → slice_cmp nat_cmp k l ≡ Greater → put k d (member_if l o ms) ≡ member_if l o (put k d ms)
-behind k l d o ms is = grind arith
-
-before : (k l : List ℕ) (d : Data) (o : Option Data) (ms : Members) → slice_cmp nat_cmp k l ≡ Less → put k d ms ≡ member k d ms
-    → put k d (member_if l o ms) ≡ member k d (member_if l o ms)
-before k l d o ms is h = grind arith
-
 module _ (c d l s u : Option Data) (x : Data) where
   put_user : put user x (at_keys c d l s None) ≡ at_keys c d l s (Some x)
-  put_user =
-      behind user case x c _ refl
-      ∙ ap (member_if case c) (behind user (codes "do") x d _ refl
-      ∙ ap (member_if (codes "do") d) (behind user (codes "lane") x l _ refl
-      ∙ ap (member_if (codes "lane") l) (behind user step x s no_members refl)))
+  put_user = grind arith
 
   put_step : put step x (at_keys c d l None u) ≡ at_keys c d l (Some x) u
-  put_step =
-      behind step case x c _ refl
-      ∙ ap (member_if case c) (behind step (codes "do") x d _ refl
-      ∙ ap (member_if (codes "do") d) (behind step (codes "lane") x l _ refl
-      ∙ ap (member_if (codes "lane") l) (before step user x u no_members refl refl)))
+  put_step = grind arith
 
   put_lane : put (codes "lane") x (at_keys c d None s u) ≡ at_keys c d (Some x) s u
-  put_lane =
-      let k = codes "lane" in
-      behind k case x c _ refl
-      ∙ ap (member_if case c) (behind k (codes "do") x d _ refl
-      ∙ ap (member_if (codes "do") d) (before k step x s _ refl (before k user x u no_members refl refl)))
+  put_lane = grind arith
 
   put_do : put (codes "do") x (at_keys c None l s u) ≡ at_keys c (Some x) l s u
-  put_do =
-      let k = codes "do" in
-      behind k case x c _ refl
-      ∙ ap (member_if case c) (before k (codes "lane") x l _ refl (before k step x s _ refl (before k user x u no_members refl refl)))
+  put_do = grind arith
 
   put_case : put case x (at_keys None d l s u) ≡ at_keys (Some x) d l s u
-  put_case =
-      before case (codes "do") x d _ refl
-      (before case (codes "lane") x l _ refl (before case step x s _ refl (before case user x u no_members refl refl)))
+  put_case = grind arith
 
 -- ---- the rest of a line
 
