@@ -1,5 +1,5 @@
 -- How the entries of a batch follow those before.
-use Rattle.std.proofs.Common.{◌≡◌, ℕ, zero, suc, ◌+◌, ◌-◌, ◌<◌, ◌≤◌, inl, inr, List, [], ◌∷◌, ◌++◌, length, take, drop, refl, sym, ◌∙◌, ap, subst, arith}
+use Rattle.std.proofs.Common.{◌≡◌, ℕ, zero, suc, ◌+◌, ◌-◌, ◌<◌, ◌≤◌, List, [], ◌∷◌, ◌++◌, length, take, drop, refl, sym, ◌∙◌, ap, subst, arith}
 use Rattle.std.specs.List.{All}
 use Rattle.std.proofs.lemmas.List.Elements.{All-head, All-tail, All-take, All-drop}
 use Rattle.std.proofs.lemmas.Bool.Decides.{leb_tells}
@@ -47,13 +47,8 @@ batch_served old loaded d batch spare cases is by_turns done sound = at (subst (
 -- ---- ends
 
 start_within : (count m k : ℕ) (ends : List ℕ) → AreEndsOf count ends → k + m ≡ length ends → batch_start ends k ≤ count
-start_within count zero k ends are all =
-    let last : batch_start ends k ≡ count = ap (batch_start ends) (omega (arith, all)) ∙ are.closed in
-    omega (arith, last)
-start_within count (suc m) k ends are all =
-    let below = are.ascend k (omega (arith, all)) in
-    let next = start_within count m (suc k) ends are (omega (arith, all)) in
-    omega (arith, below, next)
+start_within count zero k ends are all = grind arith
+start_within count (suc m) k ends are all = grind (arith, (start_within count m (suc k) ends are (omega (arith, all))))
 
 -- each end is within the jobs
 pub end_within_jobs : (count k : ℕ) (ends : List ℕ) → AreEndsOf count ends → k < length ends → batch_end ends k ≤ count
@@ -71,10 +66,7 @@ of_lanes lanes (j ∷ jobs) all = (All-head (λ (x : Job). x.lane < lanes) j job
 -- with one more batch those of an earlier one are the same
 entries_before : (ends : List ℕ) (x k : ℕ) (es new : List Entry) → k < length ends → batch_end ends k ≤ length es
     → batch_entries (ends ++ x ∷ []) k (es ++ new) ≡ batch_entries ends k es
-entries_before ends x k es new lt within =
-    ap (λ n. drop n (take (batch_end (ends ++ x ∷ []) k) (es ++ new))) (start_before ends x k (omega (arith, lt)))
-    ∙ ap (λ n. drop (batch_start ends k) (take n (es ++ new))) (end_before ends x k lt)
-    ∙ ap (drop (batch_start ends k)) (take-append-le (batch_end ends k) es new within)
+entries_before ends x k es new lt within = grind (arith, start_before, end_before, take-append-le)
 
 -- and those of the last are the new ones
 entries_last : (ends : List ℕ) (x : ℕ) (es new : List Entry) → batch_start ends (length ends) ≡ length es → x ≡ length es + length new
@@ -87,13 +79,7 @@ entries_last ends x es new begins stops =
 -- in one more batch the lanes take turns as well
 turns_more : (ends : List ℕ) (x : ℕ) (es new : List Entry) → EndAt ends (length es) → x ≡ length es + length new
     → AreBatchesByTurns ends es → AreByTurns new → AreBatchesByTurns (ends ++ x ∷ []) (es ++ new)
-turns_more ends x es new are stops so_far next k lt = elim (leb_tells (length ends) k) [
-  | inl late ↦
-      let last : k ≡ length ends = let past = late.1 in omega (arith, past, lt, length-append ends (x ∷ [])) in
-      subst (λ n. AreByTurns (batch_entries (ends ++ x ∷ []) n (es ++ new))) (sym last)
-      (subst AreByTurns (sym (entries_last ends x es new are.closed stops)) next)
-  | inr old ↦ subst AreByTurns (sym (entries_before ends x k es new old.1 (are.within k old.1))) (so_far k old.1)
-]
+turns_more ends x es new are stops so_far next = grind (arith, leb_tells, length-append, entries_last, entries_before)
 
 -- ---- the batches so far
 

@@ -1,6 +1,6 @@
 -- The workflow of a trial: its order has no cycle, no pair stands twice, and its rules name its steps.
-use Rattle.std.proofs.Common.{◌≡◌, ℕ, zero, suc, ◌+◌, ◌-◌, ◌%◌, ◌<◌, ◌≤◌, inl, inr, Bool, true, false, ◌||◌, List, [], ◌∷◌, ◌++◌, map, length, replicate}
-use Rattle.std.proofs.Common.{slice_index_or, Option, unwrap_or, ◌==◌, refl, sym, ap, subst, ◌∙◌, append_assoc, arith}
+use Rattle.std.proofs.Common.{◌≡◌, ℕ, zero, suc, ◌+◌, ◌%◌, ◌<◌, ◌≤◌, inl, inr, Bool, true, false, ◌||◌, List, [], ◌∷◌, ◌++◌, map, length, replicate}
+use Rattle.std.proofs.Common.{slice_index_or, ◌==◌, refl, sym, ap, subst, ◌∙◌, append_assoc, arith}
 use Rattle.std.specs.List.{list_any, range_with_len}
 use Rattle.std.specs.Ordering.{eq_by_cmp}
 use Rattle.std.specs.FinSet as set
@@ -13,7 +13,6 @@ use Rattle.basics.proofs.Booleans.{eq_back, or_cases}
 use Rattle.constraint_forms.specs.Assign.{is_member, no_steps}
 use Rattle.constraint_forms.specs.declared.rule.Rule.{Rule}
 use Rattle.constraint_forms.specs.declared.rule.Rule.TheVariants.{Pair, SomeOf, AllOf}
-use Rattle.wf_names.specs.declared.limits.TheConstants.{STEP_LIMIT}
 use Rattle.policy_book.specs.Laws.Facts.{AreSoundRules, IsSoundRule, PermitsRolesBelow}
 use Rattle.trial_command.specs.Named.{step_name}
 use Rattle.trial_command.specs.Policy.{both, trial_flow, trial_rules}
@@ -116,17 +115,11 @@ abbrev AreSound : List Rule → Type 0
 AreSound rules = AreSoundRules 12 2 rules
 
 sound_more : (rule : Rule) (rules : List Rule) → IsSoundRule 12 2 rule → AreSound rules → AreSound (rule ∷ rules)
-sound_more rule rules first rest zero r e =
-    let same : rule ≡ r = ap (λ (o : Option Rule). unwrap_or o rule) e in
-    subst (IsSoundRule 12 2) same first
+sound_more rule rules first rest zero r e = grind arith
 sound_more rule rules first rest (suc k) r e = rest k r e
 
 pair_sound : (rho first second : ℕ) → rho < 4 → first < 12 → second < 12 → IsSoundRule 12 2 (Pair rho first second)
-pair_sound rho first second related a b = record {
-  names = λ s h. grind (arith, nat_tests);
-  known = λ r is. omega (arith, related, eq_back r rho is);
-  members = tt;
-}
+pair_sound rho first second related a b = grind (arith, nat_tests, eq_back)
 
 past_flags : (n s : ℕ) → slice_index_or (replicate n false) s false ≡ true → ⊥
 past_flags zero s h = cc
@@ -135,39 +128,22 @@ past_flags (suc n) (suc s) h = past_flags n s h
 
 first_two : (s : ℕ) → is_member (both 0 1) s ≡ true → s < 12
 unfolding no_steps
-first_two zero h = omega arith
-first_two (suc zero) h = omega arith
-first_two (suc (suc s)) h = absurd (past_flags (STEP_LIMIT - 2) s h)
+first_two s h = grind (arith, past_flags)
 
 next_two : (s : ℕ) → is_member (both 2 3) s ≡ true → s < 12
 unfolding no_steps
-next_two zero h = omega arith
-next_two (suc zero) h = omega arith
-next_two (suc (suc zero)) h = omega arith
-next_two (suc (suc (suc zero))) h = omega arith
-next_two (suc (suc (suc (suc s)))) h = absurd (past_flags (STEP_LIMIT - 4) s h)
+next_two s h = grind (arith, past_flags)
 
 group_sound : (group : List Bool) (step s : ℕ) → ((t : ℕ) → is_member group t ≡ true → t < 12) → step < 12 → ((s == step) || is_member group s) ≡ true → s < 12
-group_sound group step s members low h = elim (or_cases (s == step) (is_member group s) h) [
-  | inl same ↦ grind (arith, nat_tests)
-  | inr member ↦ members s member
-]
+group_sound group step s members low h = grind (arith, or_cases, nat_tests)
 
 all_sound : IsSoundRule 12 2 (AllOf 2 (both 0 1) 4)
 unfolding no_steps
-all_sound = record {
-  names = λ s h. group_sound (both 0 1) 4 s first_two (omega arith) h;
-  known = λ r is. omega (arith, eq_back r 2 is);
-  members = refl;
-}
+all_sound = grind (arith, group_sound, first_two, eq_back)
 
 some_sound : IsSoundRule 12 2 (SomeOf 3 (both 2 3) 6)
 unfolding no_steps
-some_sound = record {
-  names = λ s h. group_sound (both 2 3) 6 s next_two (omega arith) h;
-  known = λ r is. omega (arith, eq_back r 3 is);
-  members = refl;
-}
+some_sound = grind (arith, group_sound, next_two, eq_back)
 
 pairs_sound : (a n : ℕ) (rest : List Rule) → a + n ≤ 11 → AreSound rest → AreSound (map (λ k. Pair 1 k (k + 1)) (range_with_len a n) ++ rest)
 pairs_sound a zero rest few sound = sound

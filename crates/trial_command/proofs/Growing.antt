@@ -1,6 +1,6 @@
 -- What grows step by step: draws, memberships and jobs.
-use Rattle.std.proofs.Common.{◌≡◌, ℕ, zero, suc, ◌+◌, ◌*◌, ◌-◌, ◌/◌, ◌%◌, Bool, true, false, cond, List, [], ◌∷◌, ◌++◌, map, length, if◌then◌else◌, refl, sym}
-use Rattle.std.proofs.Common.{ap, ◌∙◌, add-one, length-append, arith}
+use Rattle.std.proofs.Common.{◌≡◌, ℕ, zero, suc, ◌+◌, ◌*◌, ◌-◌, ◌/◌, ◌%◌, Bool, true, cond, List, [], ◌∷◌, ◌++◌, map, length, if◌then◌else◌, refl}
+use Rattle.std.proofs.Common.{◌∙◌, add-one, length-append, arith}
 use Rattle.std.specs.List.{range_with_len}
 use Rattle.std.specs.FinSet as set
 use Rattle.std.proofs.lemmas.List.FromFn.{map-range_with_len_more}
@@ -13,9 +13,9 @@ use Rattle.wf_talk.specs.declared.request.Request.{Request}
 use Rattle.wf_talk.specs.declared.request.Request.TheVariants as request
 use Rattle.trial_command.specs.Draws.{after, next_state}
 use Rattle.trial_command.specs.Draws as draws
-use Rattle.trial_command.specs.Named.{flow_name, step_name, user_name}
+use Rattle.trial_command.specs.Named.{flow_name}
 use Rattle.trial_command.specs.Policy.{drawn_members}
-use Rattle.trial_command.specs.Jobs.{Made, begins_with_edit, job_count, openings, rounds, step_of, trial_jobs, turn, turn_user, turns, with_edit, with_request}
+use Rattle.trial_command.specs.Jobs.{Made, begins_with_edit, job_count, openings, rounds, trial_jobs, turn, turns, with_edit, with_request}
 use Rattle.trial_command.specs.Jobs.{with_round}
 
 pub after_none : (s : ℕ) → after 0 s ≡ s
@@ -64,14 +64,7 @@ turns_more v c m = rw (add-one c) refl
 
 pub turn_count : (v c : ℕ) (m : Made) → length (turn v c m).jobs ≡ length m.jobs + 2
 unfolding turn
-turn_count v c m =
-    let u = turn_user v m.state in
-    let claimed = with_request m.jobs (c % 4) (request.Claim c (step_name (step_of v)) (user_name u)) in
-    omega (
-      arith,
-      job_more m.jobs (c % 4) (request.Claim c (step_name (step_of v)) (user_name u)),
-      job_more claimed (c % 4) (request.Finish c (step_name (step_of v)) (user_name u)),
-    )
+turn_count v c m = grind (arith, job_more)
 
 pub turns_count : (v c : ℕ) (m : Made) → length (turns v c m).jobs ≡ length m.jobs + 2 * c
 unfolding turns
@@ -95,12 +88,10 @@ abbrev edits : ℕ → ℕ
 edits v = (v - 1) / 4
 
 begun_count : (v : ℕ) (m : Made) (b : Bool) → begins_with_edit v ≡ b → length (if b then with_edit m else m).jobs ≡ length m.jobs + cond b 1 0
-begun_count v m true is = edit_count m
-begun_count v m false is = omega arith
+begun_count v m b is = grind (arith, edit_count)
 
 edit_more : (v : ℕ) (b : Bool) → begins_with_edit v ≡ b → edits (v + 1) ≡ edits v + cond b 1 0
-edit_more v true is = grind (arith, nat_tests)
-edit_more v false is = grind (arith, nat_tests)
+edit_more v b is = grind (arith, nat_tests)
 
 pub round_count : (n v : ℕ) (m : Made) → length (with_round n v m).jobs ≡ length m.jobs + 2 * n + cond (begins_with_edit v) 1 0
 unfolding with_round
@@ -118,8 +109,7 @@ ends_more first b = map-range_with_len_more (λ b. first + BATCH_LINE_LIMIT * b)
 
 pub ends_step : (before behind : List ℕ) (first b : ℕ) → behind ≡ before ++ (first + BATCH_LINE_LIMIT * (b + 1)) ∷ [] → before ≡ first ∷ map
     (λ b. first + BATCH_LINE_LIMIT * b) (range_with_len 1 b) → behind ≡ first ∷ map (λ b. first + BATCH_LINE_LIMIT * b) (range_with_len 1 (b + 1))
-ends_step before behind first b pushed so_far =
-    pushed ∙ ap (λ xs. xs ++ (first + BATCH_LINE_LIMIT * (b + 1)) ∷ []) so_far ∙ ap (λ xs. first ∷ xs) (sym (ends_more first b))
+ends_step before behind first b pushed so_far = grind (arith, ends_more)
 
 pub made_count : (seed n : ℕ) → length (rounds n 24 (record { state = after 60 seed; jobs = openings n })).jobs ≡ job_count n
 made_count seed n = omega (arith, rounds_count n 24 (record { state = after 60 seed; jobs = openings n }), openings_count n)

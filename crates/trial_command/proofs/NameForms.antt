@@ -1,6 +1,6 @@
 -- The names of a trial are of a name's form, and differ where their numbers do.
-use Rattle.std.proofs.Common.{◌≡◌, ℕ, zero, suc, ◌+◌, ◌<◌, ◌/◌, ◌%◌, true, false, List, [], ◌∷◌, ◌++◌, map, IsTrue, nat_eq, is_some, length, codes, refl, ap}
-use Rattle.std.proofs.Common.{◌∙◌, arith}
+use Rattle.std.proofs.Common.{◌≡◌, ℕ, zero, suc, ◌+◌, ◌<◌, ◌/◌, ◌%◌, true, false, List, [], ◌∷◌, ◌++◌, map, IsTrue, nat_eq, is_some, length, codes, refl}
+use Rattle.std.proofs.Common.{arith}
 use Rattle.std.specs.List.{range_with_len}
 use Rattle.std.specs.Cmp.Lexicographic.{pointwise}
 use Rattle.std.proofs.lemmas.Bool.Decides.{nat_tests}
@@ -14,10 +14,7 @@ digit_byte n h = grind (arith, nat_tests)
 
 pub numbered_form : (letter n : ℕ) → is_letter letter ≡ true → n < 100 → IsTrue (is_name (letter ∷ (48 + n / 10) ∷ (48 + n % 10) ∷ []))
 unfolding is_name
-numbered_form letter n is small =
-    let tens = digit_byte (n / 10) (omega arith) in
-    let ones = digit_byte (n % 10) (omega arith) in
-    grind arith
+numbered_form letter n is small = grind (arith, digit_byte)
 
 pub r_digit : (r : ℕ) → r < 10 → IsTrue (is_name (114 ∷ (48 + r) ∷ []))
 unfolding is_name
@@ -46,10 +43,7 @@ two_differ m n lt = grind (arith, nat_tests)
 not_among : (f : ℕ → List ℕ) (name : List ℕ) (a n : ℕ) → ((k : ℕ) → k < a + n → pointwise nat_eq name (f k) ≡ false) →
     is_some (place_of (map f (range_with_len a n)) name) ≡ false
 not_among f name a zero differ = refl
-not_among f name a (suc n) differ =
-    let here = differ a (omega arith) in
-    let rest = not_among f name (a + 1) n (λ k lt. differ k (omega arith)) in
-    grind arith
+not_among f name a (suc n) differ = grind (arith, (not_among f name (a + 1) n (λ k lt. differ k (omega arith))))
 
 pub user_fresh : (u : ℕ) → is_some (place_of (map user_name (range_with_len 0 u)) (user_name u)) ≡ false
 unfolding user_name
@@ -90,8 +84,7 @@ chief_new = refl
 
 pub chief_fresh : (names : List (List ℕ)) (name : List ℕ) → names ≡ map role_name (range_with_len 0 5) → name ≡ admin_name →
     is_some (place_of names name) ≡ false
-chief_fresh names name first last = ap (λ xs. is_some (place_of xs name)) first ∙ ap (λ x. is_some (place_of (map role_name (range_with_len 0 5)) x)) last ∙
-    chief_new
+chief_fresh names name first last = grind (arith, chief_new)
 
 -- what a table of the names of users rests on
 pub ruleset user_names = (user_fresh, users_count, users_more)

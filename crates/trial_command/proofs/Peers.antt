@@ -7,7 +7,7 @@ use Rattle.std.proofs.lemmas.List.FromFn.{filter_of_map_range_with_len_more}
 use Rattle.wf_names.specs.declared.limits.TheConstants.{PAIR_LIMIT, USER_LIMIT}
 use Rattle.basics.specs.Laws.Pairs.{AllPairs, Pairs, pair_cmp}
 use Rattle.basics.specs.PairLaws.{all_empty, all_insert, pair_cmp_total, pair_cmp-IsAntisymmetric}
-use Rattle.user_relations.specs.Laws.Relations.{kind_of, listed, listed_pairs}
+use Rattle.user_relations.specs.Laws.Relations.{kind_of, listed}
 use Rattle.policy_book.specs.Laws.Facts.{AreOfUsers}
 use Rattle.trial_command.specs.Policy.{are_peers, peers, trial_relations, trial_roster, user_pairs}
 use Rattle.trial_command.proofs.NameForms.{apart_form, peer_form, users_count}
@@ -86,13 +86,7 @@ none_users = all_empty _
 -- the relations are of users of the roster
 below_users : (rho : ℕ) (pairs : Pairs) → kind_of trial_relations rho ≡ Some (listed pairs) → AreBelow 60 pairs
 unfolding trial_relations
-below_users zero pairs e = cc
-below_users (suc zero) pairs e = cc
-below_users (suc (suc zero)) pairs e = cc
-below_users (suc (suc (suc zero))) pairs e =
-    let same : peers ≡ pairs = ap listed_pairs e in
-    subst (AreBelow 60) same peers_below
-below_users (suc (suc (suc (suc n)))) pairs e = cc
+below_users rho pairs e = grind (arith, peers_below)
 
 pub roster_users : (seed : ℕ) → length (trial_roster seed).users ≡ 60
 unfolding trial_roster
