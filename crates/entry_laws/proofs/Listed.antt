@@ -47,7 +47,7 @@ number_stands s e are known = grind arith
 
 item_stands : (s : State) (e : Numbered) (i : ℕ) → IsSoundState s → AreSerial s.book → IsOpenIn s.book.cases e → i < length e.case.states
     → IsWorkItem s.book.policy (flows_of s) (item_of (record { of = e; step = i }))
-item_stands s e i sound are known below = grind (arith, number_stands)
+item_stands s e i sound are known below = grind arith
 
 pub work_stands : (s : State) (u : ℕ) (items : List WorkItem) → IsSoundState s → AreSerial s.book → IsWorkOf s.book u items →
     All (IsWorkItem s.book.policy (flows_of s)) items

@@ -1,5 +1,5 @@
 -- The names of a policy stay names along a session.
-use Rattle.std.proofs.Common.{◌≡◌, ℕ, zero, suc, ◌⊎◌, inl, inr, Bool, true, false, not, nat_eq, List, [], ◌∷◌, ◌++◌, length, slice_get, append-nil}
+use Rattle.std.proofs.Common.{◌≡◌, ℕ, ◌⊎◌, inl, inr, Bool, true, false, not, nat_eq, List, [], ◌∷◌, ◌++◌, length, slice_get, append-nil}
 use Rattle.std.proofs.Common.{append_assoc, Some, is_some, Result, Ok, Err, IsTrue, refl, sym, subst, arith}
 use Rattle.std.specs.List.{position}
 use Rattle.std.specs.Cmp.Lexicographic.{pointwise, nat_list_eq_equiv}
@@ -61,10 +61,8 @@ step_keeps_names s what answer sound = decision_keeps_names s (decision_of s.boo
 
 get_pushed : (xs : List (List ℕ)) (y : List ℕ) (n : ℕ) (x : List ℕ) → slice_get (xs ++ y ∷ []) n ≡ Some x → (slice_get xs n ≡ Some x) ⊎
     ((n ≡ length xs) × (x ≡ y))
-get_pushed [] y zero x e = inr (refl, (let same : y ≡ x = cc in sym same))
-get_pushed [] y (suc n) x e = cc
-get_pushed (z ∷ zs) y zero x e = inl e
-get_pushed (z ∷ zs) y (suc n) x e = grind (arith, (get_pushed zs y n x e))
+get_pushed [] y n x e = grind arith
+get_pushed (z ∷ zs) y n x e = grind (arith, (get_pushed zs))
 
 place_kept : (p : List ℕ → Bool) (xs : List (List ℕ)) (y : List ℕ) (n : ℕ) → position p xs ≡ Some n → position p (xs ++ y ∷ []) ≡ Some n
 place_kept p xs y n is = grind (arith, common_steps, position_or_len_push p xs y, length-append xs (y ∷ []), is)
@@ -106,28 +104,8 @@ first_passed b fault next is = grind arith
 amended_users : (p : PolicyShape) (a : Amendment) → HasNames p → IsNamedChange a → allowed p a ≡ Ok tt → AreNames (amended p a).roster.users
 amended_users p a names form ok = grind (arith, names_pushed, first_passed)
 
--- ---- edits
-
--- whatever comes of what was read before
-then_any : {A B F : Type 0} (P : B → Type 0) (r : Result A F) (next : A → Result B F) → ((x : A) → HoldsOf P (next x)) → HoldsOf P (r >>= next)
-then_any P r next holds = grind arith
-
-then_same : {B C F : Type 0} (P : B → Type 0) (x : B) (r : Result C F) → P x → HoldsOf P (r >>= (λ (_ : C). Ok x))
-then_same P x r is = grind arith
-
-two_found : {F : Type 0} (r : Result ℕ F) (s : ℕ → Result ℕ F) (made : ℕ → ℕ → Amendment) → ((x y : ℕ) → IsNamedChange (made x y)) →
-    HoldsOf IsNamedChange (r >>= (λ x. s x >>= (λ y. Ok (made x y))))
-two_found r s made named = grind (arith, then_any)
-
-three_found : {F : Type 0} (r : Result ℕ F) (s : ℕ → Result ℕ F) (t : Result ℕ F) (made : ℕ → ℕ → ℕ → Amendment) →
-    ((x y z : ℕ) → IsNamedChange (made x y z)) → HoldsOf IsNamedChange (r >>= (λ x. s x >>= (λ y. t >>= (λ z. Ok (made x y z)))))
-three_found r s t made named = grind (arith, then_any, two_found)
-
-found_named : (p : PolicyShape) (e : Edit) → IsNamedEdit e → HoldsOf IsNamedChange (found p e)
-found_named p e form = grind (arith, then_any, two_found, three_found)
-
 amendment_named : (p : PolicyShape) (by : List ℕ) (e : Edit) → IsNamedEdit e → HoldsOf IsNamedChange (amendment_of p by e)
-amendment_named p by e form = grind (arith, then_any, found_named, then_same)
+amendment_named p by e form = grind arith
 
 -- the change that is asked adds a user with such a name
 change_named : (p : PolicyShape) (what : Ask) (a : Amendment) → IsChangeFor p what a → AddsNamed what → IsNamedChange a
@@ -141,8 +119,7 @@ deed_names s what (deed.Change a) (reply.Edited n) sound known form of names =
     let its = known.0 sound.policy in
     names_kept s.book.policy (amended s.book.policy a) (changes_keep_names s.book.policy a its.found) names
     (amended_users s.book.policy a names (change_named s.book.policy what a of form) its.allowed)
-deed_names s what given reply.Returned sound known form of names = names
-deed_names s what given answer sound known form of names = names
+deed_names s what given answer sound known form of names = grind arith
 
 decision_names : (s : State) (what : Ask) (r : Result Deed Denial) (answer : Reply) → IsSoundState s → HoldsOf (IsTold s.book) r → AddsNamed what →
     Fares (IsDeedFor s what) (FitsDenial s.book.policy (flows_of s) (concern s what)) r → HasNames s.book.policy

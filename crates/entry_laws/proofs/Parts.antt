@@ -40,8 +40,7 @@ use Rattle.entry_laws.proofs.Trees.{IsProblemOf}
 
 all_from : (n : ℕ) (us : List ℕ) → AllBelow n us → All (λ u. u < n) us
 all_from n [] below k d lt = absurd (omega (arith, lt))
-all_from n (u ∷ us) below zero d lt = below.0
-all_from n (u ∷ us) below (suc k) d lt = all_from n us below.1 k d (omega (arith, lt))
+all_from n (u ∷ us) below h3 d lt = grind (arith, (all_from n us))
 
 -- ---- plans
 

@@ -1,5 +1,5 @@
 -- The first case that an edit strands is there, and its tree stands for something and nests little.
-use Rattle.std.proofs.Common.{◌≡◌, ℕ, ◌<◌, ◌≤◌, inl, inr, true, List, [], ◌∷◌, length, Some, refl, sym, ap, subst, ◌∙◌, arith}
+use Rattle.std.proofs.Common.{◌≡◌, ℕ, ◌<◌, ◌≤◌, true, List, [], ◌∷◌, length, Some, refl, sym, ap, subst, ◌∙◌, arith}
 use Rattle.std.specs.Option.{option_map}
 use Rattle.wf_names.specs.declared.limits.TheConstants.{CASE_NUMBER_LIMIT, STEP_LIMIT}
 use Rattle.refutation_tree.specs.declared.tree.Tree.{Tree}
@@ -37,8 +37,7 @@ record IsStranded (pol : PolicyShape) (all : List Numbered) (n f : ℕ) (tree : 
 find_stranded : (pol : PolicyShape) (all es : List Numbered) (n f : ℕ) (tree : Tree) → EachOf (IsOpenIn all) es → IsFirstStranded pol es n f tree →
     IsStranded pol all n f tree
 find_stranded pol all [] n f tree each is = absurd is
-find_stranded pol all (e ∷ es) n f tree each (inl here) = grind arith
-find_stranded pol all (e ∷ es) n f tree each (inr later) = find_stranded pol all es n f tree each.1 later.1
+find_stranded pol all (e ∷ es) n f tree each h7 = grind (arith, (find_stranded pol all es))
 
 -- ---- a user who is added strands no case
 

@@ -1,11 +1,10 @@
 -- No byte of a text of JSON is LF.
-use Rattle.std.proofs.Common.{◌≡◌, ◌≢◌, ℕ, zero, suc, ◌+◌, ◌/◌, ◌%◌, ◌<◌, ◌==◌, Bool, true, false, ◌&&◌, cond, nat_lt, List, [], ◌∷◌, ◌++◌, pos}
+use Rattle.std.proofs.Common.{◌≡◌, ◌≢◌, ℕ, zero, suc, ◌+◌, ◌<◌, Bool, true, false, ◌&&◌, nat_lt, List, [], ◌∷◌, ◌++◌, pos}
 use Rattle.std.proofs.Common.{negsuc, if◌then◌else◌, refl, arith}
 use Rattle.std.specs.List.{All}
-use Rattle.std.specs.Char.{digit_char}
-use Rattle.std.specs.Fmt.{decimal, digit_glyph, digits, digits_onto}
-use Rattle.basics.proofs.Booleans.{and_both, eq_back, lt_back, lt_back_no, or_cases}
-use Rattle.json.specs.Print.{escape, escape_byte, escape_letter, quoted}
+use Rattle.std.specs.Fmt.{decimal, digits, digits_onto}
+use Rattle.basics.proofs.Booleans.{and_both, lt_back}
+use Rattle.json.specs.Print.{escape, escape_byte, quoted}
 use Rattle.serde_json.specs.Data.{Data, null, boolean, number, string, array, object, unsigned, negative, float, Items, no_items, item, Members, no_members}
 use Rattle.serde_json.specs.Data.{member}
 use Rattle.serde_json.specs.Written.{comma_if, compact_text, items_text, members_text}
@@ -19,8 +18,7 @@ NoEnds (x ∷ xs) = (x ≢ 10) × NoEnds xs
 
 none_all : (xs : List ℕ) → NoEnds xs → All (λ b. b ≢ 10) xs
 none_all [] none k d lt = absurd (omega (arith, lt))
-none_all (x ∷ xs) none zero d lt = none.0
-none_all (x ∷ xs) none (suc k) d lt = none_all xs none.1 k d (omega (arith, lt))
+none_all (x ∷ xs) none h2 d lt = grind (arith, (none_all xs))
 
 both : (xs ys : List ℕ) → NoEnds xs → NoEnds ys → NoEnds (xs ++ ys)
 both [] ys first later = later
@@ -32,38 +30,22 @@ above n more is = omega (arith, more, is)
 -- ---- digits
 
 glyph_at : (low upper : Bool) (d : ℕ) → (if low then 48 + d else (if upper then 55 + d else 87 + d)) ≢ 10
-glyph_at low upper d = grind (arith, above)
+glyph_at low upper d = grind arith
 
 either_none : (b : Bool) (xs ys : List ℕ) → NoEnds xs → NoEnds ys → NoEnds (if b then xs else ys)
 either_none b xs ys first other = grind arith
 
 digits_none : (k base : ℕ) (upper : Bool) (n : ℕ) (acc : List ℕ) → NoEnds acc → NoEnds (digits_onto k base upper n acc)
 digits_none zero base upper n acc none = none
-digits_none (suc k) base upper n acc none =
-    let more : NoEnds (digit_glyph upper (n % base) ∷ acc) = (glyph_at (nat_lt (n % base) 10) upper (n % base), none) in
-    either_none (n / base == 0) (digit_glyph upper (n % base) ∷ acc) _ more (digits_none k base upper (n / base) (digit_glyph upper (n % base) ∷ acc) more)
+digits_none (suc k) base upper n acc none = grind (arith, glyph_at, either_none, (digits_none k))
 
 decimal_none : (n : ℕ) → NoEnds (decimal n)
 unfolding digits
 decimal_none n = digits_none 64 10 false n [] tt
 
--- ---- strings
-
-cond_apart : (b : Bool) (m n : ℕ) → (b ≡ true → m ≢ 10) → n ≢ 10 → cond b m n ≢ 10
-cond_apart b m n first other = grind arith
-
-letter_apart : (x : ℕ) → escape_letter x ≢ 10
-letter_apart x = grind (arith, cond_apart, above, or_cases, eq_back)
-
-char_apart : (d : ℕ) → digit_char d ≢ 10
-char_apart d = cond_apart (nat_lt d 10) (48 + d) (87 + d) (λ _. above (48 + d) (omega arith)) (above (87 + d) (omega arith))
-
-cond_none : (b : Bool) (xs ys : List ℕ) → (b ≡ true → NoEnds xs) → (b ≡ false → NoEnds ys) → NoEnds (cond b xs ys)
-cond_none b xs ys first other = grind arith
-
 byte_none : (x : ℕ) → NoEnds (escape_byte x)
 unfolding escape_byte
-byte_none x = grind (arith, cond_none, above, letter_apart, char_apart, lt_back_no)
+byte_none x = grind arith
 
 escape_none : (s : List ℕ) → NoEnds (escape s)
 escape_none [] = tt
@@ -84,7 +66,7 @@ known_none [] is = tt
 known_none (x ∷ xs) is = let all = and_both (nat_lt 10 x) (has_no_end xs) is in (above x (lt_back 10 x all.0), known_none xs all.1)
 
 comma_none : (later : Bool) → NoEnds (comma_if later)
-comma_none later = grind (arith, known_none)
+comma_none later = grind arith
 
 mutual
   text_none : (d : Data) → NoEnds (compact_text d)

@@ -92,7 +92,7 @@ case_fares s n sound = grind (arith, then_fares, or_fares, check_fares)
 step_fares : (s : State) (what : Ask) (make : Duty → Deed) (n : ℕ) (step user : List ℕ) → IsSoundState s
     → ((d : Duty) → IsOn s (flows_of s n) d.case → IsDeedFor s what (make d))
     → Fares (IsDeedFor s what) (Fits s (flows_of s n)) (on_step make s.book n step user)
-step_fares s what make n step user sound made = grind (arith, then_fares, case_fares, or_fares)
+step_fares s what make n step user sound made = grind arith
 
 resolve_fares : (s : State) (what : Ask) → IsSoundState s → Fares (IsDeedFor s what) (Fits s (concern s what)) (resolve s.book what)
 resolve_fares s (ask.Request (request.OpenCase flow)) sound =

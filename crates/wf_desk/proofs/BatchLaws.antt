@@ -6,7 +6,7 @@ use Rattle.std.proofs.Math.Seq.{drop-append_seam, take-length, get_or-append_sea
 use Rattle.basics.proofs.Booleans.{bool_cases}
 use Rattle.wf_talk.specs.declared.entry.Entry.{Entry}
 use Rattle.wf_talk.specs.declared.job.Job.{Job}
-use Rattle.wf_board.specs.Laws.Histories.{BatchRests, EachAfter, FillsJobs, RestsFrom, batch_end, batch_jobs, batch_start, job_of_entry, lane_jobs}
+use Rattle.wf_board.specs.Laws.Histories.{BatchRests, FillsJobs, batch_end, batch_jobs, batch_start, job_of_entry, lane_jobs}
 use Rattle.wf_desk.specs.BatchLaws.{AnswersNext, EndAt}
 
 pub start_before : (ends : List ℕ) (x k : ℕ) → k < length ends + 1 → batch_start (ends ++ x ∷ []) k ≡ batch_start ends k
@@ -32,9 +32,6 @@ part_new s e xs ys first size =
 part_moved : {A : Type 0} (s t e f : ℕ) (xs : List A) → s ≡ t → e ≡ f → drop s (take e xs) ≡ drop t (take f xs)
 part_moved s t e f xs same last = ap (λ n. drop n (take e xs)) same ∙ ap (λ n. drop t (take n xs)) last
 
-rests_moved : (s t : ℕ) (xs ys old new : List Entry) → s ≡ t → xs ≡ ys → old ≡ new → EachAfter (RestsFrom s) xs old → EachAfter (RestsFrom t) ys new
-rests_moved s t xs ys old new first before batch rests = grind arith
-
 entries_whole : (es : List Entry) (js : List Job) (ends : List ℕ) → FillsJobs es js ends → length (map job_of_entry es) ≡ length js
 entries_whole es js ends fills = length-map es job_of_entry ∙ fills.whole
 
@@ -56,15 +53,15 @@ old_jobs es new js more ends x k lane fills are lt =
 new_jobs : (es new : List Entry) (js more : List Job) (ends : List ℕ) (lane : ℕ) → AnswersNext es new js more ends
     → lane_jobs lane (batch_jobs (ends ++ (length js + length more) ∷ []) (length ends) (map job_of_entry (es ++ new)))
     ≡ lane_jobs lane (batch_jobs (ends ++ (length js + length more) ∷ []) (length ends) (js ++ more))
-new_jobs es new js more ends lane next = grind (arith, entries_whole, length-map, start_before, end_last, map-append, part_new)
+new_jobs es new js more ends lane next = grind (arith, length-map, start_before, end_last, map-append, part_new)
 
 old_rests : (es new : List Entry) (js : List Job) (ends : List ℕ) (x k : ℕ) → FillsJobs es js ends → EndAt ends (length js) → k < length ends
     → BatchRests (ends ++ x ∷ []) k (es ++ new)
-old_rests es new js ends x k fills are lt = grind (arith, start_before, end_before, start_within, rests_moved, take-append-le, part_moved, part_old)
+old_rests es new js ends x k fills are lt = grind (arith, start_before, end_before, start_within, take-append-le, part_moved, part_old)
 
 new_rests : (es new : List Entry) (js more : List Job) (ends : List ℕ) → AnswersNext es new js more ends
     → BatchRests (ends ++ (length js + length more) ∷ []) (length ends) (es ++ new)
-new_rests es new js more ends next = grind (arith, start_before, end_last, rests_moved, take-append-le, take-length, part_new)
+new_rests es new js more ends next = grind (arith, start_before, end_last, take-append-le, take-length, part_new)
 
 -- with one more batch, whose entries answer its jobs, the entries fill the jobs
 pub batch_fills : (es new : List Entry) (js more : List Job) (ends : List ℕ) → AnswersNext es new js more ends

@@ -56,7 +56,7 @@ lost_facts : (d : DeskShape) (t : Task) → is_lost d t ≡ true → LostFacts d
 lost_facts d t lost = grind (arith, and_both, common_steps, not_yes)
 
 pub may_lose : (d : DeskShape) (t : Task) → IsNext d t → is_fresh d t ≡ false → is_lost d t ≡ true → MayLose d t.lane t.ask
-may_lose d t next stale lost = grind (arith, lost_facts, count_later, common_steps)
+may_lose d t next stale lost = grind (arith, count_later, common_steps)
 
 -- enough counts behind the lane's last entry of the batch
 enough_rounds : (d : DeskShape) (places : List ℕ) (t : Task) → IsDesk d places → IsNext d t → MayLose d t.lane t.ask → is_last_round d t.lane ≡ true →
@@ -150,7 +150,7 @@ end_up_to : (test : Entry → Bool) (m before n : ℕ) (entries : List Entry) �
 end_up_to test m before n [] known none = omega (arith, known)
 end_up_to test m before zero (x ∷ xs) known none = let same = none_end test m before (x ∷ xs) none in omega (arith, known, same)
 end_up_to test m before (suc n) (x ∷ xs) known none =
-    grind (arith, next_before, (end_up_to test (m + 1) (if test x then m + 1 else before) n xs (next_before (test x) m before known) none))
+    grind (arith, (end_up_to test (m + 1) (if test x then m + 1 else before) n xs (next_before (test x) m before known) none))
 
 end_past : (test : Entry → Bool) (m before n : ℕ) (entries : List Entry) → 1 ≤ count_of test (drop n entries) → m + n + 1 ≤ last_end_from m before test entries
 end_past test m before zero entries some = let there = end_there m before test entries some in omega (arith, there)

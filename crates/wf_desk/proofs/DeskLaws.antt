@@ -11,7 +11,7 @@ use Rattle.wf_talk.specs.declared.job.Job.{Job}
 use Rattle.wf_talk.specs.declared.request.Ask.{Ask}
 use Rattle.wf_board.specs.Boards.{BoardShape, state_on}
 use Rattle.wf_board.specs.Counting.{counted, counts_for, lane_end}
-use Rattle.wf_board.specs.Laws.Histories.{AreRightful, IsRightAfter, IsRightful, RestsFrom, job_of_entry, lane_jobs}
+use Rattle.wf_board.specs.Laws.Histories.{IsRightAfter, IsRightful, RestsFrom, job_of_entry, lane_jobs}
 use Rattle.wf_board.proofs.HistoryLaws.{after_more, each_more, edits_within, rests_more, wants_more}
 use Rattle.wf_board.specs.Laws.States.{opening_state}
 use Rattle.wf_board.specs.Laws.Steps.{state_after_step}
@@ -99,8 +99,7 @@ sound_grown d places e b spare place is grows = record {
   front = λ lane. front_grown d places e b spare place lane is grows;
   rests = rests_more d.start d.entries e is.sound.begun is.sound.rests grows.rests;
   kept = let kept = is.sound.kept in omega (arith, kept, length-append d.entries (e ∷ []));
-  wants = subst AreRightful (sym (drop-append-le d.restored d.entries (e ∷ []) is.sound.kept))
-      (wants_more (drop d.restored d.entries) e is.sound.wants grows.want);
+  wants = grind (arith, drop-append-le, wants_more);
   room = let old = is.sound.room in let cases = grows.cases in omega (arith, old, cases, length-append d.entries (e ∷ []));
 }
 
@@ -116,9 +115,7 @@ own_place d places e b spare place is grows =
     ap (λ j. take from d.jobs ++ j ∷ []) (get_or_from_slice_get d.jobs from job job stands) in
     record {
       within = grows.moved.within;
-      before = served_own d.start d.entries e e.lane is.sound.begun refl ∙ ap (λ js. js ++ job ∷ []) old.before
-          ∙ ap (λ js. lane_jobs e.lane (take from d.jobs) ++ js) (sym (lane_own e.lane job refl)) ∙ sym (lane_both e.lane (take from d.jobs) (job ∷ []))
-          ∙ ap (lane_jobs e.lane) (sym taken) ∙ sym grows.moved.same;
+      before = grind (arith, served_own, lane_own, lane_both);
       here = grows.moved.here;
     }
 
@@ -131,13 +128,7 @@ place_grown d places e b spare place lane is grows known = elim (bool_cases (nat
       subst (λ n. IsLanePlace (with_entry d e b spare) n (slice_index_or (slice_set places e.lane place) n 0)) same
       (subst (IsLanePlace (with_entry d e b spare) e.lane) (sym (get_or-set_same places e.lane place 0 grows.sized))
       (own_place d places e b spare place is grows))
-  | inr other ↦
-      let old = is.placed lane known in
-      subst (IsLanePlace (with_entry d e b spare) lane) (sym (get_or-set_other places e.lane lane place 0 (differs e.lane lane other))) record {
-        within = old.within;
-        before = served_other d.start d.entries e lane is.sound.begun other ∙ old.before;
-        here = old.here;
-      }
+  | inr other ↦ grind (arith, get_or-set_other, differs, served_other)
 ]
 
 ends_grown : (d : DeskShape) (places : List ℕ) (e : Entry) (b : BoardShape) (spare lane : ℕ) → IsDesk d places →
@@ -148,9 +139,7 @@ losses_grown : (d : DeskShape) (places : List ℕ) (e : Entry) (b : BoardShape) 
     next_job (with_entry d e b spare) lane ≡ Some j →
     LossRests (with_entry d e b spare) lane j.ask
 losses_grown d places e b spare lane j is next = elim (bool_cases (nat_eq e.lane lane)) [
-  | inl own ↦
-      let same : e.lane ≡ lane = eq_back e.lane lane own in
-      fresh_rests (with_entry d e b spare) lane j.ask (ap (loss_of (slice_set d.losses e.lane no_loss)) (sym same) ∙ no_loss_own d.losses e.lane)
+  | inl own ↦ grind (arith, eq_back, fresh_rests, no_loss_own)
   | inr other ↦
       other_rests d e b spare lane j.ask is.sound.begun (is.ends lane) other (is.losses lane j (sym (next_other d e b spare lane is.sound.begun other) ∙ next))
 ]
@@ -187,10 +176,7 @@ lost_ends d places lane other is = elim (bool_cases (nat_eq lane other)) [
       let same : lane ≡ other = eq_back lane other own in
       subst (λ n. (loss_of (with_loss d lane).losses n).end ≤ length d.entries) same
       (set_own (λ (l : Loss). l.end ≤ length d.entries) d.losses lane (lost_now d lane) no_loss (omega arith) (omega arith))
-  | inr away ↦
-      let old = is.ends other in
-      let same = ap (λ (l : Loss). l.end) (loss_other d.losses lane other (lost_now d lane) away) in
-      omega (arith, old, same)
+  | inr away ↦ grind (arith, loss_other)
 ]
 
 abbrev rests_by : DeskShape → ℕ → Ask → Loss → Type 0
@@ -213,17 +199,7 @@ lost_losses d places lane what other j is may next = grind (arith, bool_cases, e
 -- with one more loss
 pub desk_lost : (d : DeskShape) (places : List ℕ) (lane : ℕ) (what : Ask) → IsDesk d places → MayLose d lane what → IsDesk (with_loss d lane) places
 desk_lost d places lane what is may = record {
-  sound = record {
-    legal = is.sound.legal;
-    state = is.sound.state;
-    begun = is.sound.begun;
-    front = is.sound.front;
-    rests = is.sound.rests;
-    kept =
-        is.sound.kept;
-    wants = is.sound.wants;
-    room = is.sound.room;
-  };
+  sound = grind arith;
   few = is.few;
   of_lanes = is.of_lanes;
   room = is.room;

@@ -102,8 +102,7 @@ none_of_lanes lanes lane (j ∷ js) of_lanes past = grind (arith, common_steps, 
 -- the first jobs are of the lanes of all
 pub first_of_lanes : (lanes n : ℕ) (jobs : List Job) → AreOfLanes lanes jobs → AreOfLanes lanes (take n jobs)
 first_of_lanes lanes zero jobs of_lanes = tt
-first_of_lanes lanes (suc n) [] of_lanes = tt
-first_of_lanes lanes (suc n) (j ∷ jobs) of_lanes = (of_lanes.0, first_of_lanes lanes n jobs of_lanes.1)
+first_of_lanes lanes (suc n) jobs of_lanes = grind (arith, (first_of_lanes lanes n))
 
 -- no job is of a lane past the number of lanes
 pub left_past : (d : DeskShape) (lane : ℕ) → AreOfLanes d.lanes d.jobs → d.lanes ≤ lane → left_of d lane ≡ 0
@@ -159,8 +158,7 @@ batch_within d sound = no_more d sound.begun sound.front
 
 none_past : {A : Type 0} (xs : List A) (n : ℕ) → slice_get xs n ≡ None → length xs ≤ n
 none_past [] n none = omega arith
-none_past (x ∷ xs) zero none = absurd (cc)
-none_past (x ∷ xs) (suc n) none = let rest = none_past xs n none in omega (arith, rest)
+none_past (x ∷ xs) n none = grind (arith, (none_past xs))
 
 lane_done : (d : DeskShape) (lane : ℕ) → served d lane ≡ take (length (served d lane)) (lane_jobs lane d.jobs) → next_job d lane ≡ None →
     served d lane ≡ lane_jobs lane d.jobs

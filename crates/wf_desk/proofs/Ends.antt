@@ -12,8 +12,7 @@ ends_last ends x =
 
 end_within : (ends : List ℕ) (x k n : ℕ) → ((k : ℕ) → k < length ends → batch_end ends k ≤ n) → x ≤ n → k < length (ends ++ x ∷ []) →
     batch_end (ends ++ x ∷ []) k ≤ n
-end_within [] x zero n within last lt = last
-end_within [] x (suc k) n within last lt = absurd (omega (arith, lt))
+end_within [] x k n within last lt = grind arith
 end_within (e ∷ ends) x zero n within last lt = within zero (omega arith)
 end_within (e ∷ ends) x (suc k) n within last lt = end_within ends x k n (λ i below. within (suc i) (omega (arith, below))) last (omega (arith, lt))
 

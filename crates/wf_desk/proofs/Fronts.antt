@@ -1,5 +1,5 @@
 -- Of each lane the first items are done, of a list of items.
-use Rattle.std.proofs.Common.{◌≡◌, ℕ, ◌+◌, ◌<◌, ◌≤◌, inl, inr, false, nat_eq, List, [], ◌∷◌, length, take, if◌then◌else◌, refl, subst, arith}
+use Rattle.std.proofs.Common.{◌≡◌, ℕ, ◌+◌, ◌<◌, ◌≤◌, inl, inr, false, nat_eq, List, [], ◌∷◌, length, take, if◌then◌else◌, refl, arith}
 use Rattle.std.specs.List.{filter}
 use Rattle.std.proofs.lemmas.Grind.{common_steps}
 use Rattle.basics.proofs.Booleans.{bool_cases}
@@ -32,30 +32,24 @@ other_lane key lane other (x ∷ xs) differ = grind (arith, bool_cases, common_s
 
 one_less : {A : Type 0} (key : A → ℕ) (lane : ℕ) (xs : List A) → 0 < length (of_lane key lane xs) → length xs ≡ length (without key lane xs) + 1
 one_less key lane [] some = omega (arith, some)
-one_less key lane (x ∷ xs) some = elim (bool_cases (nat_eq (key x) lane)) [
-  | inl hit ↦ rw hit (omega arith)
-  | inr miss ↦ let less = one_less key lane xs (rw miss at some) in rw miss (omega (arith, less))
-]
-
-begins_cons : {A : Type 0} (x : A) (front whole : List A) → Begins (x ∷ front) whole → (whole ≡ x ∷ rest_of whole) × Begins front (rest_of whole)
-begins_cons x front whole begins = grind arith
+one_less key lane (x ∷ xs) some = grind (arith, bool_cases, (one_less key lane xs))
 
 -- what is left to do in a lane
 pub record Fronts {A : Type 0} (key : A → ℕ) (done all : List A) : Type 0 where
   pub front : (lane : ℕ) → Begins (of_lane key lane done) (of_lane key lane all)
 
 next_fronts : {A : Type 0} (key : A → ℕ) (x : A) (done all : List A) → Fronts key (x ∷ done) all → Fronts key done (without key (key x) all)
-next_fronts key x done all fronts = grind (arith, bool_cases, common_steps, begins_cons, own_lane, other_lane)
+next_fronts key x done all fronts = grind (arith, bool_cases, common_steps, own_lane, other_lane)
 
 -- there is an item for one that is done
 has_own : {A : Type 0} (key : A → ℕ) (x : A) (done all : List A) → Fronts key (x ∷ done) all → 0 < length (of_lane key (key x) all)
-has_own key x done all fronts = grind (arith, common_steps, begins_cons)
+has_own key x done all fronts = grind arith
 
 -- no more are done than there are
 pub fronts_within : {A : Type 0} (key : A → ℕ) (done all : List A) → Fronts key done all → length done ≤ length all
 fronts_within key [] all fronts = omega arith
 fronts_within key (x ∷ done) all fronts =
-    grind (arith, next_fronts, one_less, has_own, (fronts_within key done (without key (key x) all) (next_fronts key x done all fronts)))
+    grind (arith, next_fronts, one_less, (fronts_within key done (without key (key x) all) (next_fronts key x done all fronts)))
 
 rest_length : {A : Type 0} (xs : List A) → 0 < length xs → length xs ≡ length (rest_of xs) + 1
 rest_length xs some = grind arith
@@ -70,11 +64,7 @@ fronts_short key lane (x ∷ done) all fronts short =
     let has = has_own key x done all fronts in
     let size = one_less key (key x) all has in
     let left : length (of_lane key lane done) < length (of_lane key lane (without key (key x) all)) = elim (bool_cases (nat_eq (key x) lane)) [
-      | inl hit ↦
-          let same : key x ≡ lane = grind (arith, common_steps) in
-          let len = rest_length (of_lane key lane all) (subst (λ l. 0 < length (of_lane key l all)) same has) in
-          let now = rw hit at short in
-          rw same (rw (own_lane key lane all) (omega (arith, now, len)))
+      | inl hit ↦ grind (arith, common_steps, rest_length, own_lane)
       | inr miss ↦
           let own : nat_eq lane (key x) ≡ false = grind (arith, common_steps) in
           rw (other_lane key (key x) lane all own) (rw miss at short)

@@ -46,11 +46,7 @@ pub places_on : (jobs : List Job) (entries : List Entry) (places : List ℕ) (e 
     lane < LANE_LIMIT →
     IsPlaceBehind jobs (entries ++ e ∷ []) lane (slice_index_or (slice_set places e.lane place) lane 0)
 places_on jobs entries places e place lane placed own_known sized stands moved known = elim (bool_cases (nat_eq e.lane lane)) [
-  | inl own ↦
-      let same : e.lane ≡ lane = eq_back e.lane lane own in
-      subst (λ n. IsPlaceBehind jobs (entries ++ e ∷ []) n (slice_index_or (slice_set places e.lane place) n 0)) same
-      (subst (IsPlaceBehind jobs (entries ++ e ∷ []) e.lane) (sym (get_or-set_same places e.lane place 0 sized))
-      (own_behind jobs entries e (slice_index_or places e.lane 0) place (placed e.lane own_known) stands moved))
+  | inl own ↦ grind (arith, eq_back, get_or-set_same, own_behind)
   | inr other ↦
       subst (IsPlaceBehind jobs (entries ++ e ∷ []) lane) (sym (get_or-set_other places e.lane lane place 0 (differs e.lane lane other)))
       (other_behind jobs entries e lane (slice_index_or places lane 0) other (placed lane known))

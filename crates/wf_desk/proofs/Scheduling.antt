@@ -1,5 +1,5 @@
 -- What lanes hold stays right while a schedule is gone through.
-use Rattle.std.proofs.Common.{◌≡◌, ℕ, zero, suc, ◌+◌, ◌-◌, ◌<◌, ◌≤◌, ◌⊎◌, inl, inr, Bool, true, false, List, [], ◌∷◌, ◌++◌, length, take, drop, map, get_or}
+use Rattle.std.proofs.Common.{◌≡◌, ℕ, zero, suc, ◌+◌, ◌-◌, ◌<◌, ◌≤◌, ◌⊎◌, inr, Bool, true, false, List, [], ◌∷◌, ◌++◌, length, take, drop, map, get_or}
 use Rattle.std.proofs.Common.{slice_index_or, slice_set, replicate, Option, None, Some, append_assoc, append-nil, refl, sym, ap, subst, ◌∙◌, arith}
 use Rattle.std.proofs.lemmas.List.{drop-append-le, drop-take, length-append, map-append, take-append-le}
 use Rattle.std.proofs.lemmas.List.Elements.{filter-append}
@@ -23,7 +23,7 @@ use Rattle.wf_desk.specs.declared.schedule.Mark.{Mark}
 use Rattle.wf_desk.specs.declared.schedule.Mark.TheVariants.{NoJob, Served}
 use Rattle.wf_desk.specs.declared.schedule.Solved.{Solved}
 use Rattle.wf_desk.specs.Desks.{DeskShape, HasAdded, IsSoundDesk, served, state_after_first}
-use Rattle.wf_desk.specs.Laws.Commits.{HasCommitted, HasServed, IsTask, job_of_task, with_loss}
+use Rattle.wf_desk.specs.Laws.Commits.{HasCommitted, HasServed, IsTask, with_loss}
 use Rattle.wf_desk.specs.Schedules.{AreEventsOf, HasDone, HasDoneAll, HasGoneOn, HasGrown, Standing, held_by, lane_answers}
 use Rattle.wf_desk.specs.Schedules.{lane_left, lane_of, mark_of, no_tasks}
 use Rattle.wf_desk.specs.Holding.{AreHeld, IsHeld, standing}
@@ -48,8 +48,7 @@ grown_then d e f first later = grind (arith, append_assoc)
 
 pub grown_committed : (d e : DeskShape) (t : Task) (v : Verdict) (result : Outcome) → HasCommitted d e t v result → HasGrown d e
 grown_committed d e t v outcome.NotNext done = grown_none d e done.1
-grown_committed d e t v outcome.Lost done = grown_lost d e t.lane done.1.1.1.1
-grown_committed d e t v (outcome.Recorded place) done = grown_added d e (job_of_task t) place _ done.1
+grown_committed d e t v result done = grind (arith, grown_lost, grown_added)
 
 pub grown_served : (d e : DeskShape) (lane : ℕ) (any : Bool) → HasServed d e lane any → HasGrown d e
 grown_served d e lane any done = grind (arith, grown_added, grown_none)
@@ -94,10 +93,7 @@ all_held_on d e held grown are lane x is = held_on d e lane x grown (are lane x 
 read_put : (held : List (Option Solved)) (lane m : ℕ) (put : Option Solved) (x : Solved) → held_by (slice_set held lane put) m ≡ Some x →
     ((m ≡ lane) × (put ≡ Some x)) ⊎ (held_by held m ≡ Some x)
 read_put [] lane m put x is = inr is
-read_put (y ∷ ys) zero zero put x is = inl (refl, is)
-read_put (y ∷ ys) zero (suc m) put x is = inr is
-read_put (y ∷ ys) (suc lane) zero put x is = inr is
-read_put (y ∷ ys) (suc lane) (suc m) put x is = grind (arith, (read_put ys lane m put x is))
+read_put (y ∷ ys) lane m put x is = grind (arith, (read_put ys))
 
 unsome : (x y : Solved) → Some x ≡ Some y → x ≡ y
 unsome x y h = cc
@@ -112,8 +108,7 @@ held_none d held lane are = grind (arith, read_put)
 -- where there are no tasks, none is held
 nothing_held : (n lane : ℕ) → held_by (replicate n None) lane ≡ None
 nothing_held zero lane = refl
-nothing_held (suc n) zero = refl
-nothing_held (suc n) (suc lane) = nothing_held n lane
+nothing_held (suc n) lane = grind (arith, (nothing_held n))
 
 pub none_held : (d : DeskShape) → AreHeld d no_tasks
 none_held d lane x is = let no = sym (nothing_held LANE_LIMIT lane) ∙ is in cc
@@ -146,8 +141,7 @@ done_more s (x ∷ xs) [] e m t u all one = absurd all
 -- each event's lane is one of them
 pub lane_in : (lanes : ℕ) (events : List Event) (i : ℕ) (e : Event) → AreEventsOf lanes events → i < length events → lane_of (get_or events i e) < lanes
 lane_in lanes [] i e are below = absurd (omega (arith, below))
-lane_in lanes (x ∷ xs) zero e are below = are.0
-lane_in lanes (x ∷ xs) (suc i) e are below = lane_in lanes xs i e are.1 (omega (arith, below))
+lane_in lanes (x ∷ xs) i e are below = grind (arith, (lane_in lanes xs))
 
 -- ---- places
 

@@ -1,11 +1,10 @@
 -- What became of a lane's next job.
-use Rattle.std.proofs.Common.{◌≡◌, ℕ, List, [], ◌∷◌, ◌++◌, length, Some, Bool, false, arith}
+use Rattle.std.proofs.Common.{◌≡◌, ℕ, List, [], ◌∷◌, ◌++◌, length, Some, false, arith}
 use Rattle.wf_talk.specs.declared.entry.Entry.{Entry}
 use Rattle.wf_talk.specs.declared.job.Job.{Job}
 use Rattle.wf_talk.specs.declared.reply.Reply.{Reply}
 use Rattle.wf_talk.specs.declared.reply.Reply.TheVariants as reply
 use Rattle.wf_board.specs.declared.verdict.Verdict.{Verdict}
-use Rattle.wf_board.specs.declared.verdict.Verdict.TheVariants as verdict
 use Rattle.wf_board.specs.Boards.{BoardShape, state_on}
 use Rattle.wf_board.specs.declared.deed.Deed.{Deed}
 use Rattle.wf_board.specs.Decisions.{decision_of, needs_verdict}
@@ -16,10 +15,9 @@ use Rattle.wf_desk.specs.declared.task.Task.{Task}
 use Rattle.wf_desk.specs.declared.outcome.Outcome.{Outcome}
 use Rattle.wf_desk.specs.declared.outcome.Outcome.TheVariants as outcome
 use Rattle.wf_desk.specs.Desks.{DeskShape, HasAdded, no_loss}
-use Rattle.wf_desk.specs.Laws.Commits.{HasCommitted, HasCommittedChecked, IsNext, IsReplyWhere, is_fresh, job_of_task}
+use Rattle.wf_desk.specs.Laws.Commits.{HasCommitted, HasCommittedChecked, IsNext, is_fresh, job_of_task}
 use Rattle.wf_desk.specs.Docket.{entry_for}
 use Rattle.wf_desk.specs.Keeping.{HasLookedAt, HasMissed}
-use Rattle.wf_desk.proofs.CommitLaws.{added_as}
 use Rattle.wf_desk.proofs.DeskLaws.{with_parts}
 
 -- a job was decided, and its entry added
@@ -38,17 +36,12 @@ pub needs_none : (inner d : DeskShape) (j k : Job) → inner ≡ d → j ≡ k �
     needs_verdict (decision_of (state_on d.board).book k.ask) ≡ false
 needs_none inner d j k is same none = grind arith
 
--- what is said of a stale task holds whatever its verdict is
-any_verdict : (d : DeskShape) (t : Task) (v : Verdict) (lost : Bool) (given : Reply) → IsReplyWhere false lost d t verdict.Nothing given →
-    IsReplyWhere false lost d t v given
-any_verdict d t v lost given is = grind arith
-
 -- a stale task was committed
 pub missed_committed : (d e : DeskShape) (t : Task) (v : Verdict) (out : Outcome) → IsNext d t → is_fresh d t ≡ false → HasMissed d e t out →
     HasCommitted d e t v out
-missed_committed d e t v out next stale has = grind (arith, added_as, any_verdict)
+missed_committed d e t v out next stale has = grind arith
 
 -- a task was committed with a verdict that is right now
 pub checked_some : (d e : DeskShape) (t : Task) (v : Verdict) (place : ℕ) → IsNext d t → IsCertified (state_on d.board).book t.ask v →
     HasAdded d e (job_of_task t) place (IsDecided d.board t.ask v) → HasCommittedChecked d e t v (outcome.Recorded place)
-checked_some d e t v place next certified has = grind (arith, added_as)
+checked_some d e t v place next certified has = grind arith
