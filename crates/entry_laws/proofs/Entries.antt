@@ -1,26 +1,16 @@
 -- The text of each entry of a legal history is a line of it.
-use Rattle.std.proofs.Common.{◌≡◌, ℕ, ◌+◌, ◌<◌, ◌≤◌, ◌^◌, ◌⊎◌, inl, inr, false, List, [], ◌∷◌, ◌++◌, length, Option, sym, ap, subst}
-use Rattle.std.proofs.Common.{arith, append_assoc, append-nil}
-use Rattle.serde_json.specs.Data.{depth}
-use Rattle.policy_book.specs.Laws.Shapes.{PolicyShape}
-use Rattle.policy_book.specs.Laws.Facts.{IsSoundPolicy}
-use Rattle.wf_names.specs.declared.limits.TheConstants.{STEP_LIMIT}
-use Rattle.wf_talk.specs.declared.entry.Entry.{Entry}
-use Rattle.wf_talk.specs.declared.request.Ask.{Ask}
-use Rattle.wf_talk.specs.declared.reply.Reply.{Reply}
+use Rattle.entry_laws.proofs.Common.{◌≡◌, ℕ, ◌+◌, ◌<◌, ◌≤◌, ◌^◌, ◌⊎◌, inl, inr, false, List, [], ◌∷◌, ◌++◌, length, Option, sym, ap, subst, arith, append_assoc}
+use Rattle.entry_laws.proofs.Common.{append-nil, depth, PolicyShape, IsSoundPolicy, STEP_LIMIT, Entry, Ask, Reply, State, opening_state, KeepsNames, IsStep}
+use Rattle.entry_laws.proofs.Common.{state_after_step, EachAfter, IsRightAfter, after_more, reply_data, IsEntry, concerned, HasFewSteps, IsLastOf, flows_of}
 use Rattle.wf_talk.specs.declared.reply.Reply.TheVariants as reply
-use Rattle.wf_board.specs.Laws.States.{State, opening_state}
-use Rattle.admin_edits.specs.Laws.Keeping.{KeepsNames}
 use Rattle.wf_board.specs.Counting.{is_edited}
-use Rattle.wf_board.specs.Laws.Steps.{IsStep, state_after_step}
-use Rattle.wf_board.specs.Laws.Histories.{EachAfter, IsRetry, IsRightAfter, state_after}
-use Rattle.wf_board.proofs.HistoryLaws.{after_more, again_stays, edits_within, policy_stays}
+use Rattle.wf_board.specs.Laws.Histories.{IsRetry, state_after}
+use Rattle.wf_board.proofs.HistoryLaws.{again_stays, edits_within, policy_stays}
 use Rattle.wf_board.proofs.Counted.{end_within}
 use Rattle.wf_board.proofs.Keeping.{step_keeps}
-use Rattle.wire_json.specs.Replies.{entry_text, reply_data}
+use Rattle.wire_json.specs.Replies.{entry_text}
 use Rattle.wire_json.proofs.Lines.{text_same}
-use Rattle.entry_reader.specs.Laws.Lines.{IsEntry, concerned}
-use Rattle.entry_laws.specs.Laws.{EntriesAreLines, HasFewSteps, IsLastOf, flows_of}
+use Rattle.entry_laws.specs.Laws.{EntriesAreLines}
 use Rattle.entry_laws.proofs.Names.{step_keeps_names}
 use Rattle.entry_laws.proofs.Numbers.{step_serial}
 use Rattle.entry_laws.proofs.Replies.{FitsReply, IsReached, step_fits}

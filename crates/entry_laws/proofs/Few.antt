@@ -1,23 +1,11 @@
 -- No more cases are open than the limit, and a reply lists no more than there can be.
-use Rattle.std.proofs.Common.{◌≡◌, ℕ, zero, suc, ◌+◌, ◌*◌, ◌<◌, ◌≤◌, Bool, true, List, [], ◌∷◌, ◌++◌, length, Result}
-use Rattle.std.proofs.Common.{inl, inr, if◌then◌else◌, refl, ap, arith}
-use Rattle.std.proofs.lemmas.List.{length-append}
+use Rattle.entry_laws.proofs.Common.{◌≡◌, ℕ, zero, suc, ◌+◌, ◌*◌, ◌<◌, ◌≤◌, Bool, true, List, [], ◌∷◌, ◌++◌, length, Result, inl, inr, if◌then◌else◌, refl, ap}
+use Rattle.entry_laws.proofs.Common.{arith, length-append, OPEN_CASE_LIMIT, STEP_LIMIT, CaseShape, is_open, Ask, Reply, WorkItem, Denial, PolicyShape, Deed}
+use Rattle.entry_laws.proofs.Common.{Numbered, State, open_cases, decision_of, Answers, IsReplyTo, IsStep, state_after_decision, state_after_deed}
+use Rattle.entry_laws.proofs.Common.{state_after_step, AreStranded, AreThose, IsWorkOf, steps_from, steps_of, Fares, HoldsOf, flows_of}
 use Rattle.std.proofs.lemmas.List.Elements.{filter-append}
-use Rattle.wf_names.specs.declared.limits.TheConstants.{OPEN_CASE_LIMIT, STEP_LIMIT}
-use Rattle.case_record.specs.Cases.{CaseShape, finished_case, is_open}
-use Rattle.wf_talk.specs.declared.request.Ask.{Ask}
-use Rattle.wf_talk.specs.declared.reply.Reply.{Reply}
-use Rattle.wf_talk.specs.declared.reply.WorkItem.{WorkItem}
-use Rattle.wf_talk.specs.declared.reply.Denial.{Denial}
-use Rattle.policy_book.specs.Laws.Shapes.{PolicyShape}
-use Rattle.wf_board.specs.declared.deed.Deed.{Deed}
-use Rattle.wf_board.specs.Laws.States.{Numbered, State, open_cases, with_case_changed}
-use Rattle.wf_board.specs.Decisions.{decision_of}
-use Rattle.wf_board.specs.Laws.Steps.{Answers, IsReplyTo, IsStep, state_after_decision, state_after_deed, state_after_step}
-use Rattle.wf_board.specs.Views.{AreStranded, AreThose, IsWorkOf, steps_from, steps_of}
-use Rattle.wf_board.proofs.Faring.{Fares}
-use Rattle.wf_board.proofs.Told.{HoldsOf}
-use Rattle.entry_laws.specs.Laws.{flows_of}
+use Rattle.case_record.specs.Cases.{finished_case}
+use Rattle.wf_board.specs.Laws.States.{with_case_changed}
 use Rattle.entry_laws.proofs.Numbers.{EachOf, HasRoom, decided_room, open_found}
 use Rattle.entry_laws.proofs.Parts.{case_few}
 use Rattle.entry_laws.proofs.Replies.{IsReached}

@@ -1,24 +1,14 @@
 -- Every line that is written of a legal history fits a line of an audit.
-use Rattle.std.proofs.Common.{◌≡◌, ℕ, ◌+◌, ◌<◌, ◌≤◌, ◌^◌, inl, inr, false, List, [], ◌∷◌, ◌++◌, length, Option, append_assoc, append-nil, sym, subst}
-use Rattle.std.proofs.Common.{◌∙◌, arith}
-use Rattle.std.proofs.lemmas.List.{length-append}
+use Rattle.entry_laws.proofs.Common.{◌≡◌, ℕ, ◌+◌, ◌<◌, ◌≤◌, ◌^◌, inl, inr, false, List, [], ◌∷◌, ◌++◌, length, Option, append_assoc, append-nil, sym, subst}
+use Rattle.entry_laws.proofs.Common.{◌∙◌, arith, length-append, TRANSCRIPT_LINE_LIMIT, PolicyShape, IsSoundPolicy, Entry, Reply, State, opening_state}
+use Rattle.entry_laws.proofs.Common.{state_after_step, EachAfter, IsRightAfter, shows_large, after_more, IsEntry, HasNames, HasFewSteps, IsLastOf, flows_of}
+use Rattle.entry_laws.proofs.Common.{is_by_tree}
 use Rattle.basics.proofs.Booleans.{bool_cases}
-use Rattle.wf_names.specs.declared.limits.TheConstants.{TRANSCRIPT_LINE_LIMIT}
-use Rattle.policy_book.specs.Laws.Shapes.{PolicyShape}
-use Rattle.policy_book.specs.Laws.Facts.{IsSoundPolicy}
-use Rattle.wf_talk.specs.declared.entry.Entry.{Entry}
-use Rattle.wf_talk.specs.declared.reply.Reply.{Reply}
 use Rattle.wf_talk.specs.declared.reply.Reply.TheVariants as reply
-use Rattle.wf_board.specs.Laws.States.{State, opening_state}
-use Rattle.wf_board.specs.Laws.Steps.{state_after_step}
-use Rattle.wf_board.specs.Laws.Histories.{AreRightful, EachAfter, IsLegal, IsRightAfter, state_after}
-use Rattle.wf_board.specs.Limits.{shows_large}
-use Rattle.wf_board.proofs.HistoryLaws.{after_more, each_later, each_more}
+use Rattle.wf_board.specs.Laws.Histories.{AreRightful, IsLegal, state_after}
+use Rattle.wf_board.proofs.HistoryLaws.{each_later, each_more}
 use Rattle.wire_json.specs.Replies.{entry_text}
-use Rattle.entry_reader.specs.Laws.Lines.{IsEntry}
-use Rattle.entry_reader.specs.Named.{HasNames}
 use Rattle.entry_laws.specs.Laws.Fits.{AreOfLines, FitLines, LinesFit}
-use Rattle.entry_laws.specs.Laws.{HasFewSteps, IsLastOf, flows_of, is_by_tree}
 use Rattle.entry_laws.specs.Laws.Transcripts.{texts_of}
 use Rattle.entry_laws.proofs.Entries.{entries_are_lines, entry_reached, opening_reached, text_stays}
 use Rattle.entry_laws.proofs.Few.{HasFewOpen, step_few, step_open}

@@ -1,17 +1,10 @@
 -- What views over the open cases list stands for something, and nests little.
-use Rattle.std.proofs.Common.{◌≡◌, ℕ, zero, suc, ◌+◌, ◌<◌, ◌≤◌, inl, inr, List, [], ◌∷◌, ◌++◌, length, map, refl, sym, subst, arith}
-use Rattle.std.specs.List.{All}
+use Rattle.entry_laws.proofs.Common.{◌≡◌, ℕ, zero, suc, ◌+◌, ◌<◌, ◌≤◌, inl, inr, List, [], ◌∷◌, ◌++◌, length, map, refl, sym, subst, arith, All, items_depth}
+use Rattle.entry_laws.proofs.Common.{unsigned, items_of, PolicyShape, WorkItem, Numbered, State, open_cases, IsSoundState, AreStranded, AreThose, IsWorkOf}
+use Rattle.entry_laws.proofs.Common.{steps_from, steps_of, work_data, IsCase, IsWorkItem, flows_of}
 use Rattle.std.proofs.lemmas.List.Elements.{All-nil}
-use Rattle.serde_json.specs.Data.{items_depth, number, unsigned}
-use Rattle.serde_json.specs.View.{items_of}
-use Rattle.policy_book.specs.Laws.Shapes.{PolicyShape}
-use Rattle.wf_talk.specs.declared.reply.WorkItem.{WorkItem}
-use Rattle.wf_board.specs.Laws.States.{Numbered, State, open_cases}
-use Rattle.wf_board.specs.Laws.Kept.{IsSoundState}
-use Rattle.wf_board.specs.Views.{AreStranded, AreThose, IsWorkOf, Place, item_of, steps_from, steps_of}
-use Rattle.wire_json.specs.Replies.{work_data}
-use Rattle.entry_reader.specs.Laws.Within.{IsCase, IsWorkItem}
-use Rattle.entry_laws.specs.Laws.{flows_of}
+use Rattle.serde_json.specs.Data.{number}
+use Rattle.wf_board.specs.Views.{Place, item_of}
 use Rattle.entry_laws.proofs.Numbers.{AreSerial, EachOf, IsOpenIn, open_found}
 
 -- what holds of the names of all holds of those that are listed

@@ -1,31 +1,20 @@
 -- The text of an entry that denies by a tree fits into a line.
-use Rattle.std.proofs.Common.{◌≡◌, ℕ, ◌+◌, ◌≤◌, false, true, List, [], ◌∷◌, ◌++◌, length, Option, refl, arith}
-use Rattle.std.specs.Prelude.{codes, decimal}
-use Rattle.std.proofs.lemmas.Fmt.{length-decimal-le}
-use Rattle.std.proofs.lemmas.List.{length-append}
+use Rattle.entry_laws.proofs.Common.{◌≡◌, ℕ, ◌+◌, ◌≤◌, false, true, List, [], ◌∷◌, ◌++◌, length, Option, refl, arith, codes, length-decimal-le, length-append}
+use Rattle.entry_laws.proofs.Common.{Data, compact_text, CASE_NUMBER_LIMIT, TRANSCRIPT_LINE_LIMIT, Tree, Shape, Kids, holder, rule, no_kids, tree_kid, twin_kid}
+use Rattle.entry_laws.proofs.Common.{shape_of, PolicyShape, Entry, Reply, shows_large, reply_data, tree_data, IsEntry, AreKids, IsReply, IsTree, is_by_tree}
+use Rattle.std.specs.Prelude.{decimal}
 use Rattle.basics.proofs.Booleans.{lt_back_no}
 use Rattle.json.specs.Print.{escape_byte}
-use Rattle.serde_json.specs.Data.{Data}
-use Rattle.serde_json.specs.Written.{compact_text}
-use Rattle.wf_names.specs.declared.limits.TheConstants.{CASE_NUMBER_LIMIT, TRANSCRIPT_LINE_LIMIT}
-use Rattle.refutation_tree.specs.declared.tree.Tree.{Tree}
-use Rattle.refutation_tree.specs.Tree.{Shape, Kids, holder, rule, node, no_kids, tree_kid, twin_kid, nodes_of}
-use Rattle.refutation_tree.specs.Laws.Views.{shape_of}
-use Rattle.policy_book.specs.Laws.Shapes.{PolicyShape}
-use Rattle.wf_talk.specs.declared.entry.Entry.{Entry}
-use Rattle.wf_talk.specs.declared.reply.Reply.{Reply}
+use Rattle.refutation_tree.specs.Tree.{node, nodes_of}
 use Rattle.wf_talk.specs.declared.reply.Reply.TheVariants as reply
 use Rattle.wf_talk.specs.declared.reply.Denial.TheVariants as denial
 use Rattle.wf_board.specs.declared.limits.TheConstants.{TREE_LIMIT}
-use Rattle.wf_board.specs.Limits.{is_large, shows_large}
+use Rattle.wf_board.specs.Limits.{is_large}
 use Rattle.wire_json.specs.Entries.{single}
 use Rattle.wire_json.specs.Laws.Lengths.{HasSmallRules, HaveSmallRules}
-use Rattle.wire_json.specs.Replies.{entry_text, reply_data, strands_data}
-use Rattle.wire_json.specs.Trees.{tree_data}
+use Rattle.wire_json.specs.Replies.{entry_text, strands_data}
 use Rattle.wire_json.proofs.Lengths.{around, framed, framed_two, tree_texts_are_short}
-use Rattle.entry_reader.specs.Laws.Lines.{IsEntry}
-use Rattle.entry_reader.specs.Laws.Within.{AreKids, IsReply, IsTree}
-use Rattle.entry_laws.specs.Laws.{HasNameForms, TreesFitLines, is_by_tree}
+use Rattle.entry_laws.specs.Laws.{HasNameForms, TreesFitLines}
 
 -- ---- a tree
 

@@ -1,38 +1,24 @@
 -- The names of a policy stay names along a session.
-use Rattle.std.proofs.Common.{◌≡◌, ℕ, ◌⊎◌, inl, inr, Bool, true, false, not, nat_eq, List, [], ◌∷◌, ◌++◌, length, slice_get, append-nil}
-use Rattle.std.proofs.Common.{append_assoc, Some, is_some, Result, Ok, Err, IsTrue, refl, sym, subst, arith}
+use Rattle.entry_laws.proofs.Common.{◌≡◌, ℕ, ◌⊎◌, inl, inr, Bool, true, false, List, [], ◌∷◌, ◌++◌, length, slice_get, append-nil, append_assoc, Some, Result}
+use Rattle.entry_laws.proofs.Common.{Ok, Err, refl, sym, subst, arith, length-append, AreNames, PolicyShape, Edit, Ask, Reply, Denial, Amendment, amended}
+use Rattle.entry_laws.proofs.Common.{amendment_of, KeepsNames, changes_keep_names, Deed, IsSoundState, State, decision_of, state_after_decision}
+use Rattle.entry_laws.proofs.Common.{state_after_deed, state_after_step, Fares, HoldsOf, IsTold, told, HasNames, flows_of}
+use Rattle.std.proofs.Common.{not, nat_eq}
+use Rattle.std.proofs.Common.{is_some, IsTrue}
 use Rattle.std.specs.List.{position}
 use Rattle.std.specs.Cmp.Lexicographic.{pointwise, nat_list_eq_equiv}
 use Rattle.std.proofs.lemmas.Grind.{common_steps}
-use Rattle.std.proofs.lemmas.List.{length-append}
 use Rattle.std.proofs.lemmas.List.Folds.{position_or_len_push}
 use Rattle.std.proofs.lemmas.List.Sums.{prefix_len-le-length}
 use Rattle.basics.specs.Laws.Reading.{◌>>=◌, check}
 use Rattle.wf_names.specs.Names.{is_name}
-use Rattle.wf_names.specs.Table.{place_of, AreNames}
-use Rattle.policy_book.specs.Laws.Shapes.{PolicyShape}
-use Rattle.wf_talk.specs.declared.edit.Edit.{Edit}
-use Rattle.wf_talk.specs.declared.request.Ask.{Ask}
-use Rattle.wf_talk.specs.declared.reply.Reply.{Reply}
+use Rattle.wf_names.specs.Table.{place_of}
 use Rattle.wf_talk.specs.declared.reply.Reply.TheVariants as reply
-use Rattle.wf_talk.specs.declared.reply.Denial.{Denial}
-use Rattle.admin_edits.specs.declared.amendment.Amendment.{Amendment}
 use Rattle.admin_edits.specs.declared.amendment.Amendment.TheVariants as amend
 use Rattle.admin_edits.specs.declared.fault.EditCause.TheVariants as fault
-use Rattle.admin_edits.specs.Laws.Edits.{allowed, amended, amendment_of, found}
-use Rattle.admin_edits.specs.Laws.Keeping.{KeepsNames}
-use Rattle.admin_edits.proofs.Keeping.{changes_keep_names}
-use Rattle.wf_board.specs.declared.deed.Deed.{Deed}
+use Rattle.admin_edits.specs.Laws.Edits.{allowed, found}
 use Rattle.wf_board.specs.declared.deed.Deed.TheVariants as deed
-use Rattle.wf_board.specs.Laws.Kept.{IsSoundState}
-use Rattle.wf_board.specs.Laws.States.{State}
-use Rattle.wf_board.specs.Decisions.{decision_of}
-use Rattle.wf_board.specs.Laws.Steps.{state_after_decision, state_after_deed, state_after_step}
-use Rattle.wf_board.proofs.Faring.{Fares}
-use Rattle.wf_board.proofs.Told.{HoldsOf, IsTold, told}
-use Rattle.entry_reader.specs.Named.{HasNames}
 use Rattle.line_reader.specs.Laws.{AddsNamed, IsNamedEdit}
-use Rattle.entry_laws.specs.Laws.{flows_of}
 use Rattle.entry_laws.proofs.Told.{FitsDenial, IsChangeFor, IsDeedFor, concern, decision_fares}
 
 -- ---- policies that keep names

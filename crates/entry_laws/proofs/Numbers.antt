@@ -1,22 +1,16 @@
 -- Cases are numbered in the order in which they were opened, and no more are ever opened than the limit.
-use Rattle.std.proofs.Common.{◌≡◌, ℕ, ◌+◌, ◌<◌, ◌≤◌, true, false, List, [], ◌∷◌, length, None, Some, Result}
-use Rattle.std.proofs.Common.{arith}
+use Rattle.entry_laws.proofs.Common.{◌≡◌, ℕ, ◌+◌, ◌<◌, ◌≤◌, true, false, List, [], ◌∷◌, length, None, Some, Result, arith, OPEN_CASE_LIMIT, is_open, Ask, Reply}
+use Rattle.entry_laws.proofs.Common.{Denial, Deed, Numbered, State, numbered_case, open_cases, cause_full, decision_of, state_after_decision, state_after_deed}
+use Rattle.entry_laws.proofs.Common.{state_after_step, HoldsOf}
 use Rattle.std.proofs.lemmas.List.Sums.{length-filter}
 use Rattle.basics.proofs.Booleans.{eq_other, or_false, not_yes}
-use Rattle.wf_names.specs.declared.limits.TheConstants.{CASE_LIMIT, OPEN_CASE_LIMIT}
-use Rattle.case_record.specs.Cases.{is_open}
-use Rattle.wf_talk.specs.declared.request.Ask.{Ask}
-use Rattle.wf_talk.specs.declared.reply.Reply.{Reply}
-use Rattle.wf_talk.specs.declared.reply.Denial.{Denial}
-use Rattle.wf_board.specs.declared.deed.Deed.{Deed}
+use Rattle.wf_names.specs.declared.limits.TheConstants.{CASE_LIMIT}
 use Rattle.wf_board.specs.declared.deed.Deed.TheVariants as deed
-use Rattle.wf_board.specs.Laws.States.{Book, Numbered, State, numbered_case, is_full, open_cases}
-use Rattle.wf_board.specs.Decisions.{cause_full, decision_of}
-use Rattle.wf_board.specs.Laws.Steps.{state_after_decision, state_after_deed, state_after_step}
+use Rattle.wf_board.specs.Laws.States.{Book, is_full}
 use Rattle.wf_board.specs.Laws.Kept.{AreNumberedFrom}
 use Rattle.admin_edits.proofs.Keeping.{always}
 use Rattle.wf_board.proofs.Numbers.{step_numbered}
-use Rattle.wf_board.proofs.Told.{HoldsOf, unless_holds, unless_tells}
+use Rattle.wf_board.proofs.Told.{unless_holds, unless_tells}
 
 -- the cases of a book are numbered in order, and no more than the limit were ever opened
 pub record AreSerial (b : Book) : Type 0 where

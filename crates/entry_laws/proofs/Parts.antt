@@ -1,39 +1,23 @@
 -- The parts of replies stand for something, and nest little.
-use Rattle.std.proofs.Common.{◌≡◌, ℕ, zero, suc, ◌+◌, ◌<◌, ◌≤◌, Bool, List, [], ◌∷◌, length, map, slice_index_or, Option, None, Some}
-use Rattle.std.proofs.Common.{if◌then◌else◌, refl, sym, ap, subst, ◌∙◌, arith}
-use Rattle.std.specs.List.{All}
+use Rattle.entry_laws.proofs.Common.{◌≡◌, ℕ, zero, suc, ◌+◌, ◌<◌, ◌≤◌, Bool, List, [], ◌∷◌, length, map, Option, None, Some, if◌then◌else◌, refl, sym, ap}
+use Rattle.entry_laws.proofs.Common.{subst, ◌∙◌, arith, All, length-append, length-set, depth, items_depth, items_of, ROLE_LIMIT, STEP_LIMIT, user_of}
+use Rattle.entry_laws.proofs.Common.{StepState, Free, Held, Finished, Phase, Rule, PolicyShape, IsSoundPolicy, flow_at, problem_of, IsValidPlan, Problem}
+use Rattle.entry_laws.proofs.Common.{CaseShape, assigned_of, state_at, assigned_with, first_falsified, permitted_roles, Bad, IsOfPolicy, AllBelow, passing_all}
+use Rattle.entry_laws.proofs.Common.{user_known, bad_data, phase_data, seen_data, state_data, IsBad, HasFewSteps}
+use Rattle.std.proofs.Common.{slice_index_or}
 use Rattle.std.specs.FinSet as set
-use Rattle.std.proofs.lemmas.List.{length-append, length-map, length-replicate, length-set}
-use Rattle.serde_json.specs.Data.{depth, items_depth}
-use Rattle.serde_json.specs.View.{items_of}
-use Rattle.wf_names.specs.declared.limits.TheConstants.{ROLE_LIMIT, STEP_LIMIT}
+use Rattle.std.proofs.lemmas.List.{length-map, length-replicate}
 use Rattle.wf_names.specs.Padded.{padded}
-use Rattle.wf_names.specs.States.{user_of}
-use Rattle.wf_names.specs.declared.states.StepState.{StepState}
-use Rattle.wf_names.specs.declared.states.StepState.TheVariants.{Free, Held, Finished}
-use Rattle.wf_names.specs.declared.states.Phase.{Phase}
-use Rattle.constraint_forms.specs.declared.rule.Rule.{Rule}
 use Rattle.constraint_forms.specs.Assign.{no_users}
 use Rattle.constraint_forms.specs.Rules.{Relating, is_falsified}
 use Rattle.basics.specs.Laws.Pairs.{Pairs}
-use Rattle.policy_book.specs.Laws.Shapes.{PolicyShape}
-use Rattle.policy_book.specs.Laws.Facts.{IsSoundPolicy}
-use Rattle.policy_book.specs.Policies.{flow_at, problem_of}
-use Rattle.policy_book.specs.Laws.Plans.{IsValidPlan, Problem}
 use Rattle.policy_book.specs.Laws.Refuting.{passing}
 use Rattle.certificate_check.proofs.Assigned.{none_not_some, same_some}
-use Rattle.case_record.specs.Cases.{CaseShape, assigned_of, state_at}
 use Rattle.case_record.specs.Steps.{all_steps}
 use Rattle.case_record.specs.Order.{first_missing_from}
-use Rattle.admin_edits.specs.ClaimCauses.{assigned_with, first_falsified, permitted_roles}
-use Rattle.wf_talk.specs.declared.request.Bad.{Bad}
 use Rattle.wf_talk.specs.Jobs.{IsNamedBad}
-use Rattle.wf_board.specs.Laws.Kept.{IsOfPolicy}
-use Rattle.wf_board.proofs.Below.{AllBelow, passing_all, planned_below}
-use Rattle.wf_board.proofs.Within.{user_known}
-use Rattle.wire_json.specs.Entries.{bad_data, phase_data, seen_data, state_data}
-use Rattle.entry_reader.specs.Laws.Within.{IsBad, IsPlan, IsRole, IsState}
-use Rattle.entry_laws.specs.Laws.{HasFewSteps}
+use Rattle.wf_board.proofs.Below.{planned_below}
+use Rattle.entry_reader.specs.Laws.Within.{IsPlan, IsRole, IsState}
 use Rattle.entry_laws.proofs.Trees.{IsProblemOf}
 
 -- ---- lists

@@ -1,41 +1,15 @@
 -- The reply of a step stands for something in the state before it, and nests little.
-use Rattle.std.proofs.Common.{◌≡◌, ℕ, ◌+◌, ◌<◌, ◌≤◌, ◌^◌, inl, inr, Bool, true, List, length, Option, Some, Result, Ok, Err, sym, subst, arith}
-use Rattle.serde_json.specs.Data.{depth}
+use Rattle.entry_laws.proofs.Common.{◌≡◌, ℕ, ◌+◌, ◌<◌, ◌≤◌, ◌^◌, inl, inr, Bool, true, List, length, Option, Some, Result, Ok, Err, sym, subst, arith, depth}
+use Rattle.entry_laws.proofs.Common.{Tree, shape_of, PolicyShape, problem_of, IsValidPlan, refutes, CaseShape, finished_of, Ask, Bad, Face, WorkItem, Reply}
+use Rattle.entry_laws.proofs.Common.{Denial, assigned_with, Amendment, amended, Deed, State, open_cases, IsFirstStranded, IsAllowed, decision_of, Answers}
+use Rattle.entry_laws.proofs.Common.{IsReplyTo, IsStep, AreStranded, IsWorkOf, IsOfPolicy, IsSoundState, KeepsCompletable, HoldsOf, IsTold, told, Fares}
+use Rattle.entry_laws.proofs.Common.{reply_data, IsBad, IsReply, names_flat, HasFewSteps, flows_of}
 use Rattle.constraint_forms.specs.Assign.{no_steps, no_users}
-use Rattle.refutation_tree.specs.declared.tree.Tree.{Tree}
-use Rattle.refutation_tree.specs.Laws.Views.{shape_of}
-use Rattle.policy_book.specs.Laws.Shapes.{PolicyShape}
-use Rattle.policy_book.specs.Policies.{problem_of}
-use Rattle.policy_book.specs.Laws.Plans.{IsValidPlan}
-use Rattle.policy_book.specs.Laws.Refuting.{refutes}
-use Rattle.case_record.specs.Cases.{CaseShape, finished_of}
-use Rattle.wf_talk.specs.declared.request.Ask.{Ask}
-use Rattle.wf_talk.specs.declared.request.Bad.{Bad}
-use Rattle.wf_talk.specs.declared.reply.Face.{Face}
-use Rattle.wf_talk.specs.declared.reply.WorkItem.{WorkItem}
-use Rattle.wf_talk.specs.declared.reply.Reply.{Reply}
 use Rattle.wf_talk.specs.declared.reply.Reply.TheVariants as reply
-use Rattle.wf_talk.specs.declared.reply.Denial.{Denial}
 use Rattle.wf_talk.specs.declared.reply.Denial.TheVariants as denial
 use Rattle.wf_talk.specs.Jobs.{IsNamedAsk}
-use Rattle.admin_edits.specs.ClaimCauses.{assigned_with}
-use Rattle.admin_edits.specs.declared.amendment.Amendment.{Amendment}
-use Rattle.admin_edits.specs.Laws.Edits.{amended}
-use Rattle.wf_board.specs.declared.deed.Deed.{Deed}
 use Rattle.wf_board.specs.declared.deed.Deed.TheVariants as deed
-use Rattle.wf_board.specs.Laws.States.{State, open_cases}
-use Rattle.wf_board.specs.Edition.{IsFirstStranded}
-use Rattle.wf_board.specs.Laws.Found.{IsAllowed}
-use Rattle.wf_board.specs.Decisions.{decision_of}
-use Rattle.wf_board.specs.Laws.Steps.{Answers, IsReplyTo, IsStep, face_of}
-use Rattle.wf_board.specs.Views.{AreStranded, IsWorkOf}
-use Rattle.wf_board.specs.Laws.Kept.{IsOfPolicy, IsSoundState, KeepsCompletable}
-use Rattle.wf_board.proofs.Told.{HoldsOf, IsTold, told}
-use Rattle.wf_board.proofs.Faring.{Fares}
-use Rattle.wire_json.specs.Replies.{reply_data}
-use Rattle.entry_reader.specs.Laws.Within.{IsBad, IsReply}
-use Rattle.entry_reader.proofs.PlainLines.{names_flat}
-use Rattle.entry_laws.specs.Laws.{HasFewSteps, flows_of}
+use Rattle.wf_board.specs.Laws.Steps.{face_of}
 use Rattle.entry_laws.proofs.Trees.{tree_fits}
 use Rattle.entry_laws.proofs.Parts.{bad_nests, bad_stands, case_few, case_stands, given_long, no_users_long, phase_flat, plan_fits, problem_fits, states_nest}
 use Rattle.entry_laws.proofs.Listed.{numbers_flat, stranded_stand, work_nests, work_stands}

@@ -1,35 +1,19 @@
 -- The text of a reply that denies by no tree is short.
-use Rattle.std.proofs.Common.{◌≡◌, ℕ, ◌+◌, ◌*◌, ◌<◌, ◌≤◌, ◌^◌, Bool, false, true, List, [], ◌∷◌, ◌++◌, length, map, Option, arith}
-use Rattle.std.specs.Prelude.{codes}
-use Rattle.std.specs.List.{All}
-use Rattle.std.proofs.lemmas.Fmt.{length-decimal-le}
-use Rattle.std.proofs.lemmas.List.{length-append}
+use Rattle.entry_laws.proofs.Common.{◌≡◌, ℕ, ◌+◌, ◌*◌, ◌<◌, ◌≤◌, ◌^◌, Bool, false, true, List, [], ◌∷◌, ◌++◌, length, map, Option, arith, codes, All}
+use Rattle.entry_laws.proofs.Common.{length-decimal-le, length-append, Data, array, no_members, string, unsigned, items_of, comma_if, compact_text, items_text}
+use Rattle.entry_laws.proofs.Common.{members_text, CASE_NUMBER_LIMIT, OPEN_CASE_LIMIT, ROLE_LIMIT, STEP_LIMIT, AreNames, StepState, Free, Held, Finished, Phase}
+use Rattle.entry_laws.proofs.Common.{PolicyShape, flow_at, Missing, Bad, Face, WorkItem, Reply, Denial, bad_data, phase_data, seen_data, state_data}
+use Rattle.entry_laws.proofs.Common.{denial_data, reply_data, work_data, HasNames, IsBad, IsCase, IsDenial, IsReply, IsWorkItem}
 use Rattle.std.proofs.lemmas.List.Elements.{All-head, All-tail}
 use Rattle.json.specs.Print.{escape_byte, quoted}
-use Rattle.serde_json.specs.Data.{Data, array, member, no_members, number, string, unsigned}
-use Rattle.serde_json.specs.View.{items_of}
-use Rattle.serde_json.specs.Written.{comma_if, compact_text, items_text, members_text}
-use Rattle.wf_names.specs.declared.limits.TheConstants.{CASE_NUMBER_LIMIT, OPEN_CASE_LIMIT, ROLE_LIMIT, STEP_LIMIT}
-use Rattle.wf_names.specs.Table.{AreNames}
-use Rattle.wf_names.specs.declared.states.StepState.{StepState}
-use Rattle.wf_names.specs.declared.states.StepState.TheVariants.{Free, Held, Finished}
-use Rattle.wf_names.specs.declared.states.Phase.{Phase}
-use Rattle.policy_book.specs.Laws.Shapes.{PolicyShape}
-use Rattle.policy_book.specs.Policies.{flow_at}
-use Rattle.wf_talk.specs.declared.edit.Missing.{Missing}
-use Rattle.wf_talk.specs.declared.request.Bad.{Bad}
+use Rattle.serde_json.specs.Data.{member, number}
 use Rattle.wf_talk.specs.declared.request.Bad.TheVariants as bad
-use Rattle.wf_talk.specs.declared.reply.Face.{Face}
-use Rattle.wf_talk.specs.declared.reply.WorkItem.{WorkItem}
-use Rattle.wf_talk.specs.declared.reply.Reply.{Reply}
 use Rattle.wf_talk.specs.declared.reply.Reply.TheVariants as reply
-use Rattle.wf_talk.specs.declared.reply.Denial.{Denial}
 use Rattle.wf_talk.specs.declared.reply.Denial.TheVariants as denial
-use Rattle.wire_json.specs.Entries.{bad_data, named, names_data, phase_data, seen_data, single, state_data, step_data, user_data, word}
-use Rattle.wire_json.specs.Replies.{again_data, cases_data, denial_data, face_data, missing_data, opened_data, reply_data, work_data}
+use Rattle.wire_json.specs.Entries.{named, names_data, single, step_data, user_data, word}
+use Rattle.wire_json.specs.Replies.{again_data, cases_data, face_data, missing_data, opened_data}
 use Rattle.wire_json.proofs.Lengths.{named_short, quoted_short}
-use Rattle.entry_reader.specs.Named.{HasNames}
-use Rattle.entry_reader.specs.Laws.Within.{IsBad, IsCase, IsDenial, IsFace, IsReply, IsWorkItem}
+use Rattle.entry_reader.specs.Laws.Within.{IsFace}
 
 -- ---- what a reply lists
 

@@ -1,27 +1,15 @@
 -- The first case that an edit strands is there, and its tree stands for something and nests little.
-use Rattle.std.proofs.Common.{◌≡◌, ℕ, ◌<◌, ◌≤◌, true, List, [], ◌∷◌, length, Some, refl, sym, ap, subst, ◌∙◌, arith}
+use Rattle.entry_laws.proofs.Common.{◌≡◌, ℕ, ◌<◌, ◌≤◌, true, List, [], ◌∷◌, length, Some, refl, sym, ap, subst, ◌∙◌, arith, CASE_NUMBER_LIMIT, STEP_LIMIT, Tree}
+use Rattle.entry_laws.proofs.Common.{shape_of, PolicyShape, IsSoundPolicy, problem_of, refutes, CaseShape, assigned_of, finished_of, Amendment, amended}
+use Rattle.entry_laws.proofs.Common.{changes_keep_names, Numbered, State, numbered_case, open_cases, IsFirstStranded, IsAllowed, IsSoundState, KeepsCompletable}
+use Rattle.entry_laws.proofs.Common.{HasFewSteps, flows_of, IsTree}
 use Rattle.std.specs.Option.{option_map}
-use Rattle.wf_names.specs.declared.limits.TheConstants.{CASE_NUMBER_LIMIT, STEP_LIMIT}
-use Rattle.refutation_tree.specs.declared.tree.Tree.{Tree}
-use Rattle.refutation_tree.specs.Laws.Views.{shape_of}
-use Rattle.policy_book.specs.Laws.Shapes.{PolicyShape}
-use Rattle.policy_book.specs.Laws.Facts.{IsSoundPolicy}
-use Rattle.policy_book.specs.Policies.{problem_of}
-use Rattle.policy_book.specs.Laws.Refuting.{refutes}
-use Rattle.case_record.specs.Cases.{CaseShape, assigned_of, finished_of}
-use Rattle.admin_edits.specs.declared.amendment.Amendment.{Amendment}
 use Rattle.admin_edits.specs.declared.amendment.Amendment.TheVariants as amend
-use Rattle.admin_edits.specs.Laws.Edits.{amended}
 use Rattle.admin_edits.specs.Amendment as edits
-use Rattle.admin_edits.proofs.Keeping.{changes_keep_names, changes_keep_policies_sound}
+use Rattle.admin_edits.proofs.Keeping.{changes_keep_policies_sound}
 use Rattle.admin_edits.proofs.Unhurt.{unhurt_plans_stay_valid}
-use Rattle.wf_board.specs.Laws.States.{Numbered, State, numbered_case, open_cases}
-use Rattle.wf_board.specs.Edition.{CanAllBeCompleted, IsFirstStranded}
-use Rattle.wf_board.specs.Laws.Found.{IsAllowed}
-use Rattle.wf_board.specs.Laws.Kept.{IsSoundState, KeepsCompletable}
+use Rattle.wf_board.specs.Edition.{CanAllBeCompleted}
 use Rattle.wf_board.proofs.Exact.{stranded_not}
-use Rattle.entry_laws.specs.Laws.{HasFewSteps, flows_of}
-use Rattle.entry_reader.specs.Laws.Within.{IsTree}
 use Rattle.entry_laws.proofs.Trees.{FitsTree, IsProblemOf, tree_fits, tree_stands}
 use Rattle.entry_laws.proofs.Parts.{assigned_long, case_few, problem_fits}
 use Rattle.entry_laws.proofs.Numbers.{AreSerial, EachOf, IsOpenIn, open_found}

@@ -1,13 +1,12 @@
 -- No byte of a text of JSON is LF.
-use Rattle.std.proofs.Common.{◌≡◌, ◌≢◌, ℕ, zero, suc, ◌+◌, ◌<◌, Bool, true, false, ◌&&◌, nat_lt, List, [], ◌∷◌, ◌++◌, pos}
-use Rattle.std.proofs.Common.{negsuc, if◌then◌else◌, refl, arith}
-use Rattle.std.specs.List.{All}
+use Rattle.entry_laws.proofs.Common.{◌≡◌, ℕ, zero, suc, ◌+◌, ◌<◌, Bool, true, false, ◌&&◌, nat_lt, List, [], ◌∷◌, ◌++◌, if◌then◌else◌, refl, arith, All}
+use Rattle.entry_laws.proofs.Common.{and_both, lt_back, Data, string, array, unsigned, no_members, comma_if, compact_text, items_text, members_text}
+use Rattle.std.proofs.Common.{◌≢◌, pos}
+use Rattle.std.proofs.Common.{negsuc}
 use Rattle.std.specs.Fmt.{decimal, digits, digits_onto}
-use Rattle.basics.proofs.Booleans.{and_both, lt_back}
 use Rattle.json.specs.Print.{escape, escape_byte, quoted}
-use Rattle.serde_json.specs.Data.{Data, null, boolean, number, string, array, object, unsigned, negative, float, Items, no_items, item, Members, no_members}
+use Rattle.serde_json.specs.Data.{null, boolean, number, object, negative, float, Items, no_items, item, Members}
 use Rattle.serde_json.specs.Data.{member}
-use Rattle.serde_json.specs.Written.{comma_if, compact_text, items_text, members_text}
 use Rattle.wire_json.specs.Replies.{entry_data, entry_text}
 use Rattle.entry_laws.specs.Laws.{TextsAreLines}
 

@@ -1,39 +1,23 @@
 -- What is decided on in a state: a deed of what is asked, or a denial that stands for something, nests little and lists few roles.
-use Rattle.std.proofs.Common.{◌≡◌, ℕ, ◌<◌, ◌≤◌, List, length, Option, None, Some, Result, Ok, refl, arith}
-use Rattle.serde_json.specs.Data.{depth}
+use Rattle.entry_laws.proofs.Common.{◌≡◌, ℕ, ◌<◌, ◌≤◌, List, length, Option, None, Some, Result, Ok, refl, arith, depth, user_of, user_at, PolicyShape, flow_at}
+use Rattle.entry_laws.proofs.Common.{problem_of, CaseShape, state_at, Edit, Missing, Ask, Denial, assigned_with, first_falsified, permitted_roles, Amendment}
+use Rattle.entry_laws.proofs.Common.{amendment_of, Deed, State, numbered_case, cause_full, decision_of, IsOfPolicy, IsSoundState, Fares, user_known}
+use Rattle.entry_laws.proofs.Common.{denial_data, IsDenial, concerned, names_flat, flows_of}
 use Rattle.basics.specs.Laws.Reading.{check, or_fault}
-use Rattle.wf_names.specs.States.{user_of}
-use Rattle.constraint_forms.specs.Assign.{user_at}
-use Rattle.policy_book.specs.Laws.Shapes.{PolicyShape}
-use Rattle.policy_book.specs.Policies.{flow_at, problem_of}
-use Rattle.case_record.specs.Cases.{CaseShape, state_at}
 use Rattle.case_record.specs.Order.{first_missing}
-use Rattle.wf_talk.specs.declared.edit.Edit.{Edit}
-use Rattle.wf_talk.specs.declared.edit.Missing.{Missing}
 use Rattle.wf_talk.specs.declared.request.Request.TheVariants as request
-use Rattle.wf_talk.specs.declared.request.Ask.{Ask}
 use Rattle.wf_talk.specs.declared.request.Ask.TheVariants as ask
-use Rattle.wf_talk.specs.declared.reply.Denial.{Denial}
 use Rattle.wf_talk.specs.declared.reply.Denial.TheVariants as denial
-use Rattle.admin_edits.specs.ClaimCauses.{assigned_with, first_cause, first_falsified, permitted_roles}
-use Rattle.admin_edits.specs.declared.amendment.Amendment.{Amendment}
+use Rattle.admin_edits.specs.ClaimCauses.{first_cause}
 use Rattle.admin_edits.specs.declared.fault.EditCause.{EditCause}
-use Rattle.admin_edits.specs.Laws.Edits.{amendment_of, is_admin}
-use Rattle.wf_board.specs.declared.deed.Deed.{Deed}
+use Rattle.admin_edits.specs.Laws.Edits.{is_admin}
 use Rattle.wf_board.specs.declared.deed.Duty.{Duty}
 use Rattle.wf_board.specs.declared.deed.Deed.TheVariants as deed
-use Rattle.wf_board.specs.Laws.States.{State, numbered_case, flow_named, step_named, user_named}
+use Rattle.wf_board.specs.Laws.States.{flow_named, step_named, user_named}
 use Rattle.wf_board.specs.Resolve.{edit_denial, on_edit, on_step, open_case_at, resolve}
-use Rattle.wf_board.specs.Decisions.{cause_aside, cause_full, decision_of}
-use Rattle.wf_board.specs.Laws.Kept.{IsOfPolicy, IsSoundState}
+use Rattle.wf_board.specs.Decisions.{cause_aside}
 use Rattle.wf_board.proofs.Told.{place_within}
-use Rattle.wf_board.proofs.Faring.{Fares, IsCauseSo, check_fares, four_so, map_so, or_fares, then_fares, unless_fares, unless_so}
-use Rattle.wf_board.proofs.Within.{user_known}
-use Rattle.wire_json.specs.Replies.{denial_data}
-use Rattle.entry_reader.specs.Laws.Within.{IsDenial}
-use Rattle.entry_reader.specs.Laws.Lines.{concerned}
-use Rattle.entry_reader.proofs.PlainLines.{names_flat}
-use Rattle.entry_laws.specs.Laws.{flows_of}
+use Rattle.wf_board.proofs.Faring.{IsCauseSo, check_fares, four_so, map_so, or_fares, then_fares, unless_fares, unless_so}
 use Rattle.entry_laws.proofs.Parts.{falsified_there, missing_there, roles_few, roles_stand, state_nests, step_stands}
 use Rattle.entry_laws.proofs.Short.{HasFewRoles}
 

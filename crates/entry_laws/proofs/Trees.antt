@@ -1,24 +1,19 @@
 -- A tree that refutes stands for something, and nests three levels for each step that nobody has and one more.
-use Rattle.std.proofs.Common.{◌≡◌, ℕ, zero, suc, ◌+◌, ◌*◌, ◌<◌, ◌≤◌, ◌^◌, max, nat_lt, Bool, true, ◌&&◌, ◌==◌, List, [], ◌∷◌, length, Option, None, Some}
-use Rattle.std.proofs.Common.{slice_get, slice_set, refl, sym, ap, subst, arith}
+use Rattle.entry_laws.proofs.Common.{◌≡◌, ℕ, zero, suc, ◌+◌, ◌*◌, ◌<◌, ◌≤◌, ◌^◌, nat_lt, Bool, true, ◌&&◌, List, [], ◌∷◌, length, Option, None, Some, slice_get}
+use Rattle.entry_laws.proofs.Common.{refl, sym, ap, subst, arith, length-set, depth, items_depth, items_of, and_both, lt_back, STEP_LIMIT, Rule, user_at, Shape}
+use Rattle.entry_laws.proofs.Common.{Kids, holder, rule, no_kids, tree_kid, twin_kid, PolicyShape, flow_at, Problem, refutes, AllBelow, passing_all, tree_data}
+use Rattle.entry_laws.proofs.Common.{AreKids, IsTree}
+use Rattle.std.proofs.Common.{max, ◌==◌}
+use Rattle.std.proofs.Common.{slice_set}
 use Rattle.std.proofs.lemmas.Option.{slice_get_within}
-use Rattle.std.proofs.lemmas.List.{length-set}
-use Rattle.serde_json.specs.Data.{depth, items_depth}
-use Rattle.serde_json.specs.View.{items_of}
-use Rattle.basics.proofs.Booleans.{and_both, eq_back, lt_back}
-use Rattle.wf_names.specs.declared.limits.TheConstants.{STEP_LIMIT}
-use Rattle.constraint_forms.specs.declared.rule.Rule.{Rule}
-use Rattle.constraint_forms.specs.Assign.{user_at}
-use Rattle.refutation_tree.specs.Tree.{Shape, Kids, holder, rule, node, no_kids, tree_kid, twin_kid}
-use Rattle.policy_book.specs.Laws.Shapes.{PolicyShape}
-use Rattle.policy_book.specs.Policies.{flow_at}
-use Rattle.policy_book.specs.Laws.Plans.{Problem}
+use Rattle.basics.proofs.Booleans.{eq_back}
+use Rattle.refutation_tree.specs.Tree.{node}
 use Rattle.policy_book.specs.Laws.Twins.{are_twins, is_one_of}
-use Rattle.policy_book.specs.Laws.Refuting.{all_refute, authorised_users, have_users, is_broken, is_unassigned, refutes}
+use Rattle.policy_book.specs.Laws.Refuting.{all_refute, authorised_users, have_users, is_broken, is_unassigned}
 use Rattle.certificate_check.proofs.Assigned.{not_some}
-use Rattle.wf_board.proofs.Below.{AllBelow, one_below, passing_all}
-use Rattle.wire_json.specs.Trees.{branches_data, tree_data}
-use Rattle.entry_reader.specs.Laws.Within.{AreKids, IsStepOf, IsTree}
+use Rattle.wf_board.proofs.Below.{one_below}
+use Rattle.wire_json.specs.Trees.{branches_data}
+use Rattle.entry_reader.specs.Laws.Within.{IsStepOf}
 
 -- ---- steps that nobody has
 
