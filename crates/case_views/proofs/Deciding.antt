@@ -1,6 +1,6 @@
 -- What the decider finds on a deed.
-use Rattle.std.proofs.Common.{◌≡◌, ℕ, ◌<◌, Bool, true, false, List, length, Option, Result, Ok, Err, IfOk, MatchResult, refl, sym, ap}
-use Rattle.std.proofs.Common.{subst, ◌∙◌, inl, inr}
+use Rattle.std.proofs.Common.{◌≡◌, ℕ, ◌<◌, Bool, true, List, length, Option, Result, IfOk, MatchResult, sym, arith}
+use Rattle.std.proofs.Common.{◌∙◌}
 use Rattle.refutation_tree.specs.declared.tree.Tree.{Tree}
 use Rattle.constraint_forms.specs.Assign.{no_steps, no_users}
 use Rattle.policy_book.specs.Laws.Shapes.{PolicyShape}
@@ -18,15 +18,12 @@ use Rattle.wf_board.specs.declared.deed.Duty.{Duty}
 use Rattle.wf_board.specs.declared.verdict.Verdict.{Verdict}
 use Rattle.wf_board.specs.declared.verdict.Verdict.TheVariants as verdict
 use Rattle.wf_board.specs.Laws.States.{Book}
-use Rattle.wf_board.specs.Decisions.{needs_plan}
-use Rattle.std.proofs.lemmas.Bool.{false≢true}
 use Rattle.wf_board.specs.Laws.Kept.{IsOfPolicy}
 use Rattle.wf_board.proofs.Within.{claimed_within, planned_within}
 use Rattle.wf_board.proofs.Exact.{finished_assigned}
 use Rattle.admin_edits.specs.declared.amendment.Amendment.{Amendment}
 use Rattle.wf_board.specs.Deeds.{DecidesDeed, is_over_open}
 use Rattle.basics.specs.declared.fault.Fault.{Fault}
-use Rattle.basics.specs.declared.fault.Fault.TheVariants as fault
 use Rattle.wsp_solver.specs.declared.search.OverBudget.{OverBudget}
 use Rattle.case_views.specs.Found.{IsOffer}
 use Rattle.case_views.specs.Deciding.{DecidesChange, DecidesFor, IsVerdictOf, verdict_without}
@@ -45,61 +42,33 @@ search_assigned c t u below = still_assigned (finished_of c) (assigned_of c) t u
 
 -- what a search found is a verdict
 pub verdict_decides : (p : Problem) (a : List (Option ℕ)) (d : List Bool) (o : Outcome) (v : Verdict) → HasSolved p a d o → IsVerdictOf o v → DecidesFor p a d v
-verdict_decides p a d (outcome.Plan plan) v found is = subst (DecidesFor p a d) (sym is) found
-verdict_decides p a d (outcome.Refuted tree) v found (inl is) = subst (DecidesFor p a d) (sym is) found.refutes
-verdict_decides p a d (outcome.Refuted tree) v found (inr is) = subst (DecidesFor p a d) (sym is) tt
+verdict_decides p a d o v found is = grind arith
 
 -- a tree is a verdict where there was memory to hand it on
 pub tree_verdict : {E : Type 0} (tree : Tree) (made : Result Tree E) (v : Verdict) → IfOk made (λ t. t ≡ tree) →
     MatchResult made (λ t. v ≡ verdict.Refuted t) (λ _. v ≡ verdict.NoMemory) → IsVerdictOf (outcome.Refuted tree) v
-tree_verdict tree (Ok t) v is told = inl (told ∙ ap verdict.Refuted is)
-tree_verdict tree (Err e) v is told = inr told
+tree_verdict tree made v is told = grind arith
 
 -- what was not found out is one of two verdicts
 pub unfound_is : (Q : Verdict → Type 0) (u : Fault OverBudget) (v : Verdict) → v ≡ verdict_without u → Q verdict.NoMemory → Q verdict.OverBudget → Q v
-unfound_is Q fault.NoMemory v is memory budget = subst Q (sym is) memory
-unfound_is Q (fault.Cause _) v is memory budget = subst Q (sym is) budget
+unfound_is Q u v is memory budget = grind arith
 
 -- a verdict on an opening
 pub decides_open : (b : Book) (f : ℕ) (v : Verdict) → DecidesFor (problem_of b.policy f) no_users no_steps v → DecidesDeed b (deed.Open f) v
-decides_open b f verdict.NoMemory h = record { fits = tt; nothing = λ e. cc; something = λ e same. cc }
-decides_open b f verdict.OverBudget h = record { fits = tt; nothing = λ e. cc; something = λ e same. cc }
-decides_open b f (verdict.Plan plan) h = record { fits = h; nothing = λ e. cc; something = λ e same. cc }
-decides_open b f (verdict.Refuted tree) h = record { fits = h; nothing = λ e. cc; something = λ e same. cc }
-decides_open b f v h = absurd h
+decides_open b f v h = grind arith
 
 -- a verdict on a claim
 pub decides_claim : (b : Book) (d : Duty) (v : Verdict) →
     DecidesFor (problem_of b.policy d.case.flow) (assigned_with d.case d.step d.user) (finished_of d.case) v → DecidesDeed b (deed.Claim d) v
-decides_claim b d verdict.NoMemory h = record { fits = tt; nothing = λ e. cc; something = λ e same. cc }
-decides_claim b d verdict.OverBudget h = record { fits = tt; nothing = λ e. cc; something = λ e same. cc }
-decides_claim b d (verdict.Plan plan) h = record { fits = h; nothing = λ e. cc; something = λ e same. cc }
-decides_claim b d (verdict.Refuted tree) h = record { fits = h; nothing = λ e. cc; something = λ e same. cc }
-decides_claim b d v h = absurd h
+decides_claim b d v h = grind arith
 
 -- a verdict on a change of the policy
 decides_change : (b : Book) (a : Amendment) (v : Verdict) → DecidesChange b a v → DecidesDeed b (deed.Change a) v
-decides_change b a verdict.NoMemory h = record { fits = tt; nothing = λ e. cc; something = λ e same. cc }
-decides_change b a verdict.OverBudget h = record { fits = tt; nothing = λ e. cc; something = λ e same. cc }
-decides_change b a (verdict.Edited edition) h = record { fits = h; nothing = λ e. cc; something = λ e same. cc }
-decides_change b a (verdict.Strands n tree) h = record { fits = h; nothing = λ e. cc; something = λ e same. cc }
-decides_change b a v h = absurd h
+decides_change b a v h = grind arith
 
 pub change_listed : (b : Book) (a : Amendment) (r : Result Verdict (Fault OverBudget)) → IfOk r (DecidesChange b a) → IfOk r (DecidesDeed b (deed.Change a))
-change_listed b a (Ok v) is = decides_change b a v is
-change_listed b a (Err e) is = tt
-
-over_needs : (d : Deed) → is_over_open d ≡ true → needs_plan d ≡ true
-over_needs (deed.Change a) over = refl
-over_needs (deed.Work u) over = refl
-over_needs (deed.WhatIf a) over = refl
-over_needs d over = absurd (false≢true over)
+change_listed b a r is = grind (arith, decides_change)
 
 -- what was not found out over the open cases decides
 pub unfound_decides : (b : Book) (d : Deed) (u : Fault OverBudget) (v : Verdict) → is_over_open d ≡ true → v ≡ verdict_without u → DecidesDeed b d v
-unfound_decides b d u v over is = unfound_is (DecidesDeed b d) u v is
-    record { fits = tt; nothing = λ none. absurd (needed none); something = λ e same. cc }
-    record { fits = tt; nothing = λ none. absurd (needed none); something = λ e same. cc }
-  where
-    needed : needs_plan d ≡ false → ⊥
-    needed none = false≢true (sym none ∙ over_needs d over)
+unfound_decides b d u v over is = grind arith

@@ -1,7 +1,7 @@
 -- What a change of the policy leaves the open cases.
-use Rattle.std.proofs.Common.{◌≡◌, ℕ, ◌+◌, ◌<◌, inl, inr, Bool, true, false, List, [], ◌∷◌, ◌++◌, length, take, drop, get_or, Option, None, Some}
+use Rattle.std.proofs.Common.{◌≡◌, ℕ, ◌+◌, ◌<◌, Bool, true, List, [], ◌∷◌, ◌++◌, length, take, drop, get_or, Option, arith}
 use Rattle.std.proofs.Common.{refl, sym, ap, subst, ◌∙◌}
-use Rattle.std.proofs.lemmas.List.{append_assoc, append-nil, take-append-drop}
+use Rattle.std.proofs.lemmas.List.{append-nil, take-append-drop}
 use Rattle.basics.proofs.Booleans.{bool_cases}
 use Rattle.basics.proofs.Lists.{take_next}
 use Rattle.refutation_tree.specs.declared.tree.Tree.{Tree}
@@ -15,7 +15,6 @@ use Rattle.wf_board.specs.Boards.{numbered}
 use Rattle.wf_board.specs.Edition.{ArePlansOf, IsFirstStranded, IsPlanOf, IsTreeOf}
 use Rattle.wf_board.specs.Laws.States.{Numbered}
 use Rattle.wsp_solver.specs.declared.search.Outcome.{Outcome}
-use Rattle.wsp_solver.specs.declared.search.Outcome.TheVariants as outcome
 use Rattle.case_views.specs.Deciding.{AddsPlanOfRow, IsPartAdded}
 use Rattle.case_views.specs.Listing.{IsLeftAt, open_in}
 
@@ -23,41 +22,29 @@ use Rattle.case_views.specs.Listing.{IsLeftAt, open_in}
 pub said_same : (P : Problem → List (Option ℕ) → List Bool → Type 0) (p : PolicyShape) (f g : ℕ) (a b : List (Option ℕ)) (d e : List Bool) → g ≡ f → b ≡ a →
     e ≡ d
     → P (problem_of p g) b e → P (problem_of p f) a d
-said_same P p f g a b d e flow assigned done h =
-    subst (λ x. P (problem_of p x) a d) flow
-    (subst (λ x. P (problem_of p g) x d) assigned
-    (subst (λ x. P (problem_of p g) b x) done h))
+said_same P p f g a b d e flow assigned done h = grind arith
 
 -- ---- rows
 
 -- with one more row in front
 pub open_cons : (r : Row) (rs : List Row) → open_in (r ∷ rs) ≡ open_in (r ∷ []) ++ open_in rs
-open_cons r rs = elim (bool_cases (is_open r.case)) [
-  | inl live ↦ rw live refl
-  | inr closed ↦ rw closed refl
-]
+open_cons r rs = grind (arith, bool_cases)
 
 -- the open cases of two lists of rows
 pub open_append : (xs ys : List Row) → open_in (xs ++ ys) ≡ open_in xs ++ open_in ys
 open_append [] ys = refl
-open_append (r ∷ rs) ys =
-    open_cons r (rs ++ ys) ∙ ap (λ es. open_in (r ∷ []) ++ es) (open_append rs ys) ∙ sym (append_assoc (open_in (r ∷ [])) (open_in rs) (open_in ys))
-    ∙ ap (λ es. es ++ open_in ys) (sym (open_cons r rs))
+open_append (r ∷ rs) ys = grind (arith, (open_append rs ys))
 
 -- plans for two lists of cases
 plans_append : (p : PolicyShape) (es fs : List Numbered) (ps qs : List (List ℕ)) → ArePlansOf p es ps → ArePlansOf p fs qs → ArePlansOf p (es ++ fs) (ps ++ qs)
-plans_append p [] fs [] qs first second = second
-plans_append p [] fs (plan ∷ ps) qs first second = absurd first
-plans_append p (e ∷ es) fs [] qs first second = absurd first
-plans_append p (e ∷ es) fs (plan ∷ ps) qs first second = (first.0, plans_append p es fs ps qs first.1 second)
+plans_append p [] fs ps qs first second = grind arith
+plans_append p (e ∷ es) fs ps qs first second = grind (arith, (plans_append p es))
 
 -- where the cases before it have plans, a case without one is the first
 stranded_after : (p : PolicyShape) (es fs : List Numbered) (ps : List (List ℕ)) (e : Numbered) (tree : Tree) → ArePlansOf p es ps → IsTreeOf p e.case tree →
     IsFirstStranded p (es ++ e ∷ fs) e.number e.case.flow tree
-stranded_after p [] fs [] e tree plans shows = inl (refl, (refl, shows))
-stranded_after p [] fs (plan ∷ ps) e tree plans shows = absurd plans
-stranded_after p (x ∷ es) fs [] e tree plans shows = absurd plans
-stranded_after p (x ∷ es) fs (plan ∷ ps) e tree plans shows = inr ((plan, plans.0), stranded_after p es fs ps e tree plans.1 shows)
+stranded_after p [] fs ps e tree plans shows = grind arith
+stranded_after p (x ∷ es) fs ps e tree plans shows = grind (arith, (stranded_after p es))
 
 -- plans for the rows so far, with those for one more
 pub plans_more : (p : PolicyShape) (rows : List Row) (i : ℕ) (r : Row) (ps more all : List (List ℕ)) → i < length rows → r ≡ get_or rows i r →
@@ -84,14 +71,7 @@ stranded_here p rows i r ps tree below is plans live shows =
 pub one_plan : (p : PolicyShape) (r : Row) (plan : List ℕ) → is_open r.case ≡ true → IsPlanOf p r.case plan → ArePlansOf p (open_in (r ∷ [])) (plan ∷ [])
 one_plan p r plan live valid = rw live (valid, tt)
 
-pub no_plan : (p : PolicyShape) (r : Row) → is_open r.case ≡ false → ArePlansOf p (open_in (r ∷ [])) []
-no_plan p r closed = rw closed tt
-
 -- what is left of the case of a row is what is added for it
 pub added_of : (p : PolicyShape) (r : Row) (left : Option Outcome) (tree : Option Tree) (before after : List (List ℕ)) → IsLeftAt p r left →
     IsPartAdded left before after tree → AddsPlanOfRow p r before after tree
-added_of p r None tree before after left added =
-    subst (AddsPlanOfRow p r before after) (sym added.0) ([], (added.1 ∙ sym (append-nil before), no_plan p r left))
-added_of p r (Some (outcome.Plan plan)) tree before after left added =
-    subst (AddsPlanOfRow p r before after) (sym added.0) (plan ∷ [], (added.1, one_plan p r plan left.0 left.1))
-added_of p r (Some (outcome.Refuted shown)) tree before after left added = subst (AddsPlanOfRow p r before after) (sym added) (left.0, left.1.refutes)
+added_of p r left tree before after h6 added = grind (arith, append-nil, one_plan)

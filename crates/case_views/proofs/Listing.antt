@@ -1,18 +1,17 @@
 -- What views list of rows, one row after the other.
 use Rattle.std.proofs.Common.{◌≡◌, ℕ, zero, suc, ◌+◌, ◌<◌, true, false, Bool, List, [], ◌∷◌, ◌++◌, length, take, get_or}
-use Rattle.std.proofs.Common.{Option, None, Some, refl, sym, ap, subst, ◌∙◌, arith}
+use Rattle.std.proofs.Common.{Option, None, sym, ap, subst, ◌∙◌, arith}
 use Rattle.std.specs.Prelude.{MatchBool, is_some, option_map}
 use Rattle.std.proofs.lemmas.List.{append-nil}
 use Rattle.basics.proofs.Lists.{take_next}
 use Rattle.wf_names.specs.States.{user_of}
 use Rattle.wf_names.specs.declared.states.StepState.{StepState}
-use Rattle.wf_names.specs.declared.states.StepState.TheVariants.{Free, Held, Finished}
-use Rattle.refutation_tree.specs.Laws.Views.{shape_of}
+use Rattle.wf_names.specs.declared.states.StepState.TheVariants.{Free}
 use Rattle.policy_book.specs.Laws.Shapes.{PolicyShape}
 use Rattle.policy_book.specs.Policies.{problem_of}
 use Rattle.policy_book.specs.Laws.Plans.{IsWellFormed}
 use Rattle.certificate_check.proofs.Refuted.{refutes_soundly}
-use Rattle.case_record.specs.Cases.{CaseShape, finished_of, state_at}
+use Rattle.case_record.specs.Cases.{CaseShape, finished_of}
 use Rattle.grant_table.specs.declared.rows.Row.{Row}
 use Rattle.wf_talk.specs.declared.reply.Denial.{Denial}
 use Rattle.wf_talk.specs.declared.reply.Denial.TheVariants.{Taken}
@@ -20,15 +19,14 @@ use Rattle.wf_talk.specs.declared.reply.WorkItem.{WorkItem}
 use Rattle.admin_edits.specs.ClaimCauses.{assigned_with, first_cause, first_of}
 use Rattle.wsp_solver.specs.Searches.{HasSolved}
 use Rattle.wsp_solver.specs.declared.search.Outcome.{Outcome}
-use Rattle.wsp_solver.specs.declared.search.Outcome.TheVariants as outcome
 use Rattle.wf_board.specs.Edition.{CanBeCompleted}
-use Rattle.wf_board.specs.Laws.Kept.{ArePlanned, EachRow, IsOfPolicy, IsPlanned}
+use Rattle.wf_board.specs.Laws.Kept.{ArePlanned, EachRow}
 use Rattle.wf_board.specs.Laws.States.{Numbered}
 use Rattle.wf_board.specs.Views.{AreThose, IsGrantable, Place, item_of, steps_from, steps_of}
 use Rattle.wf_board.proofs.Exact.{claimed_assigned}
 use Rattle.case_views.specs.Listing.{AreGrantable, AreStrandedIn, HasListed, IsKeptRow, IsWorkIn, is_plan, open_in}
 use Rattle.case_views.proofs.Editing.{open_append}
-use Rattle.case_views.proofs.Lists.{none_those, one_those, place, steps_append, steps_more, those_append}
+use Rattle.case_views.proofs.Lists.{place, steps_append, steps_more, those_append}
 
 -- what holds of each row holds of one of them
 each_in : (P : Row → Type 0) (rows : List Row) (i : ℕ) (r : Row) → i < length rows → r ≡ get_or rows i r → EachRow P rows → P r
@@ -38,26 +36,13 @@ each_in P (x ∷ xs) (suc i) r below is each = each_in P xs i r (omega arith) is
 
 -- one row of a table that is kept is kept
 pub kept_row : (p : PolicyShape) (rows : List Row) (i : ℕ) (r : Row) → i < length rows → r ≡ get_or rows i r → ArePlanned p rows → IsKeptRow p r
-kept_row p rows i r below is kept = record {
-  known = each_in (λ x. IsOfPolicy p x.case) rows i r below is kept.cases;
-  planned = each_in (λ x. IsPlanned p x.case x.plan) rows i r below is kept.plans;
-}
-
--- ---- work lists
-
--- the step would be granted, or not
-abbrev pub granted : PolicyShape → ℕ → Place → Type 0
-granted p u x = IsGrantable p x.of.case x.step u
-
-abbrev pub refused : PolicyShape → ℕ → Place → Type 0
-refused p u x = ¬ IsGrantable p x.of.case x.step u
+kept_row p rows i r below is kept = grind (arith, each_in)
 
 -- the work of two lists of steps
 pub granted_append : (p : PolicyShape) (u : ℕ) (xs ys : List Place) (ns ms all : List WorkItem) → AreGrantable p u xs ns → AreGrantable p u ys ms →
     all ≡ ns ++ ms →
     AreGrantable p u (xs ++ ys) all
-granted_append p u xs ys ns ms all first second same =
-    subst (AreGrantable p u (xs ++ ys)) (sym same) (those_append (granted p u) (refused p u) item_of xs ys ns ms first second)
+granted_append p u xs ys ns ms all first second same = grind (arith, those_append)
 
 -- the work in the rows so far, with that in one more
 pub work_more : (p : PolicyShape) (u : ℕ) (rows : List Row) (i : ℕ) (r : Row) (ns ms all : List WorkItem) → i < length rows → r ≡ get_or rows i r →
@@ -70,35 +55,25 @@ work_more p u rows i r ns ms all below is first second same =
 
 -- a step of which nobody is told to have it is free
 free_of : (x : StepState) (rest : List (Option Denial)) → first_of (option_map Taken (user_of x) ∷ rest) ≡ None → x ≡ Free
-free_of Free rest clear = refl
-free_of (Held v) rest clear = cc
-free_of (Finished v) rest clear = cc
+free_of x rest clear = grind arith
 
 -- where nothing is against a claim, what was found of its case tells whether it would be granted
 pub told_by : (p : PolicyShape) (c : CaseShape) (t u : ℕ) (o : Outcome) → IsWellFormed (problem_of p c.flow) → first_cause p c t u ≡ None →
     HasSolved (problem_of p c.flow) (assigned_with c t u) (finished_of c) o → MatchBool (is_plan o) (IsGrantable p c t u) (¬ IsGrantable p c t u)
-told_by p c t u (outcome.Plan plan) well clear found = record { clear = clear; completable = (plan, found) }
-told_by p c t u (outcome.Refuted tree) well clear found = λ grantable.
-    refutes_soundly (problem_of p c.flow) (assigned_with c t u) (finished_of c) (shape_of tree) well
-    (claimed_assigned c t u (free_of (state_at c t) _ clear)) found.refutes grantable.completable
+told_by p c t u o well clear found = grind (arith, refutes_soundly, claimed_assigned, free_of)
 
 -- where there is no cause
 pub clear_of : (o : Option Denial) → is_some o ≡ false → o ≡ None
-clear_of None is = refl
-clear_of (Some d) is = cc
+clear_of o is = grind arith
 
 -- a step that would be granted is listed, another is not
 pub granted_item : (p : PolicyShape) (u : ℕ) (e : Numbered) (t : ℕ) (c : CaseShape) (b : Bool) (before after : List WorkItem) → b ≡ true → c ≡ e.case →
     MatchBool b (IsGrantable p c t u) (¬ IsGrantable p c t u) → after ≡ before ++ item_of (place e t) ∷ [] → HasListed p u (place e t) before after
-granted_item p u e t c b before after is same told added =
-    let grantable = subst (λ x. IsGrantable p x t u) same (subst (λ x. MatchBool x (IsGrantable p c t u) (¬ IsGrantable p c t u)) is told) in
-    (item_of (place e t) ∷ [], (added, one_those (granted p u) (refused p u) item_of (place e t) grantable))
+granted_item p u e t c b before after is same told added = grind arith
 
 pub refused_item : (p : PolicyShape) (u : ℕ) (e : Numbered) (t : ℕ) (c : CaseShape) (b : Bool) (items : List WorkItem) → b ≡ false → c ≡ e.case →
     MatchBool b (IsGrantable p c t u) (¬ IsGrantable p c t u) → HasListed p u (place e t) items items
-refused_item p u e t c b items is same told =
-    let not = subst (λ x. ¬ IsGrantable p x t u) same (subst (λ x. MatchBool x (IsGrantable p c t u) (¬ IsGrantable p c t u)) is told) in
-    ([], (sym (append-nil items), none_those (granted p u) (refused p u) item_of (place e t) not))
+refused_item p u e t c b items is same told = grind (arith, append-nil)
 
 -- the steps so far, with one more
 pub step_more : (p : PolicyShape) (u : ℕ) (e : Numbered) (t : ℕ) (before after : List WorkItem) → AreGrantable p u (steps_from e t 0) before →

@@ -1,6 +1,6 @@
 -- What a list gives, row by row, where threads share it.
-use Rattle.std.proofs.Common.{◌≡◌, ℕ, zero, suc, ◌+◌, ◌<◌, List, [], ◌∷◌, ◌++◌, length, take, map, get_or, Option, None, Some, Result, Ok, Err, IfOk}
-use Rattle.std.proofs.Common.{MatchResult, refl, sym, ap, subst, ◌∙◌, arith}
+use Rattle.std.proofs.Common.{◌≡◌, ℕ, zero, suc, ◌+◌, ◌<◌, List, [], ◌∷◌, length, take, map, get_or, Option, None, Some, Result, Ok, Err, IfOk}
+use Rattle.std.proofs.Common.{MatchResult, sym, subst, arith}
 use Rattle.std.specs.Borrow.{Bor}
 use Rattle.std.specs.List.{AllZip, Contains, flat_map}
 use Rattle.rayon.proofs.ToStd.{slice-AllZip}
@@ -10,18 +10,16 @@ use Rattle.grant_table.specs.declared.rows.Row.{Row}
 use Rattle.wf_talk.specs.declared.reply.WorkItem.{WorkItem}
 use Rattle.wsp_solver.specs.declared.search.Outcome.{Outcome}
 use Rattle.wf_board.specs.Edition.{ArePlansOf, IsFirstStranded}
-use Rattle.wf_board.specs.Views.{AreThose, steps_of}
 use Rattle.case_views.specs.Deciding.{IsPartAdded}
-use Rattle.case_views.specs.Listing.{AreGrantable, AreStrandedIn, IsLeftAt, IsWorkIn, list_of, open_in}
+use Rattle.case_views.specs.Listing.{AreStrandedIn, IsLeftAt, IsWorkIn, list_of, open_in}
 use Rattle.case_views.proofs.Editing.{added_of, open_cons, plans_more, stranded_here}
-use Rattle.case_views.proofs.Listing.{granted_append, kept, stranded}
-use Rattle.case_views.proofs.Lists.{steps_append, those_append}
+use Rattle.case_views.proofs.Listing.{granted_append}
+use Rattle.case_views.proofs.Lists.{steps_append}
 
 -- where every result is a value, the values are told as the results are
 values_told : {X Y : Type 0} (E : Type 0) (Q : X → Y → Type 0) (xs : List X) (ys : List Y) → AllZip (λ x (r : Result Y E). IfOk r (Q x)) xs (map Ok ys) →
     AllZip Q xs ys
-values_told E Q [] [] each = tt
-values_told E Q [] (y ∷ ys) each = absurd each
+values_told E Q [] ys each = grind arith
 values_told E Q (x ∷ xs) [] each = absurd each
 values_told E Q (x ∷ xs) (y ∷ ys) each = (each.0, values_told E Q xs ys each.1)
 
@@ -49,26 +47,16 @@ zip_at Q (a ∷ xs) (b ∷ ys) (suc i) x y below one other each = zip_at Q xs ys
 -- the work in rows is that in one after the other
 pub work_joined : (p : PolicyShape) (u : ℕ) (rows : List Row) (parts : List (List WorkItem)) → AllZip (λ r part. IsWorkIn p u (r ∷ []) part) rows parts →
     IsWorkIn p u rows (flat_map (λ part. part) parts)
-work_joined p u [] [] each = refl
-work_joined p u [] (part ∷ parts) each = absurd each
+work_joined p u [] parts each = grind arith
 work_joined p u (r ∷ rs) [] each = absurd each
-work_joined p u (r ∷ rs) (part ∷ parts) each =
-    let places : steps_of (open_in (r ∷ rs)) ≡ steps_of (open_in (r ∷ [])) ++ steps_of (open_in rs) =
-    ap steps_of (open_cons r rs) ∙ steps_append (open_in (r ∷ [])) (open_in rs) in
-    subst (λ l. AreGrantable p u l (part ++ flat_map (λ l. l) parts)) (sym places)
-    (granted_append p u (steps_of (open_in (r ∷ []))) (steps_of (open_in rs)) part (flat_map (λ l. l) parts) (part ++ flat_map (λ l. l) parts) each.0
-    (work_joined p u rs parts each.1) refl)
+work_joined p u (r ∷ rs) (part ∷ parts) each = grind (arith, open_cons, steps_append, granted_append, (work_joined p u rs parts each.1))
 
 -- and so are the stranded cases
 pub stranded_joined : (p : PolicyShape) (rows : List Row) (parts : List (Option ℕ)) → AllZip (λ r part. AreStrandedIn p (r ∷ []) (list_of part)) rows parts →
     AreStrandedIn p rows (flat_map list_of parts)
-stranded_joined p [] [] each = refl
-stranded_joined p [] (part ∷ parts) each = absurd each
+stranded_joined p [] parts each = grind arith
 stranded_joined p (r ∷ rs) [] each = absurd each
-stranded_joined p (r ∷ rs) (part ∷ parts) each =
-    subst (λ es. AreThose (stranded p) (kept p) (λ e. e.number) es (list_of part ++ flat_map list_of parts)) (sym (open_cons r rs))
-    (those_append (stranded p) (kept p) (λ e. e.number) (open_in (r ∷ [])) (open_in rs) (list_of part) (flat_map list_of parts) each.0
-    (stranded_joined p rs parts each.1))
+stranded_joined p (r ∷ rs) (part ∷ parts) each = grind (arith, (stranded_joined p rs parts each.1))
 
 -- ---- edits
 
@@ -79,15 +67,11 @@ HavePlans rows parts i plans = (p : PolicyShape) → AllZip (IsLeftAt p) rows pa
 pub left_more : (rows : List Row) (parts : List (Option Outcome)) (i : ℕ) (r : Row) (part : Option Outcome) (plans all : List (List ℕ)) → i < length rows →
     r ≡ get_or rows i r → part ≡ get_or parts i part →
     HavePlans rows parts i plans → IsPartAdded part plans all None → HavePlans rows parts (i + 1) all
-left_more rows parts i r part plans all below row is so_far added p each =
-    let more = added_of p r part None plans all (zip_at (IsLeftAt p) rows parts i r part below row is each) added in
-    plans_more p rows i r plans more.0 all below row (so_far p each) more.1.1 more.1.0
+left_more rows parts i r part plans all below row is so_far added = grind (arith, added_of, zip_at, plans_more)
 
 -- or one is the first without
 pub left_here : (rows : List Row) (parts : List (Option Outcome)) (i : ℕ) (r : Row) (part : Option Outcome) (plans all : List (List ℕ)) (tree : Tree) →
     i < length rows → r ≡ get_or rows i r → part ≡ get_or parts i part →
     HavePlans rows parts i plans → IsPartAdded part plans all (Some tree) → (p : PolicyShape) → AllZip (IsLeftAt p) rows parts →
     IsFirstStranded p (open_in rows) r.number r.case.flow tree
-left_here rows parts i r part plans all tree below row is so_far added p each =
-    let none = added_of p r part (Some tree) plans all (zip_at (IsLeftAt p) rows parts i r part below row is each) added in
-    stranded_here p rows i r plans tree below row (so_far p each) none.0 none.1
+left_here rows parts i r part plans all tree below row is so_far added p each = grind (arith, added_of, zip_at, stranded_here)

@@ -1,6 +1,6 @@
 -- A line end behind what is printed changes no token.
 use Rattle.std.proofs.Common.{◌≡◌, ℕ, Bool, true, false, cond, List, [], ◌∷◌, ◌++◌, refl, sym, ap, ◌∙◌, append_assoc, append-nil, arith}
-use Rattle.json.specs.Token.{Token, begin_object, end_object, begin_array, end_array, key, string, number, boolean, null, bad}
+use Rattle.json.specs.Token.{Token, string}
 use Rattle.json.specs.Word.{ends_word, word}
 use Rattle.json.specs.Lex.{token, lex, between, fresh, punctuate, tokens}
 use Rattle.json.specs.Print.{quoted, token_text, ends, print_from, print, IsPrintable, ArePrintable}
@@ -15,16 +15,7 @@ line_end = 10 ∷ []
 value_ends : (ts : List Token) (more : List ℕ) → ends_word more ≡ true → ends_word (print_from true ts ++ more) ≡ true
 unfolding print_from
 value_ends [] more h = h
-value_ends (begin_object ∷ ts) more h = refl
-value_ends (end_object ∷ ts) more h = refl
-value_ends (begin_array ∷ ts) more h = refl
-value_ends (end_array ∷ ts) more h = refl
-value_ends (key s ∷ ts) more h = refl
-value_ends (string s ∷ ts) more h = refl
-value_ends (number s ∷ ts) more h = refl
-value_ends (boolean b ∷ ts) more h = refl
-value_ends (null ∷ ts) more h = refl
-value_ends (bad ∷ ts) more h = refl
+value_ends ts more h = grind arith
 
 value_ends_alone : (ts : List Token) → ends_word (print_from true ts) ≡ true
 value_ends_alone ts = ap ends_word (sym (append-nil (print_from true ts))) ∙ value_ends ts [] refl

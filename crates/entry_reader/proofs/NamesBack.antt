@@ -1,6 +1,6 @@
 -- Names are read as the numbers that they were written for.
-use Rattle.std.proofs.Common.{◌≡◌, ℕ, ◌<◌, List, [], length, true, Bool, sym, ap, ◌∙◌, IsUtf8, arith}
-use Rattle.std.specs.Prelude.{Some, None, slice_get, slice_index_or, nat_eq, if◌then◌else◌}
+use Rattle.std.proofs.Common.{◌≡◌, ℕ, ◌<◌, List, [], length, true, sym, ap, ◌∙◌, IsUtf8, arith}
+use Rattle.std.specs.Prelude.{Some, slice_get, slice_index_or, nat_eq}
 use Rattle.std.specs.Cmp.Lexicographic.{pointwise, bytes_decides}
 use Rattle.std.proofs.lemmas.Option.{slice_get-get_or}
 use Rattle.std.proofs.lemmas.List.Quantifiers.{position-Some}
@@ -11,7 +11,7 @@ use Rattle.wf_names.proofs.NameForms.{name_utf8}
 use Rattle.wire_json.specs.Entries.{named}
 use Rattle.wf_names.specs.Table.{AreNames}
 use Rattle.entry_reader.specs.Values.{name_read, number_read}
-use Rattle.entry_reader.proofs.Readings.{and_then_some, none_some, some_same}
+use Rattle.entry_reader.proofs.Readings.{and_then_some}
 
 -- the name with a number of a table
 there : (names : List (List ℕ)) (n : ℕ) → n < length names → slice_get names n ≡ Some (slice_index_or names n [])
@@ -31,11 +31,8 @@ pub record IsNameText (d : Data) (text : List ℕ) : Type 0 where
   pub is : d ≡ string text
   pub form : is_name text ≡ true
 
-if_name : (b : Bool) (s text : List ℕ) → is_name s ≡ b → (if b then Some s else None) ≡ Some text → IsNameText (string s) text
-if_name b s text h e = grind (arith, some_same, none_some)
-
 pub name_text : (d : Data) (text : List ℕ) → name_read d ≡ Some text → IsNameText d text
-name_text d text e = grind (arith, none_some, if_name)
+name_text d text e = grind arith
 
 -- what is read as a number is the name with that number
 pub record IsNumbered (names : List (List ℕ)) (d : Data) (n : ℕ) : Type 0 where

@@ -1,5 +1,5 @@
 -- A line that is the text of an entry of a plain reply.
-use Rattle.std.proofs.Common.{◌≡◌, ℕ, zero, suc, ◌<◌, ◌≤◌, ◌^◌, List, [], ◌∷◌, map, max, refl, ap, arith, true, ltb-true}
+use Rattle.std.proofs.Common.{◌≡◌, ℕ, ◌<◌, ◌≤◌, ◌^◌, List, [], ◌∷◌, map, max, refl, ap, arith, true, ltb-true}
 use Rattle.std.specs.Prelude.{nat_lt, Option, Some}
 use Rattle.std.specs.List.{All, list_all}
 use Rattle.serde_json.specs.Data.{depth, items_depth}
@@ -23,8 +23,7 @@ use Rattle.entry_reader.proofs.LinesBack.{line_reply, line_place}
 -- where a test passes for each item, it holds of each place
 pub all_within : (n : ℕ) (xs : List ℕ) → list_all (λ x. nat_lt x n) xs ≡ true → All (λ x. x < n) xs
 all_within n [] e k d lt = absurd (omega (arith, lt))
-all_within n (x ∷ xs) e zero d lt = ltb-true x n (and_both (nat_lt x n) (list_all (λ y. nat_lt y n) xs) e).0
-all_within n (x ∷ xs) e (suc k) d lt = all_within n xs (and_both (nat_lt x n) (list_all (λ y. nat_lt y n) xs) e).1 k d (omega (arith, lt))
+all_within n (x ∷ xs) e h3 d lt = grind (arith, ltb-true, and_both, (all_within n xs))
 
 -- names nest in nothing
 pub names_flat : (names : List (List ℕ)) (ns : List ℕ) → items_depth (items_of (map (named names) ns)) ≡ 0

@@ -27,7 +27,7 @@ use Rattle.serde_json.proofs.Texts.{print-outline}
 use Rattle.wire_json.specs.Values.{value_of}
 use Rattle.wire_json.proofs.Values.{value_of_utf8}
 use Rattle.entry_reader.proofs.Ended.{line_end, tokens_of_line}
-use Rattle.entry_reader.proofs.Readings.{and_then_some, none_some, some_same}
+use Rattle.entry_reader.proofs.Readings.{and_then_some, some_same}
 
 -- a key is greater than each key of some members
 abbrev goes_last : List ℕ → Members → Bool
@@ -203,7 +203,7 @@ line_back d h shallow =
 -- ---- what is read nests no deeper than JSON is read
 
 if_read : (b : Bool) (text : List ℕ) (d : Data) → (if b then read text else None) ≡ Some d → read text ≡ Some d
-if_read b text d e = grind (arith, none_some)
+if_read b text d e = grind arith
 
 value_read : (text : List ℕ) (d : Data) → value_of text ≡ Some d → read text ≡ Some d
 unfolding value_of

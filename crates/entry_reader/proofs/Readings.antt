@@ -19,7 +19,7 @@ pub record ReadThen {X Y : Type 0} (o : Option X) (next : X → Option Y) (y : Y
   pub then_ : next found ≡ Some y
 
 pub and_then_some : {X Y : Type 0} (o : Option X) (next : X → Option Y) (y : Y) → option_and_then next o ≡ Some y → ReadThen o next y
-and_then_some o next y e = grind (arith, none_some)
+and_then_some o next y e = grind arith
 
 pub record MappedFrom {X Y : Type 0} (o : Option X) (f : X → Y) (y : Y) : Type 0 where
   pub found : X
@@ -27,7 +27,7 @@ pub record MappedFrom {X Y : Type 0} (o : Option X) (f : X → Y) (y : Y) : Type
   pub same : f found ≡ y
 
 pub map_some : {X Y : Type 0} (o : Option X) (f : X → Y) (y : Y) → option_map f o ≡ Some y → MappedFrom o f y
-map_some o f y e = grind (arith, some_same, none_some)
+map_some o f y e = grind arith
 
 -- ---- lists
 

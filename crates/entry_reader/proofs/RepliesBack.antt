@@ -84,7 +84,7 @@ tree_by_back p o f t k c h =
 
 step_by_back : (p : PolicyShape) (o : Option ℕ) (f s : ℕ) → HasNames p → IsConcerned p o f → s < length (flow_at p f).flow.steps →
     step_by p o (step_data p f s) ≡ Some (f, s)
-step_by_back p o f s k c h = grind (arith, flow_back, step_back)
+step_by_back p o f s k c h = grind (arith, step_back)
 
 case_back : (c : ℕ) → c ≤ 65535 → nat_lt c 65536 ≡ true
 case_back c h = lt-ltb c 65536 (omega (arith, h))

@@ -1,14 +1,14 @@
 -- What is read as a reply stands for something.
-use Rattle.std.proofs.Common.{◌≡◌, ℕ, ◌+◌, ◌<◌, ◌≤◌, ◌^◌, List, [], ◌∷◌, length, refl, sym, subst, arith, ltb-true, leb-true}
+use Rattle.std.proofs.Common.{◌≡◌, ℕ, ◌+◌, ◌<◌, ◌≤◌, ◌^◌, List, [], ◌∷◌, length, refl, sym, subst, arith}
 use Rattle.std.proofs.Common.{Bool, inl, inr, ◌⊎◌}
-use Rattle.std.specs.Prelude.{codes, Option, Some, None, option_map, option_and_then, nat_lt, nat_le, nat_eq, if◌then◌else◌}
+use Rattle.std.specs.Prelude.{codes, Option, Some, None, option_map, option_and_then, nat_le, nat_eq, if◌then◌else◌}
 use Rattle.std.specs.List.{All, find}
 use Rattle.std.specs.Cmp.Lexicographic.{pointwise}
 use Rattle.serde_json.specs.Data.{Data, Items, no_items, item}
 use Rattle.serde_json.specs.Find.{get, as_str, as_array}
 use Rattle.wf_names.specs.declared.limits.TheConstants.{STEP_LIMIT, CASE_NUMBER_LIMIT}
 use Rattle.wf_names.specs.declared.states.StepState.{StepState}
-use Rattle.wf_names.specs.declared.states.StepState.TheVariants.{Free, Held, Finished}
+use Rattle.wf_names.specs.declared.states.StepState.TheVariants.{Finished}
 use Rattle.refutation_tree.specs.Tree.{Shape}
 use Rattle.refutation_tree.specs.Laws.Views.{shape_of}
 use Rattle.refutation_tree.specs.declared.tree.Tree.{Tree}
@@ -26,14 +26,13 @@ use Rattle.entry_reader.specs.declared.kind.DenialKind.{DenialKind}
 use Rattle.entry_reader.specs.Places.{number_below}
 use Rattle.entry_reader.specs.Laws.Within.{IsUser, IsRole, IsPlan, IsTree, IsState, IsFace, IsBad, IsCase, IsConcerned, IsDenial, IsWorkItem, IsReply}
 use Rattle.entry_reader.specs.Values.{row_read, or_next, only_member, below, number_read, each_read, few, few_read, user_read}
-use Rattle.entry_reader.specs.Values.{free_state}
-use Rattle.entry_reader.specs.Values.{user_state, state_read, seen_at, seen_read, tree_in}
+use Rattle.entry_reader.specs.Values.{state_read, seen_at, seen_read, tree_in}
 use Rattle.entry_reader.specs.Told.{denial_words, denial_kinds, reply_words, reply_kinds, tree_from, flow_within, tree_by, step_by, case_read}
 use Rattle.entry_reader.specs.Told.{strands_read, roles_read, denial_by, denial_read, plan_read, opened_read, states_read, phase_read, flow_read}
 use Rattle.entry_reader.specs.Told.{face_read}
 use Rattle.entry_reader.specs.Told.{number_of_case, item_read, work_read, cases_read, again_read, bad_read, done_read, reply_by, reply_read}
 use Rattle.entry_reader.proofs.Readings.{and_then_some, map_some, none_some, some_same}
-use Rattle.entry_reader.proofs.NamesBack.{numbered_is, name_text}
+use Rattle.entry_reader.proofs.NamesBack.{numbered_is}
 use Rattle.entry_reader.proofs.TreesBack.{below_is, tree_is}
 
 -- ---- choices and rows
@@ -48,7 +47,7 @@ AllRows P (r ∷ rows) = P r.1 × AllRows P rows
 
 row_here : {X : Type 0} (P : X → Type 0) (r : List ℕ × X) (rest : Option (List ℕ × X)) (b : Bool) (x : X) → P r.1 → (option_map (λ q. q.1) rest ≡ Some x → P x)
     → option_map (λ q. q.1) (if b then Some r else rest) ≡ Some x → P x
-row_here P r rest b x here later e = grind (arith, some_same)
+row_here P r rest b x here later e = grind arith
 
 pub row_holds : {X : Type 0} (P : X → Type 0) (rows : List (List ℕ × X)) (w : List ℕ) (x : X) → AllRows P rows → row_read rows w ≡ Some x → P x
 row_holds P [] w x all e = absurd (none_some x e)
@@ -77,7 +76,7 @@ pub record AreFew {X : Type 0} (P : X → Type 0) (xs : List X) : Type 0 where
 
 if_few : {X : Type 0} (b : Bool) (xs ys : List X) → nat_le (length xs) STEP_LIMIT ≡ b → (if b then Some xs else None) ≡ Some ys → (xs ≡ ys) ×
     (length xs ≤ STEP_LIMIT)
-if_few b xs ys h e = grind (arith, some_same, leb-true, none_some)
+if_few b xs ys h e = grind arith
 
 few_hold : {X : Type 0} (P : X → Type 0) (read : Data → Option X) (d : Data) (xs : List X) → ((d : Data) (x : X) → read d ≡ Some x → P x) → few_read
     read d ≡ Some xs → AreFew P xs
@@ -95,11 +94,8 @@ few_hold P read d xs h e =
 user_within : (p : PolicyShape) (d : Data) (u : ℕ) → user_read p d ≡ Some u → IsUser p u
 user_within p d u e = (numbered_is p.roster.users d u e).within
 
-if_below : (b : Bool) (bound m n : ℕ) → nat_lt m bound ≡ b → (if b then Some m else None) ≡ Some n → n < bound
-if_below b bound m n h e = grind (arith, some_same, ltb-true, none_some)
-
 pub number_within : (bound : ℕ) (key : List ℕ) (d : Data) (n : ℕ) → number_below bound key d ≡ Some n → n < bound
-number_within bound key d n e = grind (arith, and_then_some, if_below)
+number_within bound key d n e = grind arith
 
 case_within : (d : Data) (c : ℕ) → case_read d ≡ Some c → c ≤ CASE_NUMBER_LIMIT
 case_within d c e = omega (arith, number_within (CASE_NUMBER_LIMIT + 1) (codes "case") d c e)
@@ -110,26 +106,11 @@ plan_within p d plan e =
     let h = few_hold (IsUser p) (user_read p) r.found plan (user_within p) r.then_ in
     (h.short, h.all)
 
--- ---- states
-
-if_free : (p : PolicyShape) (b : Bool) (s : StepState) → (if b then Some Free else None) ≡ Some s → IsState p s
-if_free p b s e = grind (arith, some_same, none_some)
-
-free_within : (p : PolicyShape) (w : List ℕ) (s : StepState) → free_state w ≡ Some s → IsState p s
-free_within p w s e = if_free p (pointwise nat_eq w (codes "free")) s e
-
-if_user : (p : PolicyShape) (b c : Bool) (u : ℕ) (s : StepState) → IsUser p u →
-    (if b then Some (Held u) else if c then Some (Finished u) else None) ≡ Some s → IsState p s
-if_user p b c u s h e = grind (arith, some_same, none_some)
-
-user_state_within : (p : PolicyShape) (w : List ℕ) (d : Data) (s : StepState) → option_and_then (user_state w) (user_read p d) ≡ Some s → IsState p s
-user_state_within p w d s e = grind (arith, and_then_some, if_user, user_within)
-
 state_within : (p : PolicyShape) (d : Data) (s : StepState) → state_read p d ≡ Some s → IsState p s
-state_within p d s e = grind (arith, either_read, and_then_some, free_within, user_state_within)
+state_within p d s e = grind arith
 
 seen_at_within : (p : PolicyShape) (ds : Items) (s : StepState) → seen_at p ds ≡ Some s → IsState p s
-seen_at_within p ds s e = grind (arith, none_some, and_then_some, free_within, user_state_within)
+seen_at_within p ds s e = grind arith
 
 seen_within : (p : PolicyShape) (d : Data) (s : StepState) → seen_read p d ≡ Some s → IsState p s
 seen_within p d s e = let r = and_then_some (as_array d) (seen_at p) s e in seen_at_within p r.found s r.then_
@@ -146,14 +127,8 @@ face_within p d face e =
     let h = few_hold (IsState p) (seen_read p) states.found m.found (seen_within p) states.then_ in
     subst (IsFace p) m.same ((numbered_is p.flow_names flow.found r.found flow.then_).within, h.short, h.all)
 
--- ---- denials
-
-if_flow : (p : PolicyShape) (o : Option ℕ) (b : Bool) (m f : ℕ) → o ≡ Some m → nat_lt m (length p.flow_names) ≡ b → (if b then Some m else None) ≡ Some f →
-    IsConcerned p o f
-if_flow p o b m f h lt e = grind (arith, some_same, ltb-true, none_some)
-
 flow_is : (p : PolicyShape) (o : Option ℕ) (f : ℕ) → flow_within p o ≡ Some f → IsConcerned p o f
-flow_is p o f e = grind (arith, and_then_some, if_flow)
+flow_is p o f e = grind arith
 
 shape_again : (t : Shape) → shape_of (tree_from t) ≡ t
 shape_again t = grind arith
@@ -173,7 +148,7 @@ abbrev StepOfFlow : PolicyShape → Option ℕ → ℕ × ℕ → Type 0
 StepOfFlow p o s = IsConcerned p o s.0 × (s.1 < length (flow_at p s.0).flow.steps)
 
 step_by_within : (p : PolicyShape) (o : Option ℕ) (d : Data) (s : ℕ × ℕ) → step_by p o d ≡ Some s → StepOfFlow p o s
-step_by_within p o d s e = grind (arith, and_then_some, map_some, flow_is, numbered_is)
+step_by_within p o d s e = grind arith
 
 strands_within : (p : PolicyShape) (flows : ℕ → Option ℕ) (o : Option ℕ) (d : Data) (x : Denial) → strands_read p flows d ≡ Some x → IsDenial p flows o x
 strands_within p flows o d x e = grind (arith, and_then_some, map_some, tree_by_within, case_within)
@@ -206,7 +181,7 @@ number_of_case_within : (d : Data) (c : ℕ) → number_of_case d ≡ Some c →
 number_of_case_within d c e = omega (arith, (below_is (CASE_NUMBER_LIMIT + 1) d c e).below)
 
 item_within : (p : PolicyShape) (flows : ℕ → Option ℕ) (d : Data) (i : WorkItem) → item_read p flows d ≡ Some i → IsWorkItem p flows i
-item_within p flows d i e = grind (arith, and_then_some, map_some, step_by_within, number_of_case_within)
+item_within p flows d i e = grind arith
 
 work_within : (p : PolicyShape) (flows : ℕ → Option ℕ) (d : Data) (items : List WorkItem) → work_read p flows d ≡ Some items → All (IsWorkItem p flows) items
 work_within p flows d items e =
@@ -221,10 +196,10 @@ cases_within d cases e =
 -- ---- replies
 
 bad_within : (d : Data) (b : Bad) → bad_read d ≡ Some b → IsBad b
-bad_within d b e = grind (arith, either_read, and_then_some, row_holds, map_some, name_text)
+bad_within d b e = grind arith
 
 again_within : (p : PolicyShape) (flows : ℕ → Option ℕ) (o : Option ℕ) (d : Data) (x : Reply) → again_read d ≡ Some x → IsReply p flows o x
-again_within p flows o d x e = grind (arith, and_then_some, map_some, number_within)
+again_within p flows o d x e = grind arith
 
 opened_within : (p : PolicyShape) (flows : ℕ → Option ℕ) (o : Option ℕ) (d : Data) (x : Reply) → opened_read p d ≡ Some x → IsReply p flows o x
 opened_within p flows o d x e = grind (arith, and_then_some, map_some, case_within, plan_within)

@@ -33,7 +33,7 @@ pub node_told : (es : List (String Global × Value)) (k l : String Global) (v w 
     → node_at (members_view es) ≡ (if keys then Some (view v, view w) else None)
 node_told [] k l v w keys h e g is = absurd (omega (arith, h))
 node_told (x ∷ []) k l v w keys h e g is = absurd (omega (arith, h))
-node_told (x ∷ y ∷ []) k l v w keys h e g is = grind (arith, some_same)
+node_told (x ∷ y ∷ []) k l v w keys h e g is = grind arith
 node_told (x ∷ y ∷ z ∷ es) k l v w keys h e g is = absurd (omega (arith, h))
 
 pub pair_none : (vs : List Value) → (length vs ≡ 2 → ⊥) → pair_at (items_view vs) ≡ None
@@ -81,5 +81,4 @@ items_done (x ∷ vs) (suc i) h = items_done vs i (omega (arith, h))
 
 pub item_below : (vs : List Value) (i : ℕ) (v : Value) → i < length vs → v ≡ get_or vs i v → depth (view v) ≤ items_depth (items_view vs)
 item_below [] i v h e = absurd (omega (arith, h))
-item_below (x ∷ vs) zero v h e = omega (arith, ap (λ y. depth (view y)) e)
-item_below (x ∷ vs) (suc i) v h e = omega (arith, item_below vs i v (omega (arith, h)) e)
+item_below (x ∷ vs) i v h e = grind (arith, (item_below vs))

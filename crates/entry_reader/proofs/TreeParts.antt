@@ -55,7 +55,7 @@ kid_by_parts p f (object ms) rest = refl
 pub branch_twin : (p : PolicyShape) (f : ℕ) (d s x : Data) (u v : ℕ) (rest : Option Kids) → Some (s, x) ≡ pair_parts d → Some u ≡ user_read p s →
     Some v ≡ twin_read p x
     → kid_in p f d rest ≡ option_map (twin_kid u v) rest
-branch_twin p f d s x u v rest e user twin = grind (arith, kid_by_parts)
+branch_twin p f d s x u v rest e user twin = grind arith
 
 pub branch_tree : (p : PolicyShape) (f : ℕ) (d s x : Data) (u : ℕ) (t : Shape) (rest : Option Kids) → Some (s, x) ≡ pair_parts d → Some u ≡ user_read p s →
     None ≡ twin_read p x → tree_in p f x ≡ Some t

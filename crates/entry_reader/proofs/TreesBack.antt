@@ -1,6 +1,6 @@
 -- Trees are read as they were written, and what is read as a tree is what is written for it.
-use Rattle.std.proofs.Common.{◌≡◌, ℕ, ◌<◌, List, Bool, true, false, refl, sym, ap, ap₂, ◌∙◌, subst, lt-ltb, ltb-true, arith}
-use Rattle.std.specs.Prelude.{Option, Some, None, option_map, option_and_then, codes, nat_lt, nat_eq, if◌then◌else◌}
+use Rattle.std.proofs.Common.{◌≡◌, ℕ, ◌<◌, List, Bool, true, false, refl, sym, ap, ap₂, ◌∙◌, subst, lt-ltb, arith}
+use Rattle.std.specs.Prelude.{Option, Some, None, option_map, option_and_then, codes, nat_eq, if◌then◌else◌}
 use Rattle.std.specs.Cmp.Lexicographic.{pointwise, bytes_decides}
 use Rattle.std.proofs.lemmas.Bool.{and_parts}
 use Rattle.serde_json.specs.Data.{Data, unsigned, null, boolean, number, string, array, object, Items, no_items, item, Members, no_members}
@@ -30,8 +30,7 @@ step_back p f s k h = numbered_named (flow_at p f).flow.steps s (k.steps f) h
 
 no_twin : (p : PolicyShape) (f : ℕ) (t : Shape) → twin_read p (tree_data p f t) ≡ None
 no_twin p f (holder s) = refl
-no_twin p f (rule k) = refl
-no_twin p f (node s kids) = refl
+no_twin p f t = grind arith
 
 mutual
   pub tree_back : (p : PolicyShape) (f : ℕ) (t : Shape) → HasNames p → IsTree p f t → tree_in p f (tree_data p f t) ≡ Some t
@@ -63,11 +62,8 @@ pub record IsBelow (bound : ℕ) (d : Data) (n : ℕ) : Type 0 where
   pub below : n < bound
   pub written : number (unsigned n) ≡ d
 
-if_below : (b : Bool) (bound m n : ℕ) → nat_lt m bound ≡ b → (if b then Some m else None) ≡ Some n → IsBelow bound (number (unsigned m)) n
-if_below b bound m n h e = grind (arith, some_same, ltb-true, none_some)
-
 pub below_is : (bound : ℕ) (d : Data) (n : ℕ) → below bound d ≡ Some n → IsBelow bound d n
-below_is bound d n e = grind (arith, none_some, if_below)
+below_is bound d n e = grind arith
 
 pub record IsTreeOf (p : PolicyShape) (f : ℕ) (d : Data) (t : Shape) : Type 0 where
   pub tree : IsTree p f t
@@ -129,8 +125,7 @@ node_of p f k l d e t true h kids_are g =
     let second : codes "users" ≡ l = sym (key_is l (codes "users") keys.1) in
     record {
       tree = subst (λ (x : Shape). IsTree p f x) q.same (s.within, kids.inside);
-      written =
-          ap (tree_data p f) (sym q.same) ∙ (λ i. object (member (first i) (s.written i) (member (second i) (kids.written i) no_members)));
+      written = grind arith;
     }
 node_of p f k l d e t false h kids_are g = absurd (none_some t g)
 
@@ -154,8 +149,7 @@ kid_is p f u d x ds (Some v) kids twin user tree rest e =
     let other = twin_is p x v twin in
     record {
       inside = subst (λ (k : Kids). AreKids p f k) r.same (user.within, other.0, more.inside);
-      written = ap (λ k. items_of (branches_data p f k)) (sym r.same) ∙
-          (λ i. item (array (item (user.written i) (item (other.1 i) no_items))) (more.written i));
+      written = grind arith;
     }
 kid_is p f u d x ds None kids twin user tree rest e =
     let q = and_then_some (tree_in p f x) (λ t. option_map (tree_kid u t) (kids_in p f ds)) kids e in
@@ -164,8 +158,7 @@ kid_is p f u d x ds None kids twin user tree rest e =
     let more = rest r.found r.there in
     record {
       inside = subst (λ (k : Kids). AreKids p f k) r.same (user.within, below.tree, more.inside);
-      written = ap (λ k. items_of (branches_data p f k)) (sym r.same) ∙
-          (λ i. item (array (item (user.written i) (item (below.written i) no_items))) (more.written i));
+      written = grind arith;
     }
 
 mutual

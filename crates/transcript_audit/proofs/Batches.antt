@@ -1,5 +1,5 @@
 -- Batches among the jobs.
-use Rattle.std.proofs.Common.{◌≡◌, ℕ, zero, suc, ◌+◌, ◌-◌, ◌<◌, ◌≤◌, inl, inr, true, false, nat_le, nat_lt, List, [], ◌∷◌, length, take, drop, slice_index_or}
+use Rattle.std.proofs.Common.{◌≡◌, ℕ, zero, suc, ◌+◌, ◌-◌, ◌<◌, ◌≤◌, inl, inr, nat_lt, List, [], ◌∷◌, length, take, drop, slice_index_or}
 use Rattle.std.proofs.Common.{refl, sym, ap, ◌∙◌, arith}
 use Rattle.std.proofs.lemmas.Grind.{common_steps}
 use Rattle.std.proofs.lemmas.List.{drop-take, length-drop, length-take-le}
@@ -21,19 +21,13 @@ from_start before ends k = slice_index_or (before ∷ ends) k 0
 start_behind : (before : ℕ) (ends : List ℕ) (total k : ℕ) → LeadTo before ends total → k ≤ length ends → before ≤ from_start before ends k
 start_behind before ends total zero lead known = omega arith
 start_behind before [] total (suc k) lead known = absurd (omega (arith, known))
-start_behind before (x ∷ xs) total (suc k) lead known =
-    let rest = start_behind x xs total k lead.2 (omega (arith, known)) in
-    let first = lead.0 in
-    omega (arith, rest, first)
+start_behind before (x ∷ xs) total (suc k) lead known = grind (arith, (start_behind x xs total k lead.2 (omega (arith, known))))
 
 -- and within the total
 start_total : (before : ℕ) (ends : List ℕ) (total k : ℕ) → LeadTo before ends total → k ≤ length ends → from_start before ends k ≤ total
 start_total before [] total zero lead known = omega (arith, lead)
 start_total before [] total (suc k) lead known = absurd (omega (arith, known))
-start_total before (x ∷ xs) total zero lead known =
-    let rest = start_total x xs total zero lead.2 (omega arith) in
-    let first = lead.0 in
-    omega (arith, rest, first)
+start_total before (x ∷ xs) total zero lead known = grind (arith, (start_total x xs total zero lead.2 (omega arith)))
 start_total before (x ∷ xs) total (suc k) lead known = start_total x xs total k lead.2 (omega (arith, known))
 
 -- a batch ends behind where it begins
@@ -56,27 +50,17 @@ start_here : (before : ℕ) (ends : List ℕ) (total n k : ℕ) → LeadTo befor
     (k < length ends → n < slice_index_or ends k 0) → start_at before n ends ≡ from_start before ends k
 start_here before [] total n zero lead known begun ahead = refl
 start_here before [] total n (suc k) lead known begun ahead = absurd (omega (arith, known))
-start_here before (x ∷ xs) total n zero lead known begun ahead =
-    let above = ahead (omega arith) in
-    let past : nat_le x n ≡ false = grind (arith, common_steps) in
-    rw past refl
+start_here before (x ∷ xs) total n zero lead known begun ahead = grind (arith, common_steps)
 start_here before (x ∷ xs) total n (suc k) lead known begun ahead =
-    let behind = start_behind x xs total k lead.2 (omega (arith, known)) in
-    let past : nat_le x n ≡ true = let le : x ≤ n = omega (arith, behind, begun) in grind (arith, common_steps) in
-    rw past (start_here x xs total n k lead.2 (omega (arith, known)) begun (λ more. ahead (omega (arith, more))))
+    grind (arith, start_behind, common_steps, (start_here x xs total n k lead.2 (omega (arith, known)) begun (λ more. ahead (omega (arith, more)))))
 
 end_here : (before : ℕ) (ends : List ℕ) (total n k : ℕ) → LeadTo before ends total → k ≤ length ends → from_start before ends k ≤ n →
     (k < length ends → n < slice_index_or ends k 0) → end_at n ends ≡ slice_index_or ends k n
 end_here before [] total n zero lead known begun ahead = refl
 end_here before [] total n (suc k) lead known begun ahead = absurd (omega (arith, known))
-end_here before (x ∷ xs) total n zero lead known begun ahead =
-    let above = ahead (omega arith) in
-    let past : nat_le x n ≡ false = grind (arith, common_steps) in
-    rw past refl
+end_here before (x ∷ xs) total n zero lead known begun ahead = grind (arith, common_steps)
 end_here before (x ∷ xs) total n (suc k) lead known begun ahead =
-    let behind = start_behind x xs total k lead.2 (omega (arith, known)) in
-    let past : nat_le x n ≡ true = let le : x ≤ n = omega (arith, behind, begun) in grind (arith, common_steps) in
-    rw past (end_here x xs total n k lead.2 (omega (arith, known)) begun (λ more. ahead (omega (arith, more))))
+    grind (arith, start_behind, common_steps, (end_here x xs total n k lead.2 (omega (arith, known)) begun (λ more. ahead (omega (arith, more)))))
 
 pub start_is : (ends : List ℕ) (total n k : ℕ) → LeadTo 0 ends total → IsBatchOf ends n k → start_at 0 n ends ≡ batch_start ends k
 start_is ends total n k lead here = start_here 0 ends total n k lead here.known here.begun here.before
@@ -145,17 +129,7 @@ ends_within ends total k lead known = elim (bool_cases (nat_lt k (length ends)))
 ]
 
 pub start_before_end : (ends : List ℕ) (total k : ℕ) → LeadTo 0 ends total → k ≤ length ends → batch_start ends k ≤ end_of ends k
-start_before_end ends total k lead known = elim (bool_cases (nat_lt k (length ends))) [
-  | inl ahead ↦
-      let below : k < length ends = grind (arith, common_steps) in
-      let is = read_within ends k (batch_start ends k) 0 below in
-      let within = end_behind 0 ends total k lead below in
-      omega (arith, is, within)
-  | inr shut ↦
-      let last : k ≡ length ends = grind (arith, common_steps) in
-      let is : end_of ends k ≡ batch_start ends k = ap (λ m. slice_index_or ends m (batch_start ends k)) last ∙ read_behind ends (batch_start ends k) in
-      omega (arith, is)
-]
+start_before_end ends total k lead known = grind (arith, bool_cases, common_steps, read_within, end_behind, read_behind)
 
 -- a batch that is not behind the last ends behind where it begins
 pub start_ahead : (ends : List ℕ) (total k : ℕ) → LeadTo 0 ends total → k < length ends → batch_start ends k < slice_index_or ends k 0
@@ -173,16 +147,11 @@ end_read ends k below = read_within ends k (batch_start ends k) 0 below
 
 -- the next batch begins there
 pub next_start : (ends : List ℕ) (k : ℕ) → k < length ends → batch_start ends (k + 1) ≡ end_of ends k
-next_start ends k below =
-    let on : k + 1 ≡ suc k = omega arith in
-    ap (λ m. batch_start ends m) on ∙ sym (end_read ends k below)
+next_start ends k below = grind (arith, end_read)
 
 -- how many jobs a batch has
 pub part_length : (from end : ℕ) (jobs : List Job) → from ≤ end → end ≤ length jobs → from + length (part from end jobs) ≡ end
-part_length from end jobs begins within =
-    let first = length-take-le end jobs within in
-    let rest = length-drop from (take end jobs) in
-    omega (arith, first, rest, begins)
+part_length from end jobs begins within = grind (arith, length-take-le, length-drop)
 
 -- a slice of the jobs is a part
 pub slice_part : (from end : ℕ) (jobs : List Job) → from ≤ end → take (end - from) (drop from jobs) ≡ part from end jobs
@@ -226,5 +195,4 @@ rest_of_lanes lanes (suc n) (j ∷ js) of_lanes = rest_of_lanes lanes n js of_la
 
 -- no job of a part is of a lane past the number of lanes
 pub part_none : (lanes lane from end : ℕ) (jobs : List Job) → AreOfLanes lanes jobs → lanes ≤ lane → lane_jobs lane (part from end jobs) ≡ []
-part_none lanes lane from end jobs of_lanes past =
-    none_of_lanes lanes lane (part from end jobs) (rest_of_lanes lanes from (take end jobs) (first_of_lanes lanes end jobs of_lanes)) past
+part_none lanes lane from end jobs of_lanes past = grind (arith, none_of_lanes, rest_of_lanes, first_of_lanes)

@@ -1,5 +1,5 @@
 -- The cursor of an audit stands at the next job of each lane.
-use Rattle.std.proofs.Common.{◌≡◌, ◌≢◌, ℕ, ◌+◌, ◌<◌, ◌≤◌, inl, inr, true, false, nat_eq, nat_lt, List, [], ◌∷◌, ◌++◌, length, take, slice_get, slice_index_or}
+use Rattle.std.proofs.Common.{◌≡◌, ◌≢◌, ℕ, ◌+◌, ◌<◌, ◌≤◌, inl, inr, true, false, nat_eq, List, [], ◌∷◌, ◌++◌, length, take, slice_get, slice_index_or}
 use Rattle.std.proofs.Common.{slice_set, None, Some, refl, sym, ap, subst, ◌∙◌, arith}
 use Rattle.std.proofs.lemmas.Grind.{common_steps}
 use Rattle.std.proofs.lemmas.List.{get_or-set_other, get_or-set_same, length-append, take_more}
@@ -11,7 +11,6 @@ use Rattle.wf_talk.specs.declared.entry.Entry.{Entry}
 use Rattle.wf_talk.specs.declared.job.Job.{Job}
 use Rattle.wf_board.specs.Laws.Histories.{batch_start, job_of_entry, lane_jobs}
 use Rattle.line_reader.specs.Laws.{AreInOrder}
-use Rattle.wf_desk.specs.Desks.{served_jobs}
 use Rattle.wf_desk.specs.Keeping.{IsLanePlace}
 use Rattle.wf_desk.specs.Docket.{IsNextPlace}
 use Rattle.wf_desk.proofs.DocketLaws.{lane_both, lane_own, next_at, served_other, served_own}
@@ -34,31 +33,17 @@ pub cursor_start : (a : AuditShape) (c : Cursor) → IsRecord a c → c.start �
 cursor_start a c is = is.start ∙ sym (start_now a c.batch is.sound)
 
 pub cursor_order : (a : AuditShape) (c : Cursor) → IsRecord a c → c.start ≤ c.end
-cursor_order a c is =
-    let begins = is.start in
-    let stops = is.ends in
-    let within = start_before_end a.batch_ends (length a.jobs) c.batch is.sound.order.ends is.sound.here.known in
-    omega (arith, begins, stops, within)
+cursor_order a c is = grind (arith, start_before_end)
 
 pub cursor_within : (a : AuditShape) (c : Cursor) → IsRecord a c → c.end ≤ length a.jobs
-cursor_within a c is =
-    let stops = is.ends in
-    let within = ends_within a.batch_ends (length a.jobs) c.batch is.sound.order.ends is.sound.here.known in
-    omega (arith, stops, within)
+cursor_within a c is = grind (arith, ends_within)
 
 pub cursor_begun : (a : AuditShape) (c : Cursor) → IsRecord a c → c.start ≤ length a.entries
-cursor_begun a c is =
-    let begins = is.start in
-    let begun = is.sound.here.begun in
-    omega (arith, begins, begun)
+cursor_begun a c is = grind arith
 
 desk_place : (a : AuditShape) (c : Cursor) (lane place : ℕ) → IsRecord a c → IsPlaceIn (jobs_in a.jobs a.batch_ends c.batch) c.start a.entries lane place →
     IsLanePlace (desk_of a c.batch) lane place
-desk_place a c lane place is stands = record {
-  within = stands.within;
-  before = subst (λ s. served_jobs s a.entries lane ≡ lane_jobs lane (take place (jobs_in a.jobs a.batch_ends c.batch))) is.start stands.before;
-  here = stands.here;
-}
+desk_place a c lane place is stands = grind arith
 
 next_there : (a : AuditShape) (c : Cursor) (lane : ℕ) → IsRecord a c → lane < LANE_LIMIT →
     next_job a lane ≡ slice_get (jobs_in a.jobs a.batch_ends c.batch) (slice_index_or c.places lane 0)
@@ -69,33 +54,19 @@ next_there a c lane is known =
 -- a lane's next job stands at its place
 pub next_placed : (a : AuditShape) (c : Cursor) (lane : ℕ) (jobs : List Job) → IsRecord a c → lane < LANE_LIMIT → jobs ≡ present_jobs a →
     slice_get jobs (slice_index_or c.places lane 0) ≡ next_job a lane
-next_placed a c lane jobs is known same =
-    ap (λ js. slice_get js (slice_index_or c.places lane 0)) (same ∙ present_is a c is) ∙ sym (next_there a c lane is known)
+next_placed a c lane jobs is known same = grind (arith, present_is, next_there)
 
 -- no job is of a lane past the limit
 pub next_past : (a : AuditShape) (c : Cursor) (lane : ℕ) → IsRecord a c → LANE_LIMIT ≤ lane → None ≡ next_job a lane
-next_past a c lane is past =
-    let jobs = jobs_in a.jobs a.batch_ends c.batch in
-    let none = part_none LANE_LIMIT lane (batch_start a.batch_ends c.batch) (end_of a.batch_ends c.batch) a.jobs is.sound.order.of_lanes past in
-    sym (next_is a c.batch lane is.sound ∙ ap (λ js. slice_get js (length (served_jobs (batch_start a.batch_ends c.batch) a.entries lane))) none)
+next_past a c lane is past = grind (arith, part_none, next_is)
 
 pub next_known : (a : AuditShape) (c : Cursor) (lane : ℕ) (j : Job) → IsRecord a c → next_job a lane ≡ Some j → lane < LANE_LIMIT
-next_known a c lane j is next = elim (bool_cases (nat_lt lane LANE_LIMIT)) [
-  | inl known ↦ grind (arith, common_steps)
-  | inr past ↦
-      let none = next_past a c lane is (grind (arith, common_steps)) in
-      absurd (let no : None ≡ Some j = none ∙ next in cc)
-]
+next_known a c lane j is next = grind (arith, bool_cases, common_steps, next_past)
 
 -- where a lane's next job stands in the batch
 pub place_short : (a : AuditShape) (c : Cursor) (lane : ℕ) (j : Job) → IsRecord a c → next_job a lane ≡ Some j →
     slice_index_or c.places lane 0 < length (part c.start c.end a.jobs)
-place_short a c lane j is next =
-    let known = next_known a c lane j is next in
-    let jobs = jobs_in a.jobs a.batch_ends c.batch in
-    let there : slice_get jobs (slice_index_or c.places lane 0) ≡ Some j = sym (next_there a c lane is known) ∙ next in
-    subst (λ js. slice_index_or c.places lane 0 < length js) (sym (batch_is a c is ∙ present_is a c is))
-    (slice_get_within jobs (slice_index_or c.places lane 0) j there)
+place_short a c lane j is next = grind (arith, next_known, next_there, batch_is, present_is, slice_get_within)
 
 -- ---- one more entry
 
@@ -116,11 +87,7 @@ own_place start entries jobs e from place begun old stands moved =
 
 other_place : (start : ℕ) (entries : List Entry) (jobs : List Job) (e : Entry) (lane place : ℕ) → start ≤ length entries → nat_eq e.lane lane ≡ false →
     IsPlaceIn jobs start entries lane place → IsPlaceIn jobs start (entries ++ e ∷ []) lane place
-other_place start entries jobs e lane place begun other old = record {
-  within = old.within;
-  before = served_other start entries e lane begun other ∙ old.before;
-  here = old.here;
-}
+other_place start entries jobs e lane place begun other old = grind (arith, served_other)
 
 -- each lane's place, where one lane goes on
 places_on : (start : ℕ) (entries : List Entry) (jobs : List Job) (places : List ℕ) (e : Entry) (place lane : ℕ) → start ≤ length entries →
@@ -158,34 +125,17 @@ record_within a c e place is next short sized moved =
 
 first_place : (jobs : List Job) (start : ℕ) (entries : List Entry) (lane place : ℕ) → length entries ≤ start → IsNextPlace jobs lane 0 place →
     IsPlaceIn jobs start entries lane place
-first_place jobs start entries lane place past first = record {
-  within = first.within;
-  before = none_served start entries lane past ∙ sym first.same;
-  here = first.here;
-}
+first_place jobs start entries lane place past first = grind (arith, none_served)
 
 -- the first jobs of a batch
 first_places : (jobs : List Job) (ends : List ℕ) (k start : ℕ) (entries : List Entry) (c : Cursor) → start ≡ batch_start ends k → length entries ≤ start →
     IsAtFirst jobs ends k start c → (lane : ℕ) → lane < LANE_LIMIT → IsPlaceIn (jobs_in jobs ends k) c.start entries lane (slice_index_or c.places lane 0)
-first_places jobs ends k start entries c begins past first lane known =
-    let same : part start (slice_index_or ends k start) jobs ≡ jobs_in jobs ends k = ap (λ s. part s (slice_index_or ends k s) jobs) begins in
-    let own = first.begins in
-    first_place (jobs_in jobs ends k) c.start entries lane (slice_index_or c.places lane 0) (omega (arith, past, own))
-    (subst (λ js. IsNextPlace js lane 0 (slice_index_or c.places lane 0)) same (first.placed lane known))
+first_places jobs ends k start entries c begins past first lane known = grind (arith, first_place)
 
 record_first : (a : AuditShape) (k start : ℕ) (c : Cursor) → IsSoundAudit a k → start ≡ batch_start a.batch_ends k → length a.entries ≤ start →
     IsAtFirst a.jobs a.batch_ends k start c →
     IsRecord a c
-record_first a k start c sound begins past first =
-    let batch = first.batch in
-    record {
-      sound = subst (IsSoundAudit a) (sym batch) sound;
-      start = first.begins ∙ begins ∙ ap (λ n. batch_start a.batch_ends n) (sym batch);
-      ends = first.stops ∙ ap (λ s. slice_index_or a.batch_ends k s) begins ∙ ap (λ n. end_of a.batch_ends n) (sym batch);
-      placed = λ lane known.
-          subst (λ n. IsPlaceIn (jobs_in a.jobs a.batch_ends n) c.start a.entries lane (slice_index_or c.places lane 0)) (sym batch)
-          (first_places a.jobs a.batch_ends k start a.entries c begins past first lane known);
-    }
+record_first a k start c sound begins past first = grind (arith, first_places)
 
 -- before the first line
 pub record_start : (p : PolicyShape) (rounds : ℕ) (jobs : List Job) (ends : List ℕ) (c : Cursor) → AreInOrder LANE_LIMIT jobs ends → IsAtFirst jobs ends 0 0 c →
@@ -238,6 +188,4 @@ next_ends a c lane j is next =
 pub added_record : (a : AuditShape) (c d : Cursor) (e : Entry) (entries : List Entry) (n : ℕ) → IsRecord a c → ComesNext a e →
     entries ≡ a.entries ++ e ∷ [] → n ≡ length entries →
     HasMovedOn a.jobs a.batch_ends e.lane n c d → IsRecord (record a { entries = entries }) d
-added_record a c d e entries n is next added count gone =
-    let size : n ≡ length a.entries + 1 = count ∙ ap length added ∙ length-append a.entries (e ∷ []) in
-    subst (λ es. IsRecord (record a { entries = es }) d) (sym added) (record_more a c e n d is next size gone)
+added_record a c d e entries n is next added count gone = grind (arith, length-append, record_more)

@@ -1,6 +1,6 @@
 -- A reply that was taken or refused, and what becomes of its line.
-use Rattle.std.proofs.Common.{◌≡◌, ◌↔◌, ℕ, ◌+◌, ◌-◌, ◌<◌, ◌≤◌, ◌⊎◌, inl, inr, max, Bool, true, false, ◌&&◌, nat_eq, nat_le, List, length, map, take, drop}
-use Rattle.std.proofs.Common.{Option, None, Some, Result, Ok, Err, refl, sym, ap, subst, ◌∙◌, arith}
+use Rattle.std.proofs.Common.{◌≡◌, ◌↔◌, ℕ, ◌+◌, ◌-◌, ◌<◌, ◌≤◌, inr, max, Bool, true, false, nat_eq, nat_le, List, length, map, take, drop}
+use Rattle.std.proofs.Common.{Option, None, Some, Result, Ok, Err, refl, sym, ap, ◌∙◌, arith}
 use Rattle.std.proofs.lemmas.Grind.{common_steps}
 use Rattle.std.specs.Option.{option_map}
 use Rattle.basics.proofs.Booleans.{and_both, and_from, eq_back, eq_is, same_by}
@@ -13,12 +13,9 @@ use Rattle.wf_talk.specs.declared.job.Job.{Job}
 use Rattle.wf_talk.specs.declared.reply.Reply.{Reply}
 use Rattle.wf_talk.specs.declared.reply.Reply.TheVariants as reply
 use Rattle.wf_talk.specs.declared.request.Ask.{Ask}
-use Rattle.wf_board.specs.declared.verdict.Verdict.{Verdict}
-use Rattle.wf_board.specs.Admit.{HasAdmittedStep}
 use Rattle.wf_board.specs.Boards.{BoardShape, numbered, state_on}
 use Rattle.wf_board.specs.Counting.{counted, counted_end, counts_for, lane_end}
 use Rattle.wf_board.specs.Decisions.{decision_of, is_view, needs_verdict}
-use Rattle.wf_board.specs.Laws.Histories.{IsRetry}
 use Rattle.wf_board.proofs.HistoryLaws.{after_again, after_more, again_rests, edits_within, step_once}
 use Rattle.wf_board.specs.Laws.States.{State, numbered_case, opening_state}
 use Rattle.wf_board.specs.Laws.Steps.{IsStep, state_after_step}
@@ -31,7 +28,7 @@ use Rattle.transcript_audit.specs.declared.fault.AuditKind.{AuditKind}
 use Rattle.transcript_audit.specs.declared.fault.AuditKind.TheVariants as kinds
 use Rattle.basics.specs.declared.fault.Fault.{Fault}
 use Rattle.basics.specs.declared.fault.Fault.TheVariants as flaw
-use Rattle.transcript_audit.specs.Auditor.{AuditShape, ComesNext, HasFault, IsNextLine, flows_now, next_job, present_jobs, present_start, state_now, with_entry}
+use Rattle.transcript_audit.specs.Auditor.{AuditShape, ComesNext, HasFault, IsNextLine, flows_now, next_job, present_start, state_now, with_entry}
 use Rattle.transcript_audit.specs.Keeping.{HasEntered, TellsReply, TriesLine, again_in, entry_next, rests_on}
 use Rattle.transcript_audit.proofs.Excludes.{one_place, told_named}
 
@@ -53,11 +50,7 @@ not_again r n place once is = let h : again_in (reply.Again n place) ≡ None = 
 -- a step that a board takes comes next
 pub step_next : (a : AuditShape) (b : BoardShape) (j : Job) (r : Reply) → state_on b ≡ state_now a → next_job a j.lane ≡ Some j → again_in r ≡ None →
     IsStep (state_on b) j.ask r → ComesNext a (entry_next a j r)
-step_next a b j r same next once step = record {
-  answers = next;
-  right = (refl, inl (subst (λ (s : State). IsStep s j.ask r) same step));
-  rests = λ n place is. absurd (not_again r n place once is);
-}
+step_next a b j r same next once step = grind (arith, not_again)
 
 -- ---- answered again
 
@@ -109,26 +102,7 @@ same_place : (n m k l : ℕ) → reply.Again n k ≡ reply.Again m l → k ≡ l
 same_place n m k l same = cc
 
 pub may_next : (a : AuditShape) (j : Job) (n place : ℕ) → ComesNext a (entry_next a j (reply.Again n place)) → MayAgain a j.ask j.lane n place
-may_next a j n place next = by_right next.right.1
-  where
-    by_right : IsStep (state_now a) j.ask (reply.Again n place) ⊎
-        IsRetry (opening_state a.opening) a.rounds a.entries (entry_next a j (reply.Again n place)) → MayAgain a j.ask j.lane n place
-    by_right (inl step) = absurd (step_once (state_now a) j.ask (reply.Again n place) step n place refl)
-    by_right (inr retry) =
-        let may = retry.1.1.1 in
-        let n_same = same_rounds n retry.0 place retry.1.0 retry.1.1.0 in
-        let p_same = same_place n retry.0 place retry.1.0 retry.1.1.0 in
-        let all = may.all in
-        let positive = may.positive in
-        let last = may.last in
-        let enough = next.rests n place refl in
-        record {
-          rounds = n_same ∙ all;
-          positive = omega (arith, n_same, all, positive);
-          deed = may.deed;
-          undecided = may.undecided;
-          rests = and_from _ _ (grind (arith, common_steps, enough)) (eq_is (place + 1) (counted_end j.ask a.entries) (omega (arith, p_same, last)));
-        }
+may_next a j n place next = grind (arith, step_once, same_rounds, same_place, and_from, common_steps, eq_is)
 
 -- it comes next exactly where it may
 pub again_exactly : (a : AuditShape) (j : Job) (n place : ℕ) (b : Bool) → next_job a j.lane ≡ Some j → (b ≡ true → MayAgain a j.ask j.lane n place) →
@@ -142,47 +116,29 @@ again_exactly a j n place b next to from = (λ yes. again_next a j n place next 
 pub known_now : (Q : PolicyShape → (ℕ → Option ℕ) → Type 0) (b : BoardShape) (a : AuditShape) (p : PolicyShape) (t : CasesShape) → p ≡ b.policy →
     t ≡ b.cases → state_on b ≡ state_now a →
     Q p (λ n. option_map (λ (c : CaseShape). c.flow) (numbered_case (map numbered t.rows) n)) → Q (state_now a).book.policy (flows_now a)
-known_now Q b a p t policy cases same is =
-    subst (λ (s : State). Q s.book.policy (λ n. option_map (λ (c : CaseShape). c.flow) (numbered_case s.book.cases n))) same
-    (subst (λ q. Q q (λ n. option_map (λ (c : CaseShape). c.flow) (numbered_case (map numbered b.cases.rows) n))) policy
-    (subst (λ (u : CasesShape). Q p (λ n. option_map (λ (c : CaseShape). c.flow) (numbered_case (map numbered u.rows) n))) cases is))
+known_now Q b a p t policy cases same is = grind arith
 
 -- the board has few edits
 pub edits_few : (b : BoardShape) (a : AuditShape) → state_on b ≡ state_now a → length a.entries ≤ SESSION_LINE_LIMIT → b.edits < 4294967295
-edits_few b a same few =
-    let count : b.edits ≡ (state_now a).edits = ap (λ (s : State). s.edits) same in
-    let within = edits_within a.opening a.entries in
-    omega (arith, count, within, few)
+edits_few b a same few = grind (arith, edits_within)
 
 -- ---- whether entries count
 
 pub rests_then : (entries : List Entry) (start lane : ℕ) (what : Ask) (n place found last : ℕ) →
     found ≡ counted what (drop (max (lane_end lane entries) start) entries) → n ≤ found →
     last + 1 ≡ counted_end what entries → nat_eq place last ≡ rests_on entries start lane what n place
-rests_then entries start lane what n place found last is enough end =
-    let some : nat_le n (counted what (drop (max (lane_end lane entries) start) entries)) ≡ true =
-    let h : n ≤ counted what (drop (max (lane_end lane entries) start) entries) = omega (arith, is, enough) in grind (arith, common_steps) in
-    let same : nat_eq place last ≡ nat_eq (place + 1) (counted_end what entries) =
-    same_by (nat_eq place last) (nat_eq (place + 1) (counted_end what entries))
-    (λ yes. let here = eq_back place last yes in eq_is (place + 1) (counted_end what entries) (omega (arith, here, end)))
-    (λ yes. let here = eq_back (place + 1) (counted_end what entries) yes in eq_is place last (omega (arith, here, end))) in
-    same ∙ sym (ap (λ b. b && nat_eq (place + 1) (counted_end what entries)) some)
+rests_then entries start lane what n place found last is enough end = grind (arith, common_steps, same_by, eq_back, eq_is)
 
 pub rests_else : (entries : List Entry) (start lane : ℕ) (what : Ask) (n place found : ℕ) →
     found ≡ counted what (drop (max (lane_end lane entries) start) entries) → found < n →
     false ≡ rests_on entries start lane what n place
-rests_else entries start lane what n place found is short =
-    let none : nat_le n (counted what (drop (max (lane_end lane entries) start) entries)) ≡ false =
-    let h : counted what (drop (max (lane_end lane entries) start) entries) < n = omega (arith, is, short) in grind (arith, common_steps) in
-    sym (ap (λ b. b && nat_eq (place + 1) (counted_end what entries)) none)
+rests_else entries start lane what n place found is short = grind (arith, common_steps)
 
 -- how many count behind the last entry of a lane and behind a batch's start, as they are found in a slice
 pub found_own : (what : Ask) (lane : ℕ) (xs entries : List Entry) (from start begins found : ℕ) → from ≡ max (lane_end lane xs) start → start ≡ begins →
     found ≡ counted what (take (length xs - from) (drop from xs)) → xs ≡ entries
     → found ≡ counted what (drop (max (lane_end lane entries) begins) entries)
-found_own what lane xs entries from start begins found own begun is same =
-    is ∙ ap (counted what) (rest_from xs from) ∙ ap (λ es. counted what (drop from es)) same
-    ∙ ap (λ n. counted what (drop n entries)) (own ∙ ap (λ es. max (lane_end lane es) start) same ∙ ap (max (lane_end lane entries)) begun)
+found_own what lane xs entries from start begins found own begun is same = grind (arith, rest_from)
 
 -- where some count behind a place, some do
 pub some_count : (what : Ask) (entries : List Entry) (n found rounds : ℕ) → found ≡ counted what (drop n entries) → rounds ≤ found → 1 ≤ rounds →
@@ -195,10 +151,7 @@ some_count what entries n found rounds is enough some =
 
 -- the entry at the place that a line tells is that of the job
 pub entry_there : (a : AuditShape) (line : List ℕ) (j : Job) (r : Reply) → (read : TellsReply a line j r) → entry_at read.place j.ask r ≡ entry_next a j r
-entry_there a line j r read =
-    let lane : read.place.lane ≡ j.lane = sym (next_lane read.place.lane _ (present_jobs a) j read.due.next) in
-    let line_same : read.place.line ≡ j.line = sym read.due.line in
-    (λ i. record { at = read.stands.here i; lane = lane i; line = line_same i; ask = j.ask; reply = r })
+entry_there a line j r read = grind (arith, next_lane)
 
 read_named : (a : AuditShape) (line : List ℕ) (j : Job) (r : Reply) → (read : TellsReply a line j r) → read.reply.place ≡ read.place
 read_named a line j r read = one_place read.reply.place read.place (sym read.reply.named ∙ told_named line read.place read.stands.told)
@@ -216,20 +169,16 @@ read_next a line j r read next =
 
 -- a line whose reply does not come next has that fault
 pub read_wrong : (a : AuditShape) (line : List ℕ) (j : Job) (r : Reply) → TellsReply a line j r → ¬ ComesNext a (entry_next a j r) → HasFault a line kinds.Reply
-read_wrong a line j r read wrong =
-    (read.place, (j, (r, (read.stands, (read.due, (read.reply, λ next. wrong (subst (ComesNext a) (entry_there a line j r read) next)))))))
+read_wrong a line j r read wrong = grind (arith, entry_there)
 
 -- what becomes of a line whose reply was taken or refused
 pub tried_of : (before after : AuditShape) (line : List ℕ) (j : Job) (r : Reply) (result : Result (Unit {0}) (Fault AuditKind)) → TellsReply before line j r →
     HasEntered before after j r result →
     TriesLine before after line result
 tried_of before after line j r (Ok done) read entered = (entry_next before j r, (read_next before line j r read entered.0, entered.1))
-tried_of before after line j r (Err (flaw.Cause kind)) read entered =
-    (subst (HasFault before line) (sym entered.0) (read_wrong before line j r read entered.1.0), entered.1.1)
+tried_of before after line j r (Err (flaw.Cause kind)) read entered = grind (arith, read_wrong)
 tried_of before after line j r (Err flaw.NoMemory) read entered = entered
 
 -- the job that a line answers is its lane's next one
 pub read_due : (a : AuditShape) (line : List ℕ) (j : Job) (r : Reply) → TellsReply a line j r → next_job a j.lane ≡ Some j
-read_due a line j r read =
-    let lane : j.lane ≡ read.place.lane = next_lane read.place.lane _ (present_jobs a) j read.due.next in
-    ap (next_job a) lane ∙ read.due.next
+read_due a line j r read = grind (arith, next_lane)

@@ -59,11 +59,7 @@ state_more a e = after_all (opening_state a.opening) a.entries (e ∷ [])
 
 all_written : (a : AuditShape) (lines : List (List ℕ)) (es : List Entry) → AreNext a lines es → lines ≡ texts_of (state_now a) es
 all_written a [] [] next = refl
-all_written a (line ∷ lines) (e ∷ es) next =
-    let more = state_more a e in
-    let first = next.0.written ∙ ap (λ (s : State). entry_text s.book.policy e) more in
-    let rest = all_written (with_entry a e) lines es next.1 ∙ ap (λ s. texts_of s es) more in
-    (λ i. first i ∷ rest i)
+all_written a (line ∷ lines) (e ∷ es) next = grind (arith, state_more, (all_written (with_entry a e) lines es next.1))
 all_written a [] (e ∷ es) next = absurd next
 all_written a (line ∷ lines) [] next = absurd next
 
@@ -93,14 +89,7 @@ part_of p rounds jobs ends lines es order next =
 
 -- a history that fills the jobs answers a part of them
 part_of_all : (es : List Entry) (jobs : List Job) (ends : List ℕ) → FillsJobs es jobs ends → FillsPart es jobs ends
-part_of_all es jobs ends fills = record {
-  few = let whole = fills.whole in omega (arith, whole);
-  fronts = λ k known lane.
-      let asked = lane_asked jobs ends k lane in
-      subst (λ js. js ≡ take (length js) asked) (sym (fills.batches k known lane)) (sym (take_all (length asked) asked (omega arith)));
-  batches = λ k known within lane. fills.batches k known lane;
-  rests = fills.rests;
-}
+part_of_all es jobs ends fills = grind (arith, take_all)
 
 -- what stands in a front of a list stands in the list
 get_of_first : {A : Type 0} (n i : ℕ) (xs : List A) (y : A) → slice_get (take n xs) i ≡ Some y → slice_get xs i ≡ Some y
@@ -115,9 +104,7 @@ part_at : {A : Type 0} (s e : ℕ) (xs : List A) (y : A) (ys : List A) → s ≤
 part_at s zero xs y ys begun short = absurd (omega (arith, short))
 part_at zero (suc e) [] y ys begun short = (take e ys, refl)
 part_at (suc s) (suc e) [] y ys begun short = absurd (omega (arith, begun))
-part_at zero (suc e) (x ∷ xs) y ys begun short =
-    let rest = part_at zero e xs y ys (omega arith) (omega (arith, short)) in
-    (rest.0, ap (λ zs. x ∷ zs) rest.1)
+part_at zero (suc e) (x ∷ xs) y ys begun short = grind (arith, (part_at zero e xs y ys (omega arith) (omega (arith, short))))
 part_at (suc s) (suc e) (x ∷ xs) y ys begun short = part_at s e xs y ys (omega (arith, begun)) (omega (arith, short))
 
 -- what is known where an entry stands in a history that answers a part of the jobs
@@ -197,13 +184,7 @@ among_rests a e post is at =
     subst (λ s. RestsFrom s a.entries e) (sym at.start) (subst (λ es. RestsFrom start es e) (take-append-drop start a.entries) here)
 
 among_next : (a : AuditShape) (e : Entry) (post : List Entry) → IsAmong a e post → ComesNext a e
-among_next a e post is =
-    let at = stands_in a e post is in
-    record {
-      answers = among_answers a e post is at;
-      right = among_right a e post is;
-      rests = among_rests a e post is at;
-    }
+among_next a e post is = grind (arith, stands_in, among_answers, among_right, among_rests)
 
 among_later : (a : AuditShape) (e : Entry) (post : List Entry) → IsLegal (opening_state a.opening) a.rounds (a.entries ++ e ∷ post) →
     IsLegal (opening_state a.opening) a.rounds ((a.entries ++ e ∷ []) ++ post)
@@ -237,7 +218,4 @@ pub audit_is_exact : AuditIsExact
 audit_is_exact p rounds jobs ends lines order = (transcript_of p rounds jobs ends lines order, entries_of p rounds jobs ends lines order)
 
 pub part_is_exact : PartIsExact
-part_is_exact p rounds jobs ends lines es order = (
-  part_of p rounds jobs ends lines es order,
-  λ is. subst (λ ls. AreNext (audit_of p rounds jobs ends) ls es) (sym is.written) (all_next (audit_of p rounds jobs ends) es order is.legal is.part),
-)
+part_is_exact = grind (arith, part_of, all_next)

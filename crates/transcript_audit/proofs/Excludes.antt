@@ -1,6 +1,6 @@
 -- A line that has a fault is the text of no entry that comes next.
-use Rattle.std.proofs.Common.{◌≡◌, ℕ, zero, suc, ◌-◌, ◌<◌, ◌^◌, inl, inr, Bool, true, false, nat_eq, nat_lt, List, [], ◌∷◌, ◌++◌, length, take, drop, slice_get}
-use Rattle.std.proofs.Common.{slice_index_or, Option, None, Some, if◌then◌else◌, refl, sym, ap, subst, ◌∙◌, arith}
+use Rattle.std.proofs.Common.{◌≡◌, ℕ, zero, suc, ◌-◌, ◌<◌, ◌^◌, inl, inr, Bool, true, nat_eq, List, [], ◌∷◌, ◌++◌, length, take, drop, slice_get}
+use Rattle.std.proofs.Common.{slice_index_or, Option, None, Some, refl, sym, ap, subst, ◌∙◌, arith}
 use Rattle.std.proofs.lemmas.Grind.{common_steps}
 use Rattle.std.proofs.lemmas.List.{append-nil, append_assoc, length-append}
 use Rattle.std.proofs.Math.Seq.{get_or-append_seam, take-length}
@@ -17,7 +17,6 @@ use Rattle.wf_board.proofs.HistoryLaws.{each_more}
 use Rattle.wf_board.specs.Laws.States.{State, opening_state}
 use Rattle.wf_board.specs.Laws.Kept.{IsSoundState}
 use Rattle.line_reader.specs.Laws.{AddsNamed, AreLinesBelow, AreNamedJobs}
-use Rattle.wf_desk.specs.Desks.{served_jobs}
 use Rattle.entry_reader.specs.declared.place.Place.{Place}
 use Rattle.entry_reader.specs.Named.{HasNames}
 use Rattle.entry_reader.specs.Places.{place_of_line}
@@ -26,8 +25,8 @@ use Rattle.entry_reader.proofs.LinesBack.{line_placed, line_reply}
 use Rattle.entry_laws.specs.Laws.{EntriesAreLines, IsLastOf, IsOneLine, TextsAreLines}
 use Rattle.transcript_audit.specs.declared.fault.AuditKind.{AuditKind}
 use Rattle.transcript_audit.specs.declared.fault.AuditKind.TheVariants.{Text, At, Job as WrongJob, Reply as WrongReply, Missing}
-use Rattle.transcript_audit.specs.Auditor.{AreNext, AuditShape, ComesNext, HasFault, IsDue, IsNextLine, audit_of, end_at, flows_now, next_job, place_told}
-use Rattle.transcript_audit.specs.Auditor.{present_jobs, present_start, state_now, with_entry}
+use Rattle.transcript_audit.specs.Auditor.{AreNext, AuditShape, ComesNext, HasFault, IsDue, IsNextLine, audit_of, flows_now, next_job, place_told}
+use Rattle.transcript_audit.specs.Auditor.{state_now, with_entry}
 use Rattle.transcript_audit.specs.Laws.{AreOfSession, FaultsExclude, NextIsOne}
 use Rattle.transcript_audit.specs.Keeping.{IsSoundAudit}
 use Rattle.transcript_audit.proofs.Batches.{part_none}
@@ -53,11 +52,7 @@ each_rest P (suc n) (j ∷ js) each = each_rest P n js each.1
 
 pub each_lane : (P : Job → Type 0) (lane : ℕ) (jobs : List Job) → EachJob P jobs → EachJob P (lane_jobs lane jobs)
 each_lane P lane [] each = tt
-each_lane P lane (j ∷ js) each = by_test (nat_eq j.lane lane) (each_lane P lane js each.1)
-  where
-    by_test : (b : Bool) → EachJob P (lane_jobs lane js) → EachJob P (if b then j ∷ lane_jobs lane js else lane_jobs lane js)
-    by_test true rest = (each.0, rest)
-    by_test false rest = rest
+each_lane P lane (j ∷ js) each = grind (arith, (each_lane P lane js each.1))
 
 each_got : (P : Job → Type 0) (jobs : List Job) (n : ℕ) (j : Job) → EachJob P jobs → slice_get jobs n ≡ Some j → P j
 each_got P [] n j each got = absurd (cc)
@@ -66,10 +61,7 @@ each_got P (x ∷ xs) (suc n) j each got = each_got P xs n j each.1 got
 
 -- what holds of each job holds of a next one
 each_next : (P : Job → Type 0) (a : AuditShape) (lane : ℕ) (j : Job) → EachJob P a.jobs → next_job a lane ≡ Some j → P j
-each_next P a lane j each next =
-    let stop = end_at (length a.entries) a.batch_ends in
-    each_got P (lane_jobs lane (present_jobs a)) _ j
-    (each_lane P lane (present_jobs a) (each_rest P (present_start a) (take stop a.jobs) (each_first P stop a.jobs each))) next
+each_next P a lane j each next = grind (arith, each_got, each_lane, each_rest, each_first)
 
 named_each : (jobs : List Job) → AreNamedJobs jobs → EachJob (λ j. IsNamedAsk j.ask) jobs
 named_each [] named = tt
@@ -85,14 +77,7 @@ small_each (j ∷ js) below = (let h = below.0 in omega (arith, h), small_each j
 
 -- a lane that has a job is one of the lanes
 lane_known : (a : AuditShape) (k lane : ℕ) (j : Job) → IsSoundAudit a k → next_job a lane ≡ Some j → lane < LANE_LIMIT
-lane_known a k lane j sound next = elim (bool_cases (nat_lt lane LANE_LIMIT)) [
-  | inl known ↦ grind (arith, common_steps)
-  | inr past ↦
-      let none =
-      part_none LANE_LIMIT lane (present_start a) (end_at (length a.entries) a.batch_ends) a.jobs sound.order.of_lanes (grind (arith, common_steps)) in
-      let nothing : next_job a lane ≡ None = ap (λ js. slice_get js (length (served_jobs (present_start a) a.entries lane))) none in
-      absurd (let no : None ≡ Some j = sym nothing ∙ next in cc)
-]
+lane_known a k lane j sound next = grind (arith, bool_cases, common_steps, part_none)
 
 -- ---- a line of an entry that comes next
 
@@ -159,11 +144,7 @@ told_by line b x ends is = rw ends is
 
 -- a line that tells a place names it
 pub told_named : (line : List ℕ) (place : Place) → place_told line ≡ Some place → place_of_line line ≡ Some place
-told_named line place told = by_end (nat_eq (slice_index_or line (length line - 1) 0) 10) told
-  where
-    by_end : (b : Bool) → (if b then place_of_line line else None) ≡ Some place → place_of_line line ≡ Some place
-    by_end true is = is
-    by_end false is = absurd (cc)
+told_named line place told = grind arith
 
 pub one_place : (x y : Place) → Some x ≡ Some y → x ≡ y
 one_place x y same = cc
@@ -188,15 +169,10 @@ own_told law texts a k line e place is next told = one_place place (own_place e)
 
 -- the job that is due there is the entry's
 own_due : (a : AuditShape) (e : Entry) (place : Place) (j : Job) → ComesNext a e → place ≡ own_place e → IsDue a place j → j ≡ job_of_entry e
-own_due a e place j next same due =
-    let lane : place.lane ≡ e.lane = ap (λ (p : Place). p.lane) same in
-    one_job j (job_of_entry e) (sym due.next ∙ ap (next_job a) lane ∙ next.answers)
+own_due a e place j next same due = grind (arith, one_job)
 
 due_own : (a : AuditShape) (e : Entry) (place : Place) → ComesNext a e → place ≡ own_place e → IsDue a place (job_of_entry e)
-due_own a e place next same = record {
-  next = ap (λ (p : Place). next_job a p.lane) same ∙ next.answers;
-  line = sym (ap (λ (p : Place). p.line) same);
-}
+due_own a e place next same = grind arith
 
 excluded : EntriesAreLines → TextsAreLines → (a : AuditShape) (k : ℕ) (line : List ℕ) (kind : AuditKind) (e : Entry) → IsOfSession a k →
     HasFault a line kind → IsNextLine a line e → ⊥

@@ -37,7 +37,4 @@ own_miss lane start entries place e some within is miss so_far =
 
 pub own_none : (lane start : ℕ) (entries : List Entry) (place : ℕ) → start ≤ place → place ≤ start → place ≤ length entries →
     max (lane_end lane (take place entries)) start ≡ max (lane_end lane entries) start → place ≡ max (lane_end lane entries) start
-own_none lane start entries place above below within so_far =
-    let long = length-take-le place entries within in
-    let first = end_within 0 0 (λ x. nat_eq x.lane lane) (take place entries) (omega arith) in
-    omega (arith, above, below, long, first, so_far)
+own_none lane start entries place above below within so_far = grind (arith, length-take-le, end_within)

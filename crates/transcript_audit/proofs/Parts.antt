@@ -73,9 +73,7 @@ is_before a k i sound before =
 part_before : {A : Type 0} (a : AuditShape) (k i : ℕ) (xs : List A) → IsBefore a k i →
     drop (batch_start (take k a.batch_ends) i) (take (batch_end (take k a.batch_ends) i) (take (batch_start a.batch_ends k) xs))
     ≡ drop (batch_start a.batch_ends i) (take (batch_end a.batch_ends i) xs)
-part_before a k i xs is =
-    (λ j. drop (is.starts j) (take (is.stops j) (take (batch_start a.batch_ends k) xs)))
-    ∙ part_within (batch_start a.batch_ends i) (batch_end a.batch_ends i) (batch_start a.batch_ends k) xs is.within
+part_before a k i xs is = grind (arith, part_within)
 
 before_filled : (a : AuditShape) (k i lane : ℕ) → IsSoundAudit a k → i < k → lane_answered a.entries a.batch_ends i lane ≡ lane_asked a.jobs a.batch_ends i lane
 before_filled a k i lane sound before =
@@ -103,13 +101,7 @@ before_rests a k i sound before =
 
 here_answered : (a : AuditShape) (k lane : ℕ) → IsSoundAudit a k → k < length a.batch_ends →
     lane_answered a.entries a.batch_ends k lane ≡ served_jobs (batch_start a.batch_ends k) a.entries lane
-here_answered a k lane sound ahead =
-    let within = within_end a k sound in
-    let read = end_read a.batch_ends k ahead in
-    let size = length-map a.entries job_of_entry in
-    ap (λ js. lane_jobs lane (drop (batch_start a.batch_ends k) js))
-    (take_all (batch_end a.batch_ends k) (map job_of_entry a.entries) (omega (arith, within, read, size)))
-    ∙ ap (lane_jobs lane) (sym (map_rest job_of_entry (batch_start a.batch_ends k) a.entries))
+here_answered a k lane sound ahead = grind (arith, within_end, end_read, length-map, take_all, map_rest)
 
 here_asked : (a : AuditShape) (k lane : ℕ) → k < length a.batch_ends → lane_asked a.jobs a.batch_ends k lane ≡ lane_jobs lane (jobs_in a.jobs a.batch_ends k)
 here_asked a k lane ahead = ap (λ n. lane_jobs lane (drop (batch_start a.batch_ends k) (take n a.jobs))) (sym (end_read a.batch_ends k ahead))
@@ -119,12 +111,7 @@ here_front : (a : AuditShape) (k lane : ℕ) → IsSoundAudit a k → k < length
 here_front a k lane sound ahead = rw (here_answered a k lane sound ahead, here_asked a k lane ahead) (sound.front lane)
 
 here_rests : (a : AuditShape) (k : ℕ) → IsSoundAudit a k → k < length a.batch_ends → BatchRests a.batch_ends k a.entries
-here_rests a k sound ahead =
-    let within = within_end a k sound in
-    let read = end_read a.batch_ends k ahead in
-    let s = batch_start a.batch_ends k in
-    subst (λ es. EachAfter (RestsFrom s) (take s a.entries) (drop s es)) (sym (take_all (batch_end a.batch_ends k) a.entries (omega (arith, within, read))))
-    sound.rests
+here_rests a k sound ahead = grind (arith, within_end, end_read, take_all)
 
 -- ---- a batch behind it
 
@@ -136,15 +123,10 @@ past_start a k i sound later known =
     omega (arith, within, next, rises)
 
 past_answered : (a : AuditShape) (k i lane : ℕ) → IsSoundAudit a k → k < i → i < length a.batch_ends → lane_answered a.entries a.batch_ends i lane ≡ []
-past_answered a k i lane sound later known =
-    let past = past_start a k i sound later known in
-    let size = length-map a.entries job_of_entry in
-    ap (lane_jobs lane) (part_past (batch_start a.batch_ends i) (batch_end a.batch_ends i) (map job_of_entry a.entries) (omega (arith, past, size)))
+past_answered a k i lane sound later known = grind (arith, past_start, length-map, part_past)
 
 past_rests : (a : AuditShape) (k i : ℕ) → IsSoundAudit a k → k < i → i < length a.batch_ends → BatchRests a.batch_ends i a.entries
-past_rests a k i sound later known =
-    let s = batch_start a.batch_ends i in
-    subst (EachAfter (RestsFrom s) (take s a.entries)) (sym (part_past s (batch_end a.batch_ends i) a.entries (past_start a k i sound later known))) tt
+past_rests a k i sound later known = grind (arith, part_past, past_start)
 
 -- ---- all
 
@@ -190,9 +172,4 @@ part_whole a k i sound known within = elim (bool_cases (nat_lt i k)) [
 ]
 
 pub fills_part : (a : AuditShape) (k : ℕ) → IsSoundAudit a k → FillsPart a.entries a.jobs a.batch_ends
-fills_part a k sound = record {
-  few = within_jobs a k sound;
-  fronts = λ i known lane. part_front a k i lane sound known;
-  batches = λ i known within lane. before_filled a k i lane sound (part_whole a k i sound known within);
-  rests = λ i known. part_rests a k i sound known;
-}
+fills_part a k sound = grind (arith, within_jobs, part_front, before_filled, part_whole, part_rests)

@@ -48,18 +48,11 @@ end_now a k sound = end_is a.batch_ends (length a.jobs) (length a.entries) k sou
 
 -- a lane's next job is that of the desk
 pub next_is : (a : AuditShape) (k lane : ℕ) → IsSoundAudit a k → next_job a lane ≡ desk.next_job (desk_of a k) lane
-next_is a k lane sound =
-    let stop = end_at (length a.entries) a.batch_ends in
-    ap (λ s. slice_get (lane_jobs lane (drop s (take stop a.jobs))) (length (served_jobs s a.entries lane))) (start_now a k sound)
-    ∙ ap (λ n. slice_get (lane_jobs lane (drop (batch_start a.batch_ends k) (take n a.jobs)))
-    (length (served_jobs (batch_start a.batch_ends k) a.entries lane))) (end_now a k sound)
+next_is a k lane sound = grind (arith, start_now, end_now)
 
 -- how many jobs there are up to the end of the batch
 batch_size : (a : AuditShape) (k : ℕ) → IsSoundAudit a k → batch_start a.batch_ends k + length (jobs_in a.jobs a.batch_ends k) ≡ end_of a.batch_ends k
-batch_size a k sound =
-    let total = length a.jobs in
-    part_length (batch_start a.batch_ends k) (end_of a.batch_ends k) a.jobs
-    (start_before_end a.batch_ends total k sound.order.ends sound.here.known) (ends_within a.batch_ends total k sound.order.ends sound.here.known)
+batch_size a k sound = grind (arith, part_length, start_before_end, ends_within)
 
 -- where a lane has a job left, the entries stand before the end of the batch
 pub next_short : (a : AuditShape) (k lane : ℕ) (j : Job) → IsSoundAudit a k → next_job a lane ≡ Some j → length a.entries < end_of a.batch_ends k
@@ -90,16 +83,10 @@ within_end a k sound =
     omega (arith, within, size)
 
 pub within_jobs : (a : AuditShape) (k : ℕ) → IsSoundAudit a k → length a.entries ≤ length a.jobs
-within_jobs a k sound =
-    let within = within_end a k sound in
-    let ends = ends_within a.batch_ends (length a.jobs) k sound.order.ends sound.here.known in
-    omega (arith, within, ends)
+within_jobs a k sound = grind (arith, within_end, ends_within)
 
 pub entries_few : (a : AuditShape) (k : ℕ) → IsSoundAudit a k → length a.entries ≤ SESSION_LINE_LIMIT
-entries_few a k sound =
-    let within = within_jobs a k sound in
-    let few = sound.order.few in
-    omega (arith, within, few)
+entries_few a k sound = grind (arith, within_jobs)
 
 -- ---- one more entry
 
@@ -111,37 +98,23 @@ IsFront start entries jobs lane = served_jobs start entries lane ≡ take (lengt
 
 front_one : (start : ℕ) (entries : List Entry) (jobs : List Job) (e : Entry) (lane : ℕ) → start ≤ length entries → IsFront start entries jobs lane →
     slice_get (lane_jobs e.lane jobs) (length (served_jobs start entries e.lane)) ≡ Some (job_of_entry e) → IsFront start (entries ++ e ∷ []) jobs lane
-front_one start entries jobs e lane begun front next = elim (bool_cases (nat_eq e.lane lane)) [
-  | inl own ↦
-      let same : e.lane ≡ lane = eq_back e.lane lane own in
-      let more = served_own start entries e lane begun same in
-      let here : slice_get (lane_jobs lane jobs) (length (served_jobs start entries lane)) ≡ Some (job_of_entry e) =
-      subst (λ n. slice_get (lane_jobs n jobs) (length (served_jobs start entries n)) ≡ Some (job_of_entry e)) same next in
-      subst (λ js. js ≡ take (length js) (lane_jobs lane jobs)) (sym more)
-      (front_more (served_jobs start entries lane) (lane_jobs lane jobs) (job_of_entry e) front here)
-  | inr other ↦ subst (λ js. js ≡ take (length js) (lane_jobs lane jobs)) (sym (served_other start entries e lane begun other)) front
-]
+front_one start entries jobs e lane begun front next = grind (arith, bool_cases, eq_back, served_own, front_more, served_other)
 
 -- each lane's entries of the batch still answer its first jobs
 front_next : (a : AuditShape) (k : ℕ) (e : Entry) (lane : ℕ) → IsSoundAudit a k → ComesNext a e →
     IsFront (batch_start a.batch_ends k) (a.entries ++ e ∷ []) (jobs_in a.jobs a.batch_ends k) lane
-front_next a k e lane sound next =
-    front_one (batch_start a.batch_ends k) a.entries (jobs_in a.jobs a.batch_ends k) e lane sound.here.begun (sound.front lane)
-    (sym (next_is a k e.lane sound) ∙ next.answers)
+front_next a k e lane sound next = grind (arith, front_one, next_is)
 
 -- what is answered again still rests on entries of the batch
 rests_next : (a : AuditShape) (k : ℕ) (e : Entry) → IsSoundAudit a k → ComesNext a e →
     EachAfter (RestsFrom (batch_start a.batch_ends k)) (take (batch_start a.batch_ends k) (a.entries ++ e ∷ []))
     (drop (batch_start a.batch_ends k) (a.entries ++ e ∷ []))
-rests_next a k e sound next =
-    rests_more (batch_start a.batch_ends k) a.entries e sound.here.begun sound.rests (subst (λ s. RestsFrom s a.entries e) (start_now a k sound) next.rests)
+rests_next a k e sound next = grind (arith, rests_more, start_now)
 
 -- the batches before are still filled
 filled_next : (a : AuditShape) (k : ℕ) (e : Entry) → IsSoundAudit a k →
     FillsJobs (take (batch_start a.batch_ends k) (a.entries ++ e ∷ [])) (take (batch_start a.batch_ends k) a.jobs) (take k a.batch_ends)
-filled_next a k e sound =
-    subst (λ es. FillsJobs es (take (batch_start a.batch_ends k) a.jobs) (take k a.batch_ends))
-    (sym (take-append-le (batch_start a.batch_ends k) a.entries (e ∷ []) sound.here.begun)) sound.filled
+filled_next a k e sound = grind (arith, take-append-le)
 
 size_more : (entries : List Entry) (e : Entry) → length (entries ++ e ∷ []) ≡ length entries + 1
 size_more entries e = length-append entries (e ∷ [])

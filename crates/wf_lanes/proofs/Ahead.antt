@@ -1,5 +1,5 @@
 -- What is served ahead of the lanes' threads.
-use Rattle.std.proofs.Common.{ℕ, Bool, true, false, Result, Ok, Err, refl}
+use Rattle.std.proofs.Common.{ℕ, Bool, Result, Ok, refl, arith}
 use Rattle.std.specs.declared.alloc.AllocError.{AllocError}
 use Rattle.wf_desk.specs.declared.task.Taken.{Taken}
 use Rattle.wf_desk.specs.declared.task.Taken.TheVariants as taken
@@ -18,10 +18,7 @@ grown_planned d e lane (job, (next, (plan, added))) = grown_added d e job _ _ ad
 -- a lane's next job was taken up
 grown_taken_up : (near : Bool) (d e : DeskShape) (lane : ℕ) (result : Result Taken AllocError) → HasTakenUp near d e lane result → HasGrown d e
 grown_taken_up near d e lane (Ok (taken.Task t)) done = grown_none d e done.1.1
-grown_taken_up near d e lane (Ok taken.Served) done = grown_served d e lane true done.1
-grown_taken_up near d e lane (Ok taken.Planned) done = grown_planned d e lane done.1.1
-grown_taken_up near d e lane (Ok taken.Ended) done = grown_served d e lane false done
-grown_taken_up near d e lane (Err short) done = grown_none d e done.1
+grown_taken_up near d e lane result done = grind (arith, grown_served, grown_planned, grown_none)
 
 pub grown_taken : (near : Bool) (a d e : DeskShape) (lane : ℕ) (result : Result Taken AllocError) → HasGrown a d → HasTakenUp near d e lane result →
     HasGrown a e

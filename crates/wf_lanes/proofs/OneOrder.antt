@@ -91,17 +91,8 @@ turns_jobs k (e ∷ es) = elim (bool_cases (nat_eq e.lane k)) [
 lane_head : (k : ℕ) (j : Job) (js : List Job) → j.lane ≡ k → lane_jobs k (j ∷ js) ≡ j ∷ lane_jobs k js
 lane_head k j js own = rw (eq_is j.lane k own) refl
 
-lane_past : (k : ℕ) (j : Job) (js : List Job) → nat_eq j.lane k ≡ false → lane_jobs k (j ∷ js) ≡ lane_jobs k js
-lane_past k j js other = rw other refl
-
 lane_rest : (k : ℕ) (i j : Job) (is js : List Job) → i ≡ j → lane_jobs k (i ∷ is) ≡ lane_jobs k (j ∷ js) → lane_jobs k is ≡ lane_jobs k js
-lane_rest k i j is js equal both = elim (bool_cases (nat_eq j.lane k)) [
-  | inl own ↦
-      let b : i ∷ lane_jobs k is ≡ j ∷ lane_jobs k js =
-      sym (lane_head k i is (ap (λ (x : Job). x.lane) equal ∙ eq_back j.lane k own)) ∙ both ∙ lane_head k j js (eq_back j.lane k own) in
-      cc
-  | inr other ↦ sym (lane_past k i is (ap (λ (x : Job). nat_eq x.lane k) equal ∙ other)) ∙ both ∙ lane_past k j js other
-]
+lane_rest k i j is js equal both = grind arith
 
 -- where each lane's jobs are the same, so is their order
 order_from : (f g xs ys : List Entry) → ((k : ℕ) → turns_of k f ≡ turns_of k g) →

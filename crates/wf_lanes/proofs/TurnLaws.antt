@@ -1,5 +1,5 @@
 -- How a batch is served by turns.
-use Rattle.std.proofs.Common.{◌≡◌, ℕ, ◌+◌, ◌<◌, ◌≤◌, Bool, true, false, nat_lt, nat_eq, [], ◌∷◌, ◌++◌, length, None, inl, inr, refl, sym, ap, subst, arith}
+use Rattle.std.proofs.Common.{◌≡◌, ℕ, ◌+◌, ◌<◌, ◌≤◌, Bool, true, false, [], ◌∷◌, ◌++◌, length, None, refl, sym, ap, subst, arith}
 use Rattle.std.proofs.Common.{append_assoc, append-nil, length-append}
 use Rattle.std.proofs.lemmas.Bool.Decides.{nat_tests}
 use Rattle.basics.proofs.Booleans.{bool_cases}
@@ -18,17 +18,7 @@ use Rattle.wf_lanes.proofs.TurnOrder.{at_first, at_passed, at_served, at_whole}
 -- no job was served
 pub on_none : (d : DeskShape) → HasServedOn d d
 on_none d = record {
-  grown = record {
-    more = [];
-    extends = sym (append-nil d.entries);
-    opening = refl;
-    lanes = refl;
-    rounds = refl;
-    earlier = refl;
-    jobs = refl;
-    start = refl;
-    restored = refl;
-  };
+  grown = grind (arith, append-nil);
   once = tt;
 }
 
@@ -86,13 +76,7 @@ pub turned_passed : (a b c : DeskShape) (lane : ℕ) (had : Bool) → HasTurned 
 turned_passed a b c lane had turned served = subst (λ d. HasTurned a d (lane + 1) had) (sym served.1) record {
   on = turned.on;
   turn = λ earlier turns at. at_passed (earlier ++ turned.on.grown.more) turns lane b (turned.turn earlier turns at) served.0;
-  none = λ e. let none = turned.none e in (
-    none.0,
-    λ k below. elim (bool_cases (nat_eq k lane)) [
-      | inl here ↦ let same : k ≡ lane = grind (arith, nat_tests) in rw same (subst (λ d. next_job d lane ≡ None) none.0 served.0)
-      | inr other ↦ none.1 k (grind (arith, nat_tests))
-    ],
-  );
+  none = grind (arith, bool_cases, nat_tests);
   some = turned.some;
 }
 
@@ -136,18 +120,8 @@ turns_end a c served = record { on = served.on; turns = served.at.order }
 
 -- where no lane had a job, none is left
 pub turned_done : (a c : DeskShape) (lanes : ℕ) → HasTurned a c lanes false → a.lanes ≤ lanes → AreOfLanes a.lanes a.jobs → IsDone c
-turned_done a c lanes turned all of_lanes lane =
-    let none = turned.none refl in
-    subst (λ d. next_job d lane ≡ None) (sym none.0) (elim (bool_cases (nat_lt lane lanes)) [
-      | inl below ↦ none.1 lane (grind (arith, nat_tests))
-      | inr past ↦ past_next a lane (none_of_lanes a.lanes lane a.jobs of_lanes (grind (arith, nat_tests, all)))
-    ])
+turned_done a c lanes turned all of_lanes = grind (arith, bool_cases, nat_tests, none_of_lanes)
 
 -- where one had, fewer are left
 pub turned_less : (a c : DeskShape) (lanes : ℕ) → HasTurned a c lanes true → IsSoundDesk c → left_at c < left_at a
-turned_less a c lanes turned sound =
-    let more = turned.some refl in
-    let jobs = ap length turned.on.grown.jobs in
-    let start = turned.on.grown.start in
-    let within = batch_within c sound in
-    omega (arith, more, jobs, start, within)
+turned_less a c lanes turned sound = grind (arith, batch_within)

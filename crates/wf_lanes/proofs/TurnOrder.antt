@@ -1,13 +1,12 @@
 -- The order of the turns, from lane to lane.
-use Rattle.std.proofs.Common.{◌≡◌, ◌⊎◌, ℕ, ◌+◌, ◌<◌, ◌≤◌, cond, true, false, nat_le, nat_lt, nat_eq, List, [], ◌∷◌, ◌++◌, length, map, slice_get, None, Some}
-use Rattle.std.proofs.Common.{inl, inr, sym, ◌∙◌, ap, subst, arith}
+use Rattle.std.proofs.Common.{◌≡◌, ◌⊎◌, ℕ, ◌+◌, ◌≤◌, cond, true, false, nat_eq, List, [], ◌∷◌, ◌++◌, length, None, Some}
+use Rattle.std.proofs.Common.{inl, inr, ◌∙◌, ap, arith}
 use Rattle.std.proofs.lemmas.Bool.Decides.{nat_tests}
 use Rattle.std.proofs.lemmas.List.{length-append}
 use Rattle.std.proofs.lemmas.List.Sums.{sum_by-append}
 use Rattle.basics.proofs.Booleans.{bool_cases, eq_is}
 use Rattle.wf_talk.specs.declared.entry.Entry.{Entry}
 use Rattle.wf_talk.specs.declared.job.Job.{Job}
-use Rattle.wf_board.specs.Laws.Histories.{job_of_entry, lane_jobs}
 use Rattle.wf_board.proofs.HistoryLaws.{each_more}
 use Rattle.wf_desk.specs.Laws.Commits.{HasServed}
 use Rattle.wf_desk.specs.Desks.{DeskShape, next_job, served, served_jobs}
@@ -27,44 +26,25 @@ turns_other es e k other = let h = turns_with k es e ∙ ap (λ b. turns_of k es
 
 -- an entry of another lane does not count among a lane's answered jobs
 served_past : (start : ℕ) (es : List Entry) (e : Entry) (k : ℕ) → nat_eq e.lane k ≡ false → served_jobs start (es ++ e ∷ []) k ≡ served_jobs start es k
-served_past start es e k other = elim (bool_cases (nat_le start (length es))) [
-  | inl within ↦ served_other start es e k (grind (arith, nat_tests)) other
-  | inr past ↦
-      let size = length-append es (e ∷ []) in
-      let far : length es < start = grind (arith, nat_tests) in
-      ap (λ xs. lane_jobs k (map job_of_entry xs)) (rest_none (es ++ e ∷ []) start (omega (arith, far, size)) ∙ sym (rest_none es start (omega (arith, far))))
-]
+served_past start es e k other = grind (arith, bool_cases, served_other, nat_tests, length-append, rest_none)
 
 -- a lane that has no job left has none after an entry of another lane
 none_stays : (b c : DeskShape) (e : Entry) (k : ℕ) → c.entries ≡ b.entries ++ e ∷ [] → c.jobs ≡ b.jobs → c.start ≡ b.start → nat_eq e.lane k ≡ false
     → next_job b k ≡ None → next_job c k ≡ None
-none_stays b c e k added jobs start other none =
-    let same : served c k ≡ served b k =
-    ap (λ n. served_jobs n c.entries k) start ∙ ap (λ es. served_jobs b.start es k) added ∙ served_past b.start b.entries e k other in
-    ap (λ js. slice_get (lane_jobs k c.jobs) (length js)) same ∙ ap (λ js. slice_get (lane_jobs k js) (length (served b k))) jobs ∙ none
+none_stays b c e k added jobs start other none = grind (arith, served_past)
 
 -- at first no lane has had a turn
 pub at_first : (d : DeskShape) → IsAtTurn [] 0 0 d
-at_first d = record {
-  order = tt;
-  most = λ k. omega arith;
-  later_most = λ k le. omega arith;
-  earlier_least = λ k lt. absurd (omega (arith, lt));
-  later_least = λ k le. inr (omega arith);
-}
+at_first d = grind arith
 
 -- a lane that has a job left, and has its turn now, has had so many
 had_turns : (es : List Entry) (turns lane : ℕ) (d : DeskShape) (job : Job) → IsAtTurn es turns lane d → next_job d lane ≡ Some job → turns_of lane es ≡ turns
-had_turns es turns lane d job at left = elim (at.later_least lane (omega arith)) [
-  | inl none ↦ absurd (cc)
-  | inr least ↦ let most = at.later_most lane (omega arith) in omega (arith, most, least)
-]
+had_turns es turns lane d job at left = grind arith
 
 -- what is known of the turns of a lane stays so after an entry of another
 still : (es : List Entry) (b c : DeskShape) (e : Entry) (k least : ℕ) → c.entries ≡ b.entries ++ e ∷ [] → c.jobs ≡ b.jobs → c.start ≡ b.start
     → nat_eq e.lane k ≡ false → (next_job b k ≡ None) ⊎ (least ≤ turns_of k es) → (next_job c k ≡ None) ⊎ (least ≤ turns_of k (es ++ e ∷ []))
-still es b c e k least added jobs start other (inl none) = inl (none_stays b c e k added jobs start other none)
-still es b c e k least added jobs start other (inr had) = inr (rw (turns_other es e k other) had)
+still es b c e k least added jobs start other h10 = grind (arith, none_stays, turns_other)
 
 -- a lane has had its turn: with one of its jobs
 pub at_served : (es : List Entry) (turns lane : ℕ) (b c : DeskShape) → IsAtTurn es turns lane b → (given : HasServed b c lane true)
@@ -105,10 +85,7 @@ at_passed es turns lane b at none = record {
   order = at.order;
   most = at.most;
   later_most = λ k le. at.later_most k (omega (arith, le));
-  earlier_least = λ k lt. elim (bool_cases (nat_eq k lane)) [
-    | inl here ↦ let same : k ≡ lane = grind (arith, nat_tests) in inl (subst (λ n. next_job b n ≡ None) (sym same) none)
-    | inr other ↦ at.earlier_least k (grind (arith, nat_tests))
-  ];
+  earlier_least = grind (arith, bool_cases, nat_tests);
   later_least = λ k le. at.later_least k (omega (arith, le));
 }
 
@@ -120,8 +97,5 @@ at_whole es turns lanes d at none = record {
   most = λ k. let most = at.most k in omega (arith, most);
   later_most = λ k le. at.most k;
   earlier_least = λ k lt. absurd (omega (arith, lt));
-  later_least = λ k le. elim (bool_cases (nat_lt k lanes)) [
-    | inl below ↦ at.earlier_least k (grind (arith, nat_tests))
-    | inr past ↦ inl (none k (grind (arith, nat_tests)))
-  ];
+  later_least = grind (arith, bool_cases, nat_tests);
 }

@@ -1,5 +1,5 @@
 -- What turns at a table come to at the desk.
-use Rattle.std.proofs.Common.{◌≡◌, ℕ, ◌+◌, ◌-◌, ◌<◌, ◌⊎◌, inl, inr, true, false, List, [], ◌∷◌, ◌++◌, length, map, None, Some, IfSome, refl, sym, ap, subst}
+use Rattle.std.proofs.Common.{◌≡◌, ℕ, ◌+◌, ◌-◌, ◌<◌, ◌⊎◌, inl, true, false, List, [], ◌∷◌, ◌++◌, length, map, None, Some, IfSome, refl, sym, ap, subst}
 use Rattle.std.proofs.Common.{◌∙◌, arith, append_assoc}
 use Rattle.std.specs.List.{Contains}
 use Rattle.std.proofs.lemmas.List.{map-append}
@@ -22,10 +22,9 @@ use Rattle.wf_desk.specs.Laws.Commits.{job_of_task, HasCommitted, HasPlanned, Ha
 use Rattle.wf_desk.proofs.DocketLaws as docket
 use Rattle.wf_desk.specs.Schedules.{HasGrown}
 use Rattle.wf_desk.specs.Tabled.{fixed_of, tagged, tagged_of}
-use Rattle.wf_desk.proofs.Scheduling.{begun_held, grown_committed, grown_served, held_on}
+use Rattle.wf_desk.proofs.Scheduling.{begun_held, grown_committed, held_on}
 use Rattle.wf_lanes.specs.declared.worker.Begun.{Begun}
 use Rattle.wf_lanes.specs.declared.worker.Begun.TheVariants as begun
-use Rattle.wf_lanes.proofs.Ahead.{grown_planned}
 use Rattle.wf_lanes.specs.Workers.{BeginsTurn, HasBegunAt, HasNoJobLeft, HasJoined, HasMadeAll, HasRoom, HasSeenDesk, HasTurned, IsBegun, IsFirst, IsIdle}
 
 -- ---- entries without their lanes
@@ -80,13 +79,7 @@ grows_same n d e same = inl (ap tagged_of same)
 
 grows_added : (n : ℕ) (d e : DeskShape) (job : Job) (place : ℕ) (Is : Reply → Type 0) → job.lane ≡ n → HasAdded d e job place Is →
     GrowsByOne n (tagged_of e) (tagged_of d)
-grows_added n d e job place Is own added =
-    let lane : added.entry.lane ≡ n = ap (λ (j : Job). j.lane) added.answers ∙ own in
-    inr (
-      added.entry,
-      ap tagged added.added ∙ map-append (λ (x : Entry). (x.lane, x)) d.entries (added.entry ∷ [])
-          ∙ ap (λ k. tagged_of d ++ (k, added.entry) ∷ []) lane,
-    )
+grows_added n d e job place Is own added = grind (arith, map-append)
 
 grows_served : (d e : DeskShape) (lane : ℕ) → HasServed d e lane true → GrowsByOne lane (tagged_of e) (tagged_of d)
 grows_served d e lane (job, (next, added)) =
@@ -118,11 +111,7 @@ pub fixed_committed : (d e : DeskShape) (t : Task) (v : Verdict) (result : Outco
 fixed_committed d e t v result done = fixed_grown d e (grown_committed d e t v result done)
 
 pub fixed_begun : (d e : DeskShape) (lane : ℕ) (result : Begun) → HasBegunAt d e lane result → fixed_of e ≡ fixed_of d
-fixed_begun d e lane (begun.Task t) done = ap fixed_of done.1.1.1
-fixed_begun d e lane begun.Served done = fixed_grown d e (grown_served d e lane true done.1)
-fixed_begun d e lane begun.Planned done = fixed_grown d e (grown_planned d e lane done.1)
-fixed_begun d e lane begun.Lacking done = fixed_grown d e (grown_served d e lane true done.1)
-fixed_begun d e lane begun.Ended done = ap fixed_of done.1
+fixed_begun d e lane result done = grind arith
 
 -- ---- a turn
 
@@ -135,21 +124,7 @@ given s e own = record s { out = false; seen = tagged_of e; own = own }
 pub has_turned : (s t u : LaneShape Fixed Entry) (d e : DeskShape) (own : List (ℕ × Entry)) (P : ℕ → Type 0) → Some (fixed_of d) ≡ s.fixed →
     Quiet P (tagged_of d) s.seen →
     t ≡ taken s d → fixed_of e ≡ fixed_of d → u ≡ given t e own → HasTurned s u d e
-has_turned s t u d e own P fixed quiet take same give =
-    let whole : u ≡ given (taken s d) e own = give ∙ ap (λ x. given x e own) take in
-    record {
-      same = record {
-        table = ap (λ (x : LaneShape Fixed Entry). x.table) whole;
-        number = ap (λ (x : LaneShape Fixed Entry). x.number) whole;
-        fixed = ap (λ (x : LaneShape Fixed Entry). x.fixed) whole;
-      };
-      fixed = fixed;
-      later = quiet_starts P _ _ quiet;
-      seen = record {
-        fixed = ap Some same ∙ fixed ∙ sym (ap (λ (x : LaneShape Fixed Entry). x.fixed) whole);
-        list = sym (ap (λ (x : LaneShape Fixed Entry). x.seen) whole);
-      };
-    }
+has_turned s t u d e own P fixed quiet take same give = grind arith
 
 -- a lane has no desk in hand after it
 pub idle_after : (table : TableId) (s t u : LaneShape Fixed Entry) (d e : DeskShape) (own : List (ℕ × Entry)) (n : ℕ) → IsIdle table s n → t ≡ taken s d →
@@ -166,9 +141,7 @@ idle_after table s t u d e own n idle take give =
 -- what `give` asks of the lane that took a desk
 pub may_give : (s t : LaneShape Fixed Entry) (d e : DeskShape) (n : ℕ) → s.number ≡ Some n → t ≡ taken s d → GrowsByOne n (tagged_of e) (tagged_of d) →
     IfSome t.number (λ k. GrowsByOne k (tagged_of e) t.seen)
-may_give s t d e n number take grows =
-    subst (λ (x : LaneShape Fixed Entry). IfSome x.number (λ k. GrowsByOne k (tagged_of e) x.seen)) (sym take)
-    (subst (λ o. IfSome o (λ k. GrowsByOne k (tagged_of e) (tagged_of d))) (sym number) grows)
+may_give s t d e n number take grows = grind arith
 
 -- ---- turn after turn
 
@@ -183,11 +156,7 @@ begun_ended s u m n (d, (e, (turned, (none, same)))) is = (d, (subst (HasSeenDes
 
 -- a first lane makes a lane
 pub first_made : (table : TableId) (s t : LaneShape Fixed Entry) → IsFirst table s → t ≡ record s { made = s.made + 1 } → IsFirst table t
-first_made table s t first made = record {
-  table = ap (λ (x : LaneShape Fixed Entry). x.table) made ∙ first.table;
-  number = ap (λ (x : LaneShape Fixed Entry). x.number) made ∙ first.number;
-  out = ap (λ (x : LaneShape Fixed Entry). x.out) made ∙ first.out;
-}
+first_made table s t first made = grind arith
 
 pub room_made : (s t : LaneShape Fixed Entry) (next count : ℕ) → HasRoom s next count → 0 < count → t ≡ record s { made = s.made + 1 } →
     HasRoom t (next + 1) (count - 1)
