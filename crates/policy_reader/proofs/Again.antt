@@ -1,8 +1,8 @@
 -- A policy is read from the document that it is written as.
-use Rattle.std.proofs.Common.{◌≡◌, ℕ, ◌<◌, Bool, true, false, List, [], ◌∷◌, length, refl, ap, ◌∙◌, ◌⊎◌, inl, inr, arith, codes, Some, Ok}
+use Rattle.std.proofs.Common.{◌≡◌, ℕ, zero, suc, ◌<◌, Bool, true, false, List, [], ◌∷◌, length, refl, sym, ap, ◌∙◌, ◌⊎◌, inl, inr, arith, codes, Some, Ok}
 use Rattle.std.proofs.Common.{slice_index_or}
 use Rattle.policy_reader.proofs.Prints.{AllByRecursion, Members, get_member, OrderIsDecided, PolicyShape, WorkflowShape, no_workflow, any_below, ◌>>=◌, File}
-use Rattle.policy_reader.proofs.Prints.{written_format, needs_second, flow_at, file_keys, IsPrintable, name_at, names_array, users_data}
+use Rattle.policy_reader.proofs.Prints.{written_format, needs_second, form_of, flow_at, file_keys, IsPrintable, name_at, names_array, users_data}
 use Rattle.policy_reader.proofs.Prints.{relations_data}
 use Rattle.policy_reader.proofs.Prints.{flows_data, IsNamedPolicy, Format, format_number, string, integer}
 use Rattle.policy_reader.specs.Laws.Grammars.{today}
@@ -16,22 +16,28 @@ use Rattle.policy_reader.proofs.RostersAgain.{roles_back, roster_back}
 use Rattle.policy_reader.proofs.RelationsAgain.{relations_back}
 use Rattle.policy_reader.proofs.FlowsAgain.{flows_back}
 use Rattle.policy_reader.proofs.RulesAgain.{HaveForms}
-use Rattle.policy_reader.specs.declared.format.Format.TheVariants.{First}
+use Rattle.policy_reader.specs.declared.format.Format.TheVariants.{First, Second}
+use Rattle.policy_reader.specs.Forms.{is_first_form}
 use Rattle.constraint_forms.specs.declared.rule.Rule.{Rule}
 use Rattle.policy_book.proofs.Counting.{any_below-at}
 use Rattle.basics.proofs.Booleans.{bool_cases, differ, not_false, not_true, or_false}
 
 active_at : (ws : List WorkflowShape) (f : ℕ) → AllByRecursion (λ w. w.retired ≡ false) ws → f < length ws → (slice_index_or ws f no_workflow).retired ≡ false
 active_at [] f h lt = absurd (omega (arith, lt))
-active_at (w ∷ ws) f h lt = grind (arith, (active_at ws))
+active_at (w ∷ ws) zero h lt = h.0
+active_at (w ∷ ws) (suc f) h lt = active_at ws f h.1 (omega (arith, lt))
 
 some_user : (n : ℕ) (test : ℕ → Bool) → any_below n test ≡ true → 0 < n
-some_user n test h = grind arith
+some_user zero test h = cc
+some_user (suc n) test h = omega arith
 
 -- where the first format lacks no rule's form, it has each
 first_known : (rules : List Rule) → needs_second rules ≡ false → HaveForms First rules
 first_known [] none k r is = absurd (cc)
-first_known (x ∷ rules) none h2 r is = grind (arith, not_false, or_false, (first_known rules))
+first_known (x ∷ rules) none zero r is =
+    let same : x ≡ r = cc in
+    ap (λ y. is_first_form (form_of y)) (sym same) ∙ not_false (is_first_form (form_of x)) (or_false _ _ none).0
+first_known (x ∷ rules) none (suc k) r is = first_known rules (or_false _ _ none).1 k r is
 
 -- a policy's format has the forms of its rules
 forms_known : (p : PolicyShape) (f : ℕ) → f < length p.flows → HaveForms (written_format p) (flow_at p f).rules
@@ -66,7 +72,8 @@ module _ (decided : OrderIsDecided) (p : PolicyShape) (h : IsNamedPolicy p) (is 
 
   format_back : (format : Format) → (format_of today (doc_with format) ≡ Ok format) × (no_others File 0 (file_keys format) (doc_with format) ≡ Ok tt)
   unfolding format_of value_at no_others known_key
-  format_back format = grind arith
+  format_back First = (refl, refl)
+  format_back Second = (refl, refl)
 
   -- what stands at the keys
   written : (format_of today doc ≡ Ok (written_format p)) × (no_others File 0 (file_keys (written_format p)) doc ≡ Ok tt) ×
@@ -78,11 +85,24 @@ module _ (decided : OrderIsDecided) (p : PolicyShape) (h : IsNamedPolicy p) (is 
 
   start_back : start_of today doc ≡ Ok (record p { flow_names = []; flows = [] })
   unfolding start_of start_named start_with staff_of start_over related_over
-  start_back = grind (arith, admin_back, roles_back, number_back, roster_back, some_user, relations_back)
+  start_back = rw (
+    admin_back,
+    roles_back doc p.roster.roles h.roles (omega (arith, h.sound.admin)) h.sound.roles written.3,
+    number_back File 0 p.roster.roles p.admin h.roles h.sound.admin,
+    roster_back p.roster h.roster h.roles h.users doc is.begun.users (some_user (length p.roster.users) _ is.begun.admin) written.2,
+    is.begun.admin,
+    relations_back p.roster.users p.relations h.users h.relations h.sound.related h.related doc is.begun.relations written.4,
+  ) refl
 
   policy_back : policy_in today doc ≡ Ok p
   unfolding policy_in rest_of
-  policy_back = grind (arith, start_back, flows_back, active_at, forms_known)
+  policy_back = rw (
+    written.0,
+    start_back,
+    flows_back decided p h.roles h.related h.flow_names h.sound.named h.flows h.sound.flows (λ f lt. active_at p.flows f is.active lt) (written_format p)
+        (forms_known p) doc is.flows is.some h.sound.few written.5,
+    written.1,
+  ) refl
 
   -- a policy that can be printed is read from what it is written as
   pub file_back : (text : List ℕ) → document_in text ≡ Ok doc → policy_of_file text ≡ Ok p

@@ -1,14 +1,14 @@
 -- The workflows are read from what they are written as.
-use Rattle.std.proofs.Common.{◌≡◌, ℕ, suc, ◌<◌, ◌≤◌, false, List, [], ◌∷◌, length, take, refl, sym, ap, ◌∙◌, arith, codes, Some, Ok}
+use Rattle.std.proofs.Common.{◌≡◌, ℕ, suc, ◌<◌, ◌≤◌, false, List, [], ◌∷◌, length, map, take, refl, sym, ap, ◌∙◌, arith, codes, Some, Ok}
 use Rattle.std.specs.FinSet as set
-use Rattle.policy_reader.proofs.Prints.{length-map, each, take_all, and_both, le_back, AreNames, Members, get_member, STEP_LIMIT, FLOW_LIMIT}
-use Rattle.policy_reader.proofs.Prints.{AllPairs, RelationShape, known_names, OrderIsDecided, PolicyShape, WorkflowShape, IsSoundWorkflow, flow_at}
-use Rattle.policy_reader.proofs.Prints.{no_workflow, Flows, Ascend, names_array, pairs_data, permits_data, rules_data, flow_entry, flows_data}
-use Rattle.policy_reader.proofs.Prints.{IsNamedWorkflow, Format}
+use Rattle.policy_reader.proofs.Prints.{length-map, each, take_all, not_true, and_both, lt_back, le_back, AreNames, Members, get_member, STEP_LIMIT, FLOW_LIMIT}
+use Rattle.policy_reader.proofs.Prints.{AllPairs, RelationShape, known_names, is_before, OrderIsDecided, PolicyShape, WorkflowShape, IsSoundWorkflow, flow_at}
+use Rattle.policy_reader.proofs.Prints.{no_workflow, Flows, Ascend, names_array, pair_data, pairs_data, permits_data, rules_data, rows, flow_entry, flows_data}
+use Rattle.policy_reader.proofs.Prints.{IsNamedWorkflow, least_none, Format}
 use Rattle.policy_reader.specs.Laws.Grammars.{today}
 use Rattle.policy_reader.specs.Parts.{value_at, array_in, table_in, table_at, count_in, entries_at, name_in, no_others, known_key}
 use Rattle.policy_reader.specs.Rules.{rules_of}
-use Rattle.policy_reader.specs.Flows.{order_in, order_pairs, no_cycle, ordered_in, flow_in, ruled_in, workflow_in, next_flow, flows_in}
+use Rattle.policy_reader.specs.Flows.{order_in, order_pairs, cycle_at, no_cycle, ordered_in, flow_in, ruled_in, workflow_in, next_flow, flows_in}
 use Rattle.policy_reader.specs.Documents.{workflow_members}
 use Rattle.policy_reader.proofs.RostersAgain.{steps_back}
 use Rattle.policy_reader.proofs.Rows.{pairs_back}
@@ -32,11 +32,13 @@ module _ (decided : OrderIsDecided) (f : ℕ) (roles : List (List ℕ)) (relatio
 
   no_cycle-again : no_cycle f steps w.flow.order ≡ Ok tt
   unfolding no_cycle
-  no_cycle-again = grind (arith, few)
+  no_cycle-again = ap (cycle_at f steps) (least_none (length steps) (λ s. is_before w.flow.order s s) (λ s _. not_true (is_before w.flow.order s s)
+      (λ e. h.kept.acyclic s ((decided w.flow.order s s (λ a b pair. (let both = h.kept.orders.each a b pair in omega (arith, few, both.1)))).0 e))))
 
   order_again : order_in f steps (pairs_data steps w.flow.order) ≡ Ok w.flow.order
   unfolding order_in array_in
-  order_again = grind (arith, items_back, pairs_back)
+  order_again = rw (items_back (map (pair_data steps) (rows (length steps) (length steps) w.flow.order)))
+      (pairs_back Flows f steps w.flow.order h.steps h.kept.orders)
 
   ordered_again : ordered_in f steps written ≡ Ok (record { steps = steps; order = w.flow.order; permits = set.empty })
   unfolding ordered_in order_pairs workflow_members
@@ -54,7 +56,8 @@ module _ (decided : OrderIsDecided) (f : ℕ) (roles : List (List ℕ)) (relatio
 
   flow_again : flow_in today f roles written ≡ Ok w.flow
   unfolding flow_in
-  flow_again = grind (arith, steps_back, few, ordered_again, permits_back, permitted)
+  flow_again = rw (steps_back f written steps h.steps (lt_back 0 (length steps) (and_both _ _ h.kept.counted).0) few there.0, ordered_again)
+      (permits_back f roles w.flow named h.steps permitted written there.1)
 
   pub rules_again : rules_of format f relations steps written ≡ Ok w.rules
   rules_again = rules_back f steps h.steps relations related format written w.rules sound.ruled h.flags known sound.few there.2

@@ -1,31 +1,33 @@
 -- The relations and the workflows that are read from a file are sound.
-use Rattle.std.proofs.Common.{◌≡◌, ℕ, ◌+◌, ◌<◌, ◌≤◌, List, [], ◌∷◌, ◌++◌, length, Ok, ◌⊎◌, inl, inr, refl, sym, ap, ◌∙◌, subst, arith}
-use Rattle.std.proofs.Common.{length-append}
-use Rattle.std.specs.Prelude.{codes, Some, IsTrue, slice_index_or}
+use Rattle.std.proofs.Common.{◌≡◌, ℕ, zero, suc, ◌+◌, ◌<◌, ◌≤◌, false, List, [], ◌∷◌, ◌++◌, length, Ok, Err, ◌⊎◌, inl, inr, refl, sym, ap, ◌∙◌, subst, arith}
+use Rattle.std.proofs.Common.{not, length-append}
+use Rattle.std.specs.Prelude.{codes, Option, Some, None, IsTrue, slice_index_or}
 use Rattle.std.specs.FinSet as set
 use Rattle.std.proofs.lemmas.Bool.{cases_lt}
 use Rattle.std.proofs.lemmas.List.{get_or_append_left, get_or_push}
 use Rattle.std.proofs.lemmas.List.Elements.{All-nil}
-use Rattle.wf_names.specs.declared.limits.TheConstants.{FLOW_LIMIT, ROLE_LIMIT, STEP_LIMIT, USER_LIMIT}
+use Rattle.wf_names.specs.declared.limits.TheConstants.{FLOW_LIMIT, PAIR_LIMIT, RELATION_LIMIT, ROLE_LIMIT, RULE_LIMIT, STEP_LIMIT, USER_LIMIT}
 use Rattle.wf_names.specs.Names.{is_name}
 use Rattle.basics.specs.PairLaws.{all_empty}
-use Rattle.toml.specs.Data.{Data, Members}
+use Rattle.toml.specs.Data.{Data, Members, get_member}
 use Rattle.user_relations.specs.Laws.Relations.{RelationShape, RelationKind, listed, complement, kind_of}
 use Rattle.workflow_schema.specs.Flows.{FlowShape}
 use Rattle.policy_book.specs.Laws.Shapes.{PolicyShape, WorkflowShape}
 use Rattle.policy_book.specs.Policies.{flow_at, no_workflow}
-use Rattle.policy_book.specs.Laws.Facts.{AreOfUsers, IsSoundWorkflow, PermitsRolesBelow}
-use Rattle.basics.specs.Laws.Reading.{each}
+use Rattle.policy_book.specs.Laws.Facts.{AreOfUsers, AreSoundRules, IsSoundWorkflow, PermitsRolesBelow}
+use Rattle.basics.specs.Laws.Reading.{check, each, or_fault}
 use Rattle.policy_reader.specs.declared.fault.PolicyKind.TheVariants as kind
 use Rattle.policy_reader.specs.declared.fault.PolicyPart.TheVariants.{Flows, Relations}
 use Rattle.policy_reader.specs.declared.format.Format.{Format}
 use Rattle.policy_reader.specs.Bounds.{AreBelow}
+use Rattle.policy_reader.specs.Faults.{Reading, fault, fault_about}
 use Rattle.policy_reader.specs.Laws.Grammars.{today}
 use Rattle.policy_reader.specs.File.{AreOfForm}
-use Rattle.policy_reader.specs.Parts.{items, items_at, named_in, next_name}
-use Rattle.policy_reader.specs.Parts.{once, said, table_in}
-use Rattle.policy_reader.specs.Relations.{complement_in, free_name_in, kind_at, kind_in, listed_in, names_of}
+use Rattle.policy_reader.specs.Parts.{array_in, at_most, entries, entries_at, items, items_at, name_in, named_in, next_name, next_pair, no_others, number_in}
+use Rattle.policy_reader.specs.Parts.{once, said, table_at, table_in, text_in}
+use Rattle.policy_reader.specs.Relations.{complement_in, entry_of, first_declared, free_name_in, has_one, is_built_in, kind_at, kind_in, listed_in, names_of}
 use Rattle.policy_reader.specs.Relations.{next_relation, relations_in, relations_of}
+use Rattle.policy_reader.specs.Rules.{rules_of}
 use Rattle.policy_reader.specs.Flows.{flow_in, flows_in, next_flow, next_permit, next_permitted, no_cycle, order_pairs, ordered_in, permits_of, ruled_in}
 use Rattle.policy_reader.specs.Flows.{steps_named, workflow_in}
 use Rattle.policy_reader.proofs.Gets.{AreFew, Gets, after, and_so, each_gets, few_entries, few_items, formed, named_number, next_below, next_few, push_form}
@@ -48,15 +50,40 @@ pub record AreRelations (users : ℕ) (rs : List RelationShape) : Type 0 where
 
 listed_below : (users : List (List ℕ)) (n : ℕ) (d : Data) → Gets (IsOfUsers (length users)) (listed_in users n d)
 unfolding listed_in
-listed_below users n d = grind (arith, after, and_so, each_gets, next_below)
+listed_below users n d =
+    after (IsOfUsers (length users)) (array_in Relations n d) _
+    (λ pairs. after (IsOfUsers (length users)) (at_most Relations n PAIR_LIMIT (length (items pairs))) _
+    (λ _. and_so (AreBelow (length users)) (IsOfUsers (length users)) (each (next_pair Relations n users) set.empty (items pairs)) (λ s. Ok (listed s))
+    (each_gets (λ s _. AreBelow (length users) s) (next_pair Relations n users) (λ s x _ h. next_below Relations n users s x h) set.empty (items pairs)
+    (all_empty (λ a b. (a < length users) × (b < length users))))
+    (λ s h. h)))
 
 other_below : (users : ℕ) (all : Members) (n : ℕ) (d : Data) → Gets (IsOfUsers users) (complement_in all n d)
 unfolding complement_in
-other_below users all n d = grind arith
+other_below users all n d =
+    after (IsOfUsers users) (text_in Relations n d) _
+    (λ text. after (IsOfUsers users) (check (is_name text) (fault kind.Unknown Relations n)) _
+    (λ _. after (IsOfUsers users) (or_fault (entry_of first_declared text (entries all)) (fault_about kind.Unknown Relations n text)) _
+    (λ other. after (IsOfUsers users) (check (not other.1) (fault_about kind.Chain Relations n text)) (λ _. Ok (complement other.0)) (λ _. tt))))
 
 kind_below : (users : List (List ℕ)) (all : Members) (n : ℕ) (ms : Members) → Gets (IsOfUsers (length users)) (kind_in users all n ms)
 unfolding kind_in
-kind_below users all n ms = grind (arith, after, other_below, listed_below)
+kind_below users all n ms =
+    after (IsOfUsers (length users)) (check (has_one ms) (fault kind.Shape Relations n)) _ (λ _. pairs_or (get_member (codes "pairs") ms))
+  where
+    other_or : (o : Option Data) → Gets (IsOfUsers (length users)) (elim o [ Some d ↦ complement_in all n d | None ↦ Err (fault kind.Shape Relations n) ])
+    other_or (Some d) = other_below (length users) all n d
+    other_or None = tt
+
+    pairs_or : (o : Option Data) → Gets (IsOfUsers (length users)) (elim o [
+      | Some d ↦ listed_in users n d
+      | None ↦ elim (get_member (codes "complement") ms) [
+        | Some d ↦ complement_in all n d
+        | None ↦ Err (fault kind.Shape Relations n)
+      ]
+    ])
+    pairs_or (Some d) = listed_below users n d
+    pairs_or None = other_or (get_member (codes "complement") ms)
 
 value_below : (users : List (List ℕ)) (all : Members) (n : ℕ) (d : Data) → Gets (IsOfUsers (length users)) (kind_at users all n d)
 unfolding kind_at
@@ -64,27 +91,61 @@ value_below users all n d = after (IsOfUsers (length users)) (table_in Relations
 
 free_name : (n : ℕ) (text : List ℕ) → Gets (λ _. IsTrue (is_name text)) (free_name_in n text)
 unfolding free_name_in
-free_name n text = grind (arith, and_so, formed, weaker)
+free_name n text =
+    and_so (λ _. IsTrue (is_name text)) (λ _. IsTrue (is_name text)) (name_in Relations n text) _ (formed Relations n text)
+    (λ _ h. weaker (λ _. Unit {0}) (λ _. IsTrue (is_name text)) (check (not (is_built_in text)) (fault_about kind.Reserved Relations n text))
+    (any_unit (check (not (is_built_in text)) (fault_about kind.Reserved Relations n text))) (λ _ _. h))
+  where
+    any_unit : (r : Reading (Unit {0})) → Gets (λ _. Unit {0}) r
+    any_unit (Ok x) = tt
+    any_unit (Err e) = tt
 
 one_more : (users : ℕ) (rs : List RelationShape) (r : RelationShape) → AreRelations users rs → IsTrue (is_name r.name) → IsOfUsers users r.kind
     → AreRelations users (rs ++ r ∷ [])
-one_more users rs r h here new = grind (arith, kind_pushed, names_push, push_form)
+one_more users rs r h here new = record {
+  kinds = λ rho k e. elim (kind_pushed rs r rho) [
+    | inl same ↦ h.kinds rho k (sym same ∙ e)
+    | inr now ↦
+        let is : Some r.kind ≡ Some k = sym now.1 ∙ e in
+        let same : r.kind ≡ k = cc in
+        subst (IsOfUsers users) same new
+  ];
+  names = subst AreOfForm (sym (names_push rs r)) (push_form (names_of rs) r.name h.names here);
+}
 
 relation_read : (users : List (List ℕ)) (all : Members) (rs : List RelationShape) (entry : List ℕ × Data) → AreRelations (length users) rs
     → Gets (AreRelations (length users)) (next_relation users all rs entry)
 unfolding next_relation
-relation_read users all rs entry h = grind (arith, and_so, free_name, value_below, one_more)
+relation_read users all rs entry h =
+    let n = first_declared + length rs in
+    and_so (λ _. IsTrue (is_name entry.0)) (AreRelations (length users)) (free_name_in n entry.0) _ (free_name n entry.0)
+    (λ _ here. and_so (IsOfUsers (length users)) (AreRelations (length users)) (kind_at users all n entry.1)
+    (λ k. Ok (rs ++ record { name = entry.0; kind = k } ∷ [])) (value_below users all n entry.1)
+    (λ k new. one_more (length users) rs (record { name = entry.0; kind = k }) h here new))
 
 none_related : (users : ℕ) → AreRelations users []
-none_related users = grind arith
+none_related users = record { kinds = no_kind; names = All-nil (λ n. IsTrue (is_name n)) }
+  where
+    no_kind : (rho : ℕ) (k : RelationKind) → kind_of [] rho ≡ Some k → IsOfUsers users k
+    no_kind zero k e = absurd (cc)
+    no_kind (suc zero) k e = absurd (cc)
+    no_kind (suc (suc n)) k e = absurd (cc)
 
 table_related : (users : List (List ℕ)) (d : Data) → Gets (AreRelations (length users)) (relations_in users d)
 unfolding relations_in
-table_related users d = grind (arith, after, each_gets, relation_read, none_related)
+table_related users d =
+    after (AreRelations (length users)) (table_in Relations 0 d) _
+    (λ all. after (AreRelations (length users)) (at_most Relations 0 RELATION_LIMIT (length (entries all))) _
+    (λ _. each_gets (λ rs _. AreRelations (length users) rs) (next_relation users all) (λ rs x _ h. relation_read users all rs x h) [] (entries all)
+    (none_related (length users))))
 
 pub relations_read : (users : List (List ℕ)) (file : Members) → Gets (AreRelations (length users)) (relations_of users file)
 unfolding relations_of
-relations_read users file = grind (arith, none_related, table_related)
+relations_read users file = table_or (get_member (codes "relations") file)
+  where
+    table_or : (o : Option Data) → Gets (AreRelations (length users)) (elim o [ None ↦ Ok [] | Some d ↦ relations_in users d ])
+    table_or None = none_related (length users)
+    table_or (Some d) = table_related users d
 
 pub related : (users : ℕ) (rs : List RelationShape) → AreRelations users rs → AreOfUsers users rs
 related users rs h rho pairs e = h.kinds rho (listed pairs) e
@@ -116,12 +177,19 @@ role_permitted f roles steps s flow d h =
 step_permitted : (f : ℕ) (roles steps : List (List ℕ)) (flow : FlowShape) (entry : List ℕ × Data) → IsPermitting (length roles) steps flow
     → Gets (IsPermitting (length roles) steps) (next_permit f roles flow entry)
 unfolding next_permit
-step_permitted f roles steps flow entry h = grind (arith, after, each_gets, role_permitted)
+step_permitted f roles steps flow entry h =
+    after (IsPermitting (length roles) steps) (number_in Flows f flow.steps entry.0) _
+    (λ s. after (IsPermitting (length roles) steps) (array_in Flows f entry.1) _
+    (λ permitted. each_gets (λ flow _. IsPermitting (length roles) steps flow) (next_permitted f roles s)
+    (λ flow d _ k. role_permitted f roles steps s flow d k) flow (items permitted) h))
 
 permits_read : (f : ℕ) (roles steps : List (List ℕ)) (flow : FlowShape) (ms : Members) → IsPermitting (length roles) steps flow
     → Gets (IsPermitting (length roles) steps) (permits_of f roles flow ms)
 unfolding permits_of
-permits_read f roles steps flow ms h = grind (arith, after, each_gets, step_permitted)
+permits_read f roles steps flow ms h =
+    after (IsPermitting (length roles) steps) (table_at Flows f (codes "permit") ms) _
+    (λ permits. each_gets (λ flow _. IsPermitting (length roles) steps flow) (next_permit f roles)
+    (λ flow e _ k. step_permitted f roles steps flow e k) flow (entries permits) h)
 
 ordered_read : (f roles : ℕ) (steps : List (List ℕ)) (ms : Members) → Gets (IsPermitting roles steps) (ordered_in f steps ms)
 unfolding ordered_in
@@ -144,17 +212,32 @@ record IsReadSteps (roles : ℕ) (flow : FlowShape) : Type 0 where
 
 flow_read : (f : ℕ) (roles : List (List ℕ)) (ms : Members) → Gets (IsReadSteps (length roles)) (flow_in today f roles ms)
 unfolding flow_in
-flow_read f roles ms = grind (arith, and_so, steps_read, ordered_read, weaker, permits_read)
+flow_read f roles ms =
+    and_so (λ steps. AreFew STEP_LIMIT steps 0) (IsReadSteps (length roles)) (steps_named today f ms) _ (steps_read f ms)
+    (λ steps h. and_so (IsPermitting (length roles) steps) (IsReadSteps (length roles)) (ordered_in f steps ms) (λ flow. permits_of f roles flow ms)
+    (ordered_read f (length roles) steps ms)
+    (λ flow k. weaker (IsPermitting (length roles) steps) (IsReadSteps (length roles)) (permits_of f roles flow ms) (permits_read f roles steps flow ms k)
+    (λ made is. record { permits = is.1; few = subst (λ x. length x ≤ STEP_LIMIT) (sym is.0) (omega (arith, h.1)); names = subst AreOfForm (sym is.0) h.0 })))
 
 ruled_read : (format : Format) (p : PolicyShape) (f : ℕ) (flow : FlowShape) (ms : Members) → IsReadSteps (length p.roster.roles) flow
     → Gets (IsReadFlow (length p.roster.roles) (length p.relations)) (ruled_in format p f flow ms)
 unfolding ruled_in
-ruled_read format p f flow ms h = grind (arith, and_so, rules_sound)
+ruled_read format p f flow ms h =
+    and_so (λ rules. AreSoundRules (length flow.steps) (length p.relations) rules × (length rules ≤ RULE_LIMIT))
+    (IsReadFlow (length p.roster.roles) (length p.relations)) (rules_of format f p.relations flow.steps ms)
+    (λ rules. Ok (record { flow = flow; rules = rules; retired = false })) (rules_sound format f p.relations flow.steps ms h.few)
+    (λ rules k. record { sound = record { permitted = h.permits; few = k.1; ruled = k.0 }; few = h.few; names = h.names })
 
 workflow_read : (format : Format) (p : PolicyShape) (ms : Members)
     → Gets (IsReadFlow (length p.roster.roles) (length p.relations)) (workflow_in today format p ms)
 unfolding workflow_in
-workflow_read format p ms = grind (arith, after, and_so, flow_read, ruled_read)
+workflow_read format p ms =
+    let f = length p.flows in
+    after (IsReadFlow (length p.roster.roles) (length p.relations))
+    (no_others Flows f (codes "order" ∷ codes "permit" ∷ codes "rules" ∷ codes "steps" ∷ []) ms) _
+    (λ _. and_so (IsReadSteps (length p.roster.roles)) (IsReadFlow (length p.roster.roles) (length p.relations)) (flow_in today f p.roster.roles ms)
+    (λ flow. ruled_in format p f flow ms) (flow_read f p.roster.roles ms)
+    (λ flow h. ruled_read format p f flow ms h))
 
 -- ---- policies
 
@@ -203,9 +286,20 @@ flow_more p name w left h here new =
 policy_more : (format : Format) (p : PolicyShape) (entry : List ℕ × Data) (left : ℕ) → IsReadPolicy p (left + 1)
     → Gets (λ q. IsReadPolicy q left) (next_flow today format p entry)
 unfolding next_flow
-policy_more format p entry left h = grind (arith, and_so, formed, after, workflow_read, flow_more)
+policy_more format p entry left h =
+    let f = length p.flows in
+    and_so (λ _. IsTrue (is_name entry.0)) (λ q. IsReadPolicy q left) (name_in Flows f entry.0) _ (formed Flows f entry.0)
+    (λ _ here. after (λ q. IsReadPolicy q left) (table_in Flows f entry.1) _
+    (λ ms. and_so (IsReadFlow (length p.roster.roles) (length p.relations)) (λ q. IsReadPolicy q left) (workflow_in today format p ms)
+    (λ w. Ok (record p { flow_names = p.flow_names ++ entry.0 ∷ []; flows = p.flows ++ w ∷ [] })) (workflow_read format p ms)
+    (λ w new. flow_more p entry.0 w left h here new)))
 
 pub flows_read : (format : Format) (p : PolicyShape) (file : Members) → ((left : ℕ) → left ≤ FLOW_LIMIT → IsReadPolicy p left)
     → Gets (λ q. IsReadPolicy q 0) (flows_in today format p file)
 unfolding flows_in
-flows_read format p file h = grind (arith, and_so, few_entries, each_gets, policy_more)
+flows_read format p file h =
+    and_so (λ flows. length (entries flows) ≤ FLOW_LIMIT) (λ q. IsReadPolicy q 0) (entries_at Flows 0 FLOW_LIMIT (codes "flows") file) _
+    (few_entries Flows 0 FLOW_LIMIT (codes "flows") file)
+    (λ flows within. each_gets (λ q es. IsReadPolicy q (length es)) (next_flow today format)
+    (λ q e es k. policy_more format q e (length es) (subst (λ n. IsReadPolicy q n) (omega arith) k))
+    p (entries flows) (h (length (entries flows)) within))

@@ -3,12 +3,12 @@ use Rattle.std.proofs.Common.{◌≡◌, ℕ, ◌<◌, Bool, false, nat_eq, nat_
 use Rattle.std.proofs.Common.{Ok}
 use Rattle.std.specs.FinSet as set
 use Rattle.policy_reader.proofs.Prints.{IsDistinct, list_any, nat_eq_equiv, slice_cmp-IsAntisymmetric, nat_cmp-IsAntisymmetric, eq_same, or-false, lt_back}
-use Rattle.policy_reader.proofs.Prints.{lt_yes, Members, get_member, AreNames, Pairs, AllPairs, FlowShape, Flows, name_at, chosen, permit_entry}
+use Rattle.policy_reader.proofs.Prints.{lt_yes, Members, get_member, place_of, AreNames, Pairs, AllPairs, FlowShape, Flows, name_at, chosen, permit_entry}
 use Rattle.policy_reader.proofs.Prints.{permits_data}
 use Rattle.std.proofs.lemmas.List.Folds.{list_any-append}
 use Rattle.policy_reader.specs.Parts.{value_at, array_in, table_in, table_at, text_in, named_in, once}
 use Rattle.policy_reader.specs.Flows.{permits_of, next_permit, next_permitted}
-use Rattle.policy_reader.proofs.Readings.{list_back, middle, new_middle, items_back, text_at, number_back}
+use Rattle.policy_reader.proofs.Readings.{list_back, middle, new_middle, items_back, text_at, place_at, number_back}
 use Rattle.policy_reader.proofs.Sets.{by_second, at, lines, line_back, same_part, whole_part, no_part}
 use Rattle.policy_reader.proofs.Tabled.{Apart, numbers, numbers_among, numbers_distinct, tabled}
 
@@ -38,6 +38,8 @@ module _ (f : ℕ) (roles : List (List ℕ)) (whole : FlowShape) (named : AreNam
   apart : (i j : ℕ) → i < j → j < total → Apart (permit_entry roles whole) j i
   apart i j lt below e =
       let same : name_at whole.steps j ≡ name_at whole.steps i = slice_cmp-IsAntisymmetric nat_cmp-IsAntisymmetric _ _ e in
+      let places : Some j ≡ Some i = sym (place_at whole.steps j steps below) ∙ ap (place_of whole.steps) same ∙
+      place_at whole.steps i steps (omega (arith, lt, below)) in
       let equal : j ≡ i = cc in
       omega (arith, lt, equal)
 

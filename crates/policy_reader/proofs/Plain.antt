@@ -1,11 +1,12 @@
 -- A document that a policy is written as has no dates and few levels.
-use Rattle.std.proofs.Common.{◌≡◌, ℕ, zero, suc, ◌≤◌, Bool, true, List, [], ◌∷◌, map, Less, Equal, Greater, refl, arith, Option, Some, None, max}
+use Rattle.std.proofs.Common.{◌≡◌, ℕ, zero, suc, ◌+◌, ◌≤◌, Bool, true, List, [], ◌∷◌, map, length, Less, Equal, Greater, refl, arith, Option, Some, None, max}
 use Rattle.std.proofs.Common.{pos}
+use Rattle.constraint_forms.specs.declared.rule.Rule.TheVariants as rule
 use Rattle.policy_reader.proofs.Prints.{nat_cmp, match_ordering, slice_cmp, and_both, and_from, Data, string, integer, array, table, Members, no_members}
-use Rattle.policy_reader.proofs.Prints.{member, depth, members_depth, has_valid_dates, members_have_valid_dates, items_of, Rule}
-use Rattle.policy_reader.proofs.Prints.{RelationShape, PolicyShape, WorkflowShape}
-use Rattle.policy_reader.proofs.Prints.{with_member, table_below, name_at, names_where, pair_data, pairs_data}
-use Rattle.policy_reader.proofs.Prints.{Pairs}
+use Rattle.policy_reader.proofs.Prints.{member, depth, items_depth, members_depth, has_valid_dates, members_have_valid_dates, items_of, Rule, has_role}
+use Rattle.policy_reader.proofs.Prints.{RelationShape, complement_of, PolicyShape, WorkflowShape, flow_at, format_number, written_format, first_declared}
+use Rattle.policy_reader.proofs.Prints.{with_member, table_below, name_at, names_where, pair_data, pairs_data, relation_entry, rule_data, flow_entry}
+use Rattle.policy_reader.proofs.Prints.{permit_entry, user_entry, Pairs}
 use Rattle.policy_reader.specs.declared.form.Form.{Form}
 use Rattle.policy_reader.specs.Documents.{kind_members, grouped_members, rule_members, workflow_members, document_of, counting_members}
 
@@ -29,7 +30,10 @@ text n s = record { levels = omega arith; dates = refl }
 
 plain_array : {X : Type 0} (n : ℕ) (f : X → Data) (xs : List X) → ((x : X) → IsPlain n (f x)) → IsPlain (suc n) (array (items_of (map f xs)))
 plain_array n f [] h = record { levels = omega arith; dates = refl }
-plain_array n f (x ∷ xs) h = grind (arith, (plain_array n f xs h))
+plain_array n f (x ∷ xs) h =
+    let rest = plain_array n f xs h in
+    let all = max_le (depth (f x)) (items_depth (items_of (map f xs))) n (h x).levels (omega (arith, rest.levels)) in
+    record { levels = omega (arith, all); dates = and_from _ _ (h x).dates rest.dates }
 
 plain_table : (n : ℕ) (ms : Members) → ArePlain n ms → IsPlain (suc n) (table ms)
 plain_table n ms h = record { levels = omega (arith, h.levels); dates = h.dates }
@@ -86,13 +90,33 @@ counting_plain form steps limit group =
 
 rule_plain : (relations : List RelationShape) (steps : List (List ℕ)) (r : Rule) → ArePlain 1 (rule_members relations steps r)
 unfolding rule_members
-rule_plain relations steps r = grind (arith, text, none, grouped_plain, counting_plain)
+rule_plain relations steps (rule.Pair rho s t) = text 1 _ & text 1 _ & text 1 _ & text 1 _ & none 1
+rule_plain relations steps (rule.SomeOf rho group s) = grouped_plain _ relations steps rho group s
+rule_plain relations steps (rule.AllOf rho group s) = grouped_plain _ relations steps rho group s
+rule_plain relations steps (rule.SomeTo rho s group) = grouped_plain _ relations steps rho group s
+rule_plain relations steps (rule.AllTo rho s group) = grouped_plain _ relations steps rho group s
+rule_plain relations steps (rule.AtMost limit group) = counting_plain _ steps limit group
+rule_plain relations steps (rule.AtLeast limit group) = counting_plain _ steps limit group
 
 workflow_plain : (roles : List (List ℕ)) (relations : List RelationShape) (w : WorkflowShape) → ArePlain 3 (workflow_members roles relations w)
 unfolding workflow_members
-workflow_plain roles relations w = grind (arith, pairs_plain, below_plain, names_plain, plain_array, plain_table, rule_plain, text, none)
+workflow_plain roles relations w =
+    pairs_plain 1 w.flow.steps w.flow.order
+    & below_plain 2 (length w.flow.steps) (permit_entry roles w.flow) (λ s. names_plain 1 roles _)
+    & plain_array 2 (rule_data relations w.flow.steps) w.rules (λ r. plain_table 1 _ (rule_plain relations w.flow.steps r))
+    & plain_array 2 string w.flow.steps (text 2)
+    & none 3
 
 -- no dates, and at most five levels
 pub document_plain : (p : PolicyShape) → ArePlain 5 (document_of p)
 unfolding document_of
-document_plain p = grind (arith, text, below_plain, plain_table, workflow_plain, kind_plain, plain_array, names_plain, none)
+document_plain p =
+    let format : IsPlain 5 (integer (pos (format_number (written_format p)))) = record { levels = omega arith; dates = refl } in
+    text 5 _
+    & below_plain 4 (length p.flows) (flow_entry p) (λ f. plain_table 3 _ (workflow_plain p.roster.roles p.relations (flow_at p f)))
+    & format
+    & below_plain 4 (length p.relations) (λ n. relation_entry p.roster.users p.relations (first_declared + n))
+    (λ n. plain_table 3 _ (kind_plain p.roster.users p.relations _ (complement_of p.relations (first_declared + n))))
+    & plain_array 4 string p.roster.roles (text 4)
+    & below_plain 4 (length p.roster.users) (user_entry p.roster) (λ u. names_plain 3 p.roster.roles (has_role p.roster u))
+    & none 5

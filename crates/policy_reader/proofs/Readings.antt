@@ -1,8 +1,8 @@
 -- Lists that are read back from what they are written as.
 use Rattle.std.proofs.Common.{◌≡◌, ℕ, zero, suc, ◌+◌, ◌<◌, ◌≤◌, Bool, true, false, List, [], ◌∷◌, ◌++◌, length, map, take, refl, sym, ap, ◌∙◌, append_assoc}
-use Rattle.std.proofs.Common.{arith, Result, Ok, slice_get, slice_index_or, Some}
-use Rattle.policy_reader.proofs.Prints.{list_any, append-nil, length-append, take_more, slice_get-get_or, or_left, or_right, eq_above, le_yes, Data}
-use Rattle.policy_reader.proofs.Prints.{string, items_of, each, PolicyPart, items, among, name_at, chosen, is_name, place_of, AreNames}
+use Rattle.std.proofs.Common.{arith, Result, Ok, Err, slice_get, slice_index_or, Some, if◌then◌else◌}
+use Rattle.policy_reader.proofs.Prints.{list_any, append-nil, map-append, length-append, take_more, slice_get-get_or, or_left, or_right, eq_above, le_yes, Data}
+use Rattle.policy_reader.proofs.Prints.{string, items_of, ◌>>=◌, each, PolicyPart, items, among, name_at, chosen, is_name, place_of, AreNames}
 use Rattle.std.specs.List.{IsDistinct}
 use Rattle.policy_reader.specs.Parts.{number_in, at_least_one, at_most}
 
@@ -20,13 +20,29 @@ module _ {X S D F : Type 0} (read : S → D → Result S F) (write : X → D) (s
 abbrev pub upto : ℕ → List ℕ
 upto n = chosen n (λ _. true)
 
+-- reading one item more
+each_push : {S D F : Type 0} (read : S → D → Result S F) (s : S) (xs : List D) (y : D) →
+    each read s (xs ++ y ∷ []) ≡ (each read s xs >>= (λ t. each read t (y ∷ [])))
+each_push read s [] y = refl
+each_push read s (x ∷ xs) y =
+    elim (read s x) as (λ r. (r >>= (λ t. each read t (xs ++ y ∷ []))) ≡ ((r >>= (λ t. each read t xs)) >>= (λ t. each read t (y ∷ [])))) [
+      | Ok t ↦ each_push read t xs y
+      | Err f ↦ refl
+    ]
+
 -- the same of what is written by the numbers that pass a test
 module _ {S D F : Type 0} (read : S → D → Result S F) (write : ℕ → D) (state : ℕ → S) (test : ℕ → Bool) (bound : ℕ)
     (step : (n : ℕ) → n < bound → test n ≡ true → read (state n) (write n) ≡ Ok (state (suc n)))
     (skip : (n : ℕ) → n < bound → test n ≡ false → state n ≡ state (suc n)) where
   pub chosen_back : (n : ℕ) → n ≤ bound → each read (state 0) (map write (chosen n test)) ≡ Ok (state n)
   chosen_back zero le = refl
-  chosen_back (suc n) le = grind (arith, (chosen_back n (omega (arith, le))))
+  chosen_back (suc n) le =
+      let before = chosen_back n (omega (arith, le)) in
+      elim (test n) as (λ b. test n ≡ b → each read (state 0) (map write (if b then chosen n test ++ n ∷ [] else chosen n test)) ≡ Ok (state (suc n))) [
+        | true ↦ λ e. ap (each read (state 0)) (map-append write (chosen n test) (n ∷ [])) ∙ each_push read (state 0) (map write (chosen n test)) (write n)
+            ∙ ap (λ r. r >>= (λ t. each read t (write n ∷ []))) before ∙ ap (λ r. r >>= (λ t. Ok t)) (step n (omega (arith, le)) e)
+        | false ↦ λ e. before ∙ ap Ok (skip n (omega (arith, le)) e)
+      ] refl
 
 -- the same of what is written by all numbers
 pub count_back : {S D F : Type 0} (read : S → D → Result S F) (write : ℕ → D) (state : ℕ → S) (bound : ℕ) →
@@ -42,7 +58,9 @@ upto_length (suc n) = omega (arith, length-append (upto n) (n ∷ []), upto_leng
 
 first_number : {Y : Type 0} (n : ℕ) (f : ℕ → Y) → map f (upto (suc n)) ≡ f 0 ∷ map (λ i. f (suc i)) (upto n)
 first_number zero f = refl
-first_number (suc n) f = grind (arith, (first_number n f))
+first_number (suc n) f =
+    map-append f (upto (suc n)) (suc n ∷ []) ∙ ap (λ ys. ys ++ f (suc n) ∷ []) (first_number n f) ∙
+    ap (λ ys. f 0 ∷ ys) (sym (map-append (λ i. f (suc i)) (upto n) (n ∷ [])))
 
 -- what is written by numbers of a list's items
 pub upto_map : {X Y : Type 0} (xs : List X) (f : ℕ → Y) (g : X → Y) → ((i : ℕ) (x : X) → slice_get xs i ≡ Some x → f i ≡ g x) →

@@ -1,14 +1,15 @@
 -- The pairs of a set, row by row: they ascend, and are those of the set.
-use Rattle.std.proofs.Common.{◌≡◌, ℕ, zero, suc, ◌<◌, Bool, true, false, ◌&&◌, cond, List, [], ◌∷◌, ◌++◌, map, Less, refl, sym, ap, subst, ◌∙◌}
-use Rattle.std.proofs.Common.{arith, length, nat_lt, Some, None, T, Ok}
+use Rattle.std.proofs.Common.{◌≡◌, ℕ, zero, suc, ◌<◌, Bool, true, false, ◌||◌, ◌&&◌, cond, List, [], ◌∷◌, ◌++◌, map, Less, Equal, refl, sym, ap, subst, ◌∙◌}
+use Rattle.std.proofs.Common.{append_assoc, arith, length, nat_lt, if◌then◌else◌, Some, None, T, Ok}
 use Rattle.std.specs.FinSet as set
+use Rattle.policy_reader.proofs.Grown.{push_all}
 use Rattle.policy_reader.proofs.Sets as part
 use Rattle.policy_reader.proofs.Prints.{eq_by_cmp, nat_cmp, ordering_then, nat_cmp_is, eq_by_cmp_equiv, list_any, AllByRecursion, IsDistinct, find, is_sorted}
-use Rattle.policy_reader.proofs.Prints.{append-nil, Pairs, pair_cmp, IsAscending, AllPairs, pair_cmp_total, pair_cmp-IsAntisymmetric, row, rows}
-use Rattle.policy_reader.proofs.Prints.{pair_data, IsDistinct-from_sorted, AreNames, each, PolicyPart, lt_yes, lt_no, All}
+use Rattle.policy_reader.proofs.Prints.{append-nil, Pairs, pair_cmp, IsAscending, AllPairs, pair_cmp_total, pair_cmp-IsAntisymmetric, ascending_none, row, rows}
+use Rattle.policy_reader.proofs.Prints.{pair_data, IsDistinct-from_sorted, AreNames, each, PolicyPart, lt_yes, lt_no, All, or_right}
 use Rattle.std.specs.List.Sorted.{IsStrictlySortedBy}
 use Rattle.std.specs.FinMap.Entries.{below_all, same_entries}
-use Rattle.std.proofs.lemmas.Map.Keys.{sorted_tail}
+use Rattle.std.proofs.lemmas.Map.Keys.{sorted_head, sorted_tail}
 use Rattle.std.proofs.lemmas.List.Elements.{All-from_recursion}
 use Rattle.policy_reader.specs.Parts.{once, named_pair_in, numbers_in, next_pair}
 use Rattle.policy_reader.proofs.Readings.{list_back, middle, new_middle, number_back}
@@ -19,21 +20,43 @@ use Rattle.policy_reader.proofs.Sets.{itself, by_first, lines}
 module _ (n : ℕ) where
   below_each : (ps : List (ℕ × ℕ)) → AllPairs (λ a b. (a < n) × (b < n)) (set.from_list ps) → AllByRecursion (λ p. (p.0 < n) × (p.1 < n)) ps
   below_each [] h = tt
-  below_each (p ∷ ps) h = grind (arith, itself, (below_each ps))
+  below_each (p ∷ ps) h = (
+    h.each p.0 p.1 (set.contains-insert pair_cmp_total (set.from_list ps) p p ∙ ap (λ b. b || set.contains {R = pair_cmp} (set.from_list ps) p) (itself p)),
+    below_each ps (record {
+      each = λ a b here. h.each a b (set.contains-insert pair_cmp_total (set.from_list ps) p (a, b) ∙ or_right (eq_by_cmp pair_cmp (a, b) p) _ here);
+    }),
+  )
 
   -- the pairs of a list whose set is below n
   pub all_below : (ps : List (ℕ × ℕ)) → AllPairs (λ a b. (a < n) × (b < n)) (set.from_list ps) → All (λ p. (p.0 < n) × (p.1 < n)) ps
   all_below ps h = All-from_recursion (λ (p : ℕ × ℕ). (p.0 < n) × (p.1 < n)) ps (below_each ps h)
 
+none_among : (x : ℕ × ℕ) (ys : List (ℕ × ℕ)) → AllByRecursion (λ y. pair_cmp x y ≡ Less) ys → list_any (eq_by_cmp pair_cmp x) ys ≡ false
+none_among x [] all = refl
+none_among x (y ∷ ys) all = rw (all.0) (none_among x ys all.1)
+
 -- an ascending list has as many pairs as its set
 len_ascending : (ps : List (ℕ × ℕ)) → IsAscending ps → set.len (set.from_list {R = pair_cmp} ps) ≡ length ps
 len_ascending [] s = set.len-empty pair_cmp
-len_ascending (p ∷ ps) s = grind (arith, (len_ascending ps (sorted_tail pair_cmp p ps s)))
+len_ascending (p ∷ ps) s =
+    let free : set.contains (set.from_list {R = pair_cmp} ps) p ≡ false =
+    set.contains-from_list pair_cmp_total ps p ∙ none_among p ps (sorted_head pair_cmp p ps s)
+    in
+    let rest : set.len (set.from_list {R = pair_cmp} ps) ≡ length ps = len_ascending ps (sorted_tail pair_cmp p ps s) in
+    set.len-insert pair_cmp_total (set.from_list ps) p ∙ rw free (omega arith)
 
 -- ---- one pair more
 
 pair_below : (x y : ℕ × ℕ) → x.0 < y.0 → pair_cmp x y ≡ Less
 pair_below x y lt = ap (λ o. ordering_then o (nat_cmp x.1 y.1)) (sym (nat_cmp_is x.0 y.0 Less lt))
+
+pair_next : (s t : ℕ) → pair_cmp (s, t) (s, suc t) ≡ Less
+pair_next s t = ap (λ o. ordering_then o (nat_cmp t (suc t))) (sym (nat_cmp_is s s Equal refl)) ∙ sym (nat_cmp_is t (suc t) Less (omega arith))
+
+push_ascend : (ps : List (ℕ × ℕ)) (q : ℕ × ℕ) → IsAscending ps → AllByRecursion (λ p. pair_cmp p q ≡ Less) ps → IsAscending (ps ++ q ∷ [])
+unfolding IsStrictlySortedBy
+push_ascend [] q a h = (tt, tt)
+push_ascend (p ∷ ps) q a h = (push_all (λ r. pair_cmp p r ≡ Less) ps q a.0 h.0, push_ascend ps q a.1 h.1)
 
 further : (q r : ℕ × ℕ) (ps : List (ℕ × ℕ)) → pair_cmp q r ≡ Less → AllByRecursion (λ p. pair_cmp p q ≡ Less) ps → AllByRecursion (λ p. pair_cmp p r ≡ Less) ps
 further q r [] lt h = tt
@@ -54,12 +77,41 @@ record IsReached (pairs : Pairs) (s t : ℕ) (ps : List (ℕ × ℕ)) : Type 0 w
 
 reached_row : (pairs : Pairs) (s : ℕ) (before : List (ℕ × ℕ)) → IsReached pairs s 0 before → (t : ℕ) → IsReached pairs s t (before ++ row s t pairs)
 reached_row pairs s before h zero = subst (IsReached pairs s 0) (sym (append-nil before)) h
-reached_row pairs s before h (suc t) = grind (arith, (reached_row pairs s before h t))
+reached_row pairs s before h (suc t) =
+    let so_far = reached_row pairs s before h t in
+    let ps : List (ℕ × ℕ) = before ++ row s t pairs in
+    elim (set.contains pairs (s, t)) as
+    (λ b. set.contains pairs (s, t) ≡ b → IsReached pairs s (suc t) (before ++ (if b then row s t pairs ++ (s, t) ∷ [] else row s t pairs))) [
+      | true ↦ λ here. subst (IsReached pairs s (suc t)) (append_assoc before (row s t pairs) ((s, t) ∷ [])) (record {
+        whole = set.from_list_push pair_cmp_total pair_cmp-IsAntisymmetric ps (s, t) ∙ ap (λ some. set.insert some (s, t)) so_far.whole ∙
+            sym (part.row_more by_first pairs (λ m. nat_lt m s) s (lt_no s s (omega arith)) t here);
+        ascend = push_ascend ps (s, t) so_far.ascend so_far.below;
+        below = push_all (λ p. pair_cmp p (s, suc t) ≡ Less) ps (s, t) (further (s, t) (s, suc t) ps (pair_next s t) so_far.below) (pair_next s t);
+      })
+      | false ↦ λ none. record {
+        whole = so_far.whole ∙ part.row_skip by_first pairs (λ m. nat_lt m s) s (lt_no s s (omega arith)) t none;
+        ascend =
+            so_far.ascend;
+        below = further (s, t) (s, suc t) ps (pair_next s t) so_far.below;
+      }
+    ] refl
 
 module _ (n : ℕ) (pairs : Pairs) (within : AllPairs (λ a b. (a < n) × (b < n)) pairs) where
   reached : (m : ℕ) → IsReached pairs m 0 (rows m n pairs)
-  reached zero = grind arith
-  reached (suc m) = grind (arith, reached_row, part.row_all, part.next_line, row_begins, further, pair_below, (reached m))
+  reached zero = record {
+    whole = sym (part.no_part pairs (λ q. nat_lt q.0 0) (λ q. lt_no q.0 0 (omega arith))) ∙ row_begins 0 pairs;
+    ascend =
+        ascending_none;
+    below = tt;
+  }
+  reached (suc m) =
+      let row = reached_row pairs m (rows m n pairs) (reached m) n in
+      record {
+        whole = row.whole ∙ part.row_all by_first pairs (λ k. nat_lt k m) m (lt_no m m (omega arith)) n (λ q here. (within.each q.0 q.1 here).1) ∙
+            part.next_line pairs m ∙ row_begins (suc m) pairs;
+        ascend = row.ascend;
+        below = further (m, n) (suc m, 0) _ (pair_below (m, n) (suc m, 0) (omega arith)) row.below;
+      }
 
   -- the pairs ascend, and are the whole
   pub rows_ascend : IsAscending (rows n n pairs)
@@ -74,7 +126,8 @@ abbrev paired : List (ℕ × ℕ) → List ((ℕ × ℕ) × Unit {0})
 paired ps = map (λ p. (p, tt)) ps
 
 both : (a b : Bool) → T a → T b → T (a && b)
-both a b h k = grind arith
+both true b h k = k
+both false b h k = h
 
 less_paired : (p : ℕ × ℕ) (qs : List (ℕ × ℕ)) → AllByRecursion (λ q. pair_cmp p q ≡ Less) qs → T (below_all pair_cmp p (paired qs))
 less_paired p [] h = tt
@@ -87,7 +140,8 @@ sorted_paired (p ∷ ps) h = both _ _ (less_paired p ps h.0) (sorted_paired ps h
 
 find_paired : (q : ℕ × ℕ) (ps : List (ℕ × ℕ)) → find pair_cmp q (paired ps) ≡ cond (list_any (eq_by_cmp pair_cmp q) ps) (Some tt) None
 find_paired q [] = refl
-find_paired q (p ∷ ps) = grind (arith, (find_paired q ps))
+find_paired q (p ∷ ps) = elim (eq_by_cmp pair_cmp q p) as (λ b. cond b (Some tt) (find pair_cmp q (paired ps)) ≡ cond
+    (b || list_any (eq_by_cmp pair_cmp q) ps) (Some tt) None) [ true ↦ refl | false ↦ find_paired q ps ]
 
 unpaired : (ps : List (ℕ × ℕ)) → map (λ e. e.0) (paired ps) ≡ ps
 unpaired [] = refl
@@ -131,4 +185,5 @@ module _ (t : PolicyPart) (f : ℕ) (names : List (List ℕ)) (whole : Pairs) (n
   pairs_back = list_back (next_pair t f names) (pair_data names) (λ ps. set.from_list ps) all step ∙ ap Ok (rows_whole (length names) whole within)
 
   pub pairs_count : length all ≡ set.len whole
-  pairs_count = grind (arith, len_ascending, rows_ascend, rows_whole)
+  pairs_count = sym (len_ascending all (rows_ascend (length names) whole within)) ∙
+      ap set.len (rows_whole (length names) whole within)

@@ -30,16 +30,24 @@ first_of (suc k) (b ∷ g) = b ∷ first_of k g
 
 none_of : (g : List Bool) (s : ℕ) → is_member (map (λ _. false) g) s ≡ false
 none_of [] s = refl
-none_of (b ∷ g) s = grind (arith, (none_of g))
+none_of (b ∷ g) zero = refl
+none_of (b ∷ g) (suc s) = none_of g s
 
 first_fresh : (k : ℕ) (g : List Bool) → is_member (first_of k g) k ≡ false
 first_fresh zero g = none_of g zero
-first_fresh (suc k) g = grind (arith, (first_fresh k))
+first_fresh (suc k) [] = refl
+first_fresh (suc k) (b ∷ g) = first_fresh k g
 
 -- the next step, where it is there and where not
 first_more : (k : ℕ) (g : List Bool) (b : Bool) → is_member g k ≡ b → cond b (slice_set (first_of k g) k true) (first_of k g) ≡ first_of (suc k) g
-first_more zero g b e = grind arith
-first_more (suc k) g b e = grind (arith, (first_more k))
+first_more zero [] true e = refl
+first_more zero [] false e = refl
+first_more zero (x ∷ g) true e = ap (λ y. y ∷ map (λ _. false) g) (sym e)
+first_more zero (x ∷ g) false e = ap (λ y. y ∷ map (λ _. false) g) (sym e)
+first_more (suc k) [] true e = refl
+first_more (suc k) [] false e = refl
+first_more (suc k) (x ∷ g) true e = ap (λ h. x ∷ h) (first_more k g true e)
+first_more (suc k) (x ∷ g) false e = ap (λ h. x ∷ h) (first_more k g false e)
 
 -- no step is at k or above
 first_all : (k : ℕ) (g : List Bool) → ((s : ℕ) → is_member g s ≡ true → s < k) → first_of k g ≡ g
@@ -66,12 +74,18 @@ module _ (f : ℕ) (steps : List (List ℕ)) (named : AreNames steps) where
     start = first_none whole ∙ ap (λ n. replicate n false) size
 
     all_again : each (next_member f steps) no_steps (map (text_at steps) members) ≡ Ok whole
-    all_again = grind (arith, start, chosen_back, member_again, first_fresh, first_more, first_all)
+    all_again =
+        ap (λ g. each (next_member f steps) g (map (text_at steps) members)) (sym start)
+        ∙ chosen_back (next_member f steps) (text_at steps) (λ k. first_of k whole) (is_member whole) (length steps)
+        (λ k lt here. member_again (first_of k whole) k lt (first_fresh k whole) ∙ ap Ok (first_more k whole true here))
+        (λ k lt none. first_more k whole false none) (length steps) (omega arith)
+        ∙ ap Ok (first_all (length steps) whole within)
 
     -- the group that has some step has a first one
     some_again : any_from 0 whole (λ _. true) ≡ true → (ss : List ℕ) → each (next_member f steps) no_steps (map (text_at steps) ss) ≡ Ok whole → 0 < length ss
     unfolding no_steps
-    some_again some [] e = grind arith
+    some_again some [] e = let none : any_from 0 no_steps (λ _. true) ≡ false = refl in let no : whole ≡ no_steps = cc in let bad =
+        sym (ap (λ g. any_from 0 g (λ _. true)) no ∙ none) ∙ some in cc
     some_again some (s ∷ ss) e = omega arith
 
     pub group_again : any_from 0 whole (λ _. true) ≡ true → group_in f steps (names_where steps (is_member whole)) ≡ Ok whole
@@ -127,13 +141,25 @@ module _ (f : ℕ) (steps : List (List ℕ)) (named : AreNames steps) where
         format f relations steps (rule_data relations steps r) ≡ Ok r
     unfolding rule_in form_in rule_of_form pair_in keys_in key_in relation_at step_at value_at table_in no_others known_key rule_members grouped_members
         counting_members
-    rule_again format (rule.Pair rho s t) h flags known = grind (arith, relation_again, step_again)
-    rule_again format (rule.SomeOf rho g s) h flags known = grind arith
-    rule_again format (rule.AllOf rho g s) h flags known = grind (arith, grouped_again)
-    rule_again format (rule.SomeTo rho s g) h flags known = grind (arith, grouped_again)
-    rule_again format (rule.AllTo rho s g) h flags known = grind (arith, grouped_again)
-    rule_again format (rule.AtMost limit g) h flags known = grind (arith, counting_again)
-    rule_again format (rule.AtLeast limit g) h flags known = grind (arith, counting_again)
+    rule_again format (rule.Pair rho s t) h flags known = rw (
+      known,
+      relation_again rho (h.known rho (eq_same rho)),
+      step_again
+          s (h.names s (or_left (nat_eq s s) _ (eq_same s))),
+      step_again t (h.names t (or_right (nat_eq t s) _ (eq_same t))),
+    ) refl
+    rule_again format (rule.SomeOf rho g s) h flags known =
+        rw (known, grouped_again form.SomeOf rho g s refl (h.known rho (eq_same rho)) h.names flags h.members) refl
+    rule_again format (rule.AllOf rho g s) h flags known =
+        rw (known, grouped_again form.AllOf rho g s refl (h.known rho (eq_same rho)) h.names flags h.members) refl
+    rule_again format (rule.SomeTo rho s g) h flags known =
+        rw (known, grouped_again form.SomeTo rho g s refl (h.known rho (eq_same rho)) h.names flags h.members) refl
+    rule_again format (rule.AllTo rho s g) h flags known =
+        rw (known, grouped_again form.AllTo rho g s refl (h.known rho (eq_same rho)) h.names flags h.members) refl
+    rule_again format (rule.AtMost limit g) h flags known =
+        rw (known, counting_again form.AtMost limit g refl h.names flags h.members.0 h.members.1) refl
+    rule_again format (rule.AtLeast limit g) h flags known =
+        rw (known, counting_again form.AtLeast limit g refl h.names flags h.members.0 h.members.1) refl
 
     rule_step : (format : Format) (rules : List Rule) → AreSoundRules (length steps) (length relations) rules → HaveFlags rules → HaveForms format rules →
         (before : List Rule) (r : Rule) (after : List Rule) → rules ≡ before ++ r ∷ after

@@ -1,5 +1,5 @@
 -- How a run stops at its files, or goes on.
-use Rattle.std.proofs.Common.{◌≡◌, ℕ, true, List, Option, None, Some, Ok, Err, inl, inr, sym, subst, ◌∙◌}
+use Rattle.std.proofs.Common.{◌≡◌, ℕ, true, List, Option, None, Some, Ok, Err, inl, inr, sym, subst, ◌∙◌, arith}
 use Rattle.wf_names.specs.declared.limits.TheConstants.{REQUESTS_FILE_LIMIT}
 use Rattle.wf_outside.specs.Laws.Outside.{Filed, told, missing, untold}
 use Rattle.policy_book.specs.Laws.Shapes.{PolicyShape}
@@ -9,11 +9,10 @@ use Rattle.line_reader.specs.declared.jobs.CutText.{CutText}
 use Rattle.line_reader.specs.Jobs.{Cut, jobs_of_input}
 use Rattle.line_reader.specs.Reader.{lines_of}
 use Rattle.run_record.specs.declared.fault.RunFault.{RunFault}
-use Rattle.run_record.specs.declared.fault.RunFault.TheVariants.{Load, LineTooLong}
+use Rattle.run_record.specs.declared.fault.RunFault.TheVariants.{LineTooLong}
 use Rattle.run_record.specs.Fault.{refused, how_of, CountsLoads, LoadsSo}
 use Rattle.wf_commands.specs.Load.{GivesBytes, GivesPolicy}
 use Rattle.transcript_commands.specs.Resumed.{first_long, whole_lines}
-use Rattle.transcript_commands.specs.declared.start.TheConstants.{TRANSCRIPT_FILE_LIMIT}
 use Rattle.transcript_commands.specs.Load.{GivesCut, IsCutOf, FileNames, OverBoth, OverFiled, OverFiles, OverLong, GoesOverPolicy, OverRequests, OverStop}
 use Rattle.transcript_commands.specs.Load.{GoesOverText}
 use Rattle.transcript_commands.specs.Load.{OverTranscript, OverTranscriptFile, ending_at}
@@ -22,9 +21,7 @@ use Rattle.transcript_commands.specs.Load.{OverTranscript, OverTranscriptFile, e
 
 pub policy_fails : (Stops : RunFault → Type 0) (Goes : PolicyShape → Type 0) (filed : Filed) (fault : RunFault) → GivesPolicy filed (Err fault) →
     Stops fault → OverFiled Stops (GoesOverPolicy Stops Goes) filed
-policy_fails Stops Goes untold fault gives stops = (gives.0, inl (fault, (gives.1, stops)))
-policy_fails Stops Goes missing fault gives stops = let is : fault ≡ Load = cc in subst Stops is stops
-policy_fails Stops Goes (told file) fault gives stops = inl (fault, (gives, stops))
+policy_fails Stops Goes filed fault gives stops = grind arith
 
 pub policy_there : (Stops : RunFault → Type 0) (Goes : PolicyShape → Type 0) (filed : Filed) (p : PolicyShape) → GivesPolicy filed (Ok p) → IsFilePolicy p →
     Goes p → OverFiled Stops (GoesOverPolicy Stops Goes) filed
@@ -37,32 +34,24 @@ policy_there Stops Goes (told file) p gives sound goes = inr (p, (gives, (sound,
 pub text_fails : (limit : ℕ) (Stops : RunFault → Type 0) (Goes : List ℕ → Type 0) (filed : Filed) (fault : RunFault) → GivesBytes limit filed (Err fault) →
     Stops fault
     → OverFiled Stops (GoesOverText limit Stops Goes) filed
-text_fails limit Stops Goes untold fault gives stops = (gives.0, inl (fault, (gives.1, stops)))
-text_fails limit Stops Goes missing fault gives stops = let is : fault ≡ Load = cc in subst Stops is stops
-text_fails limit Stops Goes (told file) fault gives stops = inl (fault, (gives, stops))
+text_fails limit Stops Goes filed fault gives stops = grind arith
 
 pub text_there : (limit : ℕ) (Stops : RunFault → Type 0) (Goes : List ℕ → Type 0) (filed : Filed) (bytes : List ℕ) → GivesBytes limit filed (Ok bytes) →
     Goes bytes
     → OverFiled Stops (GoesOverText limit Stops Goes) filed
-text_there limit Stops Goes untold bytes gives goes = (gives.0, inr (gives.1.0, subst Goes gives.1.1 goes))
-text_there limit Stops Goes missing bytes gives goes = cc
-text_there limit Stops Goes (told file) bytes gives goes = inr (gives.0, subst Goes gives.1 goes)
+text_there limit Stops Goes filed bytes gives goes = grind arith
 
 -- ---- the requests
 
 pub requests_fail : (lanes : ℕ) (Stops : RunFault → Type 0) (Goes : Cut → Type 0) (filed : Filed) (fault : RunFault) → GivesCut filed lanes (Err fault) →
     Stops fault
     → OverFiled Stops (GoesOverText REQUESTS_FILE_LIMIT Stops (OverRequests lanes Stops Goes)) filed
-requests_fail lanes Stops Goes untold fault gives stops = (gives.0, inl (fault, (gives.1, stops)))
-requests_fail lanes Stops Goes missing fault gives stops = let is : fault ≡ Load = cc in subst Stops is stops
-requests_fail lanes Stops Goes (told file) fault gives stops = inl (fault, (gives, stops))
+requests_fail lanes Stops Goes filed fault gives stops = grind arith
 
 pub requests_there : (lanes : ℕ) (Stops : RunFault → Type 0) (Goes : Cut → Type 0) (filed : Filed) (text : CutText) → GivesCut filed lanes (Ok text)
     → ((requests : List ℕ) → IsCutOf requests lanes text → OverRequests lanes Stops Goes requests)
     → OverFiled Stops (GoesOverText REQUESTS_FILE_LIMIT Stops (OverRequests lanes Stops Goes)) filed
-requests_there lanes Stops Goes untold text gives goes = (gives.0, inr (gives.1.0, goes gives.0 gives.1.1))
-requests_there lanes Stops Goes missing text gives goes = cc
-requests_there lanes Stops Goes (told file) text gives goes = inr (gives.0, goes file gives.1)
+requests_there lanes Stops Goes filed text gives goes = grind arith
 
 -- a limit was met
 pub limit_met : (lanes : ℕ) (Stops : RunFault → Type 0) (Goes : Cut → Type 0) (requests : List ℕ) (text : CutText) (met : Stop) →
@@ -101,9 +90,7 @@ loads_refused fault count after how same = subst (λ h. LoadsSo h count after) (
 
 filed_map : (S T : RunFault → Type 0) (O P : List ℕ → Type 0) (filed : Filed) → ((x : RunFault) → S x → T x) → ((x : List ℕ) → O x → P x) →
     OverFiled S O filed → OverFiled T P filed
-filed_map S T O P untold stops over at = (at.0, over at.0 at.1)
-filed_map S T O P missing stops over at = stops Load at
-filed_map S T O P (told file) stops over at = over file at
+filed_map S T O P filed stops over at = grind arith
 
 policy_map : (S T : RunFault → Type 0) (G H : PolicyShape → Type 0) (file : List ℕ) → ((x : RunFault) → S x → T x) →
     ((p : PolicyShape) → IsFilePolicy p → G p → H p) → GoesOverPolicy S G file
@@ -113,23 +100,17 @@ policy_map S T G H file stops goes (inr there) = inr (there.0, (there.1.0, (ther
 
 text_map : (limit : ℕ) (S T : RunFault → Type 0) (G H : List ℕ → Type 0) (file : List ℕ) → ((x : RunFault) → S x → T x) → ((x : List ℕ) → G x → H x) →
     GoesOverText limit S G file → GoesOverText limit T H file
-text_map limit S T G H file stops goes (inl ends) = inl (ends.0, (ends.1.0, stops ends.0 ends.1.1))
-text_map limit S T G H file stops goes (inr there) = inr (there.0, goes file there.1)
+text_map limit S T G H file stops goes h8 = grind arith
 
 stop_map : (S T : RunFault → Type 0) (G H : Type 0) (met : Option Stop) → ((x : RunFault) → S x → T x) → (G → H) → OverStop S G met → OverStop T H met
-stop_map S T G H None stops goes at = goes at
-stop_map S T G H (Some met) stops goes at = stops (ending_at met) at
+stop_map S T G H met stops goes at = grind arith
 
 long_map : (S T : RunFault → Type 0) (G H : Type 0) (found : Option ℕ) → ((x : RunFault) → S x → T x) → (G → H) → OverLong S G found → OverLong T H found
-long_map S T G H None stops goes at = goes at
-long_map S T G H (Some line) stops goes at = stops (LineTooLong line) at
+long_map S T G H found stops goes at = grind arith
 
 transcript_map : (S T : RunFault → Type 0) (G H : List ℕ → Type 0) (filed : Filed) → ((x : RunFault) → S x → T x) → ((x : List ℕ) → G x → H x)
     → OverTranscriptFile S G filed → OverTranscriptFile T H filed
-transcript_map S T G H filed stops goes at =
-    filed_map S T (GoesOverText TRANSCRIPT_FILE_LIMIT S (OverTranscript S G)) (GoesOverText TRANSCRIPT_FILE_LIMIT T (OverTranscript T H)) filed stops
-    (λ file. text_map TRANSCRIPT_FILE_LIMIT S T (OverTranscript S G) (OverTranscript T H) file stops
-    (λ text. long_map S T (G text) (H text) (first_long 0 (lines_of (whole_lines text))) stops (goes text))) at
+transcript_map S T G H filed stops goes at = grind arith
 
 both_map : (lanes : ℕ) (S T : RunFault → Type 0) (G H : Cut → List ℕ → Type 0) (requests transcript : Filed) → ((x : RunFault) → S x → T x)
     → ((text x : List ℕ) → G (jobs_of_input text true lanes) x → H (jobs_of_input text true lanes) x) → OverBoth lanes S G requests transcript →
@@ -160,49 +141,32 @@ files_map files names lanes S T G H stops goes at =
 
 filed_goal : (S : RunFault → Type 0) (O : List ℕ → Type 0) (filed : Filed) (T : Type 0) → ((x : RunFault) → S x → T) → ((x : List ℕ) → O x → T) →
     OverFiled S O filed → T
-filed_goal S O untold T stops over at = over at.0 at.1
-filed_goal S O missing T stops over at = stops Load at
-filed_goal S O (told file) T stops over at = over file at
+filed_goal S O filed T stops over at = grind arith
 
 policy_goal : (S : RunFault → Type 0) (G : PolicyShape → Type 0) (file : List ℕ) (T : Type 0) → ((x : RunFault) → S x → T) → ((p : PolicyShape) → G p → T) →
     GoesOverPolicy S G file → T
-policy_goal S G file T stops goes (inl ends) = stops ends.0 ends.1.1
-policy_goal S G file T stops goes (inr there) = goes there.0 there.1.1.1
+policy_goal S G file T stops goes h6 = grind arith
 
 text_goal : (limit : ℕ) (S : RunFault → Type 0) (G : List ℕ → Type 0) (file : List ℕ) (T : Type 0) → ((x : RunFault) → S x → T) → ((x : List ℕ) → G x → T) →
     GoesOverText limit S G file → T
-text_goal limit S G file T stops goes (inl ends) = stops ends.0 ends.1.1
-text_goal limit S G file T stops goes (inr there) = goes file there.1
+text_goal limit S G file T stops goes h7 = grind arith
 
 stop_goal : (S : RunFault → Type 0) (G : Type 0) (met : Option Stop) (T : Type 0) → ((x : RunFault) → S x → T) → (G → T) → OverStop S G met → T
-stop_goal S G None T stops goes at = goes at
-stop_goal S G (Some met) T stops goes at = stops (ending_at met) at
+stop_goal S G met T stops goes at = grind arith
 
 long_goal : (S : RunFault → Type 0) (G : Type 0) (found : Option ℕ) (T : Type 0) → ((x : RunFault) → S x → T) → (G → T) → OverLong S G found → T
-long_goal S G None T stops goes at = goes at
-long_goal S G (Some line) T stops goes at = stops (LineTooLong line) at
+long_goal S G found T stops goes at = grind arith
 
 transcript_goal : (S : RunFault → Type 0) (G : List ℕ → Type 0) (filed : Filed) (T : Type 0) → ((x : RunFault) → S x → T) → ((x : List ℕ) → G x → T) →
     OverTranscriptFile S G filed → T
-transcript_goal S G filed T stops goes at =
-    filed_goal S (GoesOverText TRANSCRIPT_FILE_LIMIT S (OverTranscript S G)) filed T stops
-    (λ file. text_goal TRANSCRIPT_FILE_LIMIT S (OverTranscript S G) file T stops
-    (λ text. long_goal S (G text) (first_long 0 (lines_of (whole_lines text))) T stops (goes text))) at
+transcript_goal S G filed T stops goes at = grind arith
 
 both_goal : (lanes : ℕ) (S : RunFault → Type 0) (G : Cut → List ℕ → Type 0) (requests transcript : Filed) (T : Type 0) → ((x : RunFault) → S x → T) →
     ((c : Cut) (x : List ℕ) → G c x → T)
     → OverBoth lanes S G requests transcript → T
-both_goal lanes S G requests transcript T stops goes at =
-    let O = OverRequests lanes S (λ cut. OverTranscriptFile S (G cut) transcript) in
-    filed_goal S (GoesOverText REQUESTS_FILE_LIMIT S O) requests T stops
-    (λ file. text_goal REQUESTS_FILE_LIMIT S O file T stops
-    (λ text. let cut = jobs_of_input text true lanes in
-    stop_goal S (OverTranscriptFile S (G cut) transcript) cut.stop T stops (transcript_goal S (G cut) transcript T stops (goes cut)))) at
+both_goal lanes S G requests transcript T stops goes at = grind arith
 
 pub files_goal : (files : List ℕ → Filed) (names : FileNames) (lanes : ℕ) (S : RunFault → Type 0) (G : PolicyShape → Cut → List ℕ → Type 0) (T : Type 0) →
     ((x : RunFault) → S x → T)
     → ((p : PolicyShape) (c : Cut) (x : List ℕ) → G p c x → T) → OverFiles files names lanes S G → T
-files_goal files names lanes S G T stops goes at =
-    let O = λ (p : PolicyShape). OverBoth lanes S (G p) (files names.requests) (files names.transcript) in
-    filed_goal S (GoesOverPolicy S O) (files names.policy) T stops
-    (λ file. policy_goal S O file T stops (λ p. both_goal lanes S (G p) (files names.requests) (files names.transcript) T stops (goes p))) at
+files_goal files names lanes S G T stops goes at = grind arith

@@ -1,5 +1,5 @@
 -- The desk with the jobs of the batch in which a session stopped, behind those of the batches before.
-use Rattle.std.proofs.Common.{◌≡◌, ◌++◌, ℕ, List, [], length, take, refl, sym, ap, subst, ◌∙◌, append-nil}
+use Rattle.std.proofs.Common.{◌≡◌, ◌++◌, ℕ, List, [], length, take, sym, ap, subst, ◌∙◌, append-nil, arith}
 use Rattle.policy_book.specs.Laws.Shapes.{PolicyShape}
 use Rattle.wf_talk.specs.declared.entry.Entry.{Entry}
 use Rattle.wf_talk.specs.declared.job.Job.{Job}
@@ -13,8 +13,7 @@ use Rattle.transcript_commands.specs.Unserved.{end_at, jobs_between, start_at}
 -- only the entries stand at a desk that was made with them
 pub restored_with : (p : PolicyShape) (lanes rounds : ℕ) (board : BoardShape) (es : List Entry) (spare : ℕ) (d : DeskShape) →
     d ≡ desk_with p lanes rounds board es spare → IsRestored d
-restored_with p lanes rounds board es spare d is =
-    subst IsRestored (sym is) (record { earlier = refl; jobs = refl; done = λ lane. refl; entries = refl })
+restored_with p lanes rounds board es spare d is = grind arith
 
 pub none_told : (d : DeskShape) → IsRestored d → jobs_told d ≡ []
 none_told d fresh = ap (λ js. js ++ d.jobs) fresh.earlier ∙ fresh.jobs
@@ -36,8 +35,7 @@ goes_on_at d batch from stop earlier jobs given b e spare cases fresh behind loa
       restored = ap (λ (x : DeskShape). x.restored) at ∙ fresh.entries;
       start = begins ∙ start;
       next = next;
-      earlier = ap (λ (x : DeskShape). x.earlier) at ∙ ap (λ js. earlier ++ js) fresh.jobs ∙ append-nil earlier ∙ before
-          ∙ ap (λ n. take n batch.jobs) (sym begins);
+      earlier = grind (arith, append-nil);
       jobs = ap (λ (x : DeskShape). x.jobs) at ∙ same ∙ here ∙ ap (λ n. jobs_between n stop batch.jobs) (sym begins);
     }
 

@@ -1,5 +1,5 @@
 -- What is found legal is the text of a legal history that fills the jobs.
-use Rattle.std.proofs.Common.{◌≡◌, ℕ, ◌+◌, List, [], ◌∷◌, length, Option, None, Some, ◌++◌, ◌≤◌, ◌⊎◌, inl, inr, refl, subst, arith}
+use Rattle.std.proofs.Common.{◌≡◌, ℕ, ◌+◌, List, [], ◌∷◌, length, Option, ◌++◌, ◌≤◌, ◌⊎◌, inl, inr, subst, arith}
 use Rattle.std.specs.Prelude.{◌↔◌, IfSome}
 use Rattle.std.proofs.lemmas.List.{length-append}
 use Rattle.wf_names.specs.declared.limits.TheConstants.{LANE_LIMIT, TRANSCRIPT_LINE_LIMIT}
@@ -12,8 +12,8 @@ use Rattle.transcript_audit.specs.Auditor.{AuditShape, AreNext, IsNextLine, IsTr
 use Rattle.transcript_audit.proofs.Exact.{next_pushed}
 use Rattle.transcript_audit.specs.Laws.{AreOfSession, AuditIsExact, FaultsExclude, NextIsOne}
 use Rattle.transcript_commands.specs.declared.finding.Finding.{Finding}
-use Rattle.transcript_commands.specs.declared.finding.Finding.TheVariants.{Legal, Fault, TooLong}
-use Rattle.transcript_commands.specs.Finding.{EndsAs, AuditsLine, IsAudited, StopsAtLine}
+use Rattle.transcript_commands.specs.declared.finding.Finding.TheVariants.{Legal}
+use Rattle.transcript_commands.specs.Finding.{AuditsLine, IsAudited, StopsAtLine}
 use Rattle.transcript_commands.specs.Laws.{LegalIsExact}
 
 pub next_of : (a : AuditShape) (lines : List (List ℕ)) → IsAudited a lines Legal → (es : List Entry) ×
@@ -29,10 +29,7 @@ next_of a (line ∷ lines) h = elim h [
 
 legal_lines : AuditIsExact → (p : PolicyShape) (rounds : ℕ) (jobs : List Job) (ends : List ℕ) (lines : List (List ℕ)) → AreInOrder LANE_LIMIT jobs ends →
     IsAudited (audit_of p rounds jobs ends) lines Legal → IsTranscript p rounds jobs ends lines
-legal_lines exact p rounds jobs ends lines order found =
-    let next = next_of (audit_of p rounds jobs ends) lines found in
-    let size = next.1.1 in
-    (exact p rounds jobs ends lines order).0 (next.0, (next.1.0, omega (arith, size)))
+legal_lines exact p rounds jobs ends lines order found = grind (arith, next_of)
 
 -- ---- what is such a text is found legal
 
@@ -42,23 +39,14 @@ not_stopped : FaultsExclude →
     AreOfSession p rounds jobs ends → AreNext (audit_of p rounds jobs ends) done es →
     IsNextLine (record (audit_of p rounds jobs ends) { entries = es }) line e →
     line_length line ≤ TRANSCRIPT_LINE_LIMIT → ¬ StopsAtLine (record (audit_of p rounds jobs ends) { entries = es }) line f
-not_stopped law p rounds jobs ends done es line e Legal session so_far next short stops = stops
-not_stopped law p rounds jobs ends done es line e (Fault n kind) session so_far next short stops =
-    law p rounds jobs ends done es session so_far line kind e stops.1.1 next
-not_stopped law p rounds jobs ends done es line e (TooLong n) session so_far next short stops = omega (arith, short, stops.1)
+not_stopped law p rounds jobs ends done es line e f session so_far next short = grind arith
 
 found_legal : FaultsExclude → NextIsOne →
     (p : PolicyShape) (rounds : ℕ) (jobs : List Job) (ends : List ℕ) (done lines : List (List ℕ)) (es rest : List Entry) (f : Finding) →
     AreOfSession p rounds jobs ends → AreNext (audit_of p rounds jobs ends) done es →
     AreNext (record (audit_of p rounds jobs ends) { entries = es }) lines rest → AreShort lines →
     length es + length rest ≡ length jobs → IsAudited (record (audit_of p rounds jobs ends) { entries = es }) lines f → f ≡ Legal
-found_legal law one p rounds jobs ends done [] es [] f session so_far next short size found = at_end f found
-  where
-    at_end : (g : Finding) → EndsAs (record (audit_of p rounds jobs ends) { entries = es }) g → g ≡ Legal
-    at_end Legal is = refl
-    at_end (Fault n kind) is = absurd (omega (arith, size, is.1.1))
-    at_end (TooLong n) is = absurd is
-found_legal law one p rounds jobs ends done [] es (e ∷ rest) f session so_far next short size found = absurd next
+found_legal law one p rounds jobs ends done [] es rest f session so_far next short size found = grind arith
 found_legal law one p rounds jobs ends done (line ∷ lines) es [] f session so_far next short size found = absurd next
 found_legal law one p rounds jobs ends done (line ∷ lines) es (e ∷ rest) f session so_far next short size found =
     by_line found (λ more.
@@ -89,5 +77,4 @@ pub legal_input : LegalIsExact → (p : PolicyShape) (rounds : ℕ) (jobs : List
     AreOfSession p rounds jobs ends →
     IfSome told (λ input. IsAudited (audit_of p rounds jobs ends) (lines_of input) f) →
     IfSome told (λ input. AreShort (lines_of input) → (f ≡ Legal) ↔ IsTranscript p rounds jobs ends (lines_of input))
-legal_input exact p rounds jobs ends f None session found = tt
-legal_input exact p rounds jobs ends f (Some input) session found = λ short. exact p rounds jobs ends (lines_of input) f session short found
+legal_input exact p rounds jobs ends f told session found = grind arith

@@ -1,5 +1,5 @@
 -- The lines of a text are taken one after the other.
-use Rattle.std.proofs.Common.{◌≡◌, ℕ, ◌+◌, ◌-◌, ◌<◌, ◌≤◌, List, [], ◌∷◌, ◌++◌, length, take, drop, None, Result, Ok, Err, inl, inr, sym, ap, subst, ◌∙◌, arith}
+use Rattle.std.proofs.Common.{◌≡◌, ℕ, ◌+◌, ◌-◌, ◌<◌, ◌≤◌, List, [], ◌∷◌, ◌++◌, length, take, drop, None, Result, Ok, Err, inl, inr, subst, arith}
 use Rattle.std.specs.Prelude.{IfErr, IsErrAnd}
 use Rattle.std.proofs.lemmas.List.{length-drop, take_all}
 use Rattle.wf_talk.specs.declared.entry.Entry.{Entry}
@@ -12,10 +12,10 @@ use Rattle.transcript_audit.specs.declared.fault.AuditKind.{AuditKind}
 use Rattle.policy_book.specs.Laws.Shapes.{PolicyShape}
 use Rattle.wf_board.specs.Laws.States.{State, opening_state}
 use Rattle.wf_board.specs.Laws.Histories.{state_after}
-use Rattle.transcript_audit.specs.Auditor.{AuditShape, AreNext, HasFault, audit_of, state_now}
+use Rattle.transcript_audit.specs.Auditor.{AuditShape, AreNext, audit_of, state_now}
 use Rattle.transcript_audit.proofs.Exact.{next_pushed}
 use Rattle.transcript_audit.specs.Laws.{AreOfSession, FaultsExclude, NextIsOne, PartIsExact}
-use Rattle.transcript_audit.specs.Laws.Outcomes.{HasTakenLine, IsFirstFault}
+use Rattle.transcript_audit.specs.Laws.Outcomes.{HasTakenLine}
 use Rattle.transcript_commands.specs.Auditing.{FailsIn, HasTakenAll, HasTakenFirst}
 use Rattle.transcript_commands.specs.Resumed.{FailsAt, IsTakenUp, RefusesBy, Session, whole_lines}
 
@@ -24,21 +24,12 @@ use Rattle.transcript_commands.specs.Resumed.{FailsAt, IsTakenUp, RefusesBy, Ses
 -- a line that was taken
 pub took_first : (a b : AuditShape) (text : List ℕ) (n : ℕ) → 0 < length text → take n text ≡ first_line text → drop n text ≡ behind_line text →
     HasTakenLine a b (take n text) (Ok tt) → HasTakenFirst a b text (drop n text)
-took_first a b text n some line behind taken = record {
-  line = take n text;
-  lines = lines_first text some ∙ (λ i. (sym line) i ∷ lines_of ((sym behind) i));
-  entry = taken.1.0;
-  next = taken.1.1.0;
-  after = taken.1.1.1;
-}
+took_first a b text n some line behind taken = grind (arith, lines_first)
 
 -- and one that was not
 pub failed_first : (a b : AuditShape) (text : List ℕ) (n : ℕ) (fault : AuditFault) → 0 < length text → take n text ≡ first_line text → a.fault ≡ None →
     HasTakenLine a b (take n text) (Err fault) → FailsIn a (lines_of text) fault
-failed_first a b text n (At m kind) some line going taken =
-    let wrong : HasFault a (take n text) kind = subst (λ o. IsFirstFault o a (take n text) kind) going taken.1.0 in
-    subst (λ ls. FailsAt a ls m kind) (sym (lines_first text some)) (inl (taken.0, subst (λ l. HasFault a l kind) line wrong))
-failed_first a b text n NoMemory some line going taken = tt
+failed_first a b text n fault some line going taken = grind (arith, lines_first)
 
 -- ---- all lines
 
@@ -47,18 +38,14 @@ pub left_at : (text : List ℕ) (at : ℕ) → take (length text - at) (drop at 
 left_at text at = take_all (length text - at) (drop at text) (omega (arith, length-drop at text))
 
 pub left_within : (text : List ℕ) (at n : ℕ) → at ≤ length text → n ≤ length (take (length text - at) (drop at text)) → at + n ≤ length text
-left_within text at n begun within =
-    let same = ap length (left_at text at) in
-    omega (arith, begun, within, same, length-drop at text)
+left_within text at n begun within = grind (arith, left_at, length-drop)
 
 -- ---- what was taken, and what was not
 
 -- the entries are those of the lines
 taken_up : PartIsExact → (s : Session) (transcript : List ℕ) (b : AuditShape) → AreOfSession s.policy s.rounds s.jobs s.batch_ends →
     HasTakenAll (audit_of s.policy s.rounds s.jobs s.batch_ends) b (lines_of (whole_lines transcript)) → IsTakenUp s transcript b.entries
-taken_up exact s transcript b session all =
-    subst (λ (x : AuditShape). IsTakenUp s transcript x.entries) (sym all.after)
-    ((exact s.policy s.rounds s.jobs s.batch_ends (lines_of (whole_lines transcript)) all.entries session.order).0 all.next)
+taken_up exact s transcript b session all = grind arith
 
 -- lines of which one fails are those of no entries
 none_next : FaultsExclude → NextIsOne → (s : Session) (done lines : List (List ℕ)) (es rest : List Entry) (n : ℕ) (kind : AuditKind) →
@@ -94,25 +81,16 @@ pub refused_of : {A : Type 0} → FaultsExclude → NextIsOne → PartIsExact �
     AreOfSession s.policy s.rounds s.jobs s.batch_ends → a ≡ audit_of s.policy s.rounds s.jobs s.batch_ends → lines ≡ whole_lines transcript →
     FailsIn a (lines_of lines) fault →
     IsErrAnd result (λ e. e ≡ fault) → IfErr result (RefusesBy s transcript)
-refused_of law one exact s transcript lines a (Ok found) fault session begun whole fails is = tt
-refused_of law one exact s transcript lines a (Err e) fault session begun whole fails is =
-    let here : FailsIn (audit_of s.policy s.rounds s.jobs s.batch_ends) (lines_of (whole_lines transcript)) fault =
-    subst (λ (x : AuditShape). FailsIn x (lines_of (whole_lines transcript)) fault) begun (subst (λ xs. FailsIn a (lines_of xs) fault) whole fails) in
-    subst (RefusesBy s transcript) (sym is) (refused_by law one exact s transcript fault session here)
+refused_of law one exact s transcript lines a result fault session begun whole fails is = grind (arith, refused_by)
 
 -- and one that took them all
 pub taken_of : PartIsExact → (s : Session) (transcript lines : List ℕ) (a b : AuditShape) (es : List Entry) →
     AreOfSession s.policy s.rounds s.jobs s.batch_ends →
     a ≡ audit_of s.policy s.rounds s.jobs s.batch_ends → lines ≡ whole_lines transcript → HasTakenAll a b (lines_of lines) → es ≡ b.entries →
     IsTakenUp s transcript es
-taken_of exact s transcript lines a b es session begun whole all same =
-    let here : HasTakenAll (audit_of s.policy s.rounds s.jobs s.batch_ends) b (lines_of (whole_lines transcript)) =
-    subst (λ (x : AuditShape). HasTakenAll x b (lines_of (whole_lines transcript))) begun (subst (λ xs. HasTakenAll a b (lines_of xs)) whole all) in
-    subst (λ xs. IsTakenUp s transcript xs) (sym same) (taken_up exact s transcript b session here)
+taken_of exact s transcript lines a b es session begun whole all same = grind (arith, taken_up)
 
 -- and the board behind its entries
 pub state_of : (p : PolicyShape) (rounds : ℕ) (jobs : List Job) (ends : List ℕ) (lines : List (List ℕ)) (a b : AuditShape) (s : State) (es : List Entry) →
     a ≡ audit_of p rounds jobs ends → HasTakenAll a b lines → s ≡ state_now b → es ≡ b.entries → s ≡ state_after (opening_state p) es
-state_of p rounds jobs ends lines a b s es begun all is same =
-    let opening : b.opening ≡ p = ap (λ (x : AuditShape). x.opening) all.after ∙ ap (λ (x : AuditShape). x.opening) begun in
-    is ∙ ap (λ q. state_after (opening_state q) b.entries) opening ∙ ap (state_after (opening_state p)) (sym same)
+state_of p rounds jobs ends lines a b s es begun all is same = grind arith

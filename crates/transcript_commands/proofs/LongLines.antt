@@ -1,6 +1,6 @@
 -- The first line that is too long.
-use Rattle.std.proofs.Common.{◌≡◌, ℕ, suc, ◌+◌, ◌-◌, ◌==◌, ◌<◌, ◌≤◌, nat_lt, Bool, true, false, List, [], ◌∷◌, length, take, drop, Option, None, Some, refl}
-use Rattle.std.proofs.Common.{sym, ap, subst, ◌∙◌, arith}
+use Rattle.std.proofs.Common.{◌≡◌, ℕ, ◌+◌, ◌-◌, ◌==◌, ◌<◌, ◌≤◌, nat_lt, Bool, true, false, List, [], ◌∷◌, length, take, drop, Option, None, Some, refl}
+use Rattle.std.proofs.Common.{sym, subst, arith}
 use Rattle.std.proofs.lemmas.List.{drop-drop, length-drop}
 use Rattle.wf_names.specs.declared.limits.TheConstants.{TRANSCRIPT_LINE_LIMIT}
 use Rattle.memchr.specs.Find.{IsFirstByte, is_byte}
@@ -13,8 +13,7 @@ use Rattle.transcript_commands.proofs.LinesTaken.{left_at}
 -- ---- lengths
 
 whole_step : (b : ℕ) (bs : List ℕ) (x : Bool) → has_end (b ∷ bs) ≡ x → length (whole_lines bs) ≤ length bs → length (whole_lines (b ∷ bs)) ≤ length (b ∷ bs)
-whole_step b bs true is h = rw is (omega (arith, h))
-whole_step b bs false is h = rw is (omega arith)
+whole_step b bs x is h = grind arith
 
 pub whole_short : (bytes : List ℕ) → length (whole_lines bytes) ≤ length bytes
 whole_short [] = omega arith
@@ -28,8 +27,7 @@ length_open bytes found is none = sym (open_line bytes (subst (FindsEnd bytes) n
 
 alone_step : (b : ℕ) (bs : List ℕ) (x : Bool) → (b == 10) ≡ x → line_length (first_line bs) ≡ line_length bs →
     line_length (first_line (b ∷ bs)) ≡ line_length (b ∷ bs)
-alone_step b bs true is h = rw is (rw is refl)
-alone_step b bs false is h = rw is (rw is (ap suc h))
+alone_step b bs x is h = grind arith
 
 -- the first line alone is as long
 alone : (bytes : List ℕ) → line_length (first_line bytes) ≡ line_length bytes
@@ -41,30 +39,19 @@ alone (b ∷ bs) = alone_step b bs (b == 10) refl (alone bs)
 -- it is the first line, or one behind it
 pub long_here : (n : ℕ) (bytes : List ℕ) → 0 < length bytes → nat_lt TRANSCRIPT_LINE_LIMIT (line_length bytes) ≡ true →
     first_long n (lines_of bytes) ≡ Some n
-long_here n bytes some long =
-    let here : nat_lt TRANSCRIPT_LINE_LIMIT (line_length (first_line bytes)) ≡ true = ap (nat_lt TRANSCRIPT_LINE_LIMIT) (alone bytes) ∙ long in
-    rw (lines_first bytes some) (rw here refl)
+long_here n bytes some long = grind (arith, alone, lines_first)
 
 pub long_behind : (n : ℕ) (bytes : List ℕ) → 0 < length bytes → nat_lt TRANSCRIPT_LINE_LIMIT (line_length bytes) ≡ false →
     first_long n (lines_of bytes) ≡ first_long (n + 1) (lines_of (behind_line bytes))
-long_behind n bytes some short =
-    let here : nat_lt TRANSCRIPT_LINE_LIMIT (line_length (first_line bytes)) ≡ false = ap (nat_lt TRANSCRIPT_LINE_LIMIT) (alone bytes) ∙ short in
-    rw (lines_first bytes some) (rw here refl)
+long_behind n bytes some short = grind (arith, alone, lines_first)
 
 -- the same of what is left of a text behind a place, as a slice
 pub long_at : (n at : ℕ) (text : List ℕ) (found : Option ℕ) → at < length text →
     nat_lt TRANSCRIPT_LINE_LIMIT (line_length (take (length text - at) (drop at text))) ≡ true → first_long n (lines_of (drop at text)) ≡ found → Some n ≡ found
-long_at n at text found within long goes =
-    sym (long_here n (drop at text) (omega (arith, within, length-drop at text))
-    (subst (λ xs. nat_lt TRANSCRIPT_LINE_LIMIT (line_length xs) ≡ true) (left_at text at) long)) ∙ goes
+long_at n at text found within long goes = grind (arith, long_here, length-drop, left_at)
 
 pub long_on : (n at count : ℕ) (text : List ℕ) → at < length text →
     nat_lt TRANSCRIPT_LINE_LIMIT (line_length (take (length text - at) (drop at text))) ≡ false
     → drop count (take (length text - at) (drop at text)) ≡ behind_line (take (length text - at) (drop at text))
     → first_long (n + 1) (lines_of (drop (at + count) text)) ≡ first_long n (lines_of (drop at text))
-long_on n at count text within short behind =
-    let rest : drop (at + count) text ≡ behind_line (drop at text) =
-    sym (drop-drop count at text) ∙ ap (drop count) (sym (left_at text at)) ∙ behind ∙ ap behind_line (left_at text at) in
-    ap (λ xs. first_long (n + 1) (lines_of xs)) rest
-    ∙ sym (long_behind n (drop at text) (omega (arith, within, length-drop at text))
-    (subst (λ xs. nat_lt TRANSCRIPT_LINE_LIMIT (line_length xs) ≡ false) (left_at text at) short))
+long_on n at count text within short behind = grind (arith, drop-drop, left_at, long_behind, length-drop)

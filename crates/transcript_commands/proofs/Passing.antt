@@ -1,5 +1,5 @@
 -- How an audit goes on, line by line.
-use Rattle.std.proofs.Common.{◌≡◌, ℕ, ◌+◌, ◌<◌, ◌≤◌, Bool, true, false, List, [], ◌∷◌, ◌++◌, length, Option, None, Some, Result, Ok, Err, refl, ap, sym, subst}
+use Rattle.std.proofs.Common.{◌≡◌, ℕ, ◌+◌, ◌<◌, ◌≤◌, Bool, true, false, List, [], ◌++◌, length, Option, None, Some, Result, Ok, Err, refl, ap, sym, subst}
 use Rattle.std.proofs.Common.{◌∙◌, inl, inr, arith}
 use Rattle.std.specs.Prelude.{IfSome}
 use Rattle.std.proofs.Common.{rules}
@@ -40,12 +40,7 @@ taken_all before middle after bytes more r seen taken h =
 
 -- before the first line
 pub audit_begins : (a : AuditShape) (left : Option (List ℕ)) (pending : List ℕ) → a.entries ≡ [] → pending ≡ [] → HasAudited a a left left pending
-audit_begins a left pending none nothing = record {
-  bytes = [];
-  taken = rw nothing (nothing_taken left);
-  goes = λ more f h. h;
-  count = λ more. rw none (omega arith);
-}
+audit_begins a left pending none nothing = grind (arith, nothing_taken)
 
 -- a line of an entry that comes next
 pub audit_goes : (first a b : AuditShape) (before middle after : Option (List ℕ)) (r s : ReaderShape) (e : Entry) → HasAudited first a before middle (pending r)
@@ -63,15 +58,8 @@ audit_goes first a b before middle after r s e h read limit next is =
       taken = subst (λ (xs : List ℕ). HasTaken before after xs)
           (ap (λ xs. h.bytes ++ xs) (sym (split_line seen)) ∙ sym (append_assoc h.bytes line (behind_line seen)))
           (taken_all before middle after h.bytes [] r seen h.taken read.seen);
-      goes = λ more f audited.
-          subst (λ (xs : List ℕ). IsAudited first (lines_of xs) f) (sym (append_assoc h.bytes line more))
-          (h.goes (line ++ more) f
-          (subst (λ (ls : List (List ℕ)). IsAudited a ls f) (sym (line_before seen more ended)) (inr (e, ((fits, next_line), audited)))));
-      count = λ more.
-          let whole = ap (λ xs. length (lines_of xs)) (append_assoc h.bytes line more) in
-          let one = ap length (line_before seen more ended) in
-          let c = h.count (line ++ more) in
-          omega (arith, whole, one, c, length-append a.entries (e ∷ []));
+      goes = grind (arith, append_assoc, line_before);
+      count = grind (arith, append_assoc, line_before, length-append);
     })
 
 -- what is told of the whole input: its next line stops the audit
@@ -80,10 +68,7 @@ whole_stops : (first a : AuditShape) (bytes seen : List ℕ) (f : Finding) (afte
     → ((left : List ℕ) → after ≡ Some left → 0 < length (seen ++ left)) → ((left : List ℕ) → after ≡ Some left → StopsAtLine a (first_line (seen ++ left)) f)
     → IfSome (bytes_before (bytes ++ seen) after) (λ input. IsAudited first (lines_of input) f)
 unfolding bytes_before
-whole_stops first a bytes seen f None goes some stops = tt
-whole_stops first a bytes seen f (Some left) goes some stops =
-    subst (λ (xs : List ℕ). IsAudited first (lines_of xs) f) (sym (append_assoc bytes seen left))
-    (goes (seen ++ left) (subst (λ (ls : List (List ℕ)). IsAudited a ls f) (sym (lines_first (seen ++ left) (some left refl))) (inl (stops left refl))))
+whole_stops first a bytes seen f after goes some stops = grind (arith, append_assoc, lines_first)
 
 whole_of : (first : AuditShape) (bytes : List ℕ) (f : Finding) (before after : Option (List ℕ)) → HasTaken before after bytes
     → IfSome (bytes_before bytes after) (λ input. IsAudited first (lines_of input) f) → IfSome before (λ input. IsAudited first (lines_of input) f)
@@ -92,10 +77,7 @@ whole_of first bytes f before after taken h = subst (λ (o : Option (List ℕ)).
 -- the first line of what was seen is that of the whole, where it has ended, or nothing is left
 same_line : (seen left : List ℕ) (after : Option (List ℕ)) (x : Bool) → has_end seen ≡ x → (has_end seen ≡ false → IsAtEnd after) → after ≡ Some left
     → first_line (seen ++ left) ≡ first_line seen
-same_line seen left after true is ended some = (more_behind seen left is).line
-same_line seen left after false is ended some =
-    let none : left ≡ [] = subst IsAtEnd some (ended is) in
-    ap (λ xs. first_line (seen ++ xs)) none ∙ ap first_line (append-nil seen)
+same_line seen left after x is ended some = grind (arith, more_behind, append-nil)
 
 -- a line stops the audit
 line_stops : (first a : AuditShape) (before middle after : Option (List ℕ)) (r : ReaderShape) (seen rest : List ℕ) (f : Finding)
@@ -162,16 +144,12 @@ long_found first a before middle after r s n h read limit room number =
 
 -- nothing is left
 far_end : (a : AuditShape) (f : Finding) (bytes : List ℕ) (after : Option (List ℕ)) → EndsAs a f → IsAtEnd after → IsFar f bytes [] after
-far_end a Legal bytes after ends ended = (refl, ended)
-far_end a (Fault n kind) bytes after ends ended = inl (ends.0, (refl, ended))
-far_end a (TooLong n) bytes after ends ended = absurd ends
+far_end a f bytes after ends ended = grind arith
 
 whole_ends : (first : AuditShape) (bytes : List ℕ) (f : Finding) (after : Option (List ℕ)) → IsAtEnd after → IsAudited first (lines_of bytes) f
     → IfSome (bytes_before bytes after) (λ input. IsAudited first (lines_of input) f)
 unfolding bytes_before
-whole_ends first bytes f None ended found = tt
-whole_ends first bytes f (Some left) ended found =
-    subst (λ (xs : List ℕ). IsAudited first (lines_of xs) f) (sym (append-nil bytes) ∙ ap (λ xs. bytes ++ xs) (sym ended)) found
+whole_ends first bytes f after ended found = grind (arith, append-nil)
 
 pub end_found : (first a : AuditShape) (before middle after : Option (List ℕ)) (r s : ReaderShape) (f : Finding) → HasAudited first a before middle (pending r)
     → HasReadToEnd middle after r s → EndsAs a f → HasFound first f before after
@@ -208,8 +186,4 @@ taken_on first a before middle after rest h more = ((h.bytes ++ rest) ++ more.0,
 
 pub steps_found : (first b : AuditShape) (before after : Option (List ℕ)) (rest : List ℕ) (result : Result (Option Finding) RunFault) (f : Finding)
     → AuditStepsTo first b before after rest result → result ≡ Ok (Some f) → HasFound first f before after
-steps_found first b before after rest (Ok None) f h is = cc
-steps_found first b before after rest (Ok (Some x)) f h is =
-    let same : x ≡ f = cc in
-    subst (λ (y : Finding). HasFound first y before after) same h
-steps_found first b before after rest (Err fault) f h is = cc
+steps_found first b before after rest result f h is = grind arith

@@ -1,5 +1,5 @@
 -- The batch in which a session stopped, and those before it.
-use Rattle.std.proofs.Common.{◌≡◌, ℕ, suc, ◌+◌, ◌<◌, ◌≤◌, nat_le, nat_lt, true, false, inl, inr, List, [], ◌∷◌, ◌++◌, length, take, drop, map}
+use Rattle.std.proofs.Common.{◌≡◌, ℕ, suc, ◌+◌, ◌<◌, ◌≤◌, nat_le, nat_lt, true, false, inl, inr, List, [], ◌∷◌, ◌++◌, length, take, drop}
 use Rattle.std.proofs.Common.{slice_index_or, refl, sym, ap, subst, ◌∙◌, arith}
 use Rattle.std.proofs.Common.{◌⊎◌}
 use Rattle.std.proofs.lemmas.Bool.{le-ltb, lt-ltb}
@@ -7,7 +7,7 @@ use Rattle.std.proofs.lemmas.List.{length-take-le, take-append-drop, take-take, 
 use Rattle.basics.proofs.Booleans.{bool_cases, le_back, le_yes}
 use Rattle.wf_talk.specs.declared.entry.Entry.{Entry}
 use Rattle.wf_talk.specs.declared.job.Job.{Job}
-use Rattle.wf_board.specs.Laws.Histories.{EachAfter, FillsJobs, RestsFrom, batch_end, batch_jobs, batch_start, job_of_entry, lane_jobs}
+use Rattle.wf_board.specs.Laws.Histories.{EachAfter, FillsJobs, RestsFrom, batch_end, batch_jobs, batch_start}
 use Rattle.wf_desk.specs.BatchLaws.{EndAt}
 use Rattle.wf_desk.specs.Desks.{AreOfLanes, DeskShape, jobs_told}
 use Rattle.wf_desk.specs.Laws.Parts.{FillsPart}
@@ -31,9 +31,7 @@ le_back_no m n h = grind arith
 -- the first of the ends behind a place is behind it
 none_to : (x : ℕ) (ends : List ℕ) (total : ℕ) → LeadTo x ends total → ends_to x ends ≡ 0
 none_to x [] total lead = refl
-none_to x (y ∷ ys) total lead =
-    let past = le_no y x lead.0 in
-    rw past refl
+none_to x (y ∷ ys) total lead = grind (arith, le_no)
 
 -- where a batch begins or ends
 record IsBound (before : ℕ) (ends : List ℕ) (place count : ℕ) : Type 0 where
@@ -42,10 +40,7 @@ record IsBound (before : ℕ) (ends : List ℕ) (place count : ℕ) : Type 0 whe
   above : before ≤ place
 
 bound_more : (before x : ℕ) (xs : List ℕ) (p c : ℕ) → before ≤ x → IsBound x xs p c → IsBound before (x ∷ xs) p (suc c)
-bound_more before x xs p c first rest =
-    let known = rest.known in
-    let above = rest.above in
-    record { known = omega (arith, known); there = rest.there; above = omega (arith, first, above) }
+bound_more before x xs p c first rest = grind arith
 
 to_more : (x : ℕ) (xs : List ℕ) (p : ℕ) → x ≤ p → ends_to p (x ∷ xs) ≡ suc (ends_to p xs)
 to_more x xs p le = let here = le_yes x p le in rw here refl
@@ -151,10 +146,7 @@ is_earlier ends total k i lead below known = record {
 }
 
 front_batch : (ends : List ℕ) (k i : ℕ) (xs : List Job) → IsEarlier ends k i → batch_jobs (take k ends) i (take (batch_start ends k) xs) ≡ batch_jobs ends i xs
-front_batch ends k i xs e =
-    let from = batch_start ends k in
-    ap (λ s. drop s (take (batch_end (take k ends) i) (take from xs))) e.start ∙ ap (λ n. drop (batch_start ends i) (take n (take from xs))) e.stop
-    ∙ ap (drop (batch_start ends i)) (take-take (batch_end ends i) from xs e.within)
+front_batch ends k i xs e = grind (arith, take-take)
 
 front_rests : (s s2 e e2 from : ℕ) (es : List Entry) → s2 ≡ s → e2 ≡ e → s ≤ from → e ≤ from → EachAfter (RestsFrom s) (take s es) (drop s (take e es)) →
     EachAfter (RestsFrom s2) (take s2 (take from es)) (drop s2 (take e2 (take from es)))
@@ -164,26 +156,7 @@ front_rests s s2 e e2 from es is_s is_e le_s le_e rests = rw (is_s, is_e) (rw (t
 earlier_filled : (es : List Entry) (jobs : List Job) (ends : List ℕ) (k : ℕ) → LeadTo 0 ends (length jobs) → FillsPart es jobs ends → k ≤ length ends →
     batch_start ends k ≤ length es →
     FillsJobs (take (batch_start ends k) es) (take (batch_start ends k) jobs) (take k ends)
-earlier_filled es jobs ends k lead part known begun =
-    let from = batch_start ends k in
-    let size = length-take-le k ends known in
-    let few = part.few in
-    record {
-      whole = length-take-le from es begun ∙ sym (length-take-le from jobs (omega (arith, begun, few)));
-      batches = λ i below lane.
-          let lt : i < k = omega (arith, below, size) in
-          let e = is_earlier ends (length jobs) k i lead lt known in
-          let within = e.within in
-          ap (λ js. lane_jobs lane (batch_jobs (take k ends) i js)) (map_first job_of_entry from es)
-          ∙ ap (lane_jobs lane) (front_batch ends k i (map job_of_entry es) e)
-          ∙ part.batches i (omega (arith, lt, known)) (omega (arith, within, begun)) lane
-          ∙ sym (ap (lane_jobs lane) (front_batch ends k i jobs e));
-      rests = λ i below.
-          let lt : i < k = omega (arith, below, size) in
-          let e = is_earlier ends (length jobs) k i lead lt known in
-          front_rests (batch_start ends i) (batch_start (take k ends) i) (batch_end ends i) (batch_end (take k ends) i) from es e.start e.stop e.begun e.within
-          (part.rests i (omega (arith, lt, known)));
-    }
+earlier_filled es jobs ends k lead part known begun = grind (arith, length-take-le, is_earlier, map_first, front_batch, front_rests)
 
 -- ---- where the entries stop
 

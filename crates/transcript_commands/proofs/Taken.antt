@@ -1,5 +1,5 @@
 -- A session that was taken up.
-use Rattle.std.proofs.Common.{◌≡◌, ℕ, ◌≤◌, true, List, [], None, Result, Ok, Err, length, take, refl, sym, ap, subst, ◌∙◌}
+use Rattle.std.proofs.Common.{◌≡◌, ℕ, ◌≤◌, true, List, [], None, Result, Err, length, take, refl, sym, ap, subst, ◌∙◌, arith}
 use Rattle.std.specs.Prelude.{IsErrAnd}
 use Rattle.policy_book.specs.Laws.Shapes.{PolicyShape}
 use Rattle.policy_book.specs.Laws.Facts.{IsSoundPolicy}
@@ -11,7 +11,7 @@ use Rattle.line_reader.specs.BatchReader.{BatchReaderShape}
 use Rattle.run_record.specs.declared.fault.RunFault.{RunFault}
 use Rattle.run_record.specs.declared.fault.RunFault.TheVariants as run
 use Rattle.transcript_audit.specs.declared.fault.AuditFault.{AuditFault}
-use Rattle.transcript_audit.specs.declared.fault.AuditFault.TheVariants.{At, NoMemory}
+use Rattle.transcript_audit.specs.declared.fault.AuditFault.TheVariants.{NoMemory}
 use Rattle.transcript_commands.specs.Resumed.{HasResumed, RefusesBy, Session}
 use Rattle.transcript_commands.specs.declared.start.Beginning.{Beginning}
 use Rattle.transcript_commands.specs.declared.start.TheConstants.{PIECE}
@@ -82,34 +82,24 @@ has_begun p lanes rounds requests transcript text next r b sound order law is go
 
 -- and where one was not
 pub not_begun : (s : Session) (cut : Cut) (transcript : List ℕ) (e : AuditFault) → RefusesBy s transcript e → BeginsBy s cut transcript (Err (refused_by e))
-not_begun s cut transcript (At n kind) refused = refused
-not_begun s cut transcript NoMemory refused = refl
+not_begun s cut transcript e refused = grind arith
 
 pub refused_at : (p : PolicyShape) (lanes rounds : ℕ) (requests transcript : List ℕ) (text : CutText) (e : AuditFault) → IsCutOf requests lanes text
     → RefusesBy (record { policy = p; lanes = lanes; rounds = rounds; jobs = text.batch.jobs; batch_ends = text.batch.ends }) transcript e
     → BeginsBy (session_of p lanes rounds (jobs_of_input requests true lanes)) (jobs_of_input requests true lanes) transcript (Err (refused_by e))
-refused_at p lanes rounds requests transcript text e is refused =
-    let cut = jobs_of_input requests true lanes in
-    let s : Session = record { policy = p; lanes = lanes; rounds = rounds; jobs = text.batch.jobs; batch_ends = text.batch.ends } in
-    let same : s ≡ session_of p lanes rounds cut = rw (is.jobs, is.ends) refl in
-    not_begun (session_of p lanes rounds cut) cut transcript e (subst (λ (x : Session). RefusesBy x transcript e) same refused)
+refused_at p lanes rounds requests transcript text e is refused = grind arith
 
 -- the answer of a call that failed so
 pub stopped : (result : Result Beginning Refusal) (fault : RunFault) → IsErrAnd result (λ x. x ≡ Ends fault) → StopsBy result fault
-stopped (Ok b) fault is = absurd is
-stopped (Err e) fault is = ap Err is
+stopped result fault is = grind arith
 
 pub lacked : (s : Session) (cut : Cut) (transcript : List ℕ) (result : Result Beginning Refusal) → IsErrAnd result (λ x. x ≡ Ends run.NoMemory) →
     BeginsBy s cut transcript result
-lacked s cut transcript (Ok b) is = absurd is
-lacked s cut transcript (Err e) is = subst (λ x. BeginsBy s cut transcript (Err x)) (sym is) refl
+lacked s cut transcript result is = grind arith
 
 pub refused_so : (p : PolicyShape) (lanes rounds : ℕ) (requests transcript : List ℕ) (text : CutText) (e : AuditFault) (result : Result Beginning Refusal) →
     IsCutOf requests lanes text
     → RefusesBy (record { policy = p; lanes = lanes; rounds = rounds; jobs = text.batch.jobs; batch_ends = text.batch.ends }) transcript e
     → IsErrAnd result (λ x. x ≡ refused_by e)
     → BeginsBy (session_of p lanes rounds (jobs_of_input requests true lanes)) (jobs_of_input requests true lanes) transcript result
-refused_so p lanes rounds requests transcript text e (Ok b) is refused err = absurd err
-refused_so p lanes rounds requests transcript text e (Err x) is refused err =
-    let cut = jobs_of_input requests true lanes in
-    subst (λ y. BeginsBy (session_of p lanes rounds cut) cut transcript (Err y)) (sym err) (refused_at p lanes rounds requests transcript text e is refused)
+refused_so p lanes rounds requests transcript text e result is refused err = grind arith

@@ -12,12 +12,10 @@ use Rattle.transcript_commands.specs.Resumed.{whole_lines}
 -- ---- up to the last LF
 
 not_ten : (b : ℕ) (x : Bool) → (b == 10) ≡ x → b ≢ 10 → x ≡ false
-not_ten b true is other = absurd (other (grind (arith, common_steps)))
-not_ten b false is other = refl
+not_ten b x is other = grind (arith, common_steps)
 
 is_ten : (b : ℕ) (x : Bool) → (b == 10) ≡ x → b ≡ 10 → x ≡ true
-is_ten b true is same = refl
-is_ten b false is same = absurd (grind (arith, common_steps))
+is_ten b x is same = grind (arith, common_steps)
 
 -- without LF nothing has ended
 none_ended : (bytes : List ℕ) → ((k : ℕ) → k < length bytes → slice_index bytes k ≢ 10) → has_end bytes ≡ false
@@ -26,21 +24,17 @@ none_ended (b ∷ bs) none =
     rw (not_ten b (b == 10) refl (none 0 (omega arith))) (none_ended bs (λ k within. none (suc k) (omega (arith, within))))
 
 end_here : (b : ℕ) (bs : List ℕ) (x : Bool) → (b == 10) ≡ x → (x ≡ false → has_end bs ≡ true) → has_end (b ∷ bs) ≡ true
-end_here b bs true is later = rw is refl
-end_here b bs false is later = rw is (later refl)
+end_here b bs x is later = grind arith
 
 -- with one some line has
 some_ended : (bytes : List ℕ) (k : ℕ) → k < length bytes → slice_index bytes k ≡ 10 → has_end bytes ≡ true
 some_ended [] k within here = absurd (omega (arith, within))
-some_ended (b ∷ bs) zero within here =
-    end_here b bs (b == 10) refl (λ other. absurd (let is = is_ten b (b == 10) refl here in let no : true ≡ false = sym is ∙ other in cc))
-some_ended (b ∷ bs) (suc k) within here = end_here b bs (b == 10) refl (λ other. some_ended bs k (omega (arith, within)) here)
+some_ended (b ∷ bs) k within here = grind (arith, end_here, (some_ended bs))
 
 -- all up to the last LF are the whole lines
 pub whole_front : (bytes : List ℕ) (n : ℕ) → n ≤ length bytes → (0 < n → slice_index bytes (n - 1) ≡ 10) →
     ((k : ℕ) → n ≤ k → k < length bytes → slice_index bytes k ≢ 10) → take n bytes ≡ whole_lines bytes
-whole_front [] zero within ended last = refl
-whole_front [] (suc n) within ended last = refl
+whole_front [] n within ended last = grind arith
 whole_front (b ∷ bs) zero within ended last =
     let none : has_end (b ∷ bs) ≡ false = none_ended (b ∷ bs) (λ k below. last k (omega arith) below) in
     rw none refl

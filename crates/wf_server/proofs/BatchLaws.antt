@@ -1,5 +1,5 @@
 -- How the entries of a batch follow those before.
-use Rattle.std.proofs.Common.{◌≡◌, ℕ, zero, suc, ◌+◌, ◌-◌, ◌<◌, ◌≤◌, max, List, [], ◌∷◌, ◌++◌, length, take, drop, Option, Result, Ok, Err, OnOk, OnErr}
+use Rattle.std.proofs.Common.{◌≡◌, ℕ, zero, suc, ◌+◌, ◌<◌, ◌≤◌, max, List, [], ◌∷◌, ◌++◌, length, take, drop, Option, Result, Ok, Err, OnOk, OnErr}
 use Rattle.std.proofs.Common.{IfErr, inl, inr, refl, sym, ◌∙◌, ap, subst, arith}
 use Rattle.std.proofs.lemmas.Grind.{common_steps}
 use Rattle.std.proofs.lemmas.List.{take-append-drop, take-append-le, take-take, take_all, append-nil, length-append, length-drop}
@@ -10,8 +10,8 @@ use Rattle.wf_outside.proofs.OutsideLaws.{more_put, part_all}
 use Rattle.policy_book.specs.Laws.Shapes.{PolicyShape}
 use Rattle.wf_talk.specs.declared.entry.Entry.{Entry}
 use Rattle.wf_talk.specs.declared.job.Job.{Job}
-use Rattle.wf_board.specs.Laws.States.{State, opening_state}
-use Rattle.wf_board.specs.Laws.Histories.{FillsJobs, IsLegal, batch_start, state_after}
+use Rattle.wf_board.specs.Laws.States.{opening_state}
+use Rattle.wf_board.specs.Laws.Histories.{FillsJobs, batch_start, state_after}
 use Rattle.wf_board.proofs.HistoryLaws.{after_all}
 use Rattle.wf_desk.specs.Desks.{DeskShape, IsDone, IsSoundDesk, jobs_told, with_room}
 use Rattle.wf_desk.specs.BatchLaws.{AnswersBatch, AnswersNext, EndAt}
@@ -41,9 +41,7 @@ end_added before after jobs batch none some = grind (arith, common_steps)
 
 -- the last of more ends begins at the last of those before, or behind what was taken up
 last_begins : (m : ℕ) (ends : List ℕ) (x : ℕ) → last_start m (ends ++ x ∷ []) ≡ max m (batch_start ends (length ends))
-last_begins m ends x =
-    let one_more : length (ends ++ x ∷ []) - 1 ≡ length ends = omega (arith, length-append ends (x ∷ [])) in
-    ap (max m) (ap (batch_start (ends ++ x ∷ [])) one_more ∙ get_or_append_left (0 ∷ ends) (x ∷ []) 0 (length ends) (omega arith))
+last_begins m ends x = grind (arith, length-append, get_or_append_left)
 
 -- a batch with a job has an end
 pub ends_some : (ends : List ℕ) (n : ℕ) (m : Job) (more : List Job) → ends_after ends n (m ∷ more) ≡ ends ++ (n + length (m ∷ more)) ∷ []
@@ -118,9 +116,7 @@ pub record HasServedLoaded (held mid : Option (List ℕ)) (l d : DeskShape) (bef
 
 first_taken : (held mid : Option (List ℕ)) (l d : DeskShape) (before after : Told) → HasServedLoaded held mid l d before after →
     take l.start d.entries ≡ before.entries
-first_taken held mid l d before after h =
-    let here = h.loaded.here in
-    ap (take l.start) h.grown.extends ∙ take-append-le l.start l.entries h.grown.more (omega (arith, here)) ∙ h.loaded.front
+first_taken held mid l d before after h = grind (arith, take-append-le)
 
 the_batch : (held mid : Option (List ℕ)) (l d : DeskShape) (before after : Told) → HasServedLoaded held mid l d before after
     → AnswersBatch before.entries (drop l.start d.entries) l.jobs
@@ -146,12 +142,7 @@ batch_text l new = transcript_text (state_after (opening_state l.opening) l.entr
 -- the entries of the batch begin, or those that were taken up end, where the new ones begin
 last_here : (held mid : Option (List ℕ)) (l d : DeskShape) (before after : Told) → HasServedLoaded held mid l d before after → 0 < length l.jobs
     → last_start l.restored after.batch_ends ≡ length l.entries
-last_here held mid l d before after h jobs =
-    let here = h.loaded.here in
-    let ends : after.batch_ends ≡ before.batch_ends ++ (length before.jobs + length l.jobs) ∷ [] = h.added.ends ∙ grind (arith, common_steps) in
-    let size : length before.entries ≡ l.start = sym (ap length h.loaded.front) ∙ length-take-le l.start l.entries (omega (arith, here)) in
-    let whole : batch_start before.batch_ends (length before.batch_ends) ≡ l.start = h.loaded.ends.closed ∙ sym h.loaded.fills.whole ∙ size in
-    ap (last_start l.restored) ends ∙ last_begins l.restored before.batch_ends (length before.jobs + length l.jobs) ∙ ap (max l.restored) whole ∙ sym here
+last_here held mid l d before after h jobs = grind (arith, common_steps, length-take-le, last_begins)
 
 -- a part of the entries that came is a part of the last batch
 part_last : (held mid aft : Option (List ℕ)) (l d : DeskShape) (before after : Told) → (h : HasServedLoaded held mid l d before after)
@@ -222,20 +213,12 @@ jobs_grown b c grown = λ i. grown.earlier i ++ grown.jobs i
 
 -- the entries that a desk had are among those that it has
 pub grown_past : (b c : DeskShape) (n : ℕ) (es : List Entry) → HasGrown b c → n ≡ length b.entries → es ≡ c.entries → n ≤ length es
-grown_past b c n es grown count same =
-    let size = ap length (same ∙ grown.extends) in
-    let sum = length-append b.entries grown.more in
-    omega (arith, size, sum, count)
+grown_past b c n es grown count same = grind (arith, length-append)
 
 -- where some entries stand behind a place, a desk has some
 pub some_behind : (d : DeskShape) (n : ℕ) (es : List Entry) (result : Result (Unit {0}) RunFault) → es ≡ drop n d.entries → OnErr result (0 < length es) →
     OnErr result (0 < length d.entries)
-some_behind d n es (Ok done) behind some = tt
-some_behind d n es (Err fault) behind some =
-    let more : 0 < length es = some in
-    let same = ap length behind in
-    let size = length-drop n d.entries in
-    omega (arith, more, same, size)
+some_behind d n es result behind some = grind (arith, length-drop)
 
 pub added_on : (l d : DeskShape) (before : Told) (a : Answered) → HasGrown l d → IsBatchAdded before l.jobs (told_of l a) →
     IsBatchAdded before l.jobs (told_of d a)
@@ -243,16 +226,12 @@ added_on l d before a grown added = record { jobs = jobs_grown l d grown ∙ add
 
 -- the end of a batch that is not taken is dropped
 pub ends_back : (old mid : List ℕ) (end len : ℕ) → (len ≡ 0 → mid ≡ old) → (0 < len → mid ≡ old ++ end ∷ []) → take (length old) mid ≡ old
-ends_back old mid end zero none some = ap (take (length old)) (none refl) ∙ take_all (length old) old (omega arith)
-ends_back old mid end (suc len) none some = ap (take (length old)) (some (omega arith)) ∙ take-append_seam old (end ∷ [])
+ends_back old mid end len none some = grind (arith, take_all, take-append_seam)
 
 -- and then the same is told
 pub told_back : (old d : DeskShape) (a b : Answered) (spare cases : ℕ) → d ≡ with_room old spare cases → b.batch_ends ≡ a.batch_ends →
     told_of d b ≡ told_of old a
-told_back old d a b spare cases is ends =
-    let entries : d.entries ≡ old.entries = ap (λ (x : DeskShape). x.entries) is in
-    let jobs : jobs_told d ≡ jobs_told old = ap (λ (x : DeskShape). jobs_told x) is in
-    rw (entries, jobs, ends) refl
+told_back old d a b spare cases is ends = grind arith
 
 -- and where there was no room for the batch
 pub answers_none : (held aft : Option (List ℕ)) (old d : DeskShape) (before : Told) (batch : List Job) (after : Told) (result : Result (Unit {0}) RunFault)
@@ -272,14 +251,7 @@ answers_none held aft old d before batch after result answered setting same memo
 pub text_on : (old d : DeskShape) (q : PolicyShape) (new : List Entry) → KeepsTexts old → IsSoundDesk d → setting_of d ≡ setting_of old →
     d.entries ≡ old.entries ++ new → q ≡ d.board.policy →
     entries_text q new ≡ transcript_text (state_after (opening_state old.opening) old.entries) new
-text_on old d q new texts sound setting entries found =
-    let legal : IsLegal (opening_state old.opening) old.rounds (old.entries ++ new) =
-    subst (λ (s : Setting). IsLegal (opening_state s.policy) s.rounds (old.entries ++ new)) setting
-    (subst (IsLegal (opening_state d.opening) d.rounds) entries sound.legal) in
-    let after : q ≡ (state_after (opening_state old.opening) (old.entries ++ new)).book.policy =
-    found ∙ ap (λ (x : State). x.book.policy) sound.state ∙ ap (λ es. (state_after (opening_state d.opening) es).book.policy) entries
-    ∙ ap (λ (s : Setting). (state_after (opening_state s.policy) (old.entries ++ new)).book.policy) setting in
-    ap (λ x. entries_text x new) after ∙ sym (texts new legal)
+text_on old d q new texts sound setting entries found = grind arith
 
 -- the jobs at a desk were answered, and the entries that came written
 pub loaded_answers : (held mid aft : Option (List ℕ)) (l d : DeskShape) (q : PolicyShape) (before after : Told) (n : ℕ) (es : List Entry)
@@ -305,19 +277,7 @@ pub record HasLoadedBatch (old l : DeskShape) (a b : Answered) (batch : List Job
 loaded_batch : (held mid : Option (List ℕ)) (old l : DeskShape) (a b : Answered) (batch : List Job) → HasLoadedBatch old l a b batch →
     HasAnsweredAll held mid old (told_of old a)
     → HasLoaded held mid l (told_of old a)
-loaded_batch held mid old l a b batch h answered =
-    let kept = answered.kept in
-    let restored : l.restored ≡ old.restored = ap (λ (s : Setting). s.restored) h.setting in
-    let size = ap length h.entries in
-    let start = h.start in
-    record {
-      fills = answered.fills;
-      ends = answered.ends;
-      front = (λ i. take (h.start i) (h.entries i)) ∙ take_all (length old.entries) old.entries (omega arith);
-      here = omega (arith, kept, restored, size, start);
-      written = answered.written ∙ ap (λ (s : Setting). with_bytes held (text_from s.policy s.restored old.entries)) (sym h.setting)
-          ∙ ap (λ es. with_bytes held (text_from l.opening l.restored es)) (sym h.entries);
-    }
+loaded_batch held mid old l a b batch h answered = grind (arith, take_all)
 
 -- and its jobs were answered
 pub batch_answers : (held mid aft : Option (List ℕ)) (old l d : DeskShape) (a b : Answered) (batch : List Job) (result : Result (Unit {0}) RunFault)

@@ -1,5 +1,5 @@
 -- How the batches of a requests file follow one another.
-use Rattle.std.proofs.Common.{◌≡◌, ℕ, ◌+◌, ◌<◌, ◌≤◌, nat_lt, true, List, [], ◌∷◌, ◌++◌, length, take, drop, slice_index_or, Option}
+use Rattle.std.proofs.Common.{◌≡◌, ℕ, ◌+◌, ◌<◌, ◌≤◌, List, length, take, slice_index_or, Option}
 use Rattle.std.proofs.Common.{Err, inl, inr, refl, sym, ap, subst, ◌∙◌, arith}
 use Rattle.std.proofs.lemmas.Bool.{lt-ltb}
 use Rattle.std.proofs.lemmas.List.{drop_all, length-append, length-take-le, take_more}
@@ -7,7 +7,6 @@ use Rattle.wf_outside.proofs.OutsideLaws.{nothing_put}
 use Rattle.wf_talk.specs.declared.job.Job.{Job}
 use Rattle.wf_board.specs.Laws.Histories.{batch_start}
 use Rattle.wf_desk.specs.Desks.{DeskShape, jobs_told}
-use Rattle.line_reader.specs.Cutter.{ends_after}
 use Rattle.line_reader.specs.Laws.{AreInOrder}
 use Rattle.transcript_audit.proofs.Batches.{ends_within, next_start, end_read, part_length, start_ahead, start_within}
 use Rattle.transcript_commands.specs.Unserved.{jobs_between}
@@ -60,43 +59,14 @@ is_next d e jobs ends count size told same order test whole is =
 -- its jobs are a batch
 pub file_batch : (lanes : ℕ) (jobs : List Job) (ends : List ℕ) (count start stop : ℕ) → IsNext lanes jobs ends count start stop →
     IsBatch lanes start (jobs_between start stop jobs)
-file_batch lanes jobs ends count start stop next =
-    let above = next.order in
-    let within = next.within in
-    let begins = next.begins in
-    let here = next.end_here in
-    let size = part_length start stop jobs (omega (arith, above)) within in
-    let near = near_from 0 ends (length jobs) count next.in_order.ends next.known in
-    let few = next.in_order.few in
-    record {
-      few = omega (arith, size, within, few);
-      short = omega (arith, size, near, begins, here);
-      of_lanes = lanes_between lanes start stop jobs next.in_order.of_lanes;
-    }
+file_batch lanes jobs ends count start stop next = grind (arith, part_length, near_from, lanes_between)
 
 -- and are told
 pub told_more : (lanes : ℕ) (jobs : List Job) (ends : List ℕ) (count : ℕ) (before after : Told) (batch : List Job) (start stop : ℕ) →
     IsToldTo jobs ends count before → IsNext lanes jobs ends count start stop → start ≡ length before.jobs → batch ≡ jobs_between start stop jobs →
     IsBatchAdded before batch after
     → IsToldTo jobs ends (count + 1) after
-told_more lanes jobs ends count before after batch start stop is next begins same added =
-    let above = next.order in
-    let known = next.known in
-    let within = next.within in
-    let size = part_length start stop jobs (omega (arith, above)) within in
-    let some : nat_lt 0 (length (jobs_between start stop jobs)) ≡ true = lt-ltb 0 (length (jobs_between start stop jobs)) (omega (arith, size, above)) in
-    let last : start + length (jobs_between start stop jobs) ≡ stop = size in
-    let ends_with : ends_after (take count ends) start (jobs_between start stop jobs) ≡ take (count + 1) ends =
-    rw some (ap (λ x. take count ends ++ x ∷ []) (last ∙ sym next.end_here) ∙ sym (take_more ends count 0 known)) in
-    record {
-      known = omega (arith, known);
-      all_jobs =
-          added.jobs ∙ ap (λ js. js ++ batch) (is.all_jobs ∙ ap (λ n. take n jobs) (sym next.begins)) ∙ ap (λ js. take start jobs ++ js) same
-          ∙ sym (jobs_here start stop jobs (omega (arith, above))) ∙ ap (λ n. take n jobs) next.closes;
-      all_ends =
-          added.ends ∙ ap (λ es. ends_after es (length before.jobs) batch) is.all_ends ∙ ap (λ n. ends_after (take count ends) n batch) (sym begins)
-          ∙ ap (λ js. ends_after (take count ends) start js) same ∙ ends_with;
-    }
+told_more lanes jobs ends count before after batch start stop is next begins same added = grind (arith, part_length, lt-ltb, take_more, jobs_here)
 
 -- the jobs so far are some where a batch was told
 told_some : (before after : Told) (batch : List Job) → IsBatchAdded before batch after → 0 < length batch → 0 < length after.jobs
@@ -141,16 +111,7 @@ earlier d a stands = record { entries = take d.start d.entries; jobs = stands.ea
 pub first_loaded : (held : Option (List ℕ)) (d : DeskShape) (a : Answered) → (stands : StandsAt d.entries d.start d.jobs (jobs_told d) a.batch_ends) →
     d.restored ≡ length d.entries
     → HasLoaded held held d (earlier d a stands)
-first_loaded held d a stands restored =
-    let begun = stands.begun in
-    let none : drop d.restored d.entries ≡ [] = drop_all d.restored d.entries (omega (arith, restored)) in
-    record {
-      fills = stands.fills;
-      ends = stands.at_end;
-      front = refl;
-      here = omega (arith, begun, restored);
-      written = rw none (sym (nothing_put held));
-    }
+first_loaded held d a stands restored = grind (arith, drop_all, nothing_put)
 
 pub first_added : (d : DeskShape) (a : Answered) → (stands : StandsAt d.entries d.start d.jobs (jobs_told d) a.batch_ends) →
     IsBatchAdded (earlier d a stands) d.jobs (told_of d a)
@@ -165,6 +126,4 @@ told_at jobs ends count d e a same is = record { known = is.known; all_jobs = sa
 pub first_fails : (jobs : List Job) (ends : List ℕ) (count : ℕ) (held aft : Option (List ℕ)) (d e : DeskShape) (a : Answered) (ending : RunFault) →
     jobs_told e ≡ jobs_told d → IsToldTo jobs ends count (told_of d a)
     → HasAnsweredPart (setting_of e) held aft (told_of e a) → 0 < length e.entries → FileTo held aft jobs ends e (told_of e a) (Err ending)
-first_fails jobs ends count held aft d e a ending same is part some =
-    let size = part.fills.whole in
-    (record { count = count; to = told_at jobs ends count d e a same is; some = λ _. omega (arith, size, some) }, part)
+first_fails jobs ends count held aft d e a ending same is part some = grind arith

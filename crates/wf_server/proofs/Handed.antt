@@ -1,5 +1,5 @@
 -- The jobs of a session are handed over up to an end of a batch, and its entries answer lines.
-use Rattle.std.proofs.Common.{◌≡◌, ℕ, zero, suc, ◌+◌, ◌<◌, ◌≤◌, ◌^◌, nat_eq, nat_lt, Bool, true, false, List, [], ◌∷◌, ◌++◌, length, take, drop, map, Option}
+use Rattle.std.proofs.Common.{◌≡◌, ℕ, zero, suc, ◌<◌, ◌≤◌, ◌^◌, nat_eq, Bool, true, false, List, [], ◌∷◌, ◌++◌, length, take, drop, map, Option}
 use Rattle.std.proofs.Common.{inl, inr, if◌then◌else◌, refl, sym, ap, subst, ◌∙◌, arith}
 use Rattle.std.proofs.lemmas.Grind.{common_steps}
 use Rattle.std.proofs.lemmas.List.{length-append, length-map, length-take-le, take_all}
@@ -57,17 +57,12 @@ closes c b more = grind (arith, common_steps, length-append)
 
 none_open : (c : Cut) → c.from ≡ length c.jobs → end_batch (flush false c) ≡ c
 unfolding end_batch flush
-none_open c closed =
-    let none : nat_lt c.from (length c.jobs) ≡ false = lt_no c.from (length c.jobs) (omega (arith, closed)) in
-    rw none refl
+none_open c closed = grind (arith, lt_no)
 
 -- no batch is open where the input goes on
 pub nothing_open : (lanes : ℕ) (cut : Cut) → GoesOn lanes cut → jobs_from (next_input cut) [] false ≡ next_input cut
 unfolding jobs_from end_batch flush
-nothing_open lanes cut goes =
-    let from : length cut.jobs + 0 ≡ cut.from = ap (λ (c : Cut). c.from) goes.begins in
-    let none : nat_lt cut.from (length cut.jobs) ≡ false = lt_no cut.from (length cut.jobs) (omega (arith, from)) in
-    rw none refl
+nothing_open lanes cut goes = grind (arith, lt_no)
 
 paused_up : (lanes : ℕ) (first : Cut) (jobs : List Job) (batch_ends front : List ℕ) (last : ℕ) → AreInOrderFrom lanes first →
     jobs ≡ (cut_all first (front ++ last ∷ [])).jobs →
@@ -123,10 +118,7 @@ pub record IsLineJob (j : Job) : Type 0 where
 line_jobs : (lanes : ℕ) (jobs : List Job) → lanes ≤ LANE_LIMIT → AreOfLanes lanes jobs → AreLinesBelow SESSION_LINE_LIMIT jobs → AreNamedJobs jobs →
     EachJob IsLineJob jobs
 line_jobs lanes [] few of below named = tt
-line_jobs lanes (j ∷ js) few of below named =
-    let lane = of.0 in
-    let line = below.0 in
-    (record { lane = omega (arith, lane, few); line = omega (arith, line); named = named.0.0; adds = named.0.1 }, line_jobs lanes js few of.1 below.1 named.1)
+line_jobs lanes (j ∷ js) few of below named = grind (arith, (line_jobs lanes js few of.1 below.1 named.1))
 
 -- ---- ends of batches
 

@@ -33,16 +33,12 @@ AreSteps s (e ∷ es) = IsStepOrAgain s e.ask e.reply × AreSteps (state_after_s
 
 one_step : (start : State) (rounds : ℕ) (earlier : List Entry) (e : Entry) → IsRightAfter start rounds earlier e → IsStepOrAgain
     (state_after start earlier) e.ask e.reply
-one_step start rounds earlier e (at, inl step) = inl step
-one_step start rounds earlier e (at, inr retry) = inr (retry.0, (retry.1.0, retry.1.1.0))
+one_step start rounds earlier e h4 = grind arith
 
 all_steps : (start : State) (rounds : ℕ) (earlier more : List Entry) → EachAfter (IsRightAfter start rounds) earlier more →
     AreSteps (state_after start earlier) more
 all_steps start rounds earlier [] each = tt
-all_steps start rounds earlier (e ∷ es) each = (
-  one_step start rounds earlier e each.0,
-  subst (λ s. AreSteps s es) (after_more start earlier e) (all_steps start rounds (earlier ++ e ∷ []) es each.1),
-)
+all_steps start rounds earlier (e ∷ es) each = grind (arith, one_step, after_more, (all_steps start rounds (earlier ++ e ∷ []) es each.1))
 
 -- what is known of a state and the one after an entry
 record IsGoneOn (s : State) (what : Ask) (given : Reply) : Type 0 where

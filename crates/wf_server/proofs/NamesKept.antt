@@ -1,12 +1,10 @@
 -- What is written of what a policy has is the same with the names of a later policy that keeps those of the other.
-use Rattle.std.proofs.Common.{◌≡◌, ℕ, ◌<◌, List, [], ◌∷◌, length, map, Bool, Option, refl, ap, subst, ◌∙◌, codes}
+use Rattle.std.proofs.Common.{◌≡◌, ℕ, List, [], ◌∷◌, length, map, Bool, Option, refl, ap, ◌∙◌, codes, arith}
 use Rattle.std.specs.List.{All}
 use Rattle.std.proofs.lemmas.List.{get_or_append_left}
-use Rattle.serde_json.specs.Data.{string, array, object, no_members, member, number, unsigned}
+use Rattle.serde_json.specs.Data.{array, object, no_members, member}
 use Rattle.serde_json.specs.View.{items_of}
 use Rattle.wf_names.specs.declared.states.StepState.{StepState}
-use Rattle.wf_names.specs.declared.states.StepState.TheVariants.{Free, Held, Finished}
-use Rattle.constraint_forms.specs.Assign.{planned}
 use Rattle.refutation_tree.specs.Tree.{Shape, Kids, holder, rule, node, no_kids, tree_kid, twin_kid}
 use Rattle.refutation_tree.specs.Laws.Views.{shape_of}
 use Rattle.policy_book.specs.Laws.Shapes.{PolicyShape}
@@ -26,23 +24,18 @@ use Rattle.entry_reader.proofs.PlainReplies.{all_first, all_more}
 -- ---- users
 
 pub user_same : (p q : PolicyShape) (u : ℕ) → KeepsNames p q → IsUser p u → user_data q u ≡ user_data p u
-user_same p q u keeps known =
-    ap (λ us. named us u) keeps.users ∙ ap string (get_or_append_left p.roster.users keeps.more [] u known)
+user_same p q u keeps known = grind (arith, get_or_append_left)
 
 users_same : (p q : PolicyShape) (us : List ℕ) → KeepsNames p q → AllBelow (length p.roster.users) us
     → map (named q.roster.users) us ≡ map (named p.roster.users) us
 users_same p q [] keeps known = refl
-users_same p q (u ∷ us) keeps known =
-    ap (λ d. d ∷ map (named q.roster.users) us) (user_same p q u keeps known.0) ∙ ap (λ ds. user_data p u ∷ ds) (users_same p q us keeps known.1)
+users_same p q (u ∷ us) keeps known = grind (arith, user_same, (users_same p q us keeps known.1))
 
 -- ---- plans
 
 pub plan_same : (p q : PolicyShape) (pr : Problem) (assigned : List (Option ℕ)) (finished : List Bool) (plan : List ℕ) → KeepsNames p q
     → pr.users ≡ length p.roster.users → IsValidPlan pr assigned finished plan → plan_data q.roster.users plan ≡ plan_data p.roster.users plan
-plan_same p q pr assigned finished plan keeps within valid =
-    ap (λ ds. array (items_of ds))
-    (users_same p q plan keeps
-    (planned_below (length p.roster.users) plan (λ s below. subst (λ n. planned plan s < n) within (valid.known s (subst (λ n. s < n) valid.whole below)))))
+plan_same p q pr assigned finished plan keeps within valid = grind (arith, users_same, planned_below)
 
 -- ---- steps
 
@@ -50,20 +43,14 @@ pub step_same : (p q : PolicyShape) (f s : ℕ) → KeepsNames p q → step_data
 step_same p q f s keeps = ap (λ names. named names s) (keeps.steps f)
 
 state_same : (p q : PolicyShape) (x : StepState) → KeepsNames p q → IsState p x → state_data q x ≡ state_data p x
-state_same p q Free keeps of = refl
-state_same p q (Held u) keeps of = ap (single (codes "held")) (user_same p q u keeps of)
-state_same p q (Finished u) keeps of = ap (single (codes "finished")) (user_same p q u keeps of)
+state_same p q x keeps of = grind (arith, user_same)
 
 seen_same : (p q : PolicyShape) (x : StepState) → KeepsNames p q → IsState p x → seen_data q x ≡ seen_data p x
-seen_same p q Free keeps of = refl
-seen_same p q (Held u) keeps of = ap (λ d. array (items_of (string (codes "held") ∷ d ∷ []))) (user_same p q u keeps of)
-seen_same p q (Finished u) keeps of = ap (λ d. array (items_of (string (codes "finished") ∷ d ∷ []))) (user_same p q u keeps of)
+seen_same p q x keeps of = grind (arith, user_same)
 
 states_same : (p q : PolicyShape) (states : List StepState) → KeepsNames p q → All (IsState p) states → map (seen_data q) states ≡ map (seen_data p) states
 states_same p q [] keeps of = refl
-states_same p q (x ∷ xs) keeps of =
-    ap (λ d. d ∷ map (seen_data q) xs) (seen_same p q x keeps (all_first (IsState p) x xs of))
-    ∙ ap (λ ds. seen_data p x ∷ ds) (states_same p q xs keeps (all_more (IsState p) x xs of))
+states_same p q (x ∷ xs) keeps of = grind (arith, seen_same, all_first, all_more, (states_same p q xs keeps (all_more (IsState p) x xs of)))
 
 pub face_same : (p q : PolicyShape) (face : Face) → KeepsNames p q → All (IsState p) face.states → face_data q face ≡ face_data p face
 face_same p q face keeps of =
@@ -74,9 +61,7 @@ face_same p q face keeps of =
 
 pub work_same : (p q : PolicyShape) (items : List WorkItem) → KeepsNames p q → map (work_data q) items ≡ map (work_data p) items
 work_same p q [] keeps = refl
-work_same p q (i ∷ is) keeps =
-    ap (λ d. array (items_of (number (unsigned i.case) ∷ d ∷ [])) ∷ map (work_data q) is) (step_same p q i.flow i.step keeps)
-    ∙ ap (λ ds. work_data p i ∷ ds) (work_same p q is keeps)
+work_same p q (i ∷ is) keeps = grind (arith, (work_same p q is keeps))
 
 -- ---- trees
 

@@ -1,5 +1,5 @@
 -- What a step answers is written alike with the names of a later policy.
-use Rattle.std.proofs.Common.{◌≡◌, ℕ, ◌<◌, inl, inr, Bool, true, List, length, Option, Result, Ok, Err, refl, sym, ap, subst, codes}
+use Rattle.std.proofs.Common.{◌≡◌, ℕ, ◌<◌, Bool, true, List, length, Option, Result, refl, sym, ap, subst, codes, arith}
 use Rattle.serde_json.specs.Data.{array, number, object, member, no_members, unsigned}
 use Rattle.serde_json.specs.View.{items_of}
 use Rattle.refutation_tree.specs.declared.tree.Tree.{Tree}
@@ -84,11 +84,7 @@ deed_text s q what given answer keeps state known of is = absurd is
 decided_text : (s : State) (q : PolicyShape) (what : Ask) (r : Result Deed Denial) (answer : Reply) → KeepsNames s.book.policy q → IsNamed s →
     HoldsOf (IsTold s.book) r → Fares (IsDeedFor s what) (FitsDenial s.book.policy (flows_of s) (concern s what)) r → Answers s r answer
     → reply_data q answer ≡ reply_data s.book.policy answer
-decided_text s q what (Ok given) answer keeps state known of is = deed_text s q what given answer keeps state known of is
-decided_text s q what (Err d) answer keeps state known of (inl denied) =
-    subst (λ x. reply_data q x ≡ reply_data s.book.policy x) (sym denied)
-    (ap (single (codes "denied")) (denial_same s.book.policy q (flows_of s) (concern s what) d keeps of.0))
-decided_text s q what (Err d) answer keeps state known of (inr short) = subst (λ x. reply_data q x ≡ reply_data s.book.policy x) (sym short) refl
+decided_text s q what r answer keeps state known of is = grind (arith, deed_text, denial_same)
 
 pub step_text : (s : State) (q : PolicyShape) (what : Ask) (answer : Reply) → KeepsNames s.book.policy q → IsNamed s → IsStep s what answer
     → reply_data q answer ≡ reply_data s.book.policy answer

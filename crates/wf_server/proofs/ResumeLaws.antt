@@ -6,11 +6,10 @@ use Rattle.std.proofs.lemmas.List.{take_all}
 use Rattle.wf_outside.specs.Laws.Outside.{Filed, HasTaken}
 use Rattle.wf_outside.proofs.OutsideLaws.{nothing_taken}
 use Rattle.wf_talk.specs.declared.entry.Entry.{Entry}
-use Rattle.wf_board.specs.Laws.Histories.{AreAnsweredOnce, AreRightful, IsLegal, batch_start, state_after}
+use Rattle.wf_board.specs.Laws.Histories.{AreAnsweredOnce, AreRightful, IsLegal, state_after}
 use Rattle.wf_board.specs.Laws.{HistoriesAreExact, HistoriesKeepCompletable}
 use Rattle.wf_board.specs.Laws.States.{opening_state}
 use Rattle.wf_desk.specs.Desks.{AreOfLanes, DeskShape, jobs_told}
-use Rattle.line_reader.specs.Cutter.{after_handing}
 use Rattle.line_reader.specs.Jobs.{Cut, UpToAnEnd, jobs_of_input, last_or, next_input, start_from}
 use Rattle.line_reader.specs.Laws.{AreInOrder, GoesOn}
 use Rattle.line_reader.specs.Laws.Naming.{JobsStayNamed}
@@ -34,7 +33,7 @@ use Rattle.transcript_commands.specs.declared.refusal.Refusal.TheVariants.{Ends,
 use Rattle.transcript_commands.specs.Laws.Begun.{BeginsBy, EndsBeginning, HasBegun, StopsBy, fault_by, session_of}
 use Rattle.transcript_commands.specs.Load.{FileNames, OverFiles}
 use Rattle.transcript_commands.proofs.Files.{files_goal, files_map}
-use Rattle.command_words.specs.Laws.Words.{AreOptions, Command, Options, may_repeat, resume, serve}
+use Rattle.command_words.specs.Laws.Words.{AreOptions, Command, Options, may_repeat}
 use Rattle.wf_server.specs.Runs.{DoesBy, HasRun, IsServedOnce, is_on_threads, rounds_of}
 use Rattle.transcript_audit.proofs.Batches.{last_start}
 use Rattle.wf_server.specs.Sessions.{ReadsFor, Served, Setting, handed_in}
@@ -43,9 +42,7 @@ use Rattle.wf_server.specs.Batches.{Serves, AreInOrderFrom, HasAnsweredAll, IsSe
 use Rattle.wf_server.specs.Files.{FileTo, IsToldTo}
 use Rattle.wf_server.specs.Laws.Resuming.{CountsRefusal, EndsBy, RefusesAs, ResumesFrom, ResumesRun, TellsAs, setting_behind}
 use Rattle.wf_server.proofs.SessionLaws.{lanes_of, late_reads, serves_kept}
-use Rattle.wf_server.proofs.ServeLaws.{loads_late}
 use Rattle.wf_server.proofs.WayLaws.{once_legal}
-use Rattle.wf_server.proofs.Endings.{reads_so, writes_so}
 use Rattle.wf_server.proofs.Fitting.{behind_fits}
 use Rattle.wf_server.proofs.Handed.{nothing_open}
 
@@ -59,11 +56,7 @@ last_first d (x ∷ xs) (suc k) known = last_first x xs k (omega (arith, known))
 
 up_to : (s : Session) (cut : Cut) (count : ℕ) (told : Told) → s.jobs ≡ cut.jobs → s.batch_ends ≡ cut.ends → IsToldTo s.jobs s.batch_ends count told →
     UpToAnEnd told.jobs told.batch_ends (next_input cut)
-up_to s cut count told jobs ends is = record {
-  ends = (count, is.all_ends ∙ ap (take count) ends);
-  within = is.all_jobs ∙ ap (λ js. take (batch_start s.batch_ends count) js) jobs
-      ∙ ap (λ n. take n cut.jobs) (sym (ap (last_or 0) is.all_ends ∙ last_first 0 s.batch_ends count is.known));
-}
+up_to s cut count told jobs ends is = grind (arith, last_first)
 
 -- a fault ended the session while the jobs of the file were answered
 pub stops_serves : (s : Session) (cut : Cut) (lanes room : ℕ) (before after : Streams) (d : DeskShape) (told : Told) (ending : RunFault) →
@@ -96,10 +89,7 @@ stops_serves s cut lanes room before after d told ending goes jobs ends unread r
 -- all jobs of the file are told
 whole_told : (s : Session) (told : Told) → AreInOrder s.lanes s.jobs s.batch_ends → IsToldTo s.jobs s.batch_ends (length s.batch_ends) told →
     (told.jobs ≡ s.jobs) × (told.batch_ends ≡ s.batch_ends)
-whole_told s told order is = (
-  is.all_jobs ∙ ap (λ n. take n s.jobs) (last_start s.batch_ends (length s.jobs) order.ends) ∙ take_all (length s.jobs) s.jobs (omega arith),
-  is.all_ends ∙ take_all (length s.batch_ends) s.batch_ends (omega arith),
-)
+whole_told s told order is = grind (arith, last_start, take_all)
 
 -- the input is read behind them
 pub serving_on : (s : Session) (cut : Cut) (before after : Streams) (r : BatchReaderShape) (d : DeskShape) (told : Told) →
@@ -115,13 +105,7 @@ serving_on s cut before after r d told order goes jobs ends lanes reads unread c
     let all_ends : told.batch_ends ≡ cut.ends = whole.1 ∙ ends in
     record {
       order = subst (λ n. AreInOrderFrom n (next_input cut)) (sym lanes) goes.order;
-      read = record {
-        bytes = [];
-        taken = subst (λ xs. HasTaken before.input after.input xs) (sym (ap (λ (x : BatchReaderShape). x.pending) reads))
-            (subst (λ x. HasTaken before.input x []) (sym unread) (nothing_taken before.input));
-        cut = (λ i. after_handing (all_jobs i) (all_ends i) ((ap (λ (x : BatchReaderShape). x.cut) reads) i)) ∙ goes.begins;
-        closed = ap (last_or 0) all_ends ∙ goes.closed ∙ ap length (sym all_jobs);
-      };
+      read = grind (arith, nothing_taken);
       answered = answered;
       read_faults = counts;
       write_faults = writes;
@@ -140,23 +124,17 @@ begun_lanes s cut transcript b h = subst (λ n. AreOfLanes n b.desk.jobs) (sym h
 
 pub begun_order : (s : Session) (cut : Cut) (transcript : List ℕ) (b : Beginning) → HasBegun s cut transcript b →
     AreInOrder b.desk.lanes b.file.jobs b.file.ends
-begun_order s cut transcript b h =
-    subst (λ n. AreInOrder n b.file.jobs b.file.ends) (sym h.lanes)
-    (subst (λ js. AreInOrder s.lanes js b.file.ends) (sym h.file_jobs) (subst (AreInOrder s.lanes s.jobs) (sym h.file_ends) h.order))
+begun_order s cut transcript b h = grind arith
 
 pub begun_told : (s : Session) (cut : Cut) (transcript : List ℕ) (b : Beginning) (told : Told) → HasBegun s cut transcript b → told.jobs ≡ jobs_told b.desk →
     told.batch_ends ≡ b.ends
     → IsToldTo b.file.jobs b.file.ends b.count told
-begun_told s cut transcript b told h jobs ends =
-    subst (λ js. IsToldTo js b.file.ends b.count told) (sym h.file_jobs)
-    (subst (λ es. IsToldTo s.jobs es b.count told) (sym h.file_ends)
-    (record { known = h.known; all_jobs = jobs ∙ h.first_jobs; all_ends = ends ∙ h.first_ends }))
+begun_told s cut transcript b told h jobs ends = grind arith
 
 file_of : (s : Session) (cut : Cut) (transcript : List ℕ) (b : Beginning) (held aft : Option (List ℕ)) (d : DeskShape) (told : Told)
     (result : Result (Unit {0}) RunFault) → HasBegun s cut transcript b
     → FileTo held aft b.file.jobs b.file.ends d told result → FileTo held aft s.jobs s.batch_ends d told result
-file_of s cut transcript b held aft d told result h to =
-    subst (λ js. FileTo held aft js s.batch_ends d told result) h.file_jobs (subst (λ es. FileTo held aft b.file.jobs es d told result) h.file_ends to)
+file_of s cut transcript b held aft d told result h to = grind arith
 
 -- a fault ended it at the requests
 pub stops_begun : (s : Session) (cut : Cut) (transcript : List ℕ) (b : Beginning) (before after : Streams) (d : DeskShape) (told : Told)
@@ -173,10 +151,7 @@ pub serving_begun : (s : Session) (cut : Cut) (transcript : List ℕ) (b : Begin
     HasBegun s cut transcript b
     → setting_of d ≡ setting_of b.desk → after.input ≡ before.input → after.read_faults ≡ before.read_faults → after.write_faults ≡ before.write_faults
     → FileTo before.output after.output b.file.jobs b.file.ends d told (Ok tt) → IsServing (next_input cut) before after b.reader d told
-serving_begun s cut transcript b before after d told h same unread reads writes to =
-    let file = file_of s cut transcript b before.output after.output d told (Ok tt) h to in
-    serving_on s cut before after b.reader d told h.order h.goes_on h.cut_jobs h.cut_ends (lanes_of b.desk d same ∙ h.lanes) h.reader unread reads writes
-    file.0 file.1
+serving_begun s cut transcript b before after d told h same unread reads writes to = grind (arith, file_of, serving_on, lanes_of)
 
 -- a session behind it is one as it is promised
 pub served_begun : (s : Session) (cut : Cut) (transcript : List ℕ) (b : Beginning) (d : DeskShape) (room : ℕ) (before after : Streams) (told : Told)
@@ -209,68 +184,36 @@ is_untouched r unread unwritten untold = record { unread = unread; unwritten = u
 pub ended_orderly : (r : Run) → IsUntouched r → EndsBeginning (how_of r.fault) → CountsLoads r.fault r.load_faults r.load_faults_after →
     r.after.read_faults ≡ r.before.read_faults
     → r.after.write_faults ≡ r.before.write_faults → IsOrderly r
-ended_orderly r nothing ending loads reads writes = record {
-  early = λ early. nothing;
-  loads = loads;
-  reads = subst (λ n. CountsReads r.fault r.before.read_faults n) (sym reads) (reads_so (how_of r.fault) r.before.read_faults ending);
-  writes = subst (λ n. CountsWrites r.fault r.before.write_faults n) (sym writes) (writes_so (how_of r.fault) r.before.write_faults ending);
-}
+ended_orderly r nothing ending loads reads writes = grind arith
 
 -- the run of a transcript that is refused does too
 tells_late : (text : List ℕ) (before after : Option (List ℕ)) (ending : RunFault) → TellsAs text before after ending → is_before_input ending ≡ false
-tells_late text before after fault.Found tells = refl
-tells_late text before after fault.Write tells = refl
-tells_late text before after fault.NoMemory tells = refl
-tells_late text before after ending tells = absurd tells
+tells_late text before after ending tells = grind arith
 
 tells_reads : (text : List ℕ) (before after : Option (List ℕ)) (ending : RunFault) (count : ℕ) → TellsAs text before after ending →
     CountsReads ending count count
-tells_reads text before after fault.Found count tells = refl
-tells_reads text before after fault.Write count tells = omega arith
-tells_reads text before after fault.NoMemory count tells = omega arith
-tells_reads text before after ending count tells = absurd tells
+tells_reads text before after ending count tells = grind arith
 
 tells_loads : (text : List ℕ) (before after : Option (List ℕ)) (ending : RunFault) (count : ℕ) → TellsAs text before after ending →
     CountsLoads ending count count
-tells_loads text before after fault.Found count tells = refl
-tells_loads text before after fault.Write count tells = refl
-tells_loads text before after fault.NoMemory count tells = refl
-tells_loads text before after ending count tells = absurd tells
+tells_loads text before after ending count tells = grind arith
 
 pub told_orderly : (text : List ℕ) (r : Run) → TellsAs text r.before.output r.after.output r.fault → r.load_faults_after ≡ r.load_faults →
     r.after.read_faults ≡ r.before.read_faults
     → CountsWrites r.fault r.before.write_faults r.after.write_faults → IsOrderly r
-told_orderly text r tells loads reads writes = record {
-  early = λ early. let late = tells_late text r.before.output r.after.output r.fault tells in absurd cc;
-  loads = subst (λ n. CountsLoads r.fault r.load_faults n) (sym loads) (tells_loads text r.before.output r.after.output r.fault r.load_faults tells);
-  reads = subst (λ n. CountsReads r.fault r.before.read_faults n) (sym reads)
-      (tells_reads text r.before.output r.after.output r.fault r.before.read_faults tells);
-  writes = writes;
-}
+told_orderly text r tells loads reads writes = grind (arith, tells_late, tells_loads, tells_reads)
 
 -- a transcript that is refused
 told_refusal : (s : Session) (cut : Cut) (transcript : List ℕ) (repeats : Bool) (number : ℕ) (kind : AuditKind) (r : Run) → IsRefused s transcript number kind
     → r.after.input ≡ r.before.input → r.told ≡ nothing_told → (ending : RunFault) → r.fault ≡ ending →
     TellsAs (audit_fault_line number kind) r.before.output r.after.output ending
     → ResumesFrom s cut transcript repeats r
-told_refusal s cut transcript repeats number kind r refused unread untold fault.NoMemory is tells =
-    inl (is, record { unread = unread; unwritten = tells; untold = untold })
-told_refusal s cut transcript repeats number kind r refused unread untold ending is tells =
-    inr (inl (record {
-      number = number;
-      kind = kind;
-      refused = refused;
-      unread = unread;
-      untold = untold;
-      tells =
-          subst (TellsAs (audit_fault_line number kind) r.before.output r.after.output) (sym is) tells;
-    }))
+told_refusal s cut transcript repeats number kind r refused unread untold ending is tells = grind arith
 
 -- entries behind a place are answered once where all are
 once_behind : (n : ℕ) (es : List Entry) → AreAnsweredOnce es → AreAnsweredOnce (drop n es)
 once_behind zero es once = once
-once_behind (suc n) [] once = tt
-once_behind (suc n) (e ∷ es) once = once_behind n es once.1
+once_behind (suc n) es once = grind (arith, (once_behind n))
 
 -- ---- over the files
 
@@ -322,22 +265,11 @@ begun_there files names options b over =
 pub lanes_there : (files : List ℕ → Filed) (names : FileNames) (options : Options) (b : Beginning) → 0 < options.lanes
     → OverFiles files names options.lanes (StopsBy (Ok b)) (λ p cut transcript. BeginsBy (session_of p options.lanes options.rounds cut) cut transcript (Ok b))
     → 0 < b.desk.lanes
-lanes_there files names options b some over =
-    files_goal files names options.lanes (StopsBy (Ok b)) (λ p cut transcript. BeginsBy (session_of p options.lanes options.rounds cut) cut transcript (Ok b))
-    (0 < b.desk.lanes)
-    (λ x stops. absurd cc)
-    (λ p cut transcript begun. subst (λ n. 0 < n) (sym begun.lanes) some) over
+lanes_there files names options b some over = grind (arith, files_goal)
 
 went_orderly : (s : Session) (cut : Cut) (n : ℕ) (r : Run) → Served (setting_behind s n) (next_input cut) PIECE r.before r.after r.told r.fault →
     r.load_faults_after ≡ r.load_faults → IsOrderly r
-went_orderly s cut n r served loads =
-    let late = late_begun (setting_behind s n) (next_input cut) PIECE r.before r.after r.told r.fault served in
-    record {
-      early = λ early. absurd cc;
-      loads = loads_late r.fault r.load_faults r.load_faults_after late loads;
-      reads = served.read_faults;
-      writes = served.write_faults;
-    }
+went_orderly s cut n r served loads = grind arith
 
 -- a run whose session went on
 pub gone_on : (names : FileNames) (options : Options) (repeats : Bool) (b : Beginning) (r : Run) → AreOptions options → r.load_faults_after ≡ r.load_faults
@@ -397,8 +329,7 @@ tells_usage text before after ending tells is = subst (TellsAs text before after
 
 pub refused_usage : (refusal : Refusal) (before after : Option (List ℕ)) (ending : RunFault) → EndsBeginning (how_of (fault_by (Err refusal))) →
     RefusesAs refusal before after ending → ending ≡ fault.Usage → ⊥
-refused_usage (Ends fault) before after ending quiet refuses is = subst (λ f. EndsBeginning (how_of f)) (sym refuses.0 ∙ is) quiet
-refused_usage (Line number kind) before after ending quiet refuses is = tells_usage (audit_fault_line number kind) before after ending refuses is
+refused_usage refusal before after ending quiet refuses is = grind (arith, tells_usage)
 
 pub served_usage : (set : Setting) (first : Cut) (room : ℕ) (before after : Streams) (told : Told) (ending : RunFault) →
     Served set first room before after told ending → ending ≡ fault.Usage → ⊥
@@ -406,19 +337,15 @@ served_usage set first room before after told ending served is = subst (ReadsFor
 
 -- where no request may be answered again over several lanes, there are no rounds
 no_rounds : (b : Bool) (n : ℕ) → b ≡ true → (b && nat_lt 0 n) ≡ false → n ≡ 0
-no_rounds true n is never = let none : nat_lt 0 n ≡ false = never in grind (arith, common_steps)
-no_rounds false n is never = absurd cc
+no_rounds b n is never = grind (arith, common_steps)
 
 no_rounds_of : (command : Command) → is_on_threads command ≡ true → may_repeat (Some command) ≡ false → rounds_of command ≡ 0
-no_rounds_of (serve policy options) lanes never = no_rounds (nat_lt 1 options.lanes) options.rounds lanes never
-no_rounds_of (resume policy requests transcript options) lanes never = no_rounds (nat_lt 1 options.lanes) options.rounds lanes never
-no_rounds_of command lanes never = cc
+no_rounds_of command lanes never = grind (arith, no_rounds)
 
 -- on threads
 pub threaded : {Leaves : DeskShape → DeskShape → Type 0} (given : Option Command) (command : Command) (r : Run) → given ≡ Some command →
     is_on_threads command ≡ true → DoesBy Leaves command r → HasRun (may_repeat given) given r
-threaded given command r is lanes does =
-    subst (λ c. HasRun (may_repeat c) c r) (sym is) (inr (does (may_repeat (Some command)) (λ never. inr (no_rounds_of command lanes never))))
+threaded given command r is lanes does = grind arith
 
 pub threaded_once : {A : Type 0} {Leaves : DeskShape → DeskShape → Type 0} (given : Option Command) (command : Command) → given ≡ Some command →
     is_on_threads command ≡ true → (IsServedOnce Leaves command → A) → may_repeat given ≡ false → A

@@ -1,15 +1,12 @@
 -- How a session stands over the file of its policy.
-use Rattle.std.proofs.Common.{◌≡◌, ℕ, List, false, Result, Ok, Err, inl, inr, refl, sym, subst}
+use Rattle.std.proofs.Common.{◌≡◌, ℕ, List, false, Ok, Err, inr, arith}
 use Rattle.wf_outside.specs.Laws.Outside.{Filed, told, missing, untold}
 use Rattle.policy_book.specs.Laws.Shapes.{PolicyShape}
 use Rattle.policy_reader.specs.File.{IsFilePolicy}
 use Rattle.run_record.specs.declared.fault.RunFault.{RunFault}
-use Rattle.run_record.specs.declared.fault.RunFault.TheVariants.{Policy, Load, NoMemory, FileTooLong}
-use Rattle.run_record.specs.Fault.{is_before_input, CountsLoads, CountsReads}
+use Rattle.run_record.specs.Fault.{is_before_input, CountsLoads}
 use Rattle.run_record.specs.Laws.Run.{Run, IsUntouched, OverFile}
 use Rattle.wf_commands.specs.Load.{GivesPolicy, IsLoadEnding, PolicyOf}
-use Rattle.wf_commands.proofs.Endings.{unloaded_ending, unloaded_reads}
-use Rattle.wf_commands.proofs.Runs.{no_writes, own_reads}
 use Rattle.wf_server.specs.declared.serve.TheConstants.{PIECE}
 use Rattle.line_reader.specs.Jobs.{start}
 use Rattle.wf_server.specs.Sessions.{Served}
@@ -21,18 +18,12 @@ use Rattle.command_words.specs.Laws.Words.{AreOptions, Options}
 use Rattle.wf_server.specs.Laws.Serving.{setting, EndsBefore, ServesFile, ServesRun}
 
 ends_before : (file : List ℕ) (fault : RunFault) → PolicyOf file (Err fault) → IsLoadEnding fault → EndsBefore file fault
-ends_before file FileTooLong gives ending = gives
-ends_before file (Policy e) gives ending = gives
-ends_before file Load gives ending = gives
-ends_before file NoMemory gives ending = gives
-ends_before file fault gives ending = absurd ending
+ends_before file fault gives ending = grind arith
 
 -- no policy was there
 pub not_served : (f : Filed) (options : Options) (r : Run) → GivesPolicy f (Err r.fault) → IsLoadEnding r.fault → IsUntouched r
     → OverFile f r.fault (λ file. ServesFile file options r)
-not_served untold options r gives ending nothing = (gives.0, inl (ends_before gives.0 r.fault gives.1 ending, nothing))
-not_served missing options r gives ending nothing = cc
-not_served (told file) options r gives ending nothing = inl (ends_before file r.fault gives ending, nothing)
+not_served f options r gives ending nothing = grind (arith, ends_before)
 
 -- and so the run ended
 pub refused_run : (policy : List ℕ) (options : Options) (r : Run) (fault : RunFault) → r.fault ≡ fault → GivesPolicy (r.files policy) (Err fault) →
@@ -41,20 +32,7 @@ pub refused_run : (policy : List ℕ) (options : Options) (r : Run) (fault : Run
     AreOptions options
     → ServesRun policy options r
 refused_run policy options r fault is gives ending nothing loads reads writes limits =
-    let given : GivesPolicy (r.files policy) (Err r.fault) = subst (λ (x : RunFault). GivesPolicy (r.files policy) (Err x)) (sym is) gives in
-    let ends : IsLoadEnding r.fault = subst IsLoadEnding (sym is) ending in
-    let asks : Result (Unit {0}) RunFault = Err r.fault in
-    record {
-      within = limits;
-      serves = not_served (r.files policy) options r given ends nothing;
-      orderly = record {
-        early = λ early. nothing;
-        loads = subst (λ (x : RunFault). CountsLoads x r.load_faults r.load_faults_after) (sym is) loads;
-        reads = subst (CountsReads r.fault r.before.read_faults) (sym reads)
-            (own_reads r.fault _ _ (unloaded_reads asks r.fault r.before.read_faults refl ends));
-        writes = no_writes r.fault r.before.write_faults r.after.write_faults (unloaded_ending asks r.fault refl ends) writes;
-      };
-    }
+    grind arith
 
 -- the policy was there, and was served
 pub is_served : (f : Filed) (p : PolicyShape) (options : Options) (r : Run) → GivesPolicy f (Ok p) → IsFilePolicy p
@@ -68,5 +46,4 @@ is_served (told file) p options r gives sound served wants fits =
 
 -- a session does not end with a load fault
 pub loads_late : (fault : RunFault) (before after : ℕ) → is_before_input fault ≡ false → after ≡ before → CountsLoads fault before after
-loads_late Load before after late same = cc
-loads_late fault before after late same = same
+loads_late fault before after late same = grind arith

@@ -1,14 +1,12 @@
 -- A desk that is served on, step by step.
-use Rattle.std.proofs.Common.{◌≡◌, ◌<◌, List, None, drop, length, take, refl, sym, ap, subst, ◌∙◌, arith}
+use Rattle.std.proofs.Common.{◌≡◌, ◌<◌, List, None, drop, length, take, refl, sym, subst, arith}
 use Rattle.std.proofs.lemmas.List.{drop_all, take_all}
 use Rattle.wf_talk.specs.declared.entry.Entry.{Entry}
 use Rattle.wf_talk.specs.declared.job.Job.{Job}
-use Rattle.line_reader.specs.declared.stop.Stop.TheVariants as stop
 use Rattle.line_reader.specs.declared.batch_reader.Paused.{Paused}
 use Rattle.line_reader.specs.declared.batch_reader.Paused.TheVariants as paused
 use Rattle.line_reader.specs.BatchReader.{BatchReaderShape, GoesOnReading}
-use Rattle.wf_board.specs.Laws.States.{opening_state}
-use Rattle.wf_board.specs.Laws.Histories.{AreAnsweredOnce, AreRightful, IsLegal}
+use Rattle.wf_board.specs.Laws.Histories.{AreAnsweredOnce}
 use Rattle.wf_desk.specs.Desks.{AreOfLanes, DeskShape, IsSoundDesk}
 use Rattle.run_record.specs.Report.{Told}
 use Rattle.wf_server.specs.declared.batch.Answered.{Answered}
@@ -16,7 +14,6 @@ use Rattle.wf_server.specs.Batches.{ending_after, told_of}
 use Rattle.wf_server.specs.Batch.{CanBeServed, IsServedOn}
 use Rattle.wf_server.specs.GoingOn.{GoOnBehind}
 use Rattle.wf_server.specs.Session.{AreBehind}
-use Rattle.wf_server.specs.Sessions.{Setting}
 use Rattle.wf_server.specs.Ways.{setting_of}
 
 -- a desk that is as it was
@@ -25,40 +22,18 @@ same_on Leaves d = record { setting = refl; begins = refl; once = λ serves once
 
 -- a desk that has taken a batch
 pub loaded_on : (Leaves : DeskShape → DeskShape → Type 0) (d l : DeskShape) → setting_of l ≡ setting_of d → l.entries ≡ d.entries → IsServedOn Leaves d l
-loaded_on Leaves d l setting entries = record {
-  setting = setting;
-  begins = ap (take d.restored) entries;
-  once = λ serves once. subst (λ es. AreAnsweredOnce (drop d.restored es)) (sym entries) once;
-}
+loaded_on Leaves d l setting entries = grind arith
 
 pub loaded_ready : (d l : DeskShape) (batch : List Job) → setting_of l ≡ setting_of d → l.jobs ≡ batch → 0 < d.lanes → AreOfLanes d.lanes batch → CanBeServed l
-loaded_ready d l batch setting loads some of_lanes =
-    let lanes : l.lanes ≡ d.lanes = ap (λ (s : Setting). s.lanes) setting in
-    record {
-      some = subst (λ n. 0 < n) (sym lanes) some;
-      of_lanes = subst (λ js. AreOfLanes l.lanes js) (sym loads) (subst (λ n. AreOfLanes n batch) (sym lanes) of_lanes);
-    }
+loaded_ready d l batch setting loads some of_lanes = grind arith
 
 -- one step behind another
 pub on_then : (Leaves : DeskShape → DeskShape → Type 0) (d e f : DeskShape) → IsServedOn Leaves d e → IsServedOn Leaves e f → IsServedOn Leaves d f
-on_then Leaves d e f one two =
-    let restored : e.restored ≡ d.restored = ap (λ (s : Setting). s.restored) one.setting in
-    record {
-      setting = two.setting ∙ one.setting;
-      begins = subst (λ n. take n f.entries ≡ take n e.entries) restored two.begins ∙ one.begins;
-      once = λ serves before.
-          subst (λ n. AreAnsweredOnce (drop n f.entries)) restored
-          (two.once serves (subst (λ n. AreAnsweredOnce (drop n e.entries)) (sym restored) (one.once serves before)));
-    }
+on_then Leaves d e f one two = grind arith
 
 -- what a session tells that ends at such a desk
 behind_on : (Leaves : DeskShape → DeskShape → Type 0) (d e : DeskShape) → IsServedOn Leaves d e → IsSoundDesk e → AreBehind Leaves d e.entries
-behind_on Leaves d e on sound = record {
-  legal = subst (λ (set : Setting). IsLegal (opening_state set.policy) set.rounds e.entries) on.setting sound.legal;
-  begins = on.begins;
-  wants = subst (λ (set : Setting). AreRightful (drop set.restored e.entries)) on.setting sound.wants;
-  once = on.once;
-}
+behind_on Leaves d e on sound = grind arith
 
 pub told_behind : (Leaves : DeskShape → DeskShape → Type 0) (d e : DeskShape) (told : Told) (a : Answered) → told ≡ told_of e a → IsServedOn Leaves d e →
     IsSoundDesk e → AreBehind Leaves d told.entries
@@ -67,9 +42,7 @@ told_behind Leaves d e told a is on sound = subst (λ (t : Told). AreBehind Leav
 begins_behind : (b d : DeskShape) (es : List Entry) → b.restored ≡ length b.entries → d.restored ≡ b.restored →
     take d.restored es ≡ take d.restored d.entries
     → take b.restored d.entries ≡ take b.restored b.entries → take (length b.entries) es ≡ b.entries
-begins_behind b d es size same later first =
-    ap (λ n. take n es) (sym (same ∙ size)) ∙ later ∙ ap (λ n. take n d.entries) same ∙ first ∙ ap (λ n. take n b.entries) size ∙
-    take_all (length b.entries) b.entries (omega arith)
+begins_behind b d es size same later first = grind (arith, take_all)
 
 none_before : (b : DeskShape) → b.restored ≡ length b.entries → AreAnsweredOnce (drop b.restored b.entries)
 none_before b size = subst AreAnsweredOnce (sym (drop_all b.restored b.entries (omega (arith, size)))) tt
@@ -77,15 +50,7 @@ none_before b size = subst AreAnsweredOnce (sym (drop_all b.restored b.entries (
 -- and one that goes on from there
 pub behind_then : (Leaves : DeskShape → DeskShape → Type 0) (d e : DeskShape) (entries : List Entry) → d.restored ≡ length d.entries → IsServedOn Leaves d e →
     AreBehind Leaves e entries → GoOnBehind Leaves d.entries entries
-behind_then Leaves d e entries size on behind =
-    let restored : e.restored ≡ d.restored = ap (λ (s : Setting). s.restored) on.setting in
-    record {
-      begins = begins_behind d e entries size restored behind.begins on.begins;
-      wants = subst (λ n. AreRightful (drop n entries)) (restored ∙ size) behind.wants;
-      once = λ serves.
-          subst (λ n. AreAnsweredOnce (drop n entries)) (restored ∙ size)
-          (behind.once serves (subst (λ n. AreAnsweredOnce (drop n e.entries)) (sym restored) (on.once serves (none_before d size))));
-    }
+behind_then Leaves d e entries size on behind = grind (arith, begins_behind, none_before)
 
 -- one that ends with the requests file
 pub told_then : (Leaves : DeskShape → DeskShape → Type 0) (d e : DeskShape) (told : Told) (a : Answered) → told ≡ told_of e a → d.restored ≡ length d.entries →
@@ -96,9 +61,4 @@ told_then Leaves d e told a is size on sound =
 
 -- where reading has paused between two batches a session goes on
 pub pauses_on : (how : Paused) (r t : BatchReaderShape) → (how ≡ paused.Batch → GoesOnReading r t) → ending_after how ≡ None → GoesOnReading r t
-pauses_on paused.Batch r t ready none = ready refl
-pauses_on paused.End r t ready none = cc
-pauses_on paused.Failed r t ready none = cc
-pauses_on (paused.Stopped (stop.LineTooLong line)) r t ready none = cc
-pauses_on (paused.Stopped stop.TooManyLines) r t ready none = cc
-pauses_on paused.NoMemory r t ready none = cc
+pauses_on how r t ready none = grind arith

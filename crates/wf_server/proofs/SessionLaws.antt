@@ -1,15 +1,15 @@
 -- How the batches of a session follow one another.
-use Rattle.std.proofs.Common.{◌≡◌, ℕ, ◌+◌, ◌<◌, ◌≤◌, false, List, [], ◌∷◌, ◌++◌, length, take, drop, Option, Err, inl, inr, refl, sym, ◌∙◌, ap, subst, arith}
+use Rattle.std.proofs.Common.{◌≡◌, ℕ, ◌+◌, ◌<◌, ◌≤◌, false, List, [], ◌∷◌, ◌++◌, length, take, drop, Option, Err, refl, sym, ◌∙◌, ap, subst, arith}
 use Rattle.std.proofs.Common.{append_assoc}
 use Rattle.std.specs.Prelude.{◌≢◌}
 use Rattle.std.proofs.lemmas.List.{length-append, length-take, take-append-drop}
 use Rattle.wf_names.specs.declared.limits.TheConstants.{BATCH_LINE_LIMIT}
-use Rattle.wf_outside.specs.Laws.Outside.{HasTaken, with_bytes}
+use Rattle.wf_outside.specs.Laws.Outside.{with_bytes}
 use Rattle.wf_outside.proofs.OutsideLaws.{nothing_taken, nothing_put}
 use Rattle.wf_talk.specs.declared.job.Job.{Job}
 use Rattle.line_reader.specs.declared.stop.Stop.TheVariants as stop
 use Rattle.line_reader.specs.Jobs.{Cut, start, jobs_from, last_or}
-use Rattle.line_reader.specs.Cutter.{after_handing, ends_after}
+use Rattle.line_reader.specs.Cutter.{ends_after}
 use Rattle.line_reader.specs.Laws.{JobsAreInOrder, LeadTo}
 use Rattle.line_reader.specs.declared.batch_reader.Paused.{Paused}
 use Rattle.line_reader.specs.declared.batch_reader.Paused.TheVariants as paused
@@ -35,9 +35,7 @@ use Rattle.wf_server.proofs.BatchLaws.{ends_some, writes_whole}
 
 -- no count of faults falls
 counts_le : (how : Paused) (before after : ℕ) → CountsPause how before after → before ≤ after
-counts_le paused.Failed before after counts = counts.0
-counts_le paused.NoMemory before after counts = counts
-counts_le how before after counts = omega (arith, counts)
+counts_le how before after counts = grind arith
 
 -- each job of a part is of one of the lanes
 rest_of_lanes : (lanes : ℕ) (front jobs : List Job) → AreOfLanes lanes (front ++ jobs) → AreOfLanes lanes jobs
@@ -158,24 +156,8 @@ pub fault_ends : (first : Cut) (room : ℕ) (before mid aft : Streams) (r : Batc
     → IsReadUp before.input aft.input (handed_more (handed_in first told) batch) → IsReadUp before.input aft.input (handed_in first told)
     → AnswersTo before.output aft.output told batch e after (Err ending) → IsWriteEnding ending → CountsPause how mid.read_faults aft.read_faults
     → CountsWrites ending mid.write_faults aft.write_faults → Serves (setting_of e) first room before aft after ending
-fault_ends first room before mid aft r d e told after batch how fault.Write serving same reads memory up up_before answers end counts writes = record {
-  reads = inl (how, memory, subst (λ (h : Handed). ReadsBatch before.input aft.input room h how) (added_handed first told batch after answers.0) reads);
-  fills = answers.1.fills;
-  writes = answers.1.written;
-  read_faults = let le = counts_le how mid.read_faults aft.read_faults counts in let same_count = serving.read_faults in omega arith;
-  write_faults = λ small. let rose = writes small in let same_count = serving.write_faults in omega arith;
-}
-fault_ends first room before mid aft r d e told after batch how fault.NoMemory serving same reads memory up up_before answers end counts writes = record {
-  reads = elim answers.0 [
-    | inl stays ↦ subst (λ (t : Told). IsReadUp before.input aft.input (handed_in first t)) (sym stays) up_before
-    | inr added ↦ subst (λ (h : Handed). IsReadUp before.input aft.input h) (added_handed first told batch after added) up
-  ];
-  fills = answers.1.fills;
-  writes = answers.1.written;
-  read_faults = let le = counts_le how mid.read_faults aft.read_faults counts in let same_count = serving.read_faults in omega arith;
-  write_faults = writes ∙ serving.write_faults;
-}
-fault_ends first room before mid aft r d e told after batch how ending serving same reads memory up up_before answers end counts writes = absurd end
+fault_ends first room before mid aft r d e told after batch how ending serving same reads memory up up_before answers end counts writes =
+    grind arith
 
 none_ends : (k : ℕ) → k < length {A = ℕ} [] → ⊥
 none_ends k lt = omega (arith, lt)
@@ -187,24 +169,7 @@ none_filled = record { whole = refl; batches = λ k lt lane. absurd (none_ends k
 pub opening_serves : (streams : Streams) (r : BatchReaderShape) (d : DeskShape) (told : Told) → JobsAreInOrder d.lanes → d.jobs ≡ [] → d.restored ≡ 0 →
     told ≡ nothing_told → r.cut ≡ start d.lanes → r.pending ≡ []
     → IsServing (start d.lanes) streams streams r d told
-opening_serves streams r d told order jobs none_restored none begun empty = rw none (record {
-  order = order;
-  read = record {
-    bytes = [];
-    taken = subst (λ xs. HasTaken streams.input streams.input xs) (sym empty) (nothing_taken streams.input);
-    cut = ap (after_handing [] []) begun;
-    closed = refl;
-  };
-  answered = record {
-    done = λ lane. rw jobs refl;
-    fills = none_filled;
-    ends = record { within = λ k lt. absurd (none_ends k lt); closed = refl };
-    kept = omega (arith, none_restored);
-    written = subst (λ n. streams.output ≡ with_bytes streams.output (text_from d.opening n [])) (sym none_restored) (sym (nothing_put streams.output));
-  };
-  read_faults = refl;
-  write_faults = refl;
-})
+opening_serves streams r d told order jobs none_restored none begun empty = grind (arith, nothing_taken, none_filled, none_ends, nothing_put)
 
 -- so begins a session at a new desk
 pub session_begins : (streams : Streams) (r : BatchReaderShape) (d : DeskShape) (a : Answered) (p : PolicyShape) (lanes rounds room : ℕ) →
@@ -255,13 +220,7 @@ serves_kept set first room before after told ending sound keeps exact legal h = 
 -- a session ends with its own endings alone
 pub late_reads : (before after : Option (List ℕ)) (room : ℕ) (handed : Handed) (ending : RunFault) → ReadsFor before after room handed ending →
     is_before_input ending ≡ false
-late_reads before after room handed fault.Usage h = absurd h
-late_reads before after room handed (fault.Policy e) h = absurd h
-late_reads before after room handed fault.Load h = absurd h
-late_reads before after room handed fault.FileTooLong h = absurd h
-late_reads before after room handed (fault.BadInput e) h = absurd h
-late_reads before after room handed fault.TooLarge h = absurd h
-late_reads before after room handed ending h = refl
+late_reads before after room handed ending h = grind arith
 
 pub serves_late : (set : Setting) (first : Cut) (room : ℕ) (before after : Streams) (told : Told) (ending : RunFault) →
     Serves set first room before after told ending → is_before_input ending ≡ false

@@ -1,5 +1,5 @@
 -- How texts that are put one after the other add up.
-use Rattle.std.proofs.Common.{◌≡◌, ℕ, ◌+◌, ◌<◌, List, [], ◌∷◌, ◌++◌, length, take, drop, get_or, Option, refl, sym, ap, subst, ◌∙◌}
+use Rattle.std.proofs.Common.{◌≡◌, ℕ, ◌+◌, ◌<◌, List, [], ◌∷◌, ◌++◌, length, take, drop, get_or, Option, sym, ap, subst, ◌∙◌, arith}
 use Rattle.std.specs.List.{AllZip, flat_map}
 use Rattle.std.proofs.lemmas.Grind.{flat_map-append}
 use Rattle.std.proofs.lemmas.List.{take-append-drop, append-nil, drop_more, take_more}
@@ -31,8 +31,6 @@ put_part text held mid after xs i x within is so_far part =
 -- items that have the texts of others, one by one, have the same text together
 pub texts_same : {X Y : Type 0} (one : X → List ℕ) (other : Y → List ℕ) (xs : List X) (ys : List Y) → AllZip (λ x y. other y ≡ one x) xs ys →
     flat_map other ys ≡ flat_map one xs
-texts_same one other [] [] each = refl
-texts_same one other [] (y ∷ ys) each = absurd each
+texts_same one other [] ys each = grind arith
 texts_same one other (x ∷ xs) [] each = absurd each
-texts_same one other (x ∷ xs) (y ∷ ys) each =
-    ap (λ t. t ++ flat_map other ys) each.0 ∙ ap (λ t. one x ++ t) (texts_same one other xs ys each.1)
+texts_same one other (x ∷ xs) (y ∷ ys) each = grind (arith, (texts_same one other xs ys each.1))

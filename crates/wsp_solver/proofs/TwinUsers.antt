@@ -1,4 +1,5 @@
 -- The users of branches that have trees, and twins among them.
+use Rattle.std.proofs.Common.{if◌then◌else◌}
 use Rattle.std.proofs.Common.{◌≡◌, refl, sym, ap, subst, ◌∙◌, ℕ, zero, suc, ◌+◌, ◌<◌, ◌≤◌, Bool, true, false, ◌&&◌, ◌||◌, ◌==◌, List, [], ◌∷◌, Option}
 use Rattle.std.proofs.Common.{◌⊎◌, arith}
 use Rattle.std.proofs.lemmas.Bool.{false≢true}
@@ -42,12 +43,21 @@ user_here kid u x h = grind (arith, either, or_cases, eq_back, false≢true)
 pub has_twin_from : (p : Problem) (a : List (Option ℕ)) (u v : ℕ) (users : List ℕ) → is_one_of users v ≡ true → are_twins p a u v ≡ true → has_twin
     p a u users ≡ true
 has_twin_from p a u v [] among twins = absurd (false≢true among)
-has_twin_from p a u v (w ∷ ws) among twins = grind (arith, either, or_cases, or_left, eq_back, or_right, (has_twin_from p a u v ws later twins))
+has_twin_from p a u v (w ∷ ws) among twins =
+    either (or_cases (w == v) (is_one_of ws v) among)
+    (λ here. or_left (are_twins p a u w) (has_twin p a u ws) (ap (are_twins p a u) (eq_back w v here) ∙ twins))
+    (λ later. or_right (are_twins p a u w) (has_twin p a u ws) (has_twin_from p a u v ws later twins))
 
 has_twin_find : (p : Problem) (a : List (Option ℕ)) (u : ℕ) (users : List ℕ) → has_twin p a u users ≡ true → (w : ℕ) × (is_one_of users w ≡ true) ×
     (are_twins p a u w ≡ true)
 has_twin_find p a u [] h = absurd (false≢true h)
-has_twin_find p a u (w ∷ ws) h = grind (arith, either, or_cases, or_left, or_right, (has_twin_find p a u ws later))
+has_twin_find p a u (w ∷ ws) h =
+    either (or_cases (are_twins p a u w) (has_twin p a u ws) h)
+    (λ here. (w, or_left (w == w) (is_one_of ws w) (eq_here w), here))
+    (λ later. let found = has_twin_find p a u ws later in (found.0, or_right (w == found.0) (is_one_of ws found.0) found.1, found.2))
+  where
+    eq_here : (n : ℕ) → (n == n) ≡ true
+    eq_here n = grind arith
 
 users_below : (n : ℕ) (kids : Kids) (users : List ℕ) (x : ℕ) → AreUsersBelow n kids → (is_one_of users x ≡ true → x < n) →
     is_one_of (kid_users users kids) x ≡ true → x < n
@@ -79,7 +89,23 @@ pub earlier_below : (test : ℕ → Bool) (k n u : ℕ) (t : Shape) (rest front 
 earlier_below test k zero u t rest no_kids h = absurd (false≢true h)
 earlier_below test k zero u t rest (tree_kid v w front) h = absurd (false≢true h)
 earlier_below test k zero u t rest (twin_kid v w front) h = absurd (false≢true h)
-earlier_below test k (suc n) u t rest front h = grind (arith, and_both, eq_back, (earlier_below test (k + 1) n u t rest f e))
+earlier_below test k (suc n) u t rest front h = at (test k) front h (λ f e. earlier_below test (k + 1) n u t rest f e)
+  where
+    at : (b : Bool) (f : Kids) → have_users (if b then k ∷ passing test (k + 1) n else passing test (k + 1) n) (joined f (tree_kid u t rest)) ≡ true →
+        ((g : Kids) → have_users (passing test (k + 1) n) (joined g (tree_kid u t rest)) ≡ true → AreUsersBelow u g × (k + 1 ≤ u)) → AreUsersBelow u f ×
+        (k ≤ u)
+    at true no_kids e later =
+        let both = and_both (k == u) (have_users (passing test (k + 1) n) rest) e in
+        (tt, omega (arith, eq_back k u both.0))
+    at true (tree_kid v w f) e later =
+        let both = and_both (k == v) (have_users (passing test (k + 1) n) (joined f (tree_kid u t rest))) e in
+        let more = later f both.1 in
+        ((omega (arith, more.1, eq_back k v both.0), more.0), omega (arith, more.1))
+    at true (twin_kid v w f) e later =
+        let both = and_both (k == v) (have_users (passing test (k + 1) n) (joined f (tree_kid u t rest))) e in
+        let more = later f both.1 in
+        ((omega (arith, more.1, eq_back k v both.0), more.0), omega (arith, more.1))
+    at false f e later = let more = later f e in (more.0, omega (arith, more.1))
 
 -- a twin of a user who is one of some, or is a twin of one of them, is a twin of one of them
 pub twin_of_covered : (p : Problem) (a : List (Option ℕ)) (u v : ℕ) (users : List ℕ) → u < p.users → v < p.users →
