@@ -1,8 +1,8 @@
 -- A policy is read from the document that it is written as.
-use Rattle.std.proofs.Common.{◌≡◌, ℕ, zero, suc, ◌<◌, Bool, true, false, List, [], ◌∷◌, length, refl, sym, ap, ◌∙◌, ◌⊎◌, inl, inr, arith, codes, Some, Ok}
+use Rattle.std.proofs.Common.{◌≡◌, ℕ, zero, suc, ◌<◌, Bool, true, false, List, [], ◌∷◌, length, refl, ap, ◌∙◌, ◌⊎◌, inl, inr, arith, codes, Some, Ok}
 use Rattle.std.proofs.Common.{slice_index_or}
 use Rattle.policy_reader.proofs.Prints.{AllByRecursion, Members, get_member, OrderIsDecided, PolicyShape, WorkflowShape, no_workflow, any_below, ◌>>=◌, File}
-use Rattle.policy_reader.proofs.Prints.{written_format, needs_second, form_of, flow_at, file_keys, IsPrintable, name_at, names_array, users_data}
+use Rattle.policy_reader.proofs.Prints.{written_format, needs_second, flow_at, file_keys, IsPrintable, name_at, names_array, users_data}
 use Rattle.policy_reader.proofs.Prints.{relations_data}
 use Rattle.policy_reader.proofs.Prints.{flows_data, IsNamedPolicy, Format, format_number, string, integer}
 use Rattle.policy_reader.specs.Laws.Grammars.{today}
@@ -16,8 +16,7 @@ use Rattle.policy_reader.proofs.RostersAgain.{roles_back, roster_back}
 use Rattle.policy_reader.proofs.RelationsAgain.{relations_back}
 use Rattle.policy_reader.proofs.FlowsAgain.{flows_back}
 use Rattle.policy_reader.proofs.RulesAgain.{HaveForms}
-use Rattle.policy_reader.specs.declared.format.Format.TheVariants.{First, Second}
-use Rattle.policy_reader.specs.Forms.{is_first_form}
+use Rattle.policy_reader.specs.declared.format.Format.TheVariants.{First}
 use Rattle.constraint_forms.specs.declared.rule.Rule.{Rule}
 use Rattle.policy_book.proofs.Counting.{any_below-at}
 use Rattle.basics.proofs.Booleans.{bool_cases, differ, not_false, not_true, or_false}
@@ -28,15 +27,12 @@ active_at (w ∷ ws) zero h lt = h.0
 active_at (w ∷ ws) (suc f) h lt = active_at ws f h.1 (omega (arith, lt))
 
 some_user : (n : ℕ) (test : ℕ → Bool) → any_below n test ≡ true → 0 < n
-some_user zero test h = cc
-some_user (suc n) test h = omega arith
+some_user n test h = grind arith
 
 -- where the first format lacks no rule's form, it has each
 first_known : (rules : List Rule) → needs_second rules ≡ false → HaveForms First rules
 first_known [] none k r is = absurd (cc)
-first_known (x ∷ rules) none zero r is =
-    let same : x ≡ r = cc in
-    ap (λ y. is_first_form (form_of y)) (sym same) ∙ not_false (is_first_form (form_of x)) (or_false _ _ none).0
+first_known (x ∷ rules) none zero r is = grind (arith, not_false, or_false)
 first_known (x ∷ rules) none (suc k) r is = first_known rules (or_false _ _ none).1 k r is
 
 -- a policy's format has the forms of its rules
@@ -72,8 +68,7 @@ module _ (decided : OrderIsDecided) (p : PolicyShape) (h : IsNamedPolicy p) (is 
 
   format_back : (format : Format) → (format_of today (doc_with format) ≡ Ok format) × (no_others File 0 (file_keys format) (doc_with format) ≡ Ok tt)
   unfolding format_of value_at no_others known_key
-  format_back First = (refl, refl)
-  format_back Second = (refl, refl)
+  format_back format = grind arith
 
   -- what stands at the keys
   written : (format_of today doc ≡ Ok (written_format p)) × (no_others File 0 (file_keys (written_format p)) doc ≡ Ok tt) ×

@@ -1,7 +1,7 @@
 -- The rules that are read from a file are sound.
 use Rattle.std.proofs.Common.{◌≡◌, ◌≢◌, ℕ, zero, suc, ◌+◌, ◌<◌, ◌≤◌, Bool, true, false, List, [], ◌∷◌, ◌++◌, length, Ok, ◌⊎◌, inl, inr, refl, sym, ◌∙◌, subst}
-use Rattle.std.proofs.Common.{arith, not, nat_le, nat_eq, ◌&&◌, ◌||◌, length-append}
-use Rattle.std.specs.Prelude.{codes, ℤ, pos, negsuc, Some, None, IsTrue, slice_set, if◌then◌else◌, ◌==◌}
+use Rattle.std.proofs.Common.{arith, not, nat_eq, ◌||◌, length-append}
+use Rattle.std.specs.Prelude.{codes, ℤ, pos, negsuc, Some, None, IsTrue, slice_set, ◌==◌}
 use Rattle.std.proofs.lemmas.List.{get_or-set_other, length-map, length-replicate}
 use Rattle.std.proofs.Math.ListN.{length-set}
 use Rattle.std.proofs.lemmas.Bool.Decides.{eqb_tells}
@@ -113,16 +113,7 @@ some_step n g h = elim h.some [ inl here ↦ here | inr more ↦ absurd (omega (
 
 up_to : (most : ℕ) (z : ℤ) (l : ℕ) → number_up_to most z ≡ Some l → (0 < l) × (l ≤ most)
 up_to most (negsuc n) l e = absurd (cc)
-up_to most (pos n) l e = at (bool_cases (nat_le 1 n && nat_le n most)) e
-  where
-    at : ((nat_le 1 n && nat_le n most) ≡ true) ⊎ ((nat_le 1 n && nat_le n most) ≡ false) → (if nat_le 1 n && nat_le n most then Some n else None) ≡ Some l
-        → (0 < l) × (l ≤ most)
-    at (inl in_range) =
-        rw in_range (λ told.
-        let same : n ≡ l = cc in
-        let both = and_both (nat_le 1 n) (nat_le n most) in_range in
-        (omega (arith, same, le_back 1 n both.0), omega (arith, same, le_back n most both.1)))
-    at (inr outside) = rw outside (λ told. absurd (cc))
+up_to most (pos n) l e = grind (arith, bool_cases, and_both, le_back)
 
 limit_read : (f most : ℕ) (d : Data) → Gets (λ l. (0 < l) × (l ≤ most)) (limit_in f most d)
 unfolding limit_in

@@ -3,7 +3,7 @@ use Rattle.std.proofs.Common.{◌≡◌, ℕ, zero, suc, ◌+◌, ◌≤◌, Boo
 use Rattle.std.proofs.Common.{pos}
 use Rattle.constraint_forms.specs.declared.rule.Rule.TheVariants as rule
 use Rattle.policy_reader.proofs.Prints.{nat_cmp, match_ordering, slice_cmp, and_both, and_from, Data, string, integer, array, table, Members, no_members}
-use Rattle.policy_reader.proofs.Prints.{member, depth, items_depth, members_depth, has_valid_dates, members_have_valid_dates, items_of, Rule, has_role}
+use Rattle.policy_reader.proofs.Prints.{member, depth, members_depth, has_valid_dates, members_have_valid_dates, items_of, Rule, has_role}
 use Rattle.policy_reader.proofs.Prints.{RelationShape, complement_of, PolicyShape, WorkflowShape, flow_at, format_number, written_format, first_declared}
 use Rattle.policy_reader.proofs.Prints.{with_member, table_below, name_at, names_where, pair_data, pairs_data, relation_entry, rule_data, flow_entry}
 use Rattle.policy_reader.proofs.Prints.{permit_entry, user_entry, Pairs}
@@ -30,10 +30,7 @@ text n s = record { levels = omega arith; dates = refl }
 
 plain_array : {X : Type 0} (n : ℕ) (f : X → Data) (xs : List X) → ((x : X) → IsPlain n (f x)) → IsPlain (suc n) (array (items_of (map f xs)))
 plain_array n f [] h = record { levels = omega arith; dates = refl }
-plain_array n f (x ∷ xs) h =
-    let rest = plain_array n f xs h in
-    let all = max_le (depth (f x)) (items_depth (items_of (map f xs))) n (h x).levels (omega (arith, rest.levels)) in
-    record { levels = omega (arith, all); dates = and_from _ _ (h x).dates rest.dates }
+plain_array n f (x ∷ xs) h = grind (arith, max_le, (plain_array n f xs h))
 
 plain_table : (n : ℕ) (ms : Members) → ArePlain n ms → IsPlain (suc n) (table ms)
 plain_table n ms h = record { levels = omega (arith, h.levels); dates = h.dates }

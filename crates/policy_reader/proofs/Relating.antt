@@ -2,9 +2,9 @@
 use Rattle.std.proofs.Common.{◌≡◌, ℕ, zero, suc, ◌+◌, ◌<◌, ◌≤◌, Bool, true, false, cond, List, [], ◌∷◌, ◌++◌, length, map, refl, sym, ap, ◌∙◌, subst, ◌⊎◌, inl}
 use Rattle.std.proofs.Common.{inr, arith, Option, Some, None, option_map, slice_get, nat_eq, codes, Ok, string_bytes}
 use Rattle.policy_reader.specs.declared.fault.PolicyKind.TheVariants as kind
-use Rattle.policy_reader.proofs.Words.{list_any, pointwise, nat_list_eq_equiv, or_false, eq_same, eq_below, length-map, map-append, IsDistinct-push, Data}
-use Rattle.policy_reader.proofs.Words.{Members, as_table, RELATION_LIMIT, USER_LIMIT, AreOfUsers, or_fault, fault, Reading, lists_text, entries, first_declared}
-use Rattle.policy_reader.proofs.Words.{entry_of, is_complement, is_complement_table, passes, names_of, Ascend, view, members_view, is_marked, IsTarget}
+use Rattle.policy_reader.proofs.Words.{list_any, pointwise, nat_list_eq_equiv, eq_same, eq_below, length-map, map-append, IsDistinct-push, Data}
+use Rattle.policy_reader.proofs.Words.{Members, RELATION_LIMIT, USER_LIMIT, AreOfUsers, Reading, lists_text, entries, first_declared}
+use Rattle.policy_reader.proofs.Words.{entry_of, is_complement, is_complement_table, names_of, Ascend, view, members_view, is_marked, IsTarget}
 use Rattle.policy_reader.proofs.Words.{IsReadKind, AreReadRelations}
 use Rattle.std.specs.List.{IsDistinct}
 use Rattle.user_relations.specs.Laws.Relations.{RelationShape, RelationKind, listed, complement, kind_of, has_list, known_names}
@@ -21,9 +21,7 @@ use Rattle.policy_reader.proofs.Fresh.{Entry, texts_count, IsLeft}
 -- a name that is neither built in nor declared is unknown
 unknown_name : (rs : List RelationShape) (key : List ℕ) → lists_text (codes "same" ∷ codes "other" ∷ []) key ≡ false → lists_text (names_of rs) key ≡ false →
     list_any (pointwise nat_eq key) (known_names rs) ≡ false
-unknown_name rs key free new =
-    let apart = or_false (pointwise nat_eq key (codes "same")) _ free in
-    rw (apart.0, (or_false (pointwise nat_eq key (codes "other")) false apart.1).0) new
+unknown_name rs key free new = grind arith
 
 pub names_push : (rs : List RelationShape) (r : RelationShape) → map (λ x. x.name) (rs ++ r ∷ []) ≡ map (λ x. x.name) rs ++ r.name ∷ []
 names_push rs r = map-append (λ (x : RelationShape). x.name) rs (r ∷ [])
@@ -37,12 +35,7 @@ pushed (x ∷ rs) r (suc n) = elim (pushed rs r n) [ inl same ↦ inl same | inr
 
 pub kind_pushed : (rs : List RelationShape) (r : RelationShape) (m : ℕ) → (kind_of (rs ++ r ∷ []) m ≡ kind_of rs m) ⊎
     ((m ≡ first_declared + length rs) × (kind_of (rs ++ r ∷ []) m ≡ Some r.kind))
-kind_pushed rs r zero = inl refl
-kind_pushed rs r (suc zero) = inl refl
-kind_pushed rs r (suc (suc n)) = elim (pushed rs r n) [
-  | inl same ↦ inl (ap (option_map (λ (x : RelationShape). x.kind)) same)
-  | inr new ↦ inr (omega (arith, new.0), ap (option_map (λ (x : RelationShape). x.kind)) new.1)
-]
+kind_pushed rs r m = grind (arith, pushed)
 
 pub kept_push : (users : ℕ) (all : List (List ℕ × Data)) (rs : List RelationShape) (r : RelationShape) → AreReadRelations users all rs →
     lists_text (codes "same" ∷ codes "other" ∷ []) r.name ≡ false
@@ -63,12 +56,7 @@ kept_push users all rs r h free new here = record {
 
 pub kept_none : (users : ℕ) (all : List (List ℕ × Data)) → AreReadRelations users all []
 unfolding IsDistinct
-kept_none users all = record { names = ((refl, tt), (tt, tt)); kinds = no_kind }
-  where
-    no_kind : (rho : ℕ) (k : RelationKind) → kind_of [] rho ≡ Some k → IsReadKind users all (is_marked first_declared all rho) k
-    no_kind zero k e = cc
-    no_kind (suc zero) k e = cc
-    no_kind (suc (suc n)) k e = cc
+kept_none users all = grind arith
 
 -- ---- the last relation
 
@@ -85,9 +73,7 @@ got (r ∷ rs) zero e lt = cc
 got (r ∷ rs) (suc n) e lt = got rs n e (omega (arith, lt))
 
 there : (rs : List RelationShape) (m : ℕ) → first_declared ≤ m → m < first_declared + length rs → kind_of rs m ≡ None → ⊥
-there rs zero le lt e = omega (arith, le)
-there rs (suc zero) le lt e = omega (arith, le)
-there rs (suc (suc n)) le lt e = got rs n e (omega (arith, lt))
+there rs m le lt e = grind (arith, got)
 
 is_list : (users : ℕ) (all : List (List ℕ × Data)) (marked : Bool) (o : Option RelationKind) → marked ≡ false → (o ≡ None → ⊥) →
     ((k : RelationKind) → o ≡ Some k → IsReadKind users all marked k) → has_list o ≡ true
@@ -137,10 +123,7 @@ target_of key all m e = let t = entry_target first_declared key all m false e in
 pub marked_at : (n : ℕ) (before : List (List ℕ × Data)) (x : List ℕ × Data) (rest : List (List ℕ × Data)) →
     is_marked n (before ++ x ∷ rest) (n + length before) ≡ is_complement x.1
 marked_at n [] x rest = let same : n + 0 ≡ n = omega arith in rw (same, eq_same n) refl
-marked_at n (y ∷ before) x rest =
-    let same : (n + 1) + length before ≡ n + suc (length before) = omega arith in
-    rw (eq_below n (n + suc (length before)) (omega arith))
-    (subst (λ m. is_marked (n + 1) (before ++ x ∷ rest) m ≡ is_complement x.1) same (marked_at (n + 1) before x rest))
+marked_at n (y ∷ before) x rest = grind (arith, (marked_at (n + 1) before x rest))
 
 entries_append : (xs ys : List Entry) → entries (members_view (xs ++ ys)) ≡ entries (members_view xs) ++ entries (members_view ys)
 entries_append [] ys = refl
@@ -154,17 +137,8 @@ pub marked_next : (read : List RelationShape → List ℕ × Data → Reading (L
     (e : Entry) (es : List Entry) (rs : List RelationShape)
     → left ≡ e ∷ es → IsLeft read names_of all whole rs left →
     is_marked first_declared (entries (members_view all)) (first_declared + length rs) ≡ is_complement (view e.1)
-marked_next read whole all left e es rs steps h =
-    let before = entries (members_view h.before) in
-    let split : entries (members_view all) ≡ before ++ (string_bytes e.0, view e.1) ∷ entries (members_view es) =
-    ap (λ x. entries (members_view x)) (h.split ∙ ap (λ x. h.before ++ x) steps) ∙ entries_append h.before (e ∷ es) in
-    let count : length rs ≡ length before = omega (arith, names_count rs, ap length h.named, texts_count h.before, count_entries h.before) in
-    rw (split, count) (marked_at first_declared before (string_bytes e.0, view e.1) (entries (members_view es)))
+marked_next read whole all left e es rs steps h = grind (arith, entries_append, names_count, texts_count, count_entries, marked_at)
 
 pub table_told : (part : PolicyPart) (n : ℕ) (d : Data) (ms : Members) → table_in part n d ≡ Ok ms → is_complement d ≡ is_complement_table ms
 unfolding table_in
-table_told part n d ms e =
-    elim (as_table d) as (λ o. or_fault o (fault kind.Shape part n) ≡ Ok ms → passes is_complement_table o ≡ is_complement_table ms) [
-      | None ↦ λ no. cc
-      | Some x ↦ λ told. let same : x ≡ ms = cc in ap is_complement_table same
-    ] e
+table_told part n d ms e = grind arith

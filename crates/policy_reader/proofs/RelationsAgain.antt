@@ -1,9 +1,9 @@
 -- The relations are read from what they are written as.
 use Rattle.std.proofs.Common.{◌≡◌, ℕ, zero, suc, ◌+◌, true, false, nat_eq, List, [], ◌∷◌, ◌++◌, length, map, refl, sym, ap, subst, ◌∙◌, arith, codes, Option}
-use Rattle.std.proofs.Common.{Some, None, option_map, Ok, slice_get}
+use Rattle.std.proofs.Common.{Some, option_map, Ok, slice_get}
 use Rattle.policy_reader.proofs.Prints.{AllByRecursion, pointwise, nat_list_eq_equiv, slice_get-map, get_or_from_slice_get, length-map, Data, string, table}
 use Rattle.policy_reader.proofs.Prints.{Members, no_members, member, get_member, AreNames, RELATION_LIMIT, PAIR_LIMIT, Pairs, RelationKind, listed, complement}
-use Rattle.policy_reader.proofs.Prints.{RelationShape, known_names, complement_of, kind_of, complemented, has_list, is_listed, listed_pairs, AreSoundRelations}
+use Rattle.policy_reader.proofs.Prints.{RelationShape, known_names, complement_of, kind_of, has_list, is_listed, AreSoundRelations}
 use Rattle.policy_reader.proofs.Prints.{AreOfUsers, Relations, entries, first_declared, names_of, is_built_in, is_complement, entry_of, Ascend, name_at}
 use Rattle.policy_reader.proofs.Prints.{pair_data, pairs_data, rows, table_below, relation_entry, relations_data}
 use Rattle.std.specs.List.{IsDistinct}
@@ -32,9 +32,7 @@ module _ (users : List (List ℕ)) (whole : List RelationShape) where
 
   members_by : (rho : ℕ) (kind : RelationKind) → kind_of whole rho ≡ Some kind → kind_members users whole rho (complement_of whole rho) ≡ kind_table kind
   unfolding kind_members
-  members_by rho (listed pairs) e = ap (λ o. kind_members users whole rho (complemented o)) e ∙
-      ap (λ o. member (codes "pairs") (pairs_data users (listed_pairs o)) no_members) e
-  members_by rho (complement m) e = ap (λ o. kind_members users whole rho (complemented o)) e
+  members_by rho kind e = grind arith
 
   name_got : (i : ℕ) (r : RelationShape) → slice_get whole i ≡ Some r → slice_get (known_names whole) (suc (suc i)) ≡ Some r.name
   name_got i r e = slice_get-map (λ (x : RelationShape). x.name) whole i ∙ ap (option_map (λ (x : RelationShape). x.name)) e
@@ -46,10 +44,7 @@ module _ (users : List (List ℕ)) (whole : List RelationShape) where
   kind_got i r e = ap (option_map (λ x. x.kind)) e
 
   entry_same : (i : ℕ) (r : RelationShape) → slice_get whole i ≡ Some r → relation_entry users whole (first_declared + i) ≡ entry' r
-  entry_same i r e =
-      let named : name_at (known_names whole) (first_declared + i) ≡ r.name = ap (name_at (known_names whole)) (two_more i) ∙ name_is i r e in
-      let is : kind_of whole (first_declared + i) ≡ Some r.kind = ap (kind_of whole) (two_more i) ∙ kind_got i r e in
-      λ j. (named j, table (members_by (first_declared + i) r.kind is j))
+  entry_same i r e = grind (arith, two_more, name_is, kind_got, members_by)
 
   -- the entry with a name that stands once
   entry_found : (n : ℕ) (rs : List RelationShape) (i : ℕ) (r : RelationShape) → slice_get rs i ≡ Some r → IsDistinct (pointwise nat_eq) (names_of rs) →
@@ -75,17 +70,13 @@ module _ (users : List (List ℕ)) (whole : List RelationShape) where
     plain : is_complement (entry' r).1 ≡ false
 
   plain_of : (kind : RelationKind) → has_list (Some kind) ≡ true → is_complement (table (kind_table kind)) ≡ false
-  plain_of (listed pairs) e = refl
-  plain_of (complement m) e = cc
+  plain_of kind e = grind arith
 
   target_at : (i : ℕ) (o : Option RelationShape) → slice_get whole i ≡ o → has_list (option_map (λ r. r.kind) o) ≡ true → IsTarget (suc (suc i))
-  target_at i None e h = cc
-  target_at i (Some r) e h = record { i = i; r = r; place = refl; got = e; plain = plain_of r.kind h }
+  target_at i o e h = grind (arith, plain_of)
 
   target_of : (m : ℕ) → is_listed whole m ≡ true → IsTarget m
-  target_of zero h = cc
-  target_of (suc zero) h = cc
-  target_of (suc (suc i)) h = target_at i (slice_get whole i) refl h
+  target_of m h = grind (arith, target_at)
 
   module _ (named : AreNames users) (sound : AreSoundRelations whole) (related : AreOfUsers (length users) whole) (known : AreNames (known_names whole)) where
     names_apart : IsDistinct (pointwise nat_eq) (codes "same" ∷ codes "other" ∷ names_of whole) → IsDistinct (pointwise nat_eq) (names_of whole)

@@ -126,8 +126,7 @@ abbrev paired : List (ℕ × ℕ) → List ((ℕ × ℕ) × Unit {0})
 paired ps = map (λ p. (p, tt)) ps
 
 both : (a b : Bool) → T a → T b → T (a && b)
-both true b h k = k
-both false b h k = h
+both a b h k = grind arith
 
 less_paired : (p : ℕ × ℕ) (qs : List (ℕ × ℕ)) → AllByRecursion (λ q. pair_cmp p q ≡ Less) qs → T (below_all pair_cmp p (paired qs))
 less_paired p [] h = tt
@@ -140,8 +139,7 @@ sorted_paired (p ∷ ps) h = both _ _ (less_paired p ps h.0) (sorted_paired ps h
 
 find_paired : (q : ℕ × ℕ) (ps : List (ℕ × ℕ)) → find pair_cmp q (paired ps) ≡ cond (list_any (eq_by_cmp pair_cmp q) ps) (Some tt) None
 find_paired q [] = refl
-find_paired q (p ∷ ps) = elim (eq_by_cmp pair_cmp q p) as (λ b. cond b (Some tt) (find pair_cmp q (paired ps)) ≡ cond
-    (b || list_any (eq_by_cmp pair_cmp q) ps) (Some tt) None) [ true ↦ refl | false ↦ find_paired q ps ]
+find_paired q (p ∷ ps) = grind (arith, (find_paired q ps))
 
 unpaired : (ps : List (ℕ × ℕ)) → map (λ e. e.0) (paired ps) ≡ ps
 unpaired [] = refl
@@ -167,8 +165,7 @@ module _ (t : PolicyPart) (f : ℕ) (names : List (List ℕ)) (whole : Pairs) (n
   pair_again : (some : Pairs) (p : ℕ × ℕ) → set.contains whole p ≡ true → set.contains some p ≡ false →
       next_pair t f names some (pair_data names p) ≡ Ok (set.insert some p)
   unfolding next_pair named_pair_in numbers_in once
-  pair_again some p here fresh = let both = within.each p.0 p.1 here in
-      rw (number_back t f names p.0 named both.0, number_back t f names p.1 named both.1, fresh) refl
+  pair_again some p here fresh = grind (arith, number_back)
 
   step : (before : List (ℕ × ℕ)) (p : ℕ × ℕ) (after : List (ℕ × ℕ)) → all ≡ before ++ p ∷ after →
       next_pair t f names (set.from_list before) (pair_data names p) ≡ Ok (set.from_list (before ++ p ∷ []))

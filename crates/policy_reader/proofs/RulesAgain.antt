@@ -84,8 +84,7 @@ module _ (f : ℕ) (steps : List (List ℕ)) (named : AreNames steps) where
     -- the group that has some step has a first one
     some_again : any_from 0 whole (λ _. true) ≡ true → (ss : List ℕ) → each (next_member f steps) no_steps (map (text_at steps) ss) ≡ Ok whole → 0 < length ss
     unfolding no_steps
-    some_again some [] e = let none : any_from 0 no_steps (λ _. true) ≡ false = refl in let no : whole ≡ no_steps = cc in let bad =
-        sym (ap (λ g. any_from 0 g (λ _. true)) no ∙ none) ∙ some in cc
+    some_again some [] e = grind arith
     some_again some (s ∷ ss) e = omega arith
 
     pub group_again : any_from 0 whole (λ _. true) ≡ true → group_in f steps (names_where steps (is_member whole)) ≡ Ok whole

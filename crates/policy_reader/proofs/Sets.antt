@@ -1,7 +1,7 @@
 -- Parts of a set of pairs, as they are read or written line by line.
 use Rattle.std.proofs.Common.{◌≡◌, ℕ, suc, ◌<◌, Bool, true, false, ◌||◌, ◌&&◌, nat_eq, nat_lt, map, refl, sym, ap, ◌∙◌, arith, Result, Ok}
 use Rattle.std.specs.FinSet as set
-use Rattle.policy_reader.proofs.Prints.{eq_by_cmp, is_eq, tied_itself, and_same, and_swap, and-false, or-false, eq_same, eq_back, lt_yes, lt_no, Pairs}
+use Rattle.policy_reader.proofs.Prints.{eq_by_cmp, is_eq, tied_itself, and_same, and_swap, and-false, eq_same, lt_yes, lt_no, Pairs}
 use Rattle.policy_reader.proofs.Prints.{pair_cmp, pair_cmp_total, pair_cmp-IsAntisymmetric, each, chosen}
 use Rattle.std.proofs.lemmas.Map.Views.{tells_apart}
 use Rattle.policy_reader.proofs.PairSets.{same_pairs}
@@ -75,8 +75,7 @@ module _ (layout : Layout) (whole : Pairs) where
     row r = part whole (below r)
 
     others : (r : ℕ) (q : ℕ × ℕ) → (q ≡ layout.mk s r → ⊥) → below r q ≡ below (suc r) q
-    others r q apart = ap (λ b. done (layout.line q) || b) (and_same (nat_eq (layout.line q) s) _ _
-        (λ e. next_lt (layout.place q) r (λ same. apart (layout.is q ∙ (λ i. layout.mk (eq_back (layout.line q) s e i) (same i))))))
+    others r q apart = grind (arith, next_lt)
 
     not_yet : (r : ℕ) → below r (layout.mk s r) ≡ false
     not_yet r = rw (layout.line_is s r, layout.place_is s r, new, lt_no r r (omega arith)) (and-false _)
@@ -85,9 +84,7 @@ module _ (layout : Layout) (whole : Pairs) where
     now r = rw (layout.line_is s r, layout.place_is s r, new, eq_same s, lt_yes r (suc r) (omega arith)) refl
 
     pub row_none : lines done ≡ row 0
-    row_none = same_part whole (λ q. done (layout.line q)) (below 0) (λ q h.
-        sym (ap (λ b. done (layout.line q) || (nat_eq (layout.line q) s && b)) (lt_no (layout.place q) 0 (omega arith)) ∙
-        ap (λ b. done (layout.line q) || b) (and-false _) ∙ or-false _))
+    row_none = grind (arith, same_part)
 
     pub row_more : (r : ℕ) → at s r ≡ true → row (suc r) ≡ set.insert (row r) (layout.mk s r)
     row_more r here = part_more whole (below r) (below (suc r)) (layout.mk s r) here (now r) (others r)
@@ -100,9 +97,7 @@ module _ (layout : Layout) (whole : Pairs) where
 
     module _ (count : ℕ) (within : (q : ℕ × ℕ) → set.contains whole q ≡ true → layout.place q < count) where
       pub row_all : row count ≡ lines (λ m. done m || nat_eq m s)
-      row_all = same_part whole (below count) (λ q. done (layout.line q) || nat_eq (layout.line q) s) (λ q h.
-          ap (λ b. done (layout.line q) || (nat_eq (layout.line q) s && b)) (lt_yes (layout.place q) count (within q h)) ∙
-          ap (λ b. done (layout.line q) || b) (and_swap _ true))
+      row_all = grind (arith, same_part)
 
       -- the line s is read, its numbers one by one
       pub line_back : {S D F : Type 0} (read : S → D → Result S F) (write : ℕ → D) (put : Pairs → S)
@@ -118,7 +113,4 @@ module _ (layout : Layout) (whole : Pairs) where
 
 -- the lines below the next number
 pub next_line : (whole : Pairs) (u : ℕ) → lines by_first whole (λ m. nat_lt m u || nat_eq m u) ≡ lines by_first whole (λ m. nat_lt m (suc u))
-next_line whole u = same_part whole (λ q. nat_lt q.0 u || nat_eq q.0 u) (λ q. nat_lt q.0 (suc u)) (λ q h. below q.0)
-  where
-    below : (m : ℕ) → (nat_lt m u || nat_eq m u) ≡ nat_lt m (suc u)
-    below m = grind arith
+next_line whole u = grind (arith, same_part)

@@ -106,11 +106,7 @@ module _ (entry : ℕ → List ℕ × Data) where
 
     numbers_upto : (n : ℕ) → n ≤ bound → numbers n ≡ upto n
     numbers_upto zero le = refl
-    numbers_upto (suc n) le =
-        placed_end n (numbers n) (each_of (λ m. key_cmp (entry n).0 (entry m).0 ≡ Greater) (numbers n)
-        (λ m e. above m n (lt_back m n
-        (sym (numbers_among bound (λ i j lt below e'. let no = sym (above i j lt below) ∙ e' in cc) n m (omega (arith, le))) ∙ e)) (omega (arith, le))))
-        ∙ ap (λ ns. ns ++ n ∷ []) (numbers_upto n (omega (arith, le)))
+    numbers_upto (suc n) le = grind (arith, placed_end, each_of, above, numbers_among, (numbers_upto n (omega (arith, le))))
 
     -- a table whose keys ascend has its entries in the order of their numbers
     pub tabled_in_order : entries (table_below bound entry) ≡ map entry (upto bound)

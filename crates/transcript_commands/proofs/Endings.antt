@@ -1,14 +1,7 @@
 -- How the search for a finding ends.
-use Rattle.std.proofs.Common.{◌≡◌, Result, arith}
-use Rattle.std.specs.Prelude.{IfErr, IsErrAnd}
-use Rattle.wf_outside.specs.Laws.Outside.{Filed}
-use Rattle.run_record.specs.declared.fault.RunFault.{RunFault}
-use Rattle.run_record.specs.Fault.{fault_in}
-use Rattle.wf_commands.specs.Load.{IsLoadEnding}
-use Rattle.transcript_commands.specs.declared.finding.Finding.{Finding}
+use Rattle.transcript_commands.proofs.Common.{◌≡◌, Result, arith, IfErr, IsErrAnd, Filed, RunFault, fault_in, IsLoadEnding, Finding, EndsWithout, IsAuditEnding}
+use Rattle.transcript_commands.proofs.Common.{IsReadEnding}
 use Rattle.transcript_commands.specs.Run.{EndsFinding}
-use Rattle.transcript_commands.specs.Audit.{EndsWithout}
-use Rattle.transcript_commands.specs.Steps.{IsAuditEnding, IsReadEnding}
 
 load_is : (fault : RunFault) → IsLoadEnding fault → IsAuditEnding fault
 load_is fault ending = grind arith

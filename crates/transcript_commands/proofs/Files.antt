@@ -1,19 +1,13 @@
 -- How a run stops at its files, or goes on.
-use Rattle.std.proofs.Common.{◌≡◌, ℕ, true, List, Option, None, Some, Ok, Err, inl, inr, sym, subst, ◌∙◌, arith}
-use Rattle.wf_names.specs.declared.limits.TheConstants.{REQUESTS_FILE_LIMIT}
-use Rattle.wf_outside.specs.Laws.Outside.{Filed, told, missing, untold}
-use Rattle.policy_book.specs.Laws.Shapes.{PolicyShape}
+use Rattle.transcript_commands.proofs.Common.{◌≡◌, ℕ, true, List, Option, None, Some, Ok, Err, inl, inr, sym, subst, ◌∙◌, arith, REQUESTS_FILE_LIMIT, Filed}
+use Rattle.transcript_commands.proofs.Common.{told, missing, untold, PolicyShape, CutText, Cut, jobs_of_input, lines_of, RunFault, CountsLoads, GivesPolicy}
+use Rattle.transcript_commands.proofs.Common.{first_long, whole_lines, IsCutOf}
 use Rattle.policy_reader.specs.File.{IsFilePolicy}
 use Rattle.line_reader.specs.declared.stop.Stop.{Stop}
-use Rattle.line_reader.specs.declared.jobs.CutText.{CutText}
-use Rattle.line_reader.specs.Jobs.{Cut, jobs_of_input}
-use Rattle.line_reader.specs.Reader.{lines_of}
-use Rattle.run_record.specs.declared.fault.RunFault.{RunFault}
 use Rattle.run_record.specs.declared.fault.RunFault.TheVariants.{LineTooLong}
-use Rattle.run_record.specs.Fault.{refused, how_of, CountsLoads, LoadsSo}
-use Rattle.wf_commands.specs.Load.{GivesBytes, GivesPolicy}
-use Rattle.transcript_commands.specs.Resumed.{first_long, whole_lines}
-use Rattle.transcript_commands.specs.Load.{GivesCut, IsCutOf, FileNames, OverBoth, OverFiled, OverFiles, OverLong, GoesOverPolicy, OverRequests, OverStop}
+use Rattle.run_record.specs.Fault.{refused, how_of, LoadsSo}
+use Rattle.wf_commands.specs.Load.{GivesBytes}
+use Rattle.transcript_commands.specs.Load.{GivesCut, FileNames, OverBoth, OverFiled, OverFiles, OverLong, GoesOverPolicy, OverRequests, OverStop}
 use Rattle.transcript_commands.specs.Load.{GoesOverText}
 use Rattle.transcript_commands.specs.Load.{OverTranscript, OverTranscriptFile, ending_at}
 
@@ -105,9 +99,6 @@ text_map limit S T G H file stops goes h8 = grind arith
 stop_map : (S T : RunFault → Type 0) (G H : Type 0) (met : Option Stop) → ((x : RunFault) → S x → T x) → (G → H) → OverStop S G met → OverStop T H met
 stop_map S T G H met stops goes at = grind arith
 
-long_map : (S T : RunFault → Type 0) (G H : Type 0) (found : Option ℕ) → ((x : RunFault) → S x → T x) → (G → H) → OverLong S G found → OverLong T H found
-long_map S T G H found stops goes at = grind arith
-
 transcript_map : (S T : RunFault → Type 0) (G H : List ℕ → Type 0) (filed : Filed) → ((x : RunFault) → S x → T x) → ((x : List ℕ) → G x → H x)
     → OverTranscriptFile S G filed → OverTranscriptFile T H filed
 transcript_map S T G H filed stops goes at = grind arith
@@ -136,35 +127,6 @@ files_map files names lanes S T G H stops goes at =
     let P = λ (p : PolicyShape). OverBoth lanes T (H p) requests transcript in
     filed_map S T (GoesOverPolicy S O) (GoesOverPolicy T P) (files names.policy) stops
     (λ file. policy_map S T O P file stops (λ p sound. both_map lanes S T (G p) (H p) requests transcript stops (λ text x. goes p text x sound))) at
-
--- ---- what comes of files over which a run does not stop
-
-filed_goal : (S : RunFault → Type 0) (O : List ℕ → Type 0) (filed : Filed) (T : Type 0) → ((x : RunFault) → S x → T) → ((x : List ℕ) → O x → T) →
-    OverFiled S O filed → T
-filed_goal S O filed T stops over at = grind arith
-
-policy_goal : (S : RunFault → Type 0) (G : PolicyShape → Type 0) (file : List ℕ) (T : Type 0) → ((x : RunFault) → S x → T) → ((p : PolicyShape) → G p → T) →
-    GoesOverPolicy S G file → T
-policy_goal S G file T stops goes h6 = grind arith
-
-text_goal : (limit : ℕ) (S : RunFault → Type 0) (G : List ℕ → Type 0) (file : List ℕ) (T : Type 0) → ((x : RunFault) → S x → T) → ((x : List ℕ) → G x → T) →
-    GoesOverText limit S G file → T
-text_goal limit S G file T stops goes h7 = grind arith
-
-stop_goal : (S : RunFault → Type 0) (G : Type 0) (met : Option Stop) (T : Type 0) → ((x : RunFault) → S x → T) → (G → T) → OverStop S G met → T
-stop_goal S G met T stops goes at = grind arith
-
-long_goal : (S : RunFault → Type 0) (G : Type 0) (found : Option ℕ) (T : Type 0) → ((x : RunFault) → S x → T) → (G → T) → OverLong S G found → T
-long_goal S G found T stops goes at = grind arith
-
-transcript_goal : (S : RunFault → Type 0) (G : List ℕ → Type 0) (filed : Filed) (T : Type 0) → ((x : RunFault) → S x → T) → ((x : List ℕ) → G x → T) →
-    OverTranscriptFile S G filed → T
-transcript_goal S G filed T stops goes at = grind arith
-
-both_goal : (lanes : ℕ) (S : RunFault → Type 0) (G : Cut → List ℕ → Type 0) (requests transcript : Filed) (T : Type 0) → ((x : RunFault) → S x → T) →
-    ((c : Cut) (x : List ℕ) → G c x → T)
-    → OverBoth lanes S G requests transcript → T
-both_goal lanes S G requests transcript T stops goes at = grind arith
 
 pub files_goal : (files : List ℕ → Filed) (names : FileNames) (lanes : ℕ) (S : RunFault → Type 0) (G : PolicyShape → Cut → List ℕ → Type 0) (T : Type 0) →
     ((x : RunFault) → S x → T)

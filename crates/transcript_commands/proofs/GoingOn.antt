@@ -1,14 +1,10 @@
 -- The desk with the jobs of the batch in which a session stopped, behind those of the batches before.
-use Rattle.std.proofs.Common.{◌≡◌, ◌++◌, ℕ, List, [], length, take, sym, ap, subst, ◌∙◌, append-nil, arith}
-use Rattle.policy_book.specs.Laws.Shapes.{PolicyShape}
-use Rattle.wf_talk.specs.declared.entry.Entry.{Entry}
-use Rattle.wf_talk.specs.declared.job.Job.{Job}
+use Rattle.transcript_commands.proofs.Common.{◌≡◌, ◌++◌, ℕ, List, [], length, take, sym, ap, subst, ◌∙◌, arith, PolicyShape, Entry, Job, DeskShape, jobs_told}
+use Rattle.transcript_commands.proofs.Common.{Batch, GoesOnAt, end_at, jobs_between, start_at}
+use Rattle.std.proofs.Common.{append-nil}
 use Rattle.wf_board.specs.Boards.{BoardShape}
-use Rattle.wf_desk.specs.Desks.{DeskShape, desk_with, jobs_told, with_batch_from, with_room}
-use Rattle.line_reader.specs.declared.jobs.Batch.{Batch}
-use Rattle.transcript_commands.specs.Resumed.{GoesOnAt}
+use Rattle.wf_desk.specs.Desks.{desk_with, with_batch_from, with_room}
 use Rattle.transcript_commands.specs.Sessions.{IsRestored, session_at}
-use Rattle.transcript_commands.specs.Unserved.{end_at, jobs_between, start_at}
 
 -- only the entries stand at a desk that was made with them
 pub restored_with : (p : PolicyShape) (lanes rounds : ℕ) (board : BoardShape) (es : List Entry) (spare : ℕ) (d : DeskShape) →

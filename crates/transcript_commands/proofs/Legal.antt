@@ -1,20 +1,12 @@
 -- What is found legal is the text of a legal history that fills the jobs.
-use Rattle.std.proofs.Common.{◌≡◌, ℕ, ◌+◌, List, [], ◌∷◌, length, Option, ◌++◌, ◌≤◌, ◌⊎◌, inl, inr, subst, arith}
-use Rattle.std.specs.Prelude.{◌↔◌, IfSome}
-use Rattle.std.proofs.lemmas.List.{length-append}
-use Rattle.wf_names.specs.declared.limits.TheConstants.{LANE_LIMIT, TRANSCRIPT_LINE_LIMIT}
-use Rattle.policy_book.specs.Laws.Shapes.{PolicyShape}
-use Rattle.wf_talk.specs.declared.entry.Entry.{Entry}
-use Rattle.wf_talk.specs.declared.job.Job.{Job}
-use Rattle.line_reader.specs.Laws.{AreInOrder}
-use Rattle.line_reader.specs.Reader.{AreShort, line_length, lines_of}
-use Rattle.transcript_audit.specs.Auditor.{AuditShape, AreNext, IsNextLine, IsTranscript, audit_of, with_entry}
-use Rattle.transcript_audit.proofs.Exact.{next_pushed}
-use Rattle.transcript_audit.specs.Laws.{AreOfSession, AuditIsExact, FaultsExclude, NextIsOne}
-use Rattle.transcript_commands.specs.declared.finding.Finding.{Finding}
-use Rattle.transcript_commands.specs.declared.finding.Finding.TheVariants.{Legal}
-use Rattle.transcript_commands.specs.Finding.{AuditsLine, IsAudited, StopsAtLine}
-use Rattle.transcript_commands.specs.Laws.{LegalIsExact}
+use Rattle.transcript_commands.proofs.Common.{◌≡◌, ℕ, ◌+◌, List, [], ◌∷◌, length, ◌++◌, ◌≤◌, ◌⊎◌, inl, inr, subst, arith, length-append, TRANSCRIPT_LINE_LIMIT}
+use Rattle.transcript_commands.proofs.Common.{PolicyShape, Entry, Job, AreInOrder, line_length, AuditShape, AreNext, IsNextLine, audit_of, with_entry}
+use Rattle.transcript_commands.proofs.Common.{next_pushed, AreOfSession, FaultsExclude, NextIsOne, Finding, Legal, IsAudited, StopsAtLine, LegalIsExact}
+use Rattle.wf_names.specs.declared.limits.TheConstants.{LANE_LIMIT}
+use Rattle.line_reader.specs.Reader.{AreShort}
+use Rattle.transcript_audit.specs.Auditor.{IsTranscript}
+use Rattle.transcript_audit.specs.Laws.{AuditIsExact}
+use Rattle.transcript_commands.specs.Finding.{AuditsLine}
 
 pub next_of : (a : AuditShape) (lines : List (List ℕ)) → IsAudited a lines Legal → (es : List Entry) ×
     (AreNext a lines es × (length a.entries + length es ≡ length a.jobs))
@@ -71,10 +63,3 @@ legal_is_exact exact law one p rounds jobs ends lines f session short found = (
       let size = all.1.1 in
       found_legal law one p rounds jobs ends [] lines [] all.0 f session tt all.1.0 short (omega (arith, size)) found,
 )
-
--- so in an input of which all is told
-pub legal_input : LegalIsExact → (p : PolicyShape) (rounds : ℕ) (jobs : List Job) (ends : List ℕ) (f : Finding) (told : Option (List ℕ)) →
-    AreOfSession p rounds jobs ends →
-    IfSome told (λ input. IsAudited (audit_of p rounds jobs ends) (lines_of input) f) →
-    IfSome told (λ input. AreShort (lines_of input) → (f ≡ Legal) ↔ IsTranscript p rounds jobs ends (lines_of input))
-legal_input exact p rounds jobs ends f told session found = grind arith

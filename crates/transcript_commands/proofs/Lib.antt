@@ -1,3 +1,4 @@
+mod Common
 pub mod Files
 pub mod Stands
 pub mod Taken

@@ -1,23 +1,17 @@
 -- The lines of a text are taken one after the other.
-use Rattle.std.proofs.Common.{◌≡◌, ℕ, ◌+◌, ◌-◌, ◌<◌, ◌≤◌, List, [], ◌∷◌, ◌++◌, length, take, drop, None, Result, Ok, Err, inl, inr, subst, arith}
-use Rattle.std.specs.Prelude.{IfErr, IsErrAnd}
-use Rattle.std.proofs.lemmas.List.{length-drop, take_all}
-use Rattle.wf_talk.specs.declared.entry.Entry.{Entry}
-use Rattle.wf_talk.specs.declared.job.Job.{Job}
-use Rattle.line_reader.specs.Reader.{behind_line, first_line, lines_of}
-use Rattle.line_reader.proofs.FirstLines.{lines_first}
-use Rattle.transcript_audit.specs.declared.fault.AuditFault.{AuditFault}
+use Rattle.transcript_commands.proofs.Common.{◌≡◌, ℕ, ◌+◌, ◌-◌, ◌<◌, ◌≤◌, List, [], ◌∷◌, ◌++◌, length, take, None, Result, Ok, Err, inl, inr, subst, arith}
+use Rattle.transcript_commands.proofs.Common.{IfErr, IsErrAnd, length-drop, take_all, Entry, Job, behind_line, first_line, lines_of, lines_first, AuditFault}
+use Rattle.transcript_commands.proofs.Common.{AuditKind, PolicyShape, AuditShape, AreNext, audit_of, next_pushed, AreOfSession, FaultsExclude, NextIsOne}
+use Rattle.transcript_commands.proofs.Common.{RefusesBy, Session, whole_lines}
+use Rattle.std.proofs.Common.{drop}
 use Rattle.transcript_audit.specs.declared.fault.AuditFault.TheVariants.{At, NoMemory}
-use Rattle.transcript_audit.specs.declared.fault.AuditKind.{AuditKind}
-use Rattle.policy_book.specs.Laws.Shapes.{PolicyShape}
 use Rattle.wf_board.specs.Laws.States.{State, opening_state}
 use Rattle.wf_board.specs.Laws.Histories.{state_after}
-use Rattle.transcript_audit.specs.Auditor.{AuditShape, AreNext, audit_of, state_now}
-use Rattle.transcript_audit.proofs.Exact.{next_pushed}
-use Rattle.transcript_audit.specs.Laws.{AreOfSession, FaultsExclude, NextIsOne, PartIsExact}
+use Rattle.transcript_audit.specs.Auditor.{state_now}
+use Rattle.transcript_audit.specs.Laws.{PartIsExact}
 use Rattle.transcript_audit.specs.Laws.Outcomes.{HasTakenLine}
 use Rattle.transcript_commands.specs.Auditing.{FailsIn, HasTakenAll, HasTakenFirst}
-use Rattle.transcript_commands.specs.Resumed.{FailsAt, IsTakenUp, RefusesBy, Session, whole_lines}
+use Rattle.transcript_commands.specs.Resumed.{FailsAt, IsTakenUp}
 
 -- ---- one line
 

@@ -1,25 +1,16 @@
 -- What was loaded, and what is found with it.
-use Rattle.std.proofs.Common.{◌≡◌, ℕ, List, [], length, Result, Ok, Err, refl, subst, arith}
-use Rattle.std.specs.Prelude.{IfOk, IfErr, IsErrAnd}
-use Rattle.std.proofs.lemmas.Bool.{le-ltb, lt-ltb}
-use Rattle.wf_names.specs.declared.limits.TheConstants.{POLICY_FILE_LIMIT, REQUESTS_FILE_LIMIT}
-use Rattle.wf_outside.specs.Laws.Outside.{Filed, told, missing, untold}
-use Rattle.policy_book.specs.Laws.Shapes.{PolicyShape}
-use Rattle.line_reader.specs.declared.jobs.Batch.{Batch}
-use Rattle.transcript_audit.specs.Auditor.{AuditShape, audit_of}
-use Rattle.transcript_audit.specs.Laws.{AreOfSession}
-use Rattle.run_record.specs.declared.fault.RunFault.{RunFault}
+use Rattle.transcript_commands.proofs.Common.{◌≡◌, ℕ, List, [], length, Result, Ok, Err, refl, subst, arith, IfErr, IsErrAnd, le-ltb, lt-ltb, POLICY_FILE_LIMIT}
+use Rattle.transcript_commands.proofs.Common.{REQUESTS_FILE_LIMIT, Filed, told, missing, untold, PolicyShape, Batch, AuditShape, audit_of, AreOfSession}
+use Rattle.transcript_commands.proofs.Common.{RunFault, OverPolicy, GivesPolicy, IsLoadEnding, Finding, HasFound, ending_of, finding_text, LegalIsExact}
+use Rattle.transcript_commands.proofs.Common.{AuditsPolicy, EndsWithout, FindsFile, IsReadEnding}
+use Rattle.std.specs.Prelude.{IfOk}
 use Rattle.run_record.specs.declared.fault.RunFault.TheVariants.{Load, FileTooLong}
-use Rattle.wf_commands.specs.Once.{OverPolicy}
-use Rattle.wf_commands.specs.Load.{GivesPolicy, PolicyOf, IsLoadEnding}
+use Rattle.wf_commands.specs.Load.{PolicyOf}
 use Rattle.wf_commands.proofs.Loading.{answers_file}
 use Rattle.wf_commands.proofs.Telling.{policy_refused}
-use Rattle.transcript_commands.specs.declared.finding.Finding.{Finding}
-use Rattle.transcript_commands.specs.Finding.{HasFound, ending_of, finding_text}
-use Rattle.transcript_commands.specs.Laws.{LegalIsExact}
 use Rattle.transcript_commands.specs.Loading.{GivesJobs, JobsOf}
-use Rattle.transcript_commands.specs.Audit.{AuditOf, AuditsFile, AuditsPolicy, AuditsRequests, EndsWithout, Input, audit_for}
-use Rattle.transcript_commands.specs.Steps.{FindsAs, FindsFile, IsReadEnding}
+use Rattle.transcript_commands.specs.Audit.{AuditOf, AuditsFile, AuditsRequests, Input, audit_for}
+use Rattle.transcript_commands.specs.Steps.{FindsAs}
 
 -- ---- what is found with them
 

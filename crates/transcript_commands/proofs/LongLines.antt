@@ -1,13 +1,9 @@
 -- The first line that is too long.
-use Rattle.std.proofs.Common.{◌≡◌, ℕ, ◌+◌, ◌-◌, ◌==◌, ◌<◌, ◌≤◌, nat_lt, Bool, true, false, List, [], ◌∷◌, length, take, drop, Option, None, Some, refl}
-use Rattle.std.proofs.Common.{sym, subst, arith}
-use Rattle.std.proofs.lemmas.List.{drop-drop, length-drop}
-use Rattle.wf_names.specs.declared.limits.TheConstants.{TRANSCRIPT_LINE_LIMIT}
-use Rattle.memchr.specs.Find.{IsFirstByte, is_byte}
-use Rattle.line_reader.specs.Reader.{behind_line, first_line, has_end, line_length, lines_of}
-use Rattle.line_reader.specs.Steps.{FindsEnd}
-use Rattle.line_reader.proofs.FirstLines.{finds_end, lines_first, open_line}
-use Rattle.transcript_commands.specs.Resumed.{first_long, whole_lines}
+use Rattle.transcript_commands.proofs.Common.{◌≡◌, ℕ, ◌+◌, ◌-◌, ◌==◌, ◌<◌, ◌≤◌, nat_lt, Bool, true, false, List, [], ◌∷◌, length, take, Option, None, Some}
+use Rattle.transcript_commands.proofs.Common.{refl, sym, subst, arith, length-drop, TRANSCRIPT_LINE_LIMIT, IsFirstByte, is_byte, behind_line, first_line}
+use Rattle.transcript_commands.proofs.Common.{has_end, line_length, lines_of, FindsEnd, finds_end, lines_first, open_line, first_long, whole_lines}
+use Rattle.std.proofs.Common.{drop}
+use Rattle.std.proofs.lemmas.List.{drop-drop}
 use Rattle.transcript_commands.proofs.LinesTaken.{left_at}
 
 -- ---- lengths

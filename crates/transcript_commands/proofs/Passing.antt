@@ -1,26 +1,21 @@
 -- How an audit goes on, line by line.
-use Rattle.std.proofs.Common.{◌≡◌, ℕ, ◌+◌, ◌<◌, ◌≤◌, Bool, true, false, List, [], ◌++◌, length, Option, None, Some, Result, Ok, Err, refl, ap, sym, subst}
-use Rattle.std.proofs.Common.{◌∙◌, inl, inr, arith}
+use Rattle.transcript_commands.proofs.Common.{◌≡◌, ℕ, ◌+◌, ◌<◌, ◌≤◌, Bool, true, false, List, [], ◌++◌, length, Option, None, Some, Result, Ok, Err, refl, ap}
+use Rattle.transcript_commands.proofs.Common.{sym, subst, ◌∙◌, inl, inr, arith, length-append, TRANSCRIPT_LINE_LIMIT, nothing_taken, PolicyShape, Entry}
+use Rattle.transcript_commands.proofs.Common.{first_line, behind_line, has_end, line_length, lines_of, lines_first, AuditKind, AuditShape, IsNextLine}
+use Rattle.transcript_commands.proofs.Common.{with_entry, RunFault, Finding, Legal, StopsAtLine, IsAudited, HasFound, HasTakenSome}
 use Rattle.std.specs.Prelude.{IfSome}
 use Rattle.std.proofs.Common.{rules}
-use Rattle.std.proofs.lemmas.List.{append-nil, append_assoc, length-append}
-use Rattle.wf_names.specs.declared.limits.TheConstants.{TRANSCRIPT_LINE_LIMIT}
+use Rattle.std.proofs.lemmas.List.{append-nil, append_assoc}
 use Rattle.wf_outside.specs.Laws.Outside.{HasTaken, IsAtEnd, bytes_before}
-use Rattle.wf_outside.proofs.OutsideLaws.{more_taken, nothing_taken}
-use Rattle.policy_book.specs.Laws.Shapes.{PolicyShape}
-use Rattle.wf_talk.specs.declared.entry.Entry.{Entry}
+use Rattle.wf_outside.proofs.OutsideLaws.{more_taken}
 use Rattle.wire_json.specs.Replies.{entry_text}
-use Rattle.line_reader.specs.Reader.{ReaderShape, pending, HasSeen, HasReadLine, HasReadToEnd, HasPassed, first_line, behind_line, has_end, line_length}
-use Rattle.line_reader.specs.Reader.{lines_of}
-use Rattle.line_reader.proofs.FirstLines.{line_alone, line_before, line_one, line_longer, lines_first, more_behind, ends_with_lf, split_line}
-use Rattle.transcript_audit.specs.declared.fault.AuditKind.{AuditKind}
-use Rattle.transcript_audit.specs.Auditor.{AuditShape, HasFault, IsNextLine, with_entry}
-use Rattle.run_record.specs.declared.fault.RunFault.{RunFault}
-use Rattle.transcript_commands.specs.declared.finding.Finding.{Finding}
-use Rattle.transcript_commands.specs.declared.finding.Finding.TheVariants.{Legal, Fault, TooLong}
+use Rattle.line_reader.specs.Reader.{ReaderShape, pending, HasSeen, HasReadLine, HasReadToEnd, HasPassed}
+use Rattle.line_reader.proofs.FirstLines.{line_alone, line_before, line_one, line_longer, more_behind, ends_with_lf, split_line}
+use Rattle.transcript_audit.specs.Auditor.{HasFault}
+use Rattle.transcript_commands.specs.declared.finding.Finding.TheVariants.{Fault, TooLong}
 use Rattle.transcript_commands.specs.declared.auditing.TheConstants.{PIECE}
-use Rattle.transcript_commands.specs.Finding.{EndsAs, StopsAtLine, IsAudited, IsFar, HasFound}
-use Rattle.transcript_commands.specs.Steps.{HasAudited, HasTakenSome, TakesLine, AuditStepsTo}
+use Rattle.transcript_commands.specs.Finding.{EndsAs, IsFar}
+use Rattle.transcript_commands.specs.Steps.{HasAudited, TakesLine, AuditStepsTo}
 
 -- the text of an entry ends with LF
 text_ends : (p : PolicyShape) (e : Entry) → has_end (entry_text p e) ≡ true

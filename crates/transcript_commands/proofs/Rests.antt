@@ -1,22 +1,16 @@
 -- The batch in which a session stopped, among those of the requests.
-use Rattle.std.proofs.Common.{◌≡◌, ℕ, ◌+◌, ◌<◌, ◌≤◌, inl, inr, nat_lt, List, [], ◌∷◌, length, take, slice_index_or, sym}
-use Rattle.std.proofs.Common.{subst, arith}
-use Rattle.std.proofs.lemmas.Grind.{common_steps}
-use Rattle.std.proofs.lemmas.List.{drop_all, length-drop, length-map, length-take-le, take_all}
-use Rattle.basics.proofs.Booleans.{bool_cases}
+use Rattle.transcript_commands.proofs.Common.{◌≡◌, ℕ, ◌+◌, ◌<◌, ◌≤◌, inl, inr, nat_lt, List, [], ◌∷◌, length, take, slice_index_or, sym, subst, arith}
+use Rattle.transcript_commands.proofs.Common.{common_steps, drop_all, length-drop, length-take-le, take_all, bool_cases, Entry, Job, batch_end, batch_start}
+use Rattle.transcript_commands.proofs.Common.{LeadTo, AreOfLanes, FillsPart, end_at, jobs_between, start_at}
+use Rattle.std.proofs.lemmas.List.{length-map}
 use Rattle.wf_names.specs.declared.limits.TheConstants.{BATCH_LINE_LIMIT}
-use Rattle.wf_talk.specs.declared.entry.Entry.{Entry}
-use Rattle.wf_talk.specs.declared.job.Job.{Job}
-use Rattle.wf_board.specs.Laws.Histories.{batch_end, batch_start}
-use Rattle.line_reader.specs.Laws.{LeadTo}
-use Rattle.wf_desk.specs.Desks.{AnswersPart, AreOfLanes, served_jobs}
+use Rattle.wf_desk.specs.Desks.{AnswersPart, served_jobs}
 use Rattle.wf_desk.proofs.DocketLaws.{first_of_lanes}
-use Rattle.wf_desk.specs.Laws.Parts.{FillsPart, lane_answered}
+use Rattle.wf_desk.specs.Laws.Parts.{lane_answered}
 use Rattle.transcript_audit.specs.Keeping.{IsBatchOf, end_of}
 use Rattle.transcript_audit.proofs.Batches.{batch_there, end_is, end_read, ends_within, last_start, read_behind, rest_of_lanes, start_before_end}
 use Rattle.transcript_audit.proofs.Batches.{start_is}
 use Rattle.transcript_audit.proofs.Parts.{map_rest}
-use Rattle.transcript_commands.specs.Unserved.{end_at, jobs_between, start_at}
 
 -- there is a batch in which a place stands, or it stands behind the last
 pub place_batch : (ends : List ℕ) (total n : ℕ) → LeadTo 0 ends total → n ≤ total → (k : ℕ) × IsBatchOf ends n k

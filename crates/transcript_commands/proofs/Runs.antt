@@ -1,23 +1,19 @@
 -- How the steps of a run compose.
-use Rattle.std.proofs.Common.{◌≡◌, ℕ, true, List, Option, Result, Ok, Err, arith}
-use Rattle.std.specs.Prelude.{IsErrAnd}
-use Rattle.wf_names.specs.declared.limits.TheConstants.{POLICY_FILE_LIMIT}
-use Rattle.wf_outside.specs.Laws.Outside.{Filed, told, untold, HasPart, with_bytes}
-use Rattle.wf_outside.proofs.OutsideLaws.{nothing_put, nothing_taken}
-use Rattle.policy_book.specs.Laws.Shapes.{PolicyShape}
-use Rattle.run_record.specs.declared.fault.RunFault.{RunFault}
+use Rattle.transcript_commands.proofs.Common.{◌≡◌, ℕ, true, List, Option, Result, Ok, Err, arith, IsErrAnd, POLICY_FILE_LIMIT, Filed, told, untold}
+use Rattle.transcript_commands.proofs.Common.{nothing_taken, PolicyShape, RunFault, fault_in, CountsLoads, OverPolicy, IsLoadEnding, Finding, ending_of}
+use Rattle.transcript_commands.proofs.Common.{finding_text, AuditsPolicy, EndsWithout, FindsFile, HasTakenSome, IsAuditEnding}
+use Rattle.wf_outside.specs.Laws.Outside.{HasPart, with_bytes}
+use Rattle.wf_outside.proofs.OutsideLaws.{nothing_put}
 use Rattle.run_record.specs.declared.fault.RunFault.TheVariants.{Nothing, Write, NoMemory}
-use Rattle.run_record.specs.Fault.{fault_in, is_before_input, CountsLoads, CountsReadsAlone, CountsWrites}
+use Rattle.run_record.specs.Fault.{is_before_input, CountsReadsAlone, CountsWrites}
 use Rattle.run_record.specs.Report.{nothing_told}
 use Rattle.run_record.specs.Laws.Run.{Run, OverFile}
-use Rattle.wf_commands.specs.Once.{Ends, HasText, IsQuiet, OverPolicy}
-use Rattle.wf_commands.specs.Load.{EndsTooLong, IsLoadEnding}
+use Rattle.wf_commands.specs.Once.{Ends, HasText, IsQuiet}
+use Rattle.wf_commands.specs.Load.{EndsTooLong}
 use Rattle.wf_commands.specs.Answer as answer
 use Rattle.wf_commands.proofs.Runs.{ends_refused, loaded, no_writes, own_reads, quiet_refused}
-use Rattle.transcript_commands.specs.declared.finding.Finding.{Finding}
-use Rattle.transcript_commands.specs.Finding.{ending_of, finding_text}
-use Rattle.transcript_commands.specs.Audit.{AuditsPolicy, AuditsRun, EndsWithout, ReadsAsAudit}
-use Rattle.transcript_commands.specs.Steps.{FailsAs, FindsFile, HasTakenSome, HasToldPart, IsAuditEnding}
+use Rattle.transcript_commands.specs.Audit.{AuditsRun, ReadsAsAudit}
+use Rattle.transcript_commands.specs.Steps.{FailsAs, HasToldPart}
 
 -- ---- by the ending
 
@@ -112,10 +108,6 @@ untold_run policy requests lanes rounds r f NoMemory is fails finds named withou
   reads = rw is input;
 }
 untold_run policy requests lanes rounds r f fault is fails finds named without loads reads writes input nothing = absurd fails
-
--- nothing was found: so may every command end
-is_refusal : (fault : RunFault) → IsAuditEnding fault → answer.IsCommandEnding fault
-is_refusal fault ending = grind arith
 
 refused_early : (fault : RunFault) (before after : Option (List ℕ)) → IsAuditEnding fault → is_before_input fault ≡ true → ReadsAsAudit fault before after →
     after ≡ before

@@ -1,24 +1,17 @@
 -- The batch in which a session stopped, and those before it.
-use Rattle.std.proofs.Common.{◌≡◌, ℕ, suc, ◌+◌, ◌<◌, ◌≤◌, nat_le, nat_lt, true, false, inl, inr, List, [], ◌∷◌, ◌++◌, length, take, drop}
-use Rattle.std.proofs.Common.{slice_index_or, refl, sym, ap, subst, ◌∙◌, arith}
-use Rattle.std.proofs.Common.{◌⊎◌}
-use Rattle.std.proofs.lemmas.Bool.{le-ltb, lt-ltb}
-use Rattle.std.proofs.lemmas.List.{length-take-le, take-append-drop, take-take, take_more}
-use Rattle.basics.proofs.Booleans.{bool_cases, le_back, le_yes}
-use Rattle.wf_talk.specs.declared.entry.Entry.{Entry}
-use Rattle.wf_talk.specs.declared.job.Job.{Job}
-use Rattle.wf_board.specs.Laws.Histories.{EachAfter, FillsJobs, RestsFrom, batch_end, batch_jobs, batch_start}
+use Rattle.transcript_commands.proofs.Common.{◌≡◌, ℕ, suc, ◌+◌, ◌<◌, ◌≤◌, nat_lt, true, false, inl, inr, List, [], ◌∷◌, ◌++◌, length, take, slice_index_or}
+use Rattle.transcript_commands.proofs.Common.{refl, sym, ap, subst, ◌∙◌, arith, ◌⊎◌, le-ltb, lt-ltb, length-take-le, bool_cases, Entry, Job, batch_end}
+use Rattle.transcript_commands.proofs.Common.{batch_start, AreOfLanes, DeskShape, jobs_told, FillsPart, LeadTo, end_at, jobs_between, start_at, GoesOnAt}
+use Rattle.transcript_commands.proofs.Common.{Session, StandsAt, ends_to}
+use Rattle.std.proofs.Common.{nat_le, drop}
+use Rattle.std.proofs.lemmas.List.{take-append-drop, take-take, take_more}
+use Rattle.basics.proofs.Booleans.{le_back, le_yes}
+use Rattle.wf_board.specs.Laws.Histories.{EachAfter, FillsJobs, RestsFrom, batch_jobs}
 use Rattle.wf_desk.specs.BatchLaws.{EndAt}
-use Rattle.wf_desk.specs.Desks.{AreOfLanes, DeskShape, jobs_told}
-use Rattle.wf_desk.specs.Laws.Parts.{FillsPart}
 use Rattle.line_reader.specs.Cutter.{ends_after}
-use Rattle.line_reader.specs.Laws.{LeadTo}
 use Rattle.transcript_audit.proofs.Batches.{first_ends, part_length, start_first as front_start, start_rises}
 use Rattle.transcript_audit.proofs.Parts.{map_first}
-use Rattle.transcript_commands.specs.Unserved.{end_at, jobs_between, start_at}
-use Rattle.transcript_commands.specs.Resumed.{GoesOnAt, Session}
 use Rattle.transcript_commands.proofs.Rests.{answers_part, bounds_order, bounds_within, lanes_between}
-use Rattle.transcript_commands.specs.Laws.Begun.{StandsAt, ends_to}
 
 -- ---- how many ends are not behind a place
 

@@ -1,24 +1,19 @@
 -- A session that was taken up.
-use Rattle.std.proofs.Common.{◌≡◌, ℕ, ◌≤◌, true, List, [], None, Result, Err, length, take, refl, sym, ap, subst, ◌∙◌, arith}
-use Rattle.std.specs.Prelude.{IsErrAnd}
-use Rattle.policy_book.specs.Laws.Shapes.{PolicyShape}
+use Rattle.transcript_commands.proofs.Common.{◌≡◌, ℕ, ◌≤◌, true, List, [], None, Result, length, take, refl, sym, ap, subst, ◌∙◌, arith, IsErrAnd, PolicyShape}
+use Rattle.transcript_commands.proofs.Common.{CutText, Cut, jobs_of_input, AreInOrder, batch_start, RunFault, AuditFault, RefusesBy, Session, StandsAt, ends_to}
+use Rattle.transcript_commands.proofs.Common.{IsCutOf}
 use Rattle.policy_book.specs.Laws.Facts.{IsSoundPolicy}
-use Rattle.line_reader.specs.declared.jobs.CutText.{CutText}
-use Rattle.line_reader.specs.Jobs.{Cut, jobs_of_input, next_input, start_from}
-use Rattle.line_reader.specs.Laws.{AreInOrder, GoesOn, InputsGoOn}
-use Rattle.wf_board.specs.Laws.Histories.{batch_start}
+use Rattle.line_reader.specs.Jobs.{next_input, start_from}
+use Rattle.line_reader.specs.Laws.{GoesOn, InputsGoOn}
 use Rattle.line_reader.specs.BatchReader.{BatchReaderShape}
-use Rattle.run_record.specs.declared.fault.RunFault.{RunFault}
 use Rattle.run_record.specs.declared.fault.RunFault.TheVariants as run
-use Rattle.transcript_audit.specs.declared.fault.AuditFault.{AuditFault}
 use Rattle.transcript_audit.specs.declared.fault.AuditFault.TheVariants.{NoMemory}
-use Rattle.transcript_commands.specs.Resumed.{HasResumed, RefusesBy, Session}
+use Rattle.transcript_commands.specs.Resumed.{HasResumed}
 use Rattle.transcript_commands.specs.declared.start.Beginning.{Beginning}
 use Rattle.transcript_commands.specs.declared.start.TheConstants.{PIECE}
 use Rattle.transcript_commands.specs.declared.refusal.Refusal.{Refusal}
 use Rattle.transcript_commands.specs.declared.refusal.Refusal.TheVariants.{Ends}
-use Rattle.transcript_commands.specs.Laws.Begun.{BeginsBy, HasBegun, StandsAt, StopsBy, ends_to, session_of}
-use Rattle.transcript_commands.specs.Load.{IsCutOf}
+use Rattle.transcript_commands.specs.Laws.Begun.{BeginsBy, HasBegun, StopsBy, session_of}
 use Rattle.transcript_commands.specs.Refusal.{refused_by}
 use Rattle.transcript_commands.proofs.Stands.{desk_lanes, reaches, stands, told_jobs}
 
@@ -79,15 +74,6 @@ has_begun p lanes rounds requests transcript text next r b sound order law is go
     reads ∙ ap (λ n. record { cut = start_from lanes n; pending = []; room = PIECE }) is.behind in
     subst (λ x. HasBegun x cut transcript b) same
     (begun_at s cut transcript next r b sound order is.jobs is.ends (law requests (sym is.stop ∙ going)) resumed made at)
-
--- and where one was not
-pub not_begun : (s : Session) (cut : Cut) (transcript : List ℕ) (e : AuditFault) → RefusesBy s transcript e → BeginsBy s cut transcript (Err (refused_by e))
-not_begun s cut transcript e refused = grind arith
-
-pub refused_at : (p : PolicyShape) (lanes rounds : ℕ) (requests transcript : List ℕ) (text : CutText) (e : AuditFault) → IsCutOf requests lanes text
-    → RefusesBy (record { policy = p; lanes = lanes; rounds = rounds; jobs = text.batch.jobs; batch_ends = text.batch.ends }) transcript e
-    → BeginsBy (session_of p lanes rounds (jobs_of_input requests true lanes)) (jobs_of_input requests true lanes) transcript (Err (refused_by e))
-refused_at p lanes rounds requests transcript text e is refused = grind arith
 
 -- the answer of a call that failed so
 pub stopped : (result : Result Beginning Refusal) (fault : RunFault) → IsErrAnd result (λ x. x ≡ Ends fault) → StopsBy result fault

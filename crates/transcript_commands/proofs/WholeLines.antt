@@ -1,21 +1,13 @@
 -- The whole lines of a text, and its first line.
-use Rattle.std.proofs.Common.{◌≡◌, ◌≢◌, ℕ, zero, suc, ◌+◌, ◌-◌, ◌==◌, ◌<◌, ◌≤◌, Bool, true, false, List, [], ◌∷◌, length, take, drop, slice_index, Option, None}
-use Rattle.std.proofs.Common.{Some, refl, sym, ap, subst, ◌∙◌, arith}
-use Rattle.std.proofs.lemmas.Grind.{common_steps}
-use Rattle.std.proofs.lemmas.List.{drop_all, take_all}
-use Rattle.memchr.specs.Find.{IsFirstByte, is_byte}
-use Rattle.line_reader.specs.Reader.{behind_line, first_line, has_end}
-use Rattle.line_reader.specs.Steps.{FindsEnd}
-use Rattle.line_reader.proofs.FirstLines.{finds_end, open_line}
-use Rattle.transcript_commands.specs.Resumed.{whole_lines}
+use Rattle.transcript_commands.proofs.Common.{◌≡◌, ℕ, suc, ◌+◌, ◌-◌, ◌==◌, ◌<◌, ◌≤◌, Bool, true, false, List, [], ◌∷◌, length, take, Option, None, Some, refl}
+use Rattle.transcript_commands.proofs.Common.{sym, ap, subst, ◌∙◌, arith, common_steps, drop_all, take_all, IsFirstByte, is_byte, behind_line, first_line}
+use Rattle.transcript_commands.proofs.Common.{has_end, FindsEnd, finds_end, open_line, whole_lines}
+use Rattle.std.proofs.Common.{◌≢◌, zero, drop, slice_index}
 
 -- ---- up to the last LF
 
 not_ten : (b : ℕ) (x : Bool) → (b == 10) ≡ x → b ≢ 10 → x ≡ false
 not_ten b x is other = grind (arith, common_steps)
-
-is_ten : (b : ℕ) (x : Bool) → (b == 10) ≡ x → b ≡ 10 → x ≡ true
-is_ten b x is same = grind (arith, common_steps)
 
 -- without LF nothing has ended
 none_ended : (bytes : List ℕ) → ((k : ℕ) → k < length bytes → slice_index bytes k ≢ 10) → has_end bytes ≡ false

@@ -1,35 +1,26 @@
 -- How the entries of a batch follow those before.
-use Rattle.std.proofs.Common.{◌≡◌, ℕ, zero, suc, ◌+◌, ◌<◌, ◌≤◌, max, List, [], ◌∷◌, ◌++◌, length, take, drop, Option, Result, Ok, Err, OnOk, OnErr}
-use Rattle.std.proofs.Common.{IfErr, inl, inr, refl, sym, ◌∙◌, ap, subst, arith}
-use Rattle.std.proofs.lemmas.Grind.{common_steps}
-use Rattle.std.proofs.lemmas.List.{take-append-drop, take-append-le, take-take, take_all, append-nil, length-append, length-drop}
-use Rattle.std.proofs.lemmas.List.{length-take-le, get_or_append_left}
+use Rattle.wf_server.proofs.Common.{◌≡◌, ℕ, zero, suc, ◌+◌, ◌<◌, ◌≤◌, List, [], ◌∷◌, ◌++◌, length, take, Option, Result, Ok, Err, inl, inr, refl, sym, ◌∙◌, ap}
+use Rattle.wf_server.proofs.Common.{subst, arith, common_steps, take-append-drop, take_all, append-nil, length-append, length-take-le, get_or_append_left}
+use Rattle.wf_server.proofs.Common.{HasPart, more_put, PolicyShape, Entry, Job, opening_state, FillsJobs, batch_start, after_all, DeskShape, IsSoundDesk}
+use Rattle.wf_server.proofs.Common.{jobs_told, EndAt, ends_after, RunFault, Told, Setting, transcript_text, KeepsTexts, setting_of, Answered, entries_text}
+use Rattle.wf_server.proofs.Common.{told_of, HasAnsweredAll, HasAnsweredPart, HasLoaded, IsBatchAdded, AnswersTo, IsWriteEnding}
+use Rattle.std.proofs.Common.{max, drop, OnOk, OnErr}
+use Rattle.std.proofs.Common.{IfErr}
+use Rattle.std.proofs.lemmas.List.{take-append-le, take-take, length-drop}
 use Rattle.std.proofs.Math.Seq.{drop-append_seam, take-append_seam}
-use Rattle.wf_outside.specs.Laws.Outside.{with_bytes, HasPart}
-use Rattle.wf_outside.proofs.OutsideLaws.{more_put, part_all}
-use Rattle.policy_book.specs.Laws.Shapes.{PolicyShape}
-use Rattle.wf_talk.specs.declared.entry.Entry.{Entry}
-use Rattle.wf_talk.specs.declared.job.Job.{Job}
-use Rattle.wf_board.specs.Laws.States.{opening_state}
-use Rattle.wf_board.specs.Laws.Histories.{FillsJobs, batch_start, state_after}
-use Rattle.wf_board.proofs.HistoryLaws.{after_all}
-use Rattle.wf_desk.specs.Desks.{DeskShape, IsDone, IsSoundDesk, jobs_told, with_room}
-use Rattle.wf_desk.specs.BatchLaws.{AnswersBatch, AnswersNext, EndAt}
+use Rattle.wf_outside.specs.Laws.Outside.{with_bytes}
+use Rattle.wf_outside.proofs.OutsideLaws.{part_all}
+use Rattle.wf_board.specs.Laws.Histories.{state_after}
+use Rattle.wf_desk.specs.Desks.{IsDone, with_room}
+use Rattle.wf_desk.specs.BatchLaws.{AnswersBatch, AnswersNext}
 use Rattle.wf_desk.proofs.BatchLaws.{batch_fills}
 use Rattle.wf_desk.proofs.DocketLaws.{batch_done}
 use Rattle.wf_desk.specs.Schedules.{HasGrown}
 use Rattle.wf_desk.proofs.Ends.{end_more}
-use Rattle.line_reader.specs.Cutter.{ends_after}
-use Rattle.run_record.specs.declared.fault.RunFault.{RunFault}
 use Rattle.run_record.specs.declared.fault.RunFault.TheVariants as fault
-use Rattle.run_record.specs.Report.{Told}
-use Rattle.wf_server.specs.Sessions.{Setting, WritesPart, last_start, text_from}
-use Rattle.entry_laws.specs.Laws.Transcripts.{transcript_text}
-use Rattle.wf_server.specs.Names.{KeepsTexts}
-use Rattle.wf_server.specs.Ways.{setting_of}
-use Rattle.wf_server.specs.declared.batch.Answered.{Answered}
+use Rattle.wf_server.specs.Sessions.{WritesPart, last_start, text_from}
 use Rattle.wf_server.proofs.Names.{transcript_more}
-use Rattle.wf_server.specs.Batches.{entries_text, told_of, HasAnsweredAll, HasAnsweredPart, HasLoaded, IsBatchAdded, AnswersTo, LoadedTo, IsWriteEnding}
+use Rattle.wf_server.specs.Batches.{LoadedTo}
 
 -- ---- ends of batches
 

@@ -1,25 +1,15 @@
 -- How the batches of a requests file follow one another.
-use Rattle.std.proofs.Common.{◌≡◌, ℕ, ◌+◌, ◌<◌, ◌≤◌, List, length, take, slice_index_or, Option}
-use Rattle.std.proofs.Common.{Err, inl, inr, refl, sym, ap, subst, ◌∙◌, arith}
+use Rattle.wf_server.proofs.Common.{◌≡◌, ℕ, ◌+◌, ◌<◌, ◌≤◌, List, length, take, slice_index_or, Option, Err, inl, inr, refl, sym, ap, subst, ◌∙◌, arith}
+use Rattle.wf_server.proofs.Common.{drop_all, length-append, length-take-le, take_more, nothing_put, Job, batch_start, DeskShape, jobs_told, AreInOrder}
+use Rattle.wf_server.proofs.Common.{RunFault, Told, setting_of, Answered, told_of, AnswersTo, HasAnsweredPart, HasLoaded, IsBatchAdded, IsBatch, IsWriteEnding}
+use Rattle.wf_server.proofs.Common.{FileTo, IsToldTo}
 use Rattle.std.proofs.lemmas.Bool.{lt-ltb}
-use Rattle.std.proofs.lemmas.List.{drop_all, length-append, length-take-le, take_more}
-use Rattle.wf_outside.proofs.OutsideLaws.{nothing_put}
-use Rattle.wf_talk.specs.declared.job.Job.{Job}
-use Rattle.wf_board.specs.Laws.Histories.{batch_start}
-use Rattle.wf_desk.specs.Desks.{DeskShape, jobs_told}
-use Rattle.line_reader.specs.Laws.{AreInOrder}
 use Rattle.transcript_audit.proofs.Batches.{ends_within, next_start, end_read, part_length, start_ahead, start_within}
 use Rattle.transcript_commands.specs.Unserved.{jobs_between}
 use Rattle.transcript_commands.proofs.Rests.{lanes_between, near_from}
 use Rattle.transcript_commands.specs.Laws.Begun.{StandsAt}
 use Rattle.transcript_commands.proofs.Stands.{jobs_here}
-use Rattle.run_record.specs.declared.fault.RunFault.{RunFault}
 use Rattle.run_record.specs.declared.fault.RunFault.TheVariants as fault
-use Rattle.run_record.specs.Report.{Told}
-use Rattle.wf_server.specs.Ways.{setting_of}
-use Rattle.wf_server.specs.declared.batch.Answered.{Answered}
-use Rattle.wf_server.specs.Batches.{told_of, AnswersTo, HasAnsweredPart, HasLoaded, IsBatchAdded, IsBatch, IsWriteEnding}
-use Rattle.wf_server.specs.Files.{FileTo, IsToldTo}
 use Rattle.wf_server.proofs.SessionLaws.{lanes_of}
 
 -- ---- one batch

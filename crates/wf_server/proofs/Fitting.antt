@@ -1,28 +1,14 @@
 -- Every line that a session writes fits a line of an audit.
-use Rattle.std.proofs.Common.{◌≡◌, ℕ, ◌+◌, ◌<◌, ◌≤◌, ◌^◌, Bool, true, false, List, [], ◌++◌, length, take, drop, refl, sym, ap, subst, ◌∙◌, arith}
-use Rattle.std.proofs.lemmas.List.{length-append, take-append-drop}
-use Rattle.wf_names.specs.declared.limits.TheConstants.{LANE_LIMIT}
-use Rattle.policy_book.specs.Laws.Shapes.{PolicyShape}
-use Rattle.policy_reader.specs.File.{IsFilePolicy}
-use Rattle.wf_board.specs.Laws.States.{opening_state}
-use Rattle.wf_board.specs.Laws.Histories.{AreRightful, IsLegal, state_after}
-use Rattle.line_reader.specs.Jobs.{Cut, end_batch, flush, jobs_from, jobs_of_input, next_input, start}
-use Rattle.line_reader.specs.Laws.{AreNamedJobs, JobsAreInOrder}
-use Rattle.line_reader.specs.Laws.Naming.{JobsStayNamed}
-use Rattle.entry_reader.specs.Named.{HasNames}
-use Rattle.entry_laws.specs.Laws.Fits.{FitLines, LinesFit}
-use Rattle.entry_laws.specs.Laws.Transcripts.{texts_of}
-use Rattle.run_record.specs.declared.fault.RunFault.{RunFault}
-use Rattle.run_record.specs.Report.{Told}
-use Rattle.run_record.specs.Laws.Run.{Streams}
-use Rattle.command_words.specs.Laws.Words.{AreOptions, Options}
-use Rattle.transcript_commands.specs.declared.start.Beginning.{Beginning}
+use Rattle.wf_server.proofs.Common.{◌≡◌, ℕ, ◌+◌, ◌<◌, ◌≤◌, ◌^◌, Bool, true, false, List, [], ◌++◌, length, take, refl, sym, ap, subst, ◌∙◌, arith}
+use Rattle.wf_server.proofs.Common.{length-append, take-append-drop, LANE_LIMIT, PolicyShape, IsFilePolicy, opening_state, AreRightful, IsLegal, Cut}
+use Rattle.wf_server.proofs.Common.{jobs_of_input, next_input, start, AreNamedJobs, JobsAreInOrder, JobsStayNamed, HasNames, FitLines, LinesFit, texts_of}
+use Rattle.wf_server.proofs.Common.{RunFault, Told, Streams, AreOptions, Options, Beginning, HasBegun, session_of, AreInOrderFrom, setting_behind, Served}
+use Rattle.wf_server.proofs.Common.{Setting}
+use Rattle.std.proofs.Common.{drop}
+use Rattle.wf_board.specs.Laws.Histories.{state_after}
+use Rattle.line_reader.specs.Jobs.{end_batch, flush, jobs_from}
 use Rattle.transcript_commands.specs.declared.start.TheConstants.{PIECE}
-use Rattle.transcript_commands.specs.Laws.Begun.{HasBegun, session_of}
-use Rattle.wf_server.specs.Batches.{AreInOrderFrom}
-use Rattle.wf_server.specs.Laws.Resuming.{setting_behind}
 use Rattle.wf_server.specs.Laws.Serving.{setting}
-use Rattle.wf_server.specs.Sessions.{Served, Setting}
 use Rattle.wf_server.proofs.Handed.{answer_lines, lines_behind, nothing_open}
 
 -- what a session is served with, behind what was cut before

@@ -1,30 +1,24 @@
 -- The jobs of a session are handed over up to an end of a batch, and its entries answer lines.
-use Rattle.std.proofs.Common.{◌≡◌, ℕ, zero, suc, ◌<◌, ◌≤◌, ◌^◌, nat_eq, Bool, true, false, List, [], ◌∷◌, ◌++◌, length, take, drop, map, Option}
-use Rattle.std.proofs.Common.{inl, inr, if◌then◌else◌, refl, sym, ap, subst, ◌∙◌, arith}
-use Rattle.std.proofs.lemmas.Grind.{common_steps}
-use Rattle.std.proofs.lemmas.List.{length-append, length-map, length-take-le, take_all}
+use Rattle.wf_server.proofs.Common.{◌≡◌, ℕ, zero, suc, ◌<◌, ◌≤◌, ◌^◌, Bool, true, false, List, [], ◌∷◌, ◌++◌, length, take, map, Option, inl, inr, refl, sym}
+use Rattle.wf_server.proofs.Common.{ap, subst, ◌∙◌, arith, common_steps, length-append, length-take-le, take_all, LANE_LIMIT, Entry, Job, Cut, UpToAnEnd}
+use Rattle.wf_server.proofs.Common.{last_or, next_input, AreNamedJobs, GoesOn, LeadTo, Paused, ReadsBatch, FillsJobs, batch_start, EndAt, RunFault, Told}
+use Rattle.wf_server.proofs.Common.{ReadsFor, handed_in, AreInOrderFrom}
+use Rattle.std.proofs.Common.{nat_eq, drop}
+use Rattle.std.proofs.Common.{if◌then◌else◌}
+use Rattle.std.proofs.lemmas.List.{length-map}
 use Rattle.basics.proofs.Booleans.{eq_same, lt_no}
-use Rattle.wf_names.specs.declared.limits.TheConstants.{LANE_LIMIT, SESSION_LINE_LIMIT}
-use Rattle.wf_talk.specs.declared.entry.Entry.{Entry}
-use Rattle.wf_talk.specs.declared.job.Job.{Job}
+use Rattle.wf_names.specs.declared.limits.TheConstants.{SESSION_LINE_LIMIT}
 use Rattle.wf_talk.specs.Jobs.{AreOfLanes, IsNamedAsk}
-use Rattle.line_reader.specs.Jobs.{Cut, UpToAnEnd, cut_all, end_batch, end_full_batch, end_line, flush, jobs_from, last_or, next_input, step}
-use Rattle.line_reader.specs.Laws.{AddsNamed, AreLinesBelow, AreNamedJobs, GoesOn, LeadTo}
+use Rattle.line_reader.specs.Jobs.{cut_all, end_batch, end_full_batch, end_line, flush, jobs_from, step}
+use Rattle.line_reader.specs.Laws.{AddsNamed, AreLinesBelow}
 use Rattle.line_reader.proofs.CutLaws.{cut_all-append}
 use Rattle.line_reader.proofs.Order.{lead_last}
-use Rattle.line_reader.specs.declared.batch_reader.Paused.{Paused}
 use Rattle.line_reader.specs.declared.batch_reader.Paused.TheVariants as paused
-use Rattle.line_reader.specs.BatchReader.{ReadsBatch}
-use Rattle.wf_board.specs.Laws.Histories.{FillsJobs, batch_end, batch_jobs, batch_start, job_of_entry, lane_jobs}
-use Rattle.wf_desk.specs.BatchLaws.{EndAt}
-use Rattle.run_record.specs.declared.fault.RunFault.{RunFault}
+use Rattle.wf_board.specs.Laws.Histories.{batch_end, batch_jobs, job_of_entry, lane_jobs}
 use Rattle.run_record.specs.declared.fault.RunFault.TheVariants as fault
-use Rattle.run_record.specs.Report.{Told}
 use Rattle.transcript_audit.proofs.Batches.{first_ends, last_start}
 use Rattle.transcript_audit.proofs.Excludes.{EachJob, each_first, each_lane, each_rest}
 use Rattle.entry_laws.specs.Laws.Fits.{AreOfLines}
-use Rattle.wf_server.specs.Sessions.{ReadsFor, handed_in}
-use Rattle.wf_server.specs.Batches.{AreInOrderFrom}
 
 -- ---- up to an end of a batch
 

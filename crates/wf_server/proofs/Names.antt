@@ -1,26 +1,17 @@
 -- The entries of a legal history are written with the names of the policy after them all.
-use Rattle.std.proofs.Common.{◌≡◌, ℕ, ◌⊎◌, inl, inr, List, [], ◌∷◌, ◌++◌, refl, sym, ap, subst, ◌∙◌, append_assoc, arith}
-use Rattle.policy_book.specs.Laws.Shapes.{PolicyShape}
-use Rattle.wf_talk.specs.declared.entry.Entry.{Entry}
-use Rattle.wf_talk.specs.declared.request.Ask.{Ask}
-use Rattle.wf_talk.specs.declared.reply.Reply.{Reply}
+use Rattle.wf_server.proofs.Common.{◌≡◌, ℕ, ◌⊎◌, inl, inr, List, [], ◌∷◌, ◌++◌, refl, sym, ap, subst, ◌∙◌, append_assoc, arith, PolicyShape, Entry, Ask, Reply}
+use Rattle.wf_server.proofs.Common.{KeepsNames, State, opening_state, IsStep, EachAfter, IsRightAfter, after_all, IsSoundState, KeepsCompletable, reply_data}
+use Rattle.wf_server.proofs.Common.{DeskShape, IsSoundDesk, transcript_text, AreSerial, entries_text, KeepsTexts}
 use Rattle.wf_talk.specs.declared.reply.Reply.TheVariants as reply
-use Rattle.admin_edits.specs.Laws.Keeping.{KeepsNames}
 use Rattle.wf_board.specs.Boards.{state_on}
-use Rattle.wf_board.specs.Laws.States.{State, opening_state}
-use Rattle.wf_board.specs.Laws.Steps.{IsStep, state_after_step}
-use Rattle.wf_board.specs.Laws.Histories.{EachAfter, IsRightAfter, state_after}
-use Rattle.wf_board.proofs.HistoryLaws.{after_all, after_more, again_stays, each_later}
-use Rattle.wf_board.specs.Laws.Kept.{IsSoundState, KeepsCompletable}
+use Rattle.wf_board.specs.Laws.Steps.{state_after_step}
+use Rattle.wf_board.specs.Laws.Histories.{state_after}
+use Rattle.wf_board.proofs.HistoryLaws.{after_more, again_stays, each_later}
 use Rattle.wf_board.proofs.Keeping.{step_keeps}
-use Rattle.wire_json.specs.Replies.{entry_text, reply_data}
+use Rattle.wire_json.specs.Replies.{entry_text}
 use Rattle.wire_json.proofs.Lines.{text_same}
-use Rattle.wf_desk.specs.Desks.{DeskShape, IsSoundDesk}
-use Rattle.entry_laws.specs.Laws.Transcripts.{transcript_text}
 use Rattle.entry_laws.proofs.Names.{keeps_same, keeps_then, step_keeps_names}
-use Rattle.entry_laws.proofs.Numbers.{AreSerial, step_serial}
-use Rattle.wf_server.specs.Batches.{entries_text}
-use Rattle.wf_server.specs.Names.{KeepsTexts}
+use Rattle.entry_laws.proofs.Numbers.{step_serial}
 use Rattle.wf_server.proofs.NamesStep.{IsNamed, step_text}
 
 -- a reply is a step, or it is answered again

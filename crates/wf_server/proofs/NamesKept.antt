@@ -1,23 +1,17 @@
 -- What is written of what a policy has is the same with the names of a later policy that keeps those of the other.
-use Rattle.std.proofs.Common.{◌≡◌, ℕ, List, [], ◌∷◌, length, map, Bool, Option, refl, ap, ◌∙◌, codes, arith}
+use Rattle.wf_server.proofs.Common.{◌≡◌, ℕ, List, [], ◌∷◌, length, map, Bool, Option, refl, ap, ◌∙◌, codes, arith, get_or_append_left, array, object}
+use Rattle.wf_server.proofs.Common.{no_members, items_of, shape_of, PolicyShape, Face, Denial, KeepsNames, tree_data, strands_data}
 use Rattle.std.specs.List.{All}
-use Rattle.std.proofs.lemmas.List.{get_or_append_left}
-use Rattle.serde_json.specs.Data.{array, object, no_members, member}
-use Rattle.serde_json.specs.View.{items_of}
+use Rattle.serde_json.specs.Data.{member}
 use Rattle.wf_names.specs.declared.states.StepState.{StepState}
 use Rattle.refutation_tree.specs.Tree.{Shape, Kids, holder, rule, node, no_kids, tree_kid, twin_kid}
-use Rattle.refutation_tree.specs.Laws.Views.{shape_of}
-use Rattle.policy_book.specs.Laws.Shapes.{PolicyShape}
 use Rattle.policy_book.specs.Laws.Plans.{Problem, IsValidPlan}
-use Rattle.wf_talk.specs.declared.reply.Face.{Face}
-use Rattle.wf_talk.specs.declared.reply.Denial.{Denial}
 use Rattle.wf_talk.specs.declared.reply.Denial.TheVariants as denial
 use Rattle.wf_talk.specs.declared.reply.WorkItem.{WorkItem}
-use Rattle.admin_edits.specs.Laws.Keeping.{KeepsNames}
 use Rattle.wf_board.proofs.Below.{AllBelow, planned_below}
 use Rattle.wire_json.specs.Entries.{named, names_data, phase_data, plan_data, seen_data, single, state_data, step_data, user_data}
-use Rattle.wire_json.specs.Trees.{branches_data, node_data, tree_data}
-use Rattle.wire_json.specs.Replies.{denial_data, face_data, strands_data, work_data}
+use Rattle.wire_json.specs.Trees.{branches_data, node_data}
+use Rattle.wire_json.specs.Replies.{denial_data, face_data, work_data}
 use Rattle.entry_reader.specs.Laws.Within.{AreKids, IsDenial, IsState, IsTree, IsUser}
 use Rattle.entry_reader.proofs.PlainReplies.{all_first, all_more}
 

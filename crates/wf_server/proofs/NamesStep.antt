@@ -1,32 +1,21 @@
 -- What a step answers is written alike with the names of a later policy.
-use Rattle.std.proofs.Common.{◌≡◌, ℕ, ◌<◌, Bool, true, List, length, Option, Result, refl, sym, ap, subst, codes, arith}
-use Rattle.serde_json.specs.Data.{array, number, object, member, no_members, unsigned}
-use Rattle.serde_json.specs.View.{items_of}
+use Rattle.wf_server.proofs.Common.{◌≡◌, ℕ, ◌<◌, Bool, true, List, length, Option, Result, refl, sym, ap, subst, codes, arith, array, object, no_members}
+use Rattle.wf_server.proofs.Common.{items_of, shape_of, PolicyShape, Ask, Face, Denial, Reply, KeepsNames, State, IsStep, IsSoundState, KeepsCompletable}
+use Rattle.wf_server.proofs.Common.{tree_data, reply_data, strands_data, AreSerial}
+use Rattle.serde_json.specs.Data.{number, member, unsigned}
 use Rattle.refutation_tree.specs.declared.tree.Tree.{Tree}
-use Rattle.refutation_tree.specs.Laws.Views.{shape_of}
-use Rattle.policy_book.specs.Laws.Shapes.{PolicyShape}
 use Rattle.policy_book.specs.Policies.{problem_of}
 use Rattle.policy_book.specs.Laws.Refuting.{refutes}
-use Rattle.wf_talk.specs.declared.request.Ask.{Ask}
-use Rattle.wf_talk.specs.declared.reply.Face.{Face}
-use Rattle.wf_talk.specs.declared.reply.Denial.{Denial}
 use Rattle.wf_talk.specs.declared.reply.Denial.TheVariants as denial
-use Rattle.wf_talk.specs.declared.reply.Reply.{Reply}
 use Rattle.wf_talk.specs.declared.reply.Reply.TheVariants as reply
-use Rattle.admin_edits.specs.Laws.Keeping.{KeepsNames}
 use Rattle.wf_board.specs.declared.deed.Deed.{Deed}
 use Rattle.wf_board.specs.declared.deed.Deed.TheVariants as deed
-use Rattle.wf_board.specs.Laws.States.{State}
-use Rattle.wf_board.specs.Laws.Steps.{Answers, IsReplyTo, IsStep, face_of}
+use Rattle.wf_board.specs.Laws.Steps.{Answers, IsReplyTo, face_of}
 use Rattle.wf_board.specs.Decisions.{decision_of}
-use Rattle.wf_board.specs.Laws.Kept.{IsSoundState, KeepsCompletable}
 use Rattle.wf_board.proofs.Faring.{Fares}
 use Rattle.wf_board.proofs.Told.{HoldsOf, IsTold, told}
 use Rattle.wire_json.specs.Entries.{single}
-use Rattle.wire_json.specs.Trees.{tree_data}
-use Rattle.wire_json.specs.Replies.{reply_data, strands_data}
 use Rattle.entry_laws.specs.Laws.{flows_of}
-use Rattle.entry_laws.proofs.Numbers.{AreSerial}
 use Rattle.entry_laws.proofs.Parts.{case_stands, problem_fits}
 use Rattle.entry_laws.proofs.Stranded.{stranded_tree}
 use Rattle.entry_laws.proofs.Told.{FitsDenial, IsDeedFor, concern, decision_fares}

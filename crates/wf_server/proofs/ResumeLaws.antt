@@ -1,47 +1,37 @@
 -- A session behind the entries that were taken up, and the run of its command.
-use Rattle.std.proofs.Common.{◌≡◌, ℕ, zero, suc, ◌<◌, ◌≤◌, nat_lt, Bool, true, false, List, [], ◌∷◌, length, take, drop, slice_index_or, Option}
-use Rattle.std.proofs.Common.{Some, Result, Ok, Err, ◌&&◌, inl, inr, refl, sym, ap, subst, ◌∙◌, arith, ◌⊎◌}
-use Rattle.std.proofs.lemmas.Grind.{common_steps}
-use Rattle.std.proofs.lemmas.List.{take_all}
-use Rattle.wf_outside.specs.Laws.Outside.{Filed, HasTaken}
-use Rattle.wf_outside.proofs.OutsideLaws.{nothing_taken}
-use Rattle.wf_talk.specs.declared.entry.Entry.{Entry}
-use Rattle.wf_board.specs.Laws.Histories.{AreAnsweredOnce, AreRightful, IsLegal, state_after}
-use Rattle.wf_board.specs.Laws.{HistoriesAreExact, HistoriesKeepCompletable}
-use Rattle.wf_board.specs.Laws.States.{opening_state}
-use Rattle.wf_desk.specs.Desks.{AreOfLanes, DeskShape, jobs_told}
-use Rattle.line_reader.specs.Jobs.{Cut, UpToAnEnd, jobs_of_input, last_or, next_input, start_from}
-use Rattle.line_reader.specs.Laws.{AreInOrder, GoesOn}
-use Rattle.line_reader.specs.Laws.Naming.{JobsStayNamed}
-use Rattle.entry_reader.specs.Named.{HasNames}
-use Rattle.entry_laws.specs.Laws.Fits.{LinesFit}
-use Rattle.line_reader.specs.BatchReader.{BatchReaderShape}
-use Rattle.run_record.specs.declared.fault.RunFault.{RunFault}
+use Rattle.wf_server.proofs.Common.{◌≡◌, ℕ, zero, suc, ◌<◌, ◌≤◌, Bool, true, false, List, [], ◌∷◌, length, take, slice_index_or, Option, Result, Ok, Err, inl}
+use Rattle.wf_server.proofs.Common.{inr, refl, sym, ap, subst, ◌∙◌, arith, ◌⊎◌, common_steps, take_all, Filed, nothing_taken, Entry, AreAnsweredOnce}
+use Rattle.wf_server.proofs.Common.{AreRightful, IsLegal, HistoriesAreExact, HistoriesKeepCompletable, opening_state, DeskShape, jobs_told, Cut, UpToAnEnd}
+use Rattle.wf_server.proofs.Common.{jobs_of_input, last_or, next_input, AreInOrder, GoesOn, JobsStayNamed, HasNames, LinesFit, BatchReaderShape, RunFault}
+use Rattle.wf_server.proofs.Common.{is_before_input, CountsLoads, CountsWrites, Told, nothing_told, Run, IsUntouched, Streams, Beginning, HasBegun, session_of}
+use Rattle.wf_server.proofs.Common.{AreOptions, Options, ReadsFor, Served, Setting, handed_in, setting_of, Serves, AreInOrderFrom, HasAnsweredAll, IsServing}
+use Rattle.wf_server.proofs.Common.{IsWriteEnding, FileTo, IsToldTo, setting_behind}
+use Rattle.std.proofs.Common.{nat_lt, drop}
+use Rattle.std.proofs.Common.{Some, ◌&&◌}
+use Rattle.wf_outside.specs.Laws.Outside.{HasTaken}
+use Rattle.wf_board.specs.Laws.Histories.{state_after}
+use Rattle.wf_desk.specs.Desks.{AreOfLanes}
+use Rattle.line_reader.specs.Jobs.{start_from}
 use Rattle.run_record.specs.declared.fault.RunFault.TheVariants as fault
-use Rattle.run_record.specs.Fault.{how_of, is_before_input, CountsLoads, CountsReads, CountsWrites}
-use Rattle.run_record.specs.Report.{Told, nothing_told}
+use Rattle.run_record.specs.Fault.{how_of, CountsReads}
 use Rattle.run_record.specs.declared.outside.Outside.{Outside}
 use Rattle.run_record.specs.declared.report.Report.{Report}
-use Rattle.run_record.specs.Laws.Run.{Run, IsOrderly, IsUntouched, Streams, run_of, run_over, streams_of}
+use Rattle.run_record.specs.Laws.Run.{IsOrderly, run_of, run_over, streams_of}
 use Rattle.transcript_audit.specs.declared.fault.AuditKind.{AuditKind}
 use Rattle.transcript_commands.specs.Finding.{audit_fault_line}
 use Rattle.transcript_commands.specs.Resumed.{IsRefused, Session}
-use Rattle.transcript_commands.specs.declared.start.Beginning.{Beginning}
 use Rattle.transcript_commands.specs.declared.start.TheConstants.{PIECE}
 use Rattle.transcript_commands.specs.declared.refusal.Refusal.{Refusal}
 use Rattle.transcript_commands.specs.declared.refusal.Refusal.TheVariants.{Ends, Line}
-use Rattle.transcript_commands.specs.Laws.Begun.{BeginsBy, EndsBeginning, HasBegun, StopsBy, fault_by, session_of}
+use Rattle.transcript_commands.specs.Laws.Begun.{BeginsBy, EndsBeginning, StopsBy, fault_by}
 use Rattle.transcript_commands.specs.Load.{FileNames, OverFiles}
 use Rattle.transcript_commands.proofs.Files.{files_goal, files_map}
-use Rattle.command_words.specs.Laws.Words.{AreOptions, Command, Options, may_repeat}
+use Rattle.command_words.specs.Laws.Words.{Command, may_repeat}
 use Rattle.wf_server.specs.Runs.{DoesBy, HasRun, IsServedOnce, is_on_threads, rounds_of}
 use Rattle.transcript_audit.proofs.Batches.{last_start}
-use Rattle.wf_server.specs.Sessions.{ReadsFor, Served, Setting, handed_in}
-use Rattle.wf_server.specs.Ways.{ServesOnce, setting_of}
-use Rattle.wf_server.specs.Batches.{Serves, AreInOrderFrom, HasAnsweredAll, IsServing, IsWriteEnding}
-use Rattle.wf_server.specs.Files.{FileTo, IsToldTo}
-use Rattle.wf_server.specs.Laws.Resuming.{CountsRefusal, EndsBy, RefusesAs, ResumesFrom, ResumesRun, TellsAs, setting_behind}
-use Rattle.wf_server.proofs.SessionLaws.{lanes_of, late_reads, serves_kept}
+use Rattle.wf_server.specs.Ways.{ServesOnce}
+use Rattle.wf_server.specs.Laws.Resuming.{CountsRefusal, EndsBy, RefusesAs, ResumesFrom, ResumesRun, TellsAs}
+use Rattle.wf_server.proofs.SessionLaws.{lanes_of, serves_kept}
 use Rattle.wf_server.proofs.WayLaws.{once_legal}
 use Rattle.wf_server.proofs.Fitting.{behind_fits}
 use Rattle.wf_server.proofs.Handed.{nothing_open}
@@ -166,11 +156,6 @@ served_begun s cut transcript b d room before after told ending h keeps exact sa
     (subst (λ (x : Setting). IsLegal (opening_state x.policy) x.rounds told.entries) is legal)
     (subst (λ n. Serves set (next_input cut) n before after told ending) size
     (subst (λ (x : Setting). Serves x (next_input cut) room before after told ending) is serves))
-
--- how it ends
-pub late_begun : (set : Setting) (first : Cut) (room : ℕ) (before after : Streams) (told : Told) (ending : RunFault) →
-    Served set first room before after told ending → is_before_input ending ≡ false
-late_begun set first room before after told ending served = late_reads before.input after.input room (handed_in first told) ending served.reads
 
 -- ---- what was taken up
 

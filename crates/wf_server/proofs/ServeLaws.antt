@@ -1,29 +1,11 @@
 -- How a session stands over the file of its policy.
-use Rattle.std.proofs.Common.{◌≡◌, ℕ, List, false, Ok, Err, inr, arith}
-use Rattle.wf_outside.specs.Laws.Outside.{Filed, told, missing, untold}
-use Rattle.policy_book.specs.Laws.Shapes.{PolicyShape}
-use Rattle.policy_reader.specs.File.{IsFilePolicy}
-use Rattle.run_record.specs.declared.fault.RunFault.{RunFault}
-use Rattle.run_record.specs.Fault.{is_before_input, CountsLoads}
-use Rattle.run_record.specs.Laws.Run.{Run, IsUntouched, OverFile}
-use Rattle.wf_commands.specs.Load.{GivesPolicy, IsLoadEnding, PolicyOf}
+use Rattle.wf_server.proofs.Common.{◌≡◌, ℕ, List, false, Ok, Err, inr, arith, Filed, PolicyShape, IsFilePolicy, RunFault, is_before_input, CountsLoads, Run}
+use Rattle.wf_server.proofs.Common.{IsUntouched, start, Served, opening_state, AreRightful, FitLines, texts_of, AreOptions, Options}
+use Rattle.wf_outside.specs.Laws.Outside.{told, missing, untold}
+use Rattle.run_record.specs.Laws.Run.{OverFile}
+use Rattle.wf_commands.specs.Load.{GivesPolicy, IsLoadEnding}
 use Rattle.wf_server.specs.declared.serve.TheConstants.{PIECE}
-use Rattle.line_reader.specs.Jobs.{start}
-use Rattle.wf_server.specs.Sessions.{Served}
-use Rattle.wf_board.specs.Laws.States.{opening_state}
-use Rattle.wf_board.specs.Laws.Histories.{AreRightful}
-use Rattle.entry_laws.specs.Laws.Fits.{FitLines}
-use Rattle.entry_laws.specs.Laws.Transcripts.{texts_of}
-use Rattle.command_words.specs.Laws.Words.{AreOptions, Options}
-use Rattle.wf_server.specs.Laws.Serving.{setting, EndsBefore, ServesFile, ServesRun}
-
-ends_before : (file : List ℕ) (fault : RunFault) → PolicyOf file (Err fault) → IsLoadEnding fault → EndsBefore file fault
-ends_before file fault gives ending = grind arith
-
--- no policy was there
-pub not_served : (f : Filed) (options : Options) (r : Run) → GivesPolicy f (Err r.fault) → IsLoadEnding r.fault → IsUntouched r
-    → OverFile f r.fault (λ file. ServesFile file options r)
-not_served f options r gives ending nothing = grind (arith, ends_before)
+use Rattle.wf_server.specs.Laws.Serving.{setting, ServesFile, ServesRun}
 
 -- and so the run ended
 pub refused_run : (policy : List ℕ) (options : Options) (r : Run) (fault : RunFault) → r.fault ≡ fault → GivesPolicy (r.files policy) (Err fault) →

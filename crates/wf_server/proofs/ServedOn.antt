@@ -1,20 +1,13 @@
 -- A desk that is served on, step by step.
-use Rattle.std.proofs.Common.{◌≡◌, ◌<◌, List, None, drop, length, take, refl, sym, subst, arith}
-use Rattle.std.proofs.lemmas.List.{drop_all, take_all}
-use Rattle.wf_talk.specs.declared.entry.Entry.{Entry}
-use Rattle.wf_talk.specs.declared.job.Job.{Job}
-use Rattle.line_reader.specs.declared.batch_reader.Paused.{Paused}
+use Rattle.wf_server.proofs.Common.{◌≡◌, ◌<◌, List, length, take, refl, sym, subst, arith, drop_all, take_all, Entry, Job, Paused, BatchReaderShape}
+use Rattle.wf_server.proofs.Common.{AreAnsweredOnce, DeskShape, IsSoundDesk, Told, Answered, ending_after, told_of, setting_of}
+use Rattle.std.proofs.Common.{None, drop}
 use Rattle.line_reader.specs.declared.batch_reader.Paused.TheVariants as paused
-use Rattle.line_reader.specs.BatchReader.{BatchReaderShape, GoesOnReading}
-use Rattle.wf_board.specs.Laws.Histories.{AreAnsweredOnce}
-use Rattle.wf_desk.specs.Desks.{AreOfLanes, DeskShape, IsSoundDesk}
-use Rattle.run_record.specs.Report.{Told}
-use Rattle.wf_server.specs.declared.batch.Answered.{Answered}
-use Rattle.wf_server.specs.Batches.{ending_after, told_of}
+use Rattle.line_reader.specs.BatchReader.{GoesOnReading}
+use Rattle.wf_desk.specs.Desks.{AreOfLanes}
 use Rattle.wf_server.specs.Batch.{CanBeServed, IsServedOn}
 use Rattle.wf_server.specs.GoingOn.{GoOnBehind}
 use Rattle.wf_server.specs.Session.{AreBehind}
-use Rattle.wf_server.specs.Ways.{setting_of}
 
 -- a desk that is as it was
 pub same_on : (Leaves : DeskShape → DeskShape → Type 0) (d : DeskShape) → IsServedOn Leaves d d

@@ -1,36 +1,25 @@
 -- How the batches of a session follow one another.
-use Rattle.std.proofs.Common.{◌≡◌, ℕ, ◌+◌, ◌<◌, ◌≤◌, false, List, [], ◌∷◌, ◌++◌, length, take, drop, Option, Err, refl, sym, ◌∙◌, ap, subst, arith}
-use Rattle.std.proofs.Common.{append_assoc}
+use Rattle.wf_server.proofs.Common.{◌≡◌, ℕ, ◌+◌, ◌<◌, ◌≤◌, false, List, [], ◌∷◌, ◌++◌, length, take, Option, Err, refl, sym, ◌∙◌, ap, subst, arith}
+use Rattle.wf_server.proofs.Common.{append_assoc, length-append, take-append-drop, nothing_taken, nothing_put, Job, Cut, start, last_or, ends_after}
+use Rattle.wf_server.proofs.Common.{JobsAreInOrder, LeadTo, Paused, BatchReaderShape, ReadsBatch, opening_state, FillsJobs, IsLegal, DeskShape, jobs_told}
+use Rattle.wf_server.proofs.Common.{PolicyShape, HistoriesAreExact, HistoriesKeepCompletable, RunFault, is_before_input, CountsWrites, Told, nothing_told}
+use Rattle.wf_server.proofs.Common.{Streams, ReadsFor, Served, Setting, handed_in, setting_of, Answered, Serves, told_of, AreInOrderFrom, HasAnsweredAll}
+use Rattle.wf_server.proofs.Common.{IsBatchAdded, IsBatch, AnswersTo, IsServing, IsWriteEnding, ending_after}
+use Rattle.std.proofs.Common.{drop}
 use Rattle.std.specs.Prelude.{◌≢◌}
-use Rattle.std.proofs.lemmas.List.{length-append, length-take, take-append-drop}
+use Rattle.std.proofs.lemmas.List.{length-take}
 use Rattle.wf_names.specs.declared.limits.TheConstants.{BATCH_LINE_LIMIT}
 use Rattle.wf_outside.specs.Laws.Outside.{with_bytes}
-use Rattle.wf_outside.proofs.OutsideLaws.{nothing_taken, nothing_put}
-use Rattle.wf_talk.specs.declared.job.Job.{Job}
 use Rattle.line_reader.specs.declared.stop.Stop.TheVariants as stop
-use Rattle.line_reader.specs.Jobs.{Cut, start, jobs_from, last_or}
-use Rattle.line_reader.specs.Cutter.{ends_after}
-use Rattle.line_reader.specs.Laws.{JobsAreInOrder, LeadTo}
-use Rattle.line_reader.specs.declared.batch_reader.Paused.{Paused}
+use Rattle.line_reader.specs.Jobs.{jobs_from}
 use Rattle.line_reader.specs.declared.batch_reader.Paused.TheVariants as paused
-use Rattle.line_reader.specs.BatchReader.{BatchReaderShape, Handed, handed_more, HasRead, IsReadUp, ReadsBatch, CountsPause}
-use Rattle.wf_board.specs.Laws.States.{opening_state}
-use Rattle.wf_board.specs.Laws.Histories.{FillsJobs, IsLegal}
-use Rattle.wf_desk.specs.Desks.{AreOfLanes, DeskShape, desk_with, jobs_told}
+use Rattle.line_reader.specs.BatchReader.{Handed, handed_more, HasRead, IsReadUp, CountsPause}
+use Rattle.wf_desk.specs.Desks.{AreOfLanes, desk_with}
 use Rattle.wf_desk.proofs.DocketLaws.{first_of_lanes}
 use Rattle.policy_book.specs.Laws.Facts.{IsSoundPolicy}
-use Rattle.policy_book.specs.Laws.Shapes.{PolicyShape}
-use Rattle.wf_board.specs.Laws.{HistoriesAreExact, HistoriesKeepCompletable}
-use Rattle.run_record.specs.declared.fault.RunFault.{RunFault}
 use Rattle.run_record.specs.declared.fault.RunFault.TheVariants as fault
-use Rattle.run_record.specs.Fault.{is_before_input, CountsWrites}
-use Rattle.run_record.specs.Report.{Told, nothing_told}
-use Rattle.run_record.specs.Laws.Run.{Streams}
-use Rattle.wf_server.specs.Sessions.{ReadsFor, Served, Setting, handed_in, text_from}
-use Rattle.wf_server.specs.Ways.{setting_of}
-use Rattle.wf_server.specs.declared.batch.Answered.{Answered}
-use Rattle.wf_server.specs.Batches.{Serves, told_of, AreInOrderFrom, HasAnsweredAll, IsBatchAdded, IsBatch, AnswersTo, IsServing, BatchEnds, IsWriteEnding}
-use Rattle.wf_server.specs.Batches.{ending_after}
+use Rattle.wf_server.specs.Sessions.{text_from}
+use Rattle.wf_server.specs.Batches.{BatchEnds}
 use Rattle.wf_server.proofs.BatchLaws.{ends_some, writes_whole}
 
 -- no count of faults falls

@@ -1,11 +1,9 @@
 -- What comes of a way of serving.
-use Rattle.std.proofs.Common.{◌≡◌, ℕ, List, [], ◌∷◌, ◌++◌, drop, subst, arith}
+use Rattle.wf_server.proofs.Common.{◌≡◌, ℕ, List, [], ◌∷◌, ◌++◌, subst, arith, Entry, AreAnsweredOnce, EachAfter, IsLegal, IsRightAfter, State, DeskShape}
+use Rattle.wf_server.proofs.Common.{IsSoundDesk}
+use Rattle.std.proofs.Common.{drop}
 use Rattle.std.proofs.lemmas.List.{drop-append-le}
-use Rattle.wf_talk.specs.declared.entry.Entry.{Entry}
-use Rattle.wf_board.specs.Laws.Histories.{AreAnsweredOnce, EachAfter, IsLegal, IsRightAfter}
 use Rattle.wf_board.proofs.HistoryLaws.{once_all, step_once}
-use Rattle.wf_board.specs.Laws.States.{State}
-use Rattle.wf_desk.specs.Desks.{DeskShape, IsSoundDesk}
 use Rattle.wf_lanes.specs.Turns.{HasServedOn}
 
 -- where no entry so far is a repetition, none is after serving by turns
