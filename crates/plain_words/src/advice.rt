@@ -4,12 +4,31 @@ ghost use Rattle.std.specs.Prelude.{◌<◌, length};
 use crate::lists::{flow_name, name_of, step_name, text_of, users_text};
 use crate::one_way::push_one_way;
 use crate::rules::relation_name;
-use crate::texts::{joined, say};
+use crate::texts::say;
 use constraint_forms::Rule;
 use policy_book::{Course, Policy};
 use rule_core::are_parted;
-use std::alloc::{AllocError, Global};
+use std::alloc::AllocError;
 use wf_names::{FlowId, RelId, RoleId, StepId, UserId, UserSet};
+
+// What a workflow may say: that a step is permitted to a role, or that a rule reads a relation.
+#[derive(Clone, Copy)]
+enum Said {
+    Permits(RoleId),
+    Reads(RelId),
+}
+
+// What is probably not meant by a rule.
+#[derive(Clone, Copy)]
+enum Slip {
+    // The step is to be done by others than those who do it.
+    OwnGroup(StepId),
+    // The relation leads from nobody who may do the first step to anybody who may do the second,
+    // but the other way.
+    Turned(StepId, StepId),
+    // The user may do both steps, since a complement holds of each user and themselves.
+    Both(UserId, StepId, StepId),
+}
 
 /// Adds a line for each thing in a policy that is legal and probably not meant, each behind this
 /// front. Whether a workflow has a plan is not looked at.
@@ -20,7 +39,6 @@ pub fn push_advice(out: &mut String, front: &str, p: &Policy) -> Result<(), Allo
     }
     for rho in 2..(p.relations().count() as u16 + 2).min(256) {
         push_relation(out, front, p, RelId(rho as u8))?;
-        push_one_way(out, front, p, RelId(rho as u8))?;
     }
     for f in 0..p.flows().len() {
         push_flow(out, front, &course_of(p, FlowId(f as u8)))?;
@@ -36,18 +54,6 @@ fn course_of(p: &Policy, f: FlowId) -> Course<'_>
         policy: p,
         number: f,
     }
-}
-
-// Whether one of the policy's workflows is so.
-fn some_course<F: Fn(&Course<'_>) -> bool>(p: &Policy, is_so: F) -> bool
-    requires { F.IsAlwaysCallable is_so }
-{
-    for f in 0..p.flows().len() {
-        if is_so(&course_of(p, FlowId(f as u8))) {
-            return true;
-        }
-    }
-    false
 }
 
 // One administrator alone.
@@ -67,7 +73,7 @@ fn push_admin(out: &mut String, front: &str, p: &Policy) -> Result<(), AllocErro
 
 // A role that permits nothing and does not administer the policy.
 fn push_role(out: &mut String, front: &str, p: &Policy, r: RoleId) -> Result<(), AllocError> {
-    if r == p.admin() || some_course(p, |course| permits_in(course, r)) {
+    if r == p.admin() || is_said(p, &Said::Permits(r)) {
         return Ok(());
     }
     let role = name_of(p.roster().roles(), r.0 as u16);
@@ -82,6 +88,23 @@ fn push_role(out: &mut String, front: &str, p: &Policy, r: RoleId) -> Result<(),
     )
 }
 
+// Whether a workflow of the policy says so.
+fn is_said(p: &Policy, said: &Said) -> bool {
+    for f in 0..p.flows().len() {
+        if says(&course_of(p, FlowId(f as u8)), said) {
+            return true;
+        }
+    }
+    false
+}
+
+fn says(course: &Course, said: &Said) -> bool {
+    match said {
+        Said::Permits(r) => permits_in(course, *r),
+        Said::Reads(rho) => is_read_in(course, *rho),
+    }
+}
+
 fn permits_in(course: &Course, r: RoleId) -> bool {
     let flow = course.flow();
     for s in 0..flow.steps().len().min(256) {
@@ -92,16 +115,17 @@ fn permits_in(course: &Course, r: RoleId) -> bool {
     false
 }
 
-// A relation that no rule reads, nor a complement that a rule reads.
+// A relation that no rule reads, nor a complement that a rule reads; and a pair of it that stands
+// one way only.
 fn push_relation(out: &mut String, front: &str, p: &Policy, rho: RelId) -> Result<(), AllocError> {
-    if some_course(p, |course| is_read_in(course, rho)) {
-        return Ok(());
+    if !is_said(p, &Said::Reads(rho)) {
+        let name = relation_name(p, rho);
+        say(
+            out,
+            &[front, "relation ", text_of(&name), ": no rule reads it\n"],
+        )?;
     }
-    let name = relation_name(p, rho);
-    say(
-        out,
-        &[front, "relation ", text_of(&name), ": no rule reads it\n"],
-    )
+    push_one_way(out, front, p, rho)
 }
 
 fn is_read_in(course: &Course, rho: RelId) -> bool {
@@ -144,78 +168,43 @@ fn push_step(out: &mut String, front: &str, course: &Course, s: StepId) -> Resul
 
 // What may not be meant by a rule.
 fn push_rule(out: &mut String, front: &str, course: &Course, k: usize) -> Result<(), AllocError> {
-    let Some(words) = rule_advice(*out.allocator(), course, k)? else {
+    let Some(slip) = slip_of(course, k) else {
         return Ok(());
     };
     let flow = flow_name(course);
-    write!(
-        out,
-        "{front}workflow {}, rule {k}: {words}\n",
-        text_of(&flow)
-    )
+    say(out, &[front, "workflow ", text_of(&flow), ", rule "])?;
+    write!(out, "{k}: ")?;
+    push_slip(out, course, slip)
 }
 
-fn rule_advice(alloc: Global, course: &Course, k: usize) -> Result<Option<String>, AllocError> {
+fn slip_of(course: &Course, k: usize) -> Option<Slip> {
     match course.rules().as_slice().get(k) {
-        Some(Rule::Pair { rho, first, second }) => pair_advice(
-            alloc, course, *rho, *first, *second,
-        ),
+        Some(Rule::Pair { rho, first, second }) => pair_slip(course, *rho, *first, *second),
         Some(Rule::AllOf { rho, group, step } | Rule::AllTo { rho, group, step }) => {
             if *rho == RelId::OTHER && group.has(*step) {
-                return own_group(alloc, course, *step);
+                return Some(Slip::OwnGroup(*step));
             }
-            Ok(None)
+            None
         }
-        _ => Ok(None),
+        _ => None,
     }
 }
 
-// A step that is to be done by others than those who do it.
-fn own_group(alloc: Global, course: &Course, s: StepId) -> Result<Option<String>, AllocError> {
-    let step = step_name(course, s);
-    let words = joined(
-        alloc,
-        &[
-            text_of(&step),
-            " is in its own group, so nobody can meet the rule",
-        ],
-    )?;
-    Ok(Some(words))
-}
-
-fn pair_advice(
-    alloc: Global,
-    course: &Course,
-    rho: RelId,
-    first: StepId,
-    second: StepId,
-) -> Result<Option<String>, AllocError> {
-    let (from, to) = (
-        course.authorised_users(first),
-        course.authorised_users(second),
-    );
-    if course.policy.relations().complement_of(rho).is_some() {
-        return both_advice(alloc, course, rho, &from, &to, (first, second));
+fn pair_slip(course: &Course, rho: RelId, first: StepId, second: StepId) -> Option<Slip> {
+    let p = course.policy;
+    let from = course.authorised_users(first);
+    let to = course.authorised_users(second);
+    if p.relations().complement_of(rho).is_some() {
+        if are_parted(course, first, second) {
+            return None;
+        }
+        let user = both_user(p, rho, &from, &to)?;
+        return Some(Slip::Both(user, first, second));
     }
-    if leads(course.policy, rho, &from, &to) || !leads(course.policy, rho, &to, &from) {
-        return Ok(None);
+    if leads(p, rho, &from, &to) || !leads(p, rho, &to, &from) {
+        return None;
     }
-    Ok(Some(turned_words(alloc, course, first, second)?))
-}
-
-// That a relation leads the other way.
-fn turned_words(
-    alloc: Global,
-    course: &Course,
-    first: StepId,
-    second: StepId,
-) -> Result<String, AllocError> {
-    let x = step_name(course, first);
-    let y = step_name(course, second);
-    let front = "the relation leads from nobody who may do ";
-    let end = ", but the other way; exchange first and second?";
-    let middle = " to anybody who may do ";
-    joined(alloc, &[front, text_of(&x), middle, text_of(&y), end])
+    Some(Slip::Turned(first, second))
 }
 
 // Whether a relation holds from some user of a set to one of another.
@@ -237,24 +226,6 @@ fn leads_from(p: &Policy, rho: RelId, u: UserId, to: &UserSet) -> bool {
     false
 }
 
-// That one user may do both steps of a pair, since a complement holds of the user and themselves.
-fn both_advice(
-    alloc: Global,
-    course: &Course,
-    rho: RelId,
-    from: &UserSet,
-    to: &UserSet,
-    steps: (StepId, StepId),
-) -> Result<Option<String>, AllocError> {
-    if are_parted(course, steps.0, steps.1) {
-        return Ok(None);
-    }
-    match both_user(course.policy, rho, from, to) {
-        Some(u) => Ok(Some(both_words(alloc, course, u, steps)?)),
-        None => Ok(None),
-    }
-}
-
 // The first user of both sets of whom a relation holds with themselves.
 fn both_user(p: &Policy, rho: RelId, from: &UserSet, to: &UserSet) -> Option<UserId> {
     for u in 0..p.roster().users().len() {
@@ -266,28 +237,35 @@ fn both_user(p: &Policy, rho: RelId, from: &UserSet, to: &UserSet) -> Option<Use
     None
 }
 
-fn both_words(
-    alloc: Global,
+fn push_slip(out: &mut String, course: &Course, slip: Slip) -> Result<(), AllocError> {
+    match slip {
+        Slip::OwnGroup(step) => {
+            let step = step_name(course, step);
+            let end = " is in its own group, so nobody can meet the rule\n";
+            say(out, &[text_of(&step), end])
+        }
+        Slip::Turned(first, second) => {
+            let (x, y) = (step_name(course, first), step_name(course, second));
+            let front = "the relation leads from nobody who may do ";
+            let middle = " to anybody who may do ";
+            let end = ", but the other way; exchange first and second?\n";
+            say(out, &[front, text_of(&x), middle, text_of(&y), end])
+        }
+        Slip::Both(user, first, second) => push_both(out, course, user, first, second),
+    }
+}
+
+fn push_both(
+    out: &mut String,
     course: &Course,
     u: UserId,
-    steps: (StepId, StepId),
-) -> Result<String, AllocError> {
-    let (first, second) = steps;
+    first: StepId,
+    second: StepId,
+) -> Result<(), AllocError> {
     let user = name_of(course.policy.roster().users(), u.0);
-    let x = step_name(course, first);
-    let y = step_name(course, second);
-    let end =
-        ", since a complement holds of each user and themselves; add a rule with other if that \
-               is not meant";
-    joined(
-        alloc,
-        &[
-            text_of(&user),
-            " may do both ",
-            text_of(&x),
-            " and ",
-            text_of(&y),
-            end,
-        ],
-    )
+    let (x, y) = (step_name(course, first), step_name(course, second));
+    let (x, y) = (text_of(&x), text_of(&y));
+    let end = ", since a complement holds of each user and themselves; add a rule with other if \
+               that is not meant\n";
+    say(out, &[text_of(&user), " may do both ", x, " and ", y, end])
 }

@@ -3,8 +3,8 @@
 
 use policy_reader::{PolicyFault, PolicyPart, ReadFault, read};
 use std::alloc::{AllocError, Global};
-use toml::Table;
 use toml::ser::Error;
+use toml::{Table, Value};
 use wf_names::RULE_LIMIT;
 
 /// The number of the rule that has this fault of a workflow, counted from 1; 0 where no rule has
@@ -46,14 +46,17 @@ fn last_rule(
 
 // Takes out the last rule of a workflow; how many are left.
 fn pop_rule(table: &mut Table, flow: &str) -> Option<usize> {
-    let rules = table
-        .get_mut("flows")?
-        .get_mut(flow)?
-        .get_mut("rules")?
-        .as_array_mut()?;
-    match rules.pop() {
-        Some(_) => Some(rules.len()),
-        None => None,
+    pop_in(table.get_mut("flows")?.get_mut(flow)?)
+}
+
+fn pop_in(flow: &mut Value) -> Option<usize> {
+    match flow.get_mut("rules") {
+        Some(Value::Array(rules)) => {
+            let left = rules.len().checked_sub(1)?;
+            rules.truncate(left);
+            Some(left)
+        }
+        _ => None,
     }
 }
 

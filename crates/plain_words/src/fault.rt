@@ -4,8 +4,8 @@ use crate::culprit::faulty_rule;
 use crate::marks::{Marked, marks_of};
 use crate::nearest::{is_key, nearest_key, nearest_word};
 use crate::place::{Keys, Span, keys_of, place_of};
-use crate::shown::{shown, spot_of};
-use crate::texts::joined;
+use crate::shown::{push_shown, spot_of};
+use crate::texts::{joined, say};
 use policy_reader::{PolicyFault, PolicyKind, PolicyPart};
 use std::alloc::{AllocError, Global};
 use toml::Table;
@@ -70,6 +70,17 @@ fn table_fault(
         text: text.as_bytes(),
         marks: &marks,
     };
+    marked_fault(alloc, file, text, marked, keys, fault)
+}
+
+fn marked_fault(
+    alloc: Global,
+    file: &str,
+    text: &str,
+    marked: Marked<'_>,
+    keys: Keys<'_>,
+    fault: &PolicyFault,
+) -> Result<String, AllocError> {
     let span = place_of(marked, keys, fault);
     let words = words_of(alloc, marked, keys, fault)?;
     told(alloc, file, text, span, fault.kind.word(), words.as_str())
@@ -83,12 +94,10 @@ fn told(
     kind: &str,
     words: &str,
 ) -> Result<String, AllocError> {
-    let place = place_text(alloc, file, text.as_bytes(), span.start)?;
-    let line = shown(alloc, text, span)?;
-    joined(
-        alloc,
-        &[place.as_str(), kind, ": ", words, "\n", line.as_str()],
-    )
+    let mut out = place_text(alloc, file, text.as_bytes(), span.start)?;
+    say(&mut out, &[kind, ": ", words, "\n"])?;
+    push_shown(&mut out, text, span)?;
+    Ok(out)
 }
 
 // What is wrong, and where by name.
@@ -114,10 +123,10 @@ fn push_part(out: &mut String, keys: Keys<'_>, fault: &PolicyFault) -> Result<()
     } else {
         front
     };
-    if keys.rule > 0 {
-        return write!(out, ", in rule {} of {part}{item}", keys.rule - 1);
+    match keys.rule.checked_sub(1) {
+        Some(k) => write!(out, ", in rule {k} of {part}{item}"),
+        None => write!(out, ", in {part}{item}"),
     }
-    write!(out, ", in {part}{item}")
 }
 
 // What stands before the name of an item; empty where items of the part have none.
@@ -162,9 +171,9 @@ fn push_near(out: &mut String, kind: PolicyKind, meant: &str) -> Result<(), Allo
     if meant.is_empty() || is_missing && is_key(meant) {
         Ok(())
     } else if is_missing {
-        write!(out, "; there is \"{meant}\"")
+        say(out, &["; there is \"", meant, "\""])
     } else {
-        write!(out, ". Did you mean \"{meant}\"?")
+        say(out, &[". Did you mean \"", meant, "\"?"])
     }
 }
 

@@ -19,8 +19,8 @@ mod why;
 pub use advice::push_advice;
 pub use fault::fault_text;
 pub use lists::{
-    counted, flow_name, flow_text, group_text, name_of, name_text, number_text, push_gap,
-    step_name, step_text, steps_text, text_of, users_text,
+    counted, flow_name, flow_text, group_text, name_of, name_text, push_gap, step_name, steps_text,
+    text_of, users_text,
 };
 pub use rules::{relation_name, rule_text};
 pub use texts::{joined, say};

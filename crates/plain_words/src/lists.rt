@@ -1,5 +1,6 @@
 //! Names, and lists of names, as texts.
 
+use crate::texts::say;
 use constraint_forms::StepSet;
 use policy_book::{Course, Policy};
 use std::alloc::{AllocError, Global};
@@ -43,11 +44,6 @@ pub fn name_text(alloc: Global, names: &NameTable, n: u16) -> Result<String, All
     String::from_str(alloc, text_of(&name_of(names, n)))
 }
 
-/// The name of a step.
-pub fn step_text(alloc: Global, course: &Course, s: StepId) -> Result<String, AllocError> {
-    name_text(alloc, course.flow().steps(), s.0 as u16)
-}
-
 /// The name of a workflow.
 pub fn flow_text(alloc: Global, p: &Policy, f: FlowId) -> Result<String, AllocError> {
     name_text(alloc, p.flows(), f.0 as u16)
@@ -65,8 +61,7 @@ pub fn group_text(
     let steps = course.flow().steps();
     for s in 0..steps.len().min(256) {
         if group.has(StepId(s as u8)) {
-            push_gap(&mut text, place, group.count() as u32, last)?;
-            push_name(&mut text, steps, s)?;
+            push_item(&mut text, place, group.count() as u32, last, steps, s)?;
             place = place.saturating_add(1);
         }
     }
@@ -78,9 +73,9 @@ pub fn steps_text(alloc: Global, course: &Course, some: &[StepId]) -> Result<Str
     let mut text = String::new(alloc);
     let mut place = 0u32;
     let count = some.len().min(256) as u32;
+    let steps = course.flow().steps();
     for s in some {
-        push_gap(&mut text, place, count, "and")?;
-        push_name(&mut text, course.flow().steps(), s.0 as u16)?;
+        push_item(&mut text, place, count, "and", steps, s.0 as u16)?;
         place = place.saturating_add(1);
     }
     Ok(text)
@@ -107,17 +102,11 @@ fn first_users(
     let mut place = 0u32;
     for u in 0..names.len() {
         if users.has(UserId(u)) && place < shown {
-            push_gap(&mut text, place, users.count(), "and")?;
-            push_name(&mut text, names, u)?;
+            push_item(&mut text, place, users.count(), "and", names, u)?;
             place = place.saturating_add(1);
         }
     }
     Ok(text)
-}
-
-/// A number in digits.
-pub fn number_text(alloc: Global, number: u64) -> Result<String, AllocError> {
-    format!(in alloc; "{number}")
 }
 
 /// A number of things, as `1 step` and `2 steps`.
@@ -126,7 +115,16 @@ pub fn counted(alloc: Global, count: u64, what: &str) -> Result<String, AllocErr
     format!(in alloc; "{count} {what}{end}")
 }
 
-fn push_name(text: &mut String, names: &NameTable, n: u16) -> Result<(), AllocError> {
+// Adds a name of a list, behind what stands before it.
+fn push_item(
+    text: &mut String,
+    place: u32,
+    count: u32,
+    last: &str,
+    names: &NameTable,
+    n: u16,
+) -> Result<(), AllocError> {
+    push_gap(text, place, count, last)?;
     text.push_str(text_of(&name_of(names, n)))
 }
 
@@ -138,5 +136,5 @@ pub fn push_gap(text: &mut String, place: u32, count: u32, last: &str) -> Result
     if place.saturating_add(1) < count {
         return text.push_str(", ");
     }
-    write!(text, " {last} ")
+    say(text, &[" ", last, " "])
 }

@@ -15,19 +15,24 @@ pub(crate) fn push_one_way(
     p: &Policy,
     rho: RelId,
 ) -> Result<(), AllocError> {
+    let pairs = p.relations().pairs(rho)?;
+    match lone_pair(p, rho, pairs.as_slice()) {
+        Some((u, v)) => push_pair(out, front, p, rho, u, v),
+        None => Ok(()),
+    }
+}
+
+fn lone_pair(p: &Policy, rho: RelId, pairs: &[(u16, u16)]) -> Option<(u16, u16)> {
     let mut both = has_complement(p, rho);
     let mut lone = None;
-    for (u, v) in p.relations().pairs(rho)?.as_slice() {
+    for (u, v) in pairs {
         if p.relations().holds(rho, UserId(*v), UserId(*u)) {
             both = both || u != v;
         } else if lone.is_none() {
             lone = Some((*u, *v));
         }
     }
-    match lone {
-        Some((u, v)) if both => push_pair(out, front, p, rho, u, v),
-        _ => Ok(()),
-    }
+    if both { lone } else { None }
 }
 
 // Whether some relation is the complement of `rho`.
@@ -51,20 +56,23 @@ fn push_pair(
     let name = relation_name(p, rho);
     let users = p.roster().users();
     let (first, second) = (name_of(users, u), name_of(users, v));
+    let (name, x, y) = (text_of(&name), text_of(&first), text_of(&second));
+    let (has, lacks, to) = (": it has ", " and not ", " to ");
     say(
         out,
         &[
             front,
             "relation ",
-            text_of(&name),
-            ": it has ",
-            text_of(&first),
-            " to ",
-            text_of(&second),
+            name,
+            has,
+            x,
+            to,
+            y,
+            lacks,
+            y,
+            to,
+            x,
+            "\n",
         ],
-    )?;
-    say(
-        out,
-        &[" and not ", text_of(&second), " to ", text_of(&first), "\n"],
     )
 }

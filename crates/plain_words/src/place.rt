@@ -26,18 +26,13 @@ pub(crate) struct Keys<'a> {
 
 /// The keys of the part that has a fault; empty where there is none.
 pub(crate) fn keys_of<'a>(file: &'a Table, fault: &PolicyFault) -> Keys<'a> {
-    let table = match fault.table {
-        PolicyPart::File => "",
-        PolicyPart::Roles => "roles",
-        PolicyPart::Users => "users",
-        PolicyPart::Relations => "relations",
-        PolicyPart::Flows => "flows",
-    };
     // Declared relations are numbered behind the two that are built in.
-    let built_in = if matches!(fault.table, PolicyPart::Relations) {
-        2
-    } else {
-        0
+    let (table, built_in) = match fault.table {
+        PolicyPart::File => ("", 0),
+        PolicyPart::Roles => ("roles", 0),
+        PolicyPart::Users => ("users", 0),
+        PolicyPart::Relations => ("relations", 2),
+        PolicyPart::Flows => ("flows", 0),
     };
     let item = match fault.kind {
         PolicyKind::NoAdmin => "",
@@ -52,17 +47,13 @@ pub(crate) fn keys_of<'a>(file: &'a Table, fault: &PolicyFault) -> Keys<'a> {
 
 // The key with a number in a table, in byte order.
 fn key_at(value: Option<&Value>, n: u32) -> &str {
-    let Some(Value::Table(table)) = value else {
-        return "";
-    };
-    let mut place = 0u32;
-    for (key, _) in table {
-        if place == n {
-            return key.as_str();
-        }
-        place = place.saturating_add(1);
+    match value {
+        Some(Value::Table(table)) => match table.keys().nth(n as usize) {
+            Some(key) => key.as_str(),
+            None => "",
+        },
+        _ => "",
     }
-    ""
 }
 
 /// The place that a fault is about: the item that it names, or what seems to be meant, and else the

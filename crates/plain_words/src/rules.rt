@@ -1,7 +1,7 @@
 //! Rules as sentences.
 
 use crate::lists::{group_text, step_name, text_of};
-use crate::texts::joined;
+use crate::texts::{joined, say};
 use constraint_forms::{Rule, StepSet};
 use policy_book::{Course, Policy};
 use std::alloc::{AllocError, Global};
@@ -33,20 +33,25 @@ enum Form {
 
 /// What a rule of a workflow wants, as a sentence without its full stop.
 pub fn rule_text(alloc: Global, course: &Course, rule: &Rule) -> Result<String, AllocError> {
-    let (form, rho, group, step) = match *rule {
-        Rule::Pair { rho, first, second } => return pair_text(alloc, course, rho, first, second),
-        Rule::SomeOf { rho, group, step } => (Form::SomeOf, rho, group, step),
-        Rule::AllOf { rho, group, step } => (Form::AllOf, rho, group, step),
-        Rule::SomeTo { rho, group, step } => (Form::SomeTo, rho, group, step),
-        Rule::AllTo { rho, group, step } => (Form::AllTo, rho, group, step),
-        Rule::AtMost { limit, group } => {
-            return limit_text(alloc, course, "at most ", "", limit, &group);
+    match rule {
+        Rule::Pair { rho, first, second } => pair_text(alloc, course, *rho, *first, *second),
+        Rule::SomeOf { rho, group, step } => {
+            group_rule(alloc, course, Form::SomeOf, *rho, group, *step)
         }
+        Rule::AllOf { rho, group, step } => {
+            group_rule(alloc, course, Form::AllOf, *rho, group, *step)
+        }
+        Rule::SomeTo { rho, group, step } => {
+            group_rule(alloc, course, Form::SomeTo, *rho, group, *step)
+        }
+        Rule::AllTo { rho, group, step } => {
+            group_rule(alloc, course, Form::AllTo, *rho, group, *step)
+        }
+        Rule::AtMost { limit, group } => limit_text(alloc, course, "at most ", "", *limit, group),
         Rule::AtLeast { limit, group } => {
-            return limit_text(alloc, course, "at least ", "at least ", limit, &group);
+            limit_text(alloc, course, "at least ", "at least ", *limit, group)
         }
-    };
-    group_rule(alloc, course, form, rho, &group, step)
+    }
 }
 
 // What a relation says of two people.
@@ -193,7 +198,11 @@ fn many_relate(
     };
     match form {
         Form::SomeTo if lacks => {
-            format!(in alloc; "to {who}{group} who does {s} does not have \"{name}\"")
+            let verb = " does not have \"";
+            joined(
+                alloc,
+                &["to ", who, group, " who does ", s, verb, name, "\""],
+            )
         }
         Form::SomeOf if lacks => {
             has_words(alloc, who, group, " does not have", name, "who does ", s)
@@ -212,14 +221,16 @@ fn limit_text(
     limit: u8,
     group: &StepSet,
 ) -> Result<String, AllocError> {
-    let all = group_text(alloc, course, group, "and")?;
+    let mut text = group_text(alloc, course, group, "and")?;
+    push_limit(&mut text, most, one, limit)?;
+    Ok(text)
+}
+
+fn push_limit(text: &mut String, most: &str, one: &str, limit: u8) -> Result<(), AllocError> {
+    let different = if one.is_empty() { "" } else { "different " };
     if limit == 1 {
-        return joined(alloc, &[all.as_str(), " are done by ", one, "one person"]);
-    }
-    let people = if one.is_empty() {
-        "people"
+        say(text, &[" are done by ", one, "one person"])
     } else {
-        "different people"
-    };
-    format!(in alloc; "{all} are done by {most}{limit} {people}")
+        write!(text, " are done by {most}{limit} {different}people")
+    }
 }

@@ -1,9 +1,8 @@
 //! A place in a text: its line, its column, and the line itself with a mark below it.
 
-use crate::lists::number_text;
 use crate::marks::line_end;
 use crate::place::Span;
-use std::alloc::{AllocError, Global};
+use std::alloc::AllocError;
 
 /// How many characters of a line are shown before and behind the place.
 const AROUND: usize = 60;
@@ -34,19 +33,18 @@ fn is_first(byte: u8) -> bool {
     byte & 0xC0 != 0x80
 }
 
-/// The line of a place with its number, and below it marks under the place.
-pub(crate) fn shown(alloc: Global, text: &str, span: Span) -> Result<String, AllocError> {
+/// Adds the line of a place with its number, and below it marks under the place.
+pub(crate) fn push_shown(out: &mut String, text: &str, span: Span) -> Result<(), AllocError> {
     let spot = spot_of(text.as_bytes(), span.start);
-    let number = number_text(alloc, spot.line as u64)?;
     let from = spot.column.saturating_sub(AROUND.saturating_add(1));
-    let part = part_text(alloc, line_at(text, span.start), from)?;
-    let digits = number.len();
+    let start = out.len();
+    write!(out, "    {} ", spot.line)?;
+    let margin = out.len().saturating_sub(start);
+    out.push_str("| ")?;
+    push_part(out, line_at(text, span.start), from)?;
     let before = spot.column.saturating_sub(1).saturating_sub(from);
     let width = width_of(text.as_bytes(), span).min(AROUND);
-    format!(in alloc;
-        "    {number} | {part}\n    {:digits$} | {:before$}{:^<width$}\n",
-        "", "", ""
-    )
+    write!(out, "\n{:margin$}| {:before$}{:^<width$}\n", "", "", "")
 }
 
 // How many characters of its line a place has, at least one.
@@ -76,14 +74,8 @@ fn line_at(text: &str, at: usize) -> &str {
     }
 }
 
-// The characters of a line from one on, as many as are shown; a blank for one that is no letter,
-// digit or sign.
-fn part_text(alloc: Global, line: &str, from: usize) -> Result<String, AllocError> {
-    let mut out = String::new(alloc);
-    push_part(&mut out, line, from)?;
-    Ok(out)
-}
-
+// Adds the characters of a line from one on, as many as are shown; a blank for one that is no
+// letter, digit or sign.
 fn push_part(out: &mut String, line: &str, from: usize) -> Result<(), AllocError> {
     let mut place = 0usize;
     let until = from.saturating_add(AROUND).saturating_add(AROUND);

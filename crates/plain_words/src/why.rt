@@ -39,14 +39,22 @@ fn push_doer(text: &mut String, course: &Course, s: StepId, u: UserId) -> Result
 
 /// That a workflow has no plan, since some of its steps want more different users than may do them.
 pub fn crowd_text(alloc: Global, course: &Course, steps: &[StepId]) -> Result<String, AllocError> {
-    let flow = flow_name(course);
     let all = steps_text(alloc, course, steps)?;
-    if steps.len() == 1 {
-        let front = " has no plan: nobody may do ";
-        return joined(alloc, &[text_of(&flow), front, all.as_str(), ".\n"]);
+    crowd_words(alloc, course, steps, all.as_str())
+}
+
+fn crowd_words(
+    alloc: Global,
+    course: &Course,
+    steps: &[StepId],
+    all: &str,
+) -> Result<String, AllocError> {
+    let flow = flow_name(course);
+    let (flow, wanted) = (text_of(&flow), steps.len());
+    if wanted == 1 {
+        return joined(alloc, &[flow, " has no plan: nobody may do ", all, ".\n"]);
     }
     let few = few_text(alloc, course.policy, &takers(course, steps))?;
-    let (flow, wanted) = (text_of(&flow), steps.len());
     format!(in alloc; "{flow} has no plan: {all} want {wanted} different people, and {few}.\n")
 }
 
