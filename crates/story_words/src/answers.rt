@@ -31,7 +31,7 @@ pub fn push_reply(out: &mut String, told: &Told<'_>) -> Result<(), AllocError> {
         Reply::Released => push_released(out, told.entries, ask),
         Reply::Opened { case, plan } => push_opened(out, p, *case, plan),
         Reply::Withdrawn => out.push_str("the case is ended"),
-        Reply::Edited { number } => write!(out, "accepted, edit {number}"),
+        Reply::Edited { number } => push_edited(out, *number),
         Reply::Shown(face) => out.push_str(phase_words(face.phase)),
         Reply::Work(items) => push_work(out, p, asker(ask), items.as_slice()),
         Reply::WhatIf(stranded) => push_stranded(out, stranded.as_slice()),
@@ -50,6 +50,10 @@ fn push_released(out: &mut String, entries: &[Entry], ask: &Ask) -> Result<(), A
 fn push_opened(out: &mut String, p: &Policy, case: CaseId, plan: &Plan) -> Result<(), AllocError> {
     write!(out, "opened as case {}", case.0)?;
     push_planned(out, "", p, plan)
+}
+
+fn push_edited(out: &mut String, number: u32) -> Result<(), AllocError> {
+    write!(out, "accepted, edit {number}")
 }
 
 fn push_denied(out: &mut String, told: &Told<'_>, denial: &Denial) -> Result<(), AllocError> {

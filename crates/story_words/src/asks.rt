@@ -15,7 +15,7 @@ pub fn push_ask(out: &mut String, ask: &Ask) -> Result<(), AllocError> {
 
 fn push_request(out: &mut String, request: &Request) -> Result<(), AllocError> {
     match request {
-        Request::OpenCase { flow } => say(out, &["somebody opens a case of ", flow.as_str()]),
+        Request::OpenCase { flow } => push_named(out, "somebody opens a case of ", flow, ""),
         Request::Claim { case, step, user } => { push_deed(out, user, " claims ", step, *case, "") }
         Request::Finish { case, step, user } => {
             push_deed(out, user, " finishes ", step, *case, "")
@@ -26,10 +26,10 @@ fn push_request(out: &mut String, request: &Request) -> Result<(), AllocError> {
         Request::Release { by, case, step } => {
             push_deed(out, by, " takes ", step, *case, " from its holder")
         }
-        Request::Withdraw { by, case } => write!(out, "{} ends case {}", by.as_str(), case.0),
+        Request::Withdraw { by, case } => push_at(out, by.as_str(), " ends case ", *case, ""),
         Request::Change { by, edit } => push_edit(out, "", by, edit),
-        Request::Show { case } => write!(out, "case {} is looked at", case.0),
-        Request::Worklist { user } => say(out, &[user.as_str(), " asks what there is to do"]),
+        Request::Show { case } => push_at(out, "", "case ", *case, " is looked at"),
+        Request::Worklist { user } => push_named(out, "", user, " asks what there is to do"),
         Request::WhatIf { by, edit } => push_edit(out, "what if ", by, edit),
     }
 }
@@ -43,20 +43,32 @@ fn push_deed(
     case: CaseId,
     tail: &str,
 ) -> Result<(), AllocError> {
-    let (user, step) = (user.as_str(), step.as_str());
-    write!(out, "{user}{verb}{step} of case {}{tail}", case.0)
+    say(out, &[user.as_str(), verb])?;
+    push_at(out, step.as_str(), " of case ", case, tail)
+}
+
+// Adds a case's number behind and before these words.
+fn push_at(
+    out: &mut String,
+    front: &str,
+    middle: &str,
+    case: CaseId,
+    tail: &str,
+) -> Result<(), AllocError> {
+    write!(out, "{front}{middle}{}{tail}", case.0)
+}
+
+// Adds a name between these words.
+fn push_named(out: &mut String, front: &str, name: &Name, tail: &str) -> Result<(), AllocError> {
+    say(out, &[front, name.as_str(), tail])
 }
 
 // Adds who edits, and what the edit does.
 fn push_edit(out: &mut String, front: &str, by: &Name, edit: &Edit) -> Result<(), AllocError> {
-    say(out, &[front, by.as_str()])?;
-    push_change(out, edit)
-}
-
-fn push_change(out: &mut String, edit: &Edit) -> Result<(), AllocError> {
+    push_named(out, front, by, "")?;
     match edit {
-        Edit::AddUser { user } => say(out, &[" adds user ", user.as_str()]),
-        Edit::Leave { user } => say(out, &[" takes ", user.as_str(), " out (all roles)"]),
+        Edit::AddUser { user } => push_named(out, " adds user ", user, ""),
+        Edit::Leave { user } => push_named(out, " takes ", user, " out (all roles)"),
         Edit::Enrol { role, user } => push_two(out, " gives the role ", role, " to ", user),
         Edit::Dismiss { role, user } => push_two(out, " takes the role ", role, " from ", user),
         Edit::Relate {
@@ -77,7 +89,7 @@ fn push_change(out: &mut String, edit: &Edit) -> Result<(), AllocError> {
             let (s, f) = (step.as_str(), flow.as_str());
             say(out, &[" forbids ", s, " of ", f, " to ", role.as_str()])
         }
-        Edit::Retire { flow } => say(out, &[" retires ", flow.as_str()]),
+        Edit::Retire { flow } => push_named(out, " retires ", flow, ""),
     }
 }
 

@@ -3,9 +3,7 @@
 use crate::about::{asker, relation_asked, step_asked};
 use crate::facts::{Breach, push_broken};
 use crate::held::{Held, held_asked, held_in, held_with, step_in};
-use crate::names::{
-    push_large, push_number, push_roles, push_step, push_steps, push_user, push_users,
-};
+use crate::names::{push_number, push_roles, push_step, push_steps, push_user, push_users};
 use crate::past::{Deed, push_which};
 use crate::told::Told;
 use grant_table::Cases;
@@ -27,14 +25,14 @@ pub(crate) fn push_denial(
 ) -> Result<(), AllocError> {
     let (p, cases, ask) = (told.policy, told.cases, &told.entry.ask);
     match denial {
-        Denial::NoFlow => say(out, &["there is no workflow \"", asker(ask), "\""]),
-        Denial::Retired => say(out, &["no case of ", asker(ask), " is opened any more"]),
+        Denial::NoFlow => push_asker(out, "there is no workflow \"", ask, "\""),
+        Denial::Retired => push_asker(out, "no case of ", ask, " is opened any more"),
         Denial::Full => push_full(out, cases, ask),
         Denial::Unsatisfiable { flow, .. } => push_planless(out, p, *flow),
         Denial::NoCase => push_case_words(out, "there is no case ", ask.case(), ""),
         Denial::Closed => push_closed(out, told),
         Denial::NoStep => push_no_step(out, told),
-        Denial::NoUser => say(out, &["the policy has no user \"", asker(ask), "\""]),
+        Denial::NoUser => push_asker(out, "the policy has no user \"", ask, "\""),
         Denial::Taken(user) => push_taken(out, told, *user),
         Denial::Order { flow, step } => push_before(out, p, *flow, *step),
         Denial::Role(roles) => push_role(out, told, roles.as_slice()),
@@ -43,6 +41,11 @@ pub(crate) fn push_denial(
         Denial::NotHeld(state) => push_not_held(out, p, *state),
         _ => push_edit_denial(out, p, ask, denial),
     }
+}
+
+// Adds whom or what a request names first, between these words.
+fn push_asker(out: &mut String, front: &str, ask: &Ask, tail: &str) -> Result<(), AllocError> {
+    say(out, &[front, asker(ask), tail])
 }
 
 fn push_planless(out: &mut String, p: &Policy, f: FlowId) -> Result<(), AllocError> {
@@ -146,9 +149,9 @@ fn limit_of(cases: &Cases, ask: &Ask) -> (u64, &'static str) {
     }
 }
 
+// Adds a limit of at least a thousand, and below a million, and what it limits.
 fn push_limit(out: &mut String, limit: u64, what: &str) -> Result<(), AllocError> {
-    push_large(out, limit)?;
-    out.push_str(what)
+    write!(out, "{},{:03}{what}", limit / 1_000, limit % 1_000)
 }
 
 // Adds how the case has ended, and by which entry.

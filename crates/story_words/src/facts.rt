@@ -11,7 +11,7 @@ use plain_words::{
     group_text, name_of, push_gap, relation_name, rule_text, say, step_name, text_of,
 };
 use policy_book::Policy;
-use std::alloc::{AllocError, Global};
+use std::alloc::AllocError;
 use wf_names::{Name, RelId, STEP_LIMIT, StepId, USER_LIMIT, UserId, UserSet};
 
 // What a rule over a group wants: that those who do its steps are related to who does the step;
@@ -45,19 +45,29 @@ pub(crate) fn push_broken(
         Breach::Is => (" is broken", false),
     };
     write!(out, "rule {k}")?;
-    let Some(rule) = held.course.rules().as_slice().get(k as usize) else {
-        return out.push_str(verb);
-    };
+    match held.course.rules().as_slice().get(k as usize) {
+        Some(rule) => push_breach(out, held, rule, verb, in_words),
+        None => out.push_str(verb),
+    }
+}
+
+// Adds that a rule is or would be broken, in its words where these are wanted or nobody breaks it.
+fn push_breach(
+    out: &mut String,
+    held: &Held<'_>,
+    rule: &Rule,
+    verb: &str,
+    in_words: bool,
+) -> Result<(), AllocError> {
     let is_broken = falsified(rule, held.course.policy, &held.users);
     if in_words || !is_broken {
         push_words(out, held, rule)?;
     }
-    out.push_str(verb)?;
-    if is_broken {
-        out.push_str(": ")?;
-        push_fact(out, held, rule)?;
+    if !is_broken {
+        return out.push_str(verb);
     }
-    Ok(())
+    say(out, &[verb, ": "])?;
+    push_fact(out, held, rule)
 }
 
 // Adds the words of a rule.
@@ -68,22 +78,22 @@ fn push_words(out: &mut String, held: &Held<'_>, rule: &Rule) -> Result<(), Allo
 
 // Adds who breaks a rule that is broken.
 fn push_fact(out: &mut String, held: &Held<'_>, rule: &Rule) -> Result<(), AllocError> {
-    match *rule {
-        Rule::Pair { rho, first, second } => { push_unrelated(out, held, rho, first, second) }
+    match rule {
+        Rule::Pair { rho, first, second } => push_unrelated(out, held, *rho, *first, *second),
         Rule::AllOf { rho, group, step } => {
-            push_one(out, held, &wish_of(rho, &group, step, false))
+            push_one(out, held, &wish_of(*rho, group, *step, false))
         }
         Rule::AllTo { rho, step, group } => {
-            push_one(out, held, &wish_of(rho, &group, step, true))
+            push_one(out, held, &wish_of(*rho, group, *step, true))
         }
         Rule::SomeOf { rho, group, step } => {
-            push_none(out, held, &wish_of(rho, &group, step, false))
+            push_none(out, held, &wish_of(*rho, group, *step, false))
         }
         Rule::SomeTo { rho, step, group } => {
-            push_none(out, held, &wish_of(rho, &group, step, true))
+            push_none(out, held, &wish_of(*rho, group, *step, true))
         }
-        Rule::AtMost { group, .. } => push_many(out, held, &group),
-        Rule::AtLeast { group, .. } => push_few(out, held, &group),
+        Rule::AtMost { group, .. } => push_many(out, held, group),
+        Rule::AtLeast { group, .. } => push_few(out, held, group),
     }
 }
 
@@ -220,7 +230,7 @@ fn push_none(out: &mut String, held: &Held<'_>, wish: &Wish) -> Result<(), Alloc
     }
     let doer = name_of(held.course.policy.roster().users(), w.0);
     match listed_in(held.course.policy, wish.rho) {
-        Some((lacks, name)) => push_lone(out, held, wish, lacks, name.as_str()),
+        Some((lacks, name)) => push_lone(out, held, wish, w, lacks, name.as_str()),
         None if wish.rho == RelId::SAME => { push_neither(out, held, wish, text_of(&doer)) }
         None => push_all(out, held, wish, text_of(&doer)),
     }
@@ -234,16 +244,20 @@ fn push_neither(
     doer: &str,
 ) -> Result<(), AllocError> {
     let step = step_name(&held.course, wish.step);
-    let others = group_text(*out.allocator(), &held.course, &wish.group, "nor")?;
-    let (step, others) = (text_of(&step), others.as_str());
-    say(out, &[doer, " does ", step, ", and neither ", others])
+    say(out, &[doer, " does ", text_of(&step), ", and neither "])?;
+    push_group(out, held, &wish.group, "nor")
 }
 
 // Adds that one user would do all of a group and the step.
 fn push_all(out: &mut String, held: &Held<'_>, wish: &Wish, doer: &str) -> Result<(), AllocError> {
-    let all = joined(&wish.group, wish.step);
-    let all = group_text(*out.allocator(), &held.course, &all, "and")?;
-    say(out, &[doer, " would do ", all.as_str()])
+    say(out, &[doer, " would do "])?;
+    push_group(out, held, &joined(&wish.group, wish.step), "and")
+}
+
+// Adds the names of a group's steps, the last one behind this word.
+fn push_group(out: &mut String, held: &Held, group: &StepSet, end: &str) -> Result<(), AllocError> {
+    let names = group_text(*out.allocator(), &held.course, group, end)?;
+    out.push_str(names.as_str())
 }
 
 // Adds that nobody of a group has a listed relation to the user of the step, or that all have one
@@ -252,6 +266,7 @@ fn push_lone(
     out: &mut String,
     held: &Held<'_>,
     wish: &Wish,
+    user: UserId,
     lacks: bool,
     name: &str,
 ) -> Result<(), AllocError> {
@@ -260,37 +275,16 @@ fn push_lone(
     } else {
         ("neither ", "nor")
     };
-    let verb = if lacks && !wish.back {
-        " have \""
-    } else {
-        " has \""
-    };
-    let one = doers_text(
-        *out.allocator(),
-        held,
-        &joined(&StepSet::empty(), wish.step),
-        "and",
-    )?;
-    let others = doers_text(*out.allocator(), held, &wish.group, last)?;
-    let (one, others) = (one.as_str(), others.as_str());
     if wish.back {
-        push_has(out, "", one, verb, name, front, others)
-    } else {
-        push_has(out, front, others, verb, name, "", one)
+        push_doer(out, held, user, wish.step)?;
+        say(out, &[" has \"", name, "\" to ", front])?;
+        return push_doers(out, held, &wish.group, last);
     }
-}
-
-// Adds who has a relation to whom.
-fn push_has(
-    out: &mut String,
-    front: &str,
-    who: &str,
-    verb: &str,
-    name: &str,
-    middle: &str,
-    whom: &str,
-) -> Result<(), AllocError> {
-    say(out, &[front, who, verb, name, "\" to ", middle, whom])
+    let verb = if lacks { " have \"" } else { " has \"" };
+    out.push_str(front)?;
+    push_doers(out, held, &wish.group, last)?;
+    say(out, &[verb, name, "\" to "])?;
+    push_doer(out, held, user, wish.step)
 }
 
 // A group with a step.
@@ -302,24 +296,18 @@ fn joined(group: &StepSet, s: StepId) -> StepSet {
     }
 }
 
-// Who would do each step of a group.
-fn doers_text(
-    alloc: Global,
-    held: &Held<'_>,
-    group: &StepSet,
-    last: &str,
-) -> Result<String, AllocError> {
-    let mut text = String::new(alloc);
+// Adds who would do each step of a group.
+fn push_doers(out: &mut String, held: &Held, group: &StepSet, end: &str) -> Result<(), AllocError> {
     let count = group.count() as u32;
     let mut place = 0u32;
     for x in 0..group.limit() {
         if let (true, Some(u)) = (group.has(StepId(x as u8)), held.users.at(StepId(x as u8))) {
-            push_gap(&mut text, place, count, last)?;
-            push_doer(&mut text, held, u, StepId(x as u8))?;
+            push_gap(out, place, count, end)?;
+            push_doer(out, held, u, StepId(x as u8))?;
             place = place.saturating_add(1);
         }
     }
-    Ok(text)
+    Ok(())
 }
 
 fn push_doer(out: &mut String, held: &Held<'_>, u: UserId, s: StepId) -> Result<(), AllocError> {
@@ -346,8 +334,8 @@ fn given_of(held: &Held, group: &StepSet) -> (StepSet, UserSet) {
 // Adds that the steps of a group would be done by too many users.
 fn push_many(out: &mut String, held: &Held<'_>, group: &StepSet) -> Result<(), AllocError> {
     let (steps, users) = given_of(held, group);
-    let steps = group_text(*out.allocator(), &held.course, &steps, "and")?;
-    say(out, &[steps.as_str(), " would be done by "])?;
+    push_group(out, held, &steps, "and")?;
+    out.push_str(" would be done by ")?;
     push_users(out, held.course.policy, &users, "and")
 }
 
@@ -356,11 +344,11 @@ fn push_few(out: &mut String, held: &Held<'_>, group: &StepSet) -> Result<(), Al
     let (steps, users) = given_of(held, group);
     let open = group.count().saturating_sub(steps.count());
     let left = users.count().saturating_add(open as u32);
-    let all = group_text(*out.allocator(), &held.course, group, "and")?;
     let people = if left == 1 {
         "person is"
     } else {
         "different people are"
     };
-    write!(out, "only {left} {people} left for {all}")
+    write!(out, "only {left} {people} left for ")?;
+    push_group(out, held, group, "and")
 }

@@ -18,11 +18,6 @@ pub(crate) fn push_number(out: &mut String, n: u64) -> Result<(), AllocError> {
     write!(out, "{n}")
 }
 
-/// Adds a number of at least a thousand, and below a million.
-pub(crate) fn push_large(out: &mut String, n: u64) -> Result<(), AllocError> {
-    write!(out, "{},{:03}", n / 1_000, n % 1_000)
-}
-
 /// Adds the name with a number, where there is one.
 pub(crate) fn push_name(out: &mut String, names: &NameTable, n: u16) -> Result<(), AllocError> {
     if n < names.len() {

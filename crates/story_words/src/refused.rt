@@ -7,7 +7,6 @@ use crate::why::push_why;
 use admin_edits::apply;
 use basics::Fault;
 use constraint_forms::{Assign, StepSet};
-use policy_book::Policy;
 use refutation_tree::Tree;
 use std::alloc::AllocError;
 use wf_names::CaseId;
@@ -23,11 +22,17 @@ pub(crate) enum Telling {
 }
 
 impl Telling {
-    // Adds that much of why nobody can finish a case.
-    fn push(self, out: &mut String, held: &Held<'_>, tree: &Tree) -> Result<(), AllocError> {
-        match self {
-            Telling::InLine => push_short(out, held, tree),
-            Telling::InLines => push_why(out, held, tree),
+    // Adds that much of why nobody can finish a case in which steps are held so, if it is known.
+    fn push(
+        self,
+        out: &mut String,
+        held: &Option<Held<'_>>,
+        tree: &Tree,
+    ) -> Result<(), AllocError> {
+        match (self, held) {
+            (Telling::InLine, Some(held)) => push_short(out, held, tree),
+            (Telling::InLines, Some(held)) => push_why(out, held, tree),
+            (_, None) => Ok(()),
         }
     }
 }
@@ -44,20 +49,18 @@ pub(crate) fn push_refused(
     told: &Told<'_>,
     telling: Telling,
 ) -> Result<(), AllocError> {
-    let (held, tree) = match &told.entry.reply {
-        Reply::Denied(Denial::Unsatisfiable { flow, tree }) => (
-            held_as(told.policy, *flow, Assign::empty(), StepSet::empty()),
-            tree,
-        ),
-        Reply::Denied(Denial::Stranded { tree, .. }) => (held_with(told), tree),
-        Reply::Denied(Denial::Strands { case, tree, .. }) => {
-            return push_strands(out, told, *case, tree.get(), telling);
+    match &told.entry.reply {
+        Reply::Denied(Denial::Unsatisfiable { flow, tree }) => {
+            let held = held_as(told.policy, *flow, Assign::empty(), StepSet::empty());
+            telling.push(out, &held, tree.get())
         }
-        _ => return Ok(()),
-    };
-    match held {
-        Some(held) => telling.push(out, &held, tree.get()),
-        None => Ok(()),
+        Reply::Denied(Denial::Stranded { tree, .. }) => {
+            telling.push(out, &held_with(told), tree.get())
+        }
+        Reply::Denied(Denial::Strands { case, tree, .. }) => {
+            push_strands(out, told, *case, tree.get(), telling)
+        }
+        _ => Ok(()),
     }
 }
 
@@ -69,23 +72,12 @@ fn push_strands(
     tree: &Tree,
     telling: Telling,
 ) -> Result<(), AllocError> {
-    let Some(after) = edited(told.policy, &told.entry.ask)? else {
+    let Ask::Request(Request::Change { by, edit }) = &told.entry.ask else {
         return Ok(());
     };
-    match held_in(&after, told.cases, case) {
-        Some(held) => telling.push(out, &held, tree),
-        None => Ok(()),
-    }
-}
-
-// The policy as the edit that is asked for would leave it.
-fn edited(p: &Policy, ask: &Ask) -> Result<Option<Policy>, AllocError> {
-    match ask {
-        Ask::Request(Request::Change { by, edit }) => match apply(p, by, edit) {
-            Ok(edited) => Ok(Some(edited)),
-            Err(Fault::NoMemory) => Err(AllocError),
-            Err(_) => Ok(None),
-        },
-        _ => Ok(None),
+    match apply(told.policy, by, edit) {
+        Ok(after) => telling.push(out, &held_in(&after, told.cases, case), tree),
+        Err(Fault::NoMemory) => Err(AllocError),
+        Err(_) => Ok(()),
     }
 }

@@ -7,7 +7,7 @@ use case_record::Case;
 use plain_words::{name_of, say, step_name, text_of};
 use policy_book::{Course, Policy};
 use std::alloc::AllocError;
-use wf_names::{CaseId, NameTable, StepId, StepState, UserId};
+use wf_names::{CaseId, NameTable, RoleId, StepId, StepState, UserId};
 use wf_talk::Entry;
 
 // A case with its number and its workflow, and the entries up to where it stands so.
@@ -72,23 +72,24 @@ fn push_state(
     s: StepId,
     name: &str,
 ) -> Result<(), AllocError> {
-    let p = table.course.policy;
     match table.case.state(s) {
         StepState::Free => push_free(out, &table.course, s),
-        StepState::Held(user) => {
-            push_by(out, "held by ", p, user)?;
-            push_which(out, table.entries, table.number, Deed::Grant(name))
-        }
-        StepState::Finished(user) => {
-            push_by(out, "finished by ", p, user)?;
-            push_which(out, table.entries, table.number, Deed::Finish(name))
-        }
+        StepState::Held(user) => push_by(out, table, "held by ", user, Deed::Grant(name)),
+        StepState::Finished(user) => push_by(out, table, "finished by ", user, Deed::Finish(name)),
     }
 }
 
-fn push_by(out: &mut String, front: &str, p: &Policy, user: UserId) -> Result<(), AllocError> {
-    let user = name_of(p.roster().users(), user.0);
-    say(out, &[front, text_of(&user)])
+// Adds who has or had a step, and by which entry.
+fn push_by(
+    out: &mut String,
+    table: &Table<'_>,
+    front: &str,
+    user: UserId,
+    deed: Deed<'_>,
+) -> Result<(), AllocError> {
+    let user = name_of(table.course.policy.roster().users(), user.0);
+    say(out, &[front, text_of(&user)])?;
+    push_which(out, table.entries, table.number, deed)
 }
 
 // The length of the longest of the names.
@@ -103,11 +104,21 @@ fn widest(names: &NameTable) -> usize {
 // Adds who may do a free step.
 fn push_free(out: &mut String, course: &Course, s: StepId) -> Result<(), AllocError> {
     let roles = roles_of(*out.allocator(), course, s)?;
-    if roles.as_slice().is_empty() {
-        return out.push_str("free, permitted to no role");
+    match roles.as_slice() {
+        [] => out.push_str("free, permitted to no role"),
+        some => push_permitted(out, course, s, some),
     }
+}
+
+// Adds that these roles are permitted for a free step, and who has one of them.
+fn push_permitted(
+    out: &mut String,
+    course: &Course,
+    s: StepId,
+    roles: &[RoleId],
+) -> Result<(), AllocError> {
     out.push_str("free, permitted to ")?;
-    push_roles(out, course.policy, roles.as_slice())?;
+    push_roles(out, course.policy, roles)?;
     out.push_str(": ")?;
     let users = course.authorised_users(s);
     if users.count() == 0 {

@@ -3,7 +3,7 @@
 use crate::facts::{Breach, push_broken};
 use crate::held::{Held, given};
 use crate::names::{push_name, push_user, push_users};
-use plain_words::say;
+use plain_words::{name_of, say, text_of};
 use policy_book::Policy;
 use refutation_tree::{Branch, Kid, Tree};
 use std::alloc::AllocError;
@@ -21,14 +21,6 @@ pub(crate) fn push_tree(
     push_node(out, indent, held, tree)
 }
 
-// A step of a case in which steps are held so, with its branches in a tree.
-#[derive(Clone, Copy)]
-struct Choice<'a, 'p> {
-    held: &'a Held<'p>,
-    step: StepId,
-    branches: &'a [Branch],
-}
-
 // Adds what a tree says behind what stands in the line, and the lines below it.
 #[cycle(push_node)]
 fn push_node(
@@ -37,27 +29,24 @@ fn push_node(
     held: &Held<'_>,
     tree: &Tree,
 ) -> Result<(), AllocError> {
+    push_root(out, held, tree)?;
+    out.push_str(".\n")?;
     match tree {
-        Tree::Holder(s) => {
-            push_holder(out, held, *s)?;
-            out.push_str(".\n")
-        }
-        Tree::Rule(k) => {
-            push_broken(out, held, *k, Breach::Is)?;
-            out.push_str(".\n")
-        }
         Tree::Step(s, branches) => {
             let branches = branches.as_slice();
-            let choice = Choice {
-                held,
-                step: *s,
-                branches,
-            };
-            push_choice(out, &choice)?;
-            out.push_str(".\n")?;
-            push_leaves(out, indent, &choice)?;
+            push_leaves(out, held, *s, branches, indent)?;
             push_branches(out, indent, held, *s, branches)
         }
+        _ => Ok(()),
+    }
+}
+
+// Adds what the root of a tree says.
+fn push_root(out: &mut String, held: &Held<'_>, tree: &Tree) -> Result<(), AllocError> {
+    match tree {
+        Tree::Holder(s) => push_holder(out, held, *s),
+        Tree::Rule(k) => push_broken(out, held, *k, Breach::Is),
+        Tree::Step(s, branches) => push_choice(out, held, *s, branches.as_slice()),
     }
 }
 
@@ -87,15 +76,19 @@ fn push_branch(
     match &branch.kid {
         Kid::Tree(Tree::Rule(_)) => Ok(()),
         Kid::Tree(tree) => {
-            say(out, &[indent, "- If "])?;
-            push_user(out, held.course.policy, branch.user)?;
-            out.push_str(" does it, ")?;
+            push_if(out, indent, held.course.policy, branch.user)?;
             let next = given(held, s, branch.user);
             let deeper = format!(in *out.allocator(); "{indent}  ")?;
             push_node(out, deeper.as_str(), &next, tree)
         }
         Kid::Twin(twin) => push_twin(out, indent, held.course.policy, branch.user, *twin),
     }
+}
+
+// Adds the front of the line of a branch that goes on.
+fn push_if(out: &mut String, indent: &str, p: &Policy, u: UserId) -> Result<(), AllocError> {
+    let user = name_of(p.roster().users(), u.0);
+    say(out, &[indent, "- If ", text_of(&user), " does it, "])
 }
 
 fn push_twin(
@@ -105,22 +98,29 @@ fn push_twin(
     u: UserId,
     twin: UserId,
 ) -> Result<(), AllocError> {
-    say(out, &[indent, "- "])?;
-    push_user(out, p, u)?;
-    out.push_str(": as for ")?;
-    push_user(out, p, twin)?;
-    out.push_str(", who can be exchanged with ")?;
-    push_user(out, p, u)?;
-    out.push_str(" here.\n")
+    let users = p.roster().users();
+    let (user, other) = (name_of(users, u.0), name_of(users, twin.0));
+    let (user, other) = (text_of(&user), text_of(&other));
+    let (before, behind) = (": as for ", ", who can be exchanged with ");
+    say(
+        out,
+        &[indent, "- ", user, before, other, behind, user, " here.\n"],
+    )
 }
 
 // Adds a line for each rule that some branches break at once.
-fn push_leaves(out: &mut String, indent: &str, choice: &Choice<'_, '_>) -> Result<(), AllocError> {
+fn push_leaves(
+    out: &mut String,
+    held: &Held<'_>,
+    s: StepId,
+    branches: &[Branch],
+    indent: &str,
+) -> Result<(), AllocError> {
     for k in 0..RULE_LIMIT {
-        let users = users_of(choice.branches, Some(k as u8));
+        let users = users_of(branches, Some(k as u8));
         if users.count() > 0 {
             say(out, &[indent, "- "])?;
-            push_leaf(out, choice.held, choice.step, k as u8, &users)?;
+            push_leaf(out, held, s, k as u8, &users)?;
             out.push_str(".\n")?;
         }
     }
@@ -164,11 +164,15 @@ fn users_of(branches: &[Branch], rule: Option<u8>) -> UserSet {
 }
 
 // Adds who alone can do a step.
-fn push_choice(out: &mut String, choice: &Choice<'_, '_>) -> Result<(), AllocError> {
-    let held = choice.held;
-    push_name(out, held.steps(), choice.step.0 as u16)?;
+fn push_choice(
+    out: &mut String,
+    held: &Held<'_>,
+    s: StepId,
+    branches: &[Branch],
+) -> Result<(), AllocError> {
+    push_name(out, held.steps(), s.0 as u16)?;
     out.push_str(" can be done by ")?;
-    let users = users_of(choice.branches, None);
+    let users = users_of(branches, None);
     if users.count() == 0 {
         return out.push_str("nobody");
     }
@@ -189,31 +193,25 @@ pub(crate) fn push_holder(out: &mut String, held: &Held<'_>, s: StepId) -> Resul
 /// Adds what a tree says in one line, where one line is enough for it: behind a full stop.
 pub(crate) fn push_short(out: &mut String, held: &Held<'_>, tree: &Tree) -> Result<(), AllocError> {
     match tree {
-        Tree::Holder(s) => {
+        Tree::Step(s, branches) => push_short_node(out, held, *s, branches.as_slice()),
+        _ => {
             out.push_str(". ")?;
-            push_holder(out, held, *s)
-        }
-        Tree::Rule(k) => {
-            out.push_str(". ")?;
-            push_broken(out, held, *k, Breach::Is)
-        }
-        Tree::Step(s, branches) => {
-            let choice = Choice {
-                held,
-                step: *s,
-                branches: branches.as_slice(),
-            };
-            push_short_node(out, &choice)
+            push_root(out, held, tree)
         }
     }
 }
 
 // The same of a step with its branches, where all of them break one rule at once.
-fn push_short_node(out: &mut String, choice: &Choice<'_, '_>) -> Result<(), AllocError> {
-    match choice.branches {
+fn push_short_node(
+    out: &mut String,
+    held: &Held<'_>,
+    s: StepId,
+    branches: &[Branch],
+) -> Result<(), AllocError> {
+    match branches {
         [] => {
             out.push_str(". ")?;
-            push_choice(out, choice)
+            push_choice(out, held, s, branches)
         }
         [
             Branch {
@@ -222,14 +220,14 @@ fn push_short_node(out: &mut String, choice: &Choice<'_, '_>) -> Result<(), Allo
             },
             ..
         ] => {
-            let users = users_of(choice.branches, Some(*k));
-            if users.count() as usize != choice.branches.len() {
+            let users = users_of(branches, Some(*k));
+            if users.count() as usize != branches.len() {
                 return Ok(());
             }
             out.push_str(". ")?;
-            push_choice(out, choice)?;
+            push_choice(out, held, s, branches)?;
             out.push_str(". ")?;
-            push_leaf(out, choice.held, choice.step, *k, &users)
+            push_leaf(out, held, s, *k, &users)
         }
         _ => Ok(()),
     }
