@@ -1,7 +1,6 @@
 -- How an answer stands for a wider one, and over the files.
 use Rattle.std.proofs.Common.{◌≡◌, ℕ, Bool, true, false, List, [], Option, Result, Ok, Err, sym}
 use Rattle.std.proofs.Common.{subst, inl, inr}
-use Rattle.std.specs.Prelude.{IsErrAnd}
 use Rattle.wf_outside.specs.Laws.Outside.{Filed, HasPart, with_bytes}
 use Rattle.run_record.specs.declared.fault.RunFault.{RunFault}
 use Rattle.run_record.specs.declared.fault.RunFault.TheVariants.{Nothing, Found, Write}
@@ -9,12 +8,10 @@ use Rattle.run_record.specs.Fault as ending
 use Rattle.run_record.specs.Fault.{How, how_of}
 use Rattle.wf_commands.specs.declared.answer.Answer.{Answer}
 use Rattle.wf_commands.specs.Answer.{ending_with, AnswersAs, IsCommandEnding, RefusesSo}
-use Rattle.wf_commands.specs.Load.{IsLoadEnding}
 use Rattle.wf_commands.specs.Once.{Ends}
 use Rattle.wf_commands.proofs.Runs.{ends_refused}
 use Rattle.case_story.specs.declared.session.Session.{Session}
 use Rattle.transcript_commands.specs.Load.{FileNames}
-use Rattle.case_story.specs.Sessions.{GivesSession}
 use Rattle.case_story.specs.Transcript.{FindsRun, GivesServed, TellsRun}
 
 refuses_wider : (A B : RunFault → List ℕ → Type 0) (how : How) (fault : RunFault) → ((f : RunFault) (text : List ℕ) → A f text → B f text) →
@@ -70,22 +67,9 @@ told_none files n lanes rounds T before after fault finds ends same = elim finds
   | inr late ↦ inr (late.0, (late.1.0, ends_refused (T late.0) before after fault ends late.1.1 same))
 ]
 
--- a file was not loaded
-pub not_given : (files : List ℕ → Filed) (n : FileNames) (result : Result Session RunFault) (fault : RunFault) → IsErrAnd result (λ e. e ≡ fault)
-    → GivesSession files n (Err fault) → GivesSession files n result
-not_given files n (Ok s) fault is h = absurd is
-not_given files n (Err e) fault is h = subst (λ (x : RunFault). GivesSession files n (Err x)) (sym is) h
-
 -- what is told of a session that the files give
 pub found_all : (files : List ℕ → Filed) (n : FileNames) (lanes rounds : ℕ) (T : Session → RunFault → List ℕ → Type 0) (s : Session)
     (result : Result Answer RunFault)
     → GivesServed files n lanes rounds s → AnswersAs (T s) result → FindsRun files n lanes rounds T result
 found_all files n lanes rounds T s (Ok answer) gives h = (s, (gives, h))
 found_all files n lanes rounds T s (Err fault) gives h = inr (s, (gives, h))
-
-pub found_none : (files : List ℕ → Filed) (n : FileNames) (lanes rounds : ℕ) (T : Session → RunFault → List ℕ → Type 0) (result : Result Answer RunFault)
-    (fault : RunFault)
-    → IsErrAnd result (λ e. e ≡ fault) → IsLoadEnding fault → GivesSession files n (Err fault) → FindsRun files n lanes rounds T result
-found_none files n lanes rounds T (Ok answer) fault is ending h = absurd is
-found_none files n lanes rounds T (Err e) fault is ending h =
-    subst (λ (x : RunFault). FindsRun files n lanes rounds T (Err x)) (sym is) (inl (ending, h))

@@ -1,7 +1,7 @@
 //! What every command tells: its first line says what the audit finds.
-ghost use Rattle.std.specs.Prelude.{◌≡◌, ◌++◌, IfOk, string_bytes, IfErr};
+ghost use Rattle.std.specs.Prelude.{◌≡◌, ◌++◌, IfOk, OnOk, string_bytes, IfErr};
 ghost use Rattle.wf_commands.specs.Answer.{AnswersAs, IsAnswerEnding};
-ghost use Rattle.case_story.specs.Verdicts.{is_wrong};
+ghost use Rattle.case_story.specs.Verdicts.{is_wrong, verdict_words};
 ghost use Rattle.case_story.specs.Printed.{TellsBy, verdict_line};
 
 use crate::place::Place;
@@ -56,15 +56,22 @@ pub(crate) fn answered(
     ensures text { IfOk result (λ a.
         a.text.items ≡ verdict_line mark.now verdict end.now ++ body.now) }
 {
-    let words = verdict.words(alloc)?;
     let mut text = String::from_str(alloc, mark)?;
-    text.push_str(words.as_str())?;
-    text.push_str(end)?;
-    text.push_str(body)?;
+    push_line(&mut text, verdict, end, body)?;
     Ok(Answer {
         found: verdict.is_wrong(),
         text: text.into_bytes(),
     })
+}
+
+// Adds the words of a verdict, their end and a text.
+fn push_line(out: &mut String, verdict: Verdict, end: &str, body: &str) -> Result<(), AllocError>
+    ensures { OnOk result (string_bytes out.new
+        ≡ string_bytes out.old ++ verdict_words verdict ++ end.now ++ body.now) }
+{
+    verdict.push_words(out)?;
+    out.push_str(end)?;
+    out.push_str(body)
 }
 
 /// Adds the line that is the first that is wrong, as far as it is shown.

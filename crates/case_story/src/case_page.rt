@@ -8,16 +8,15 @@ use crate::picture::put_picture;
 use crate::shown::Shown;
 use crate::standing::{put_plan, put_rules, put_standing};
 use crate::steps::put_steps;
-use case_record::Case;
 use constraint_forms::Plan;
 use grant_table::Cases;
-use plain_words::flow_text;
+use plain_words::{flow_name, text_of};
 use policy_book::{Course, Policy};
 use std::alloc::{AllocError, Global};
 use std::marker::Model;
 use story_words::{Told, push_answer, push_ask, push_reasons, push_reply, subject};
 use wf_names::CaseId;
-use wf_talk::{Ask, Denial, Reply, Request};
+use wf_talk::{Ask, Denial, Entry, Reply, Request};
 
 /// The page of a case so far. Contracts see the number of the case.
 ///
@@ -96,28 +95,35 @@ impl Page {
             case,
         };
         let mut out = Html::new(alloc);
-        self.put_front(&mut out, p, case, verdict)?;
-        put_steps_of(&mut out, &shown, cases.plan(self.case))?;
-        put_rules(&mut out, &shown)?;
-        self.put_history(&mut out)?;
+        self.put_parts(&mut out, &shown, cases.plan(self.case), verdict)?;
         Ok(Some(out.into_text()))
+    }
+
+    fn put_parts(
+        &self,
+        out: &mut Html,
+        shown: &Shown<'_>,
+        plan: Option<Plan>,
+        verdict: &str,
+    ) -> Result<(), AllocError> {
+        self.put_front(out, shown, verdict)?;
+        put_steps_of(out, shown, plan)?;
+        put_rules(out, shown)?;
+        self.put_history(out)
     }
 
     // What stands above the steps.
     fn put_front(
         &self,
         out: &mut Html,
-        p: &Policy,
-        case: &Case,
+        shown: &Shown<'_>,
         verdict: &str,
     ) -> Result<(), AllocError> {
-        let flow = flow_text(out.allocator(), p, case.flow())?;
-        out.put(&[Part::Mark(FRONT)])?;
-        self.put_name(out, flow.as_str())?;
-        out.put(&[Part::Mark(STYLE)])?;
-        self.put_name(out, flow.as_str())?;
+        let flow = flow_name(&shown.course);
+        self.put_name(out, FRONT, text_of(&flow))?;
+        self.put_name(out, STYLE, text_of(&flow))?;
         out.put(&[Part::Mark("</h1>\n")])?;
-        put_standing(out, case)?;
+        put_standing(out, shown.case)?;
         out.put(&[
             Part::Mark("<p class=\"told\">"),
             Part::Value(verdict),
@@ -125,8 +131,10 @@ impl Page {
         ])
     }
 
-    fn put_name(&self, out: &mut Html, flow: &str) -> Result<(), AllocError> {
+    // Adds the name of the case behind some marks.
+    fn put_name(&self, out: &mut Html, marks: &'static str, flow: &str) -> Result<(), AllocError> {
         out.put(&[
+            Part::Mark(marks),
             Part::Mark("Case "),
             Part::Number(self.case.0 as u32),
             Part::Mark(" of "),
@@ -162,7 +170,17 @@ fn put_steps_of(out: &mut Html, shown: &Shown<'_>, plan: Option<Plan>) -> Result
 
 // Adds the row of an entry.
 fn put_row(rows: &mut Html, told: &Told<'_>) -> Result<(), AllocError> {
-    let entry = told.entry;
+    put_asked(rows, told.entry)?;
+    if has_tree(&told.entry.reply) {
+        put_tree(rows, told)?;
+    } else {
+        put_answer(rows, told)?;
+    }
+    rows.put(&[Part::Mark("</td></tr>\n")])
+}
+
+// Adds the beginning of a row, with what was asked.
+fn put_asked(rows: &mut Html, entry: &Entry) -> Result<(), AllocError> {
     let mut ask = String::new(rows.allocator());
     push_ask(&mut ask, &entry.ask)?;
     rows.put(&[
@@ -174,15 +192,13 @@ fn put_row(rows: &mut Html, told: &Told<'_>) -> Result<(), AllocError> {
         Part::Mark(badge(&entry.ask)),
         Part::Value(ask.as_str()),
         Part::Mark("</td><td>"),
-    ])?;
-    if has_tree(&entry.reply) {
-        put_tree(rows, told)?;
-    } else {
-        let mut answer = String::new(rows.allocator());
-        push_answer(&mut answer, told)?;
-        rows.put(&[Part::Value(answer.as_str())])?;
-    }
-    rows.put(&[Part::Mark("</td></tr>\n")])
+    ])
+}
+
+fn put_answer(rows: &mut Html, told: &Told<'_>) -> Result<(), AllocError> {
+    let mut answer = String::new(rows.allocator());
+    push_answer(&mut answer, told)?;
+    rows.put(&[Part::Value(answer.as_str())])
 }
 
 // The kind of a row: of a change of the policy, of what was not done, and of the others.

@@ -79,7 +79,8 @@ fn was_opened(auditor: &Auditor, case: CaseId) -> bool
 // The page as a text; empty where the case is not there.
 fn finish(alloc: Global, page: &Page, audited: &Audited) -> Result<String, AllocError> {
     let board = audited.auditor.board();
-    let words = audited.verdict.words(alloc)?;
+    let mut words = String::new(alloc);
+    audited.verdict.push_words(&mut words)?;
     match page.finish(alloc, board.policy(), board.cases(), words.as_str())? {
         Some(text) => Ok(text),
         None => Ok(String::new(alloc)),

@@ -4,9 +4,9 @@
 use crate::html::{Html, Part};
 use crate::layout::{Layout, Spot, led_from};
 use crate::shown::Shown;
-use crate::steps::{class_of, roles_text, state_text};
-use plain_words::flow_text;
-use std::alloc::{AllocError, Global};
+use crate::steps::{class_of, put_roles, state_of};
+use plain_words::{flow_name, text_of};
+use std::alloc::AllocError;
 use std::cmp::max;
 use wf_names::StepId;
 
@@ -58,37 +58,46 @@ const PICTURE: &str =
 
 /// Adds the picture.
 pub(crate) fn put_picture(out: &mut Html, shown: &Shown<'_>) -> Result<(), AllocError> {
-    let mut canvas = canvas_of(out.allocator(), shown)?;
+    let mut canvas = canvas_of(shown);
     let mut drawn = Html::new(out.allocator());
+    draw(&mut drawn, shown, &mut canvas)?;
+    put_svg(out, shown, &canvas, &drawn)
+}
+
+// Adds the arrows, and the boxes over them.
+fn draw(out: &mut Html, shown: &Shown<'_>, canvas: &mut Canvas) -> Result<(), AllocError> {
     for s in 0..shown.case.steps() {
-        put_arrows(&mut drawn, shown, &mut canvas, StepId(s))?;
+        put_arrows(out, shown, canvas, StepId(s))?;
     }
     for s in 0..shown.case.steps() {
-        put_box(&mut drawn, shown, &canvas, StepId(s))?;
+        put_box(out, shown, canvas, StepId(s))?;
     }
-    put_frame(out, shown, &canvas)?;
-    out.join(&drawn)?;
-    out.put(&[Part::Mark("</svg></div>\n")])
+    Ok(())
 }
 
 // The layout, with boxes as wide as the longest text of a step or its state.
-fn canvas_of(alloc: Global, shown: &Shown<'_>) -> Result<Canvas, AllocError> {
+fn canvas_of(shown: &Shown<'_>) -> Canvas {
     let layout = Layout::of(shown.course.flow());
     let mut letters = 16;
     for s in 0..shown.case.steps() {
-        let step = shown.step(alloc, StepId(s))?;
-        let state = state_text(alloc, shown, StepId(s))?;
-        letters = max(letters, max(step.len().saturating_add(3), state.len()));
+        let step = shown.step(StepId(s));
+        let (state, name) = state_of(shown, StepId(s));
+        let state_len = state.len().saturating_add(text_of(&name).len());
+        letters = max(
+            letters,
+            max(text_of(&step).len().saturating_add(3), state_len),
+        );
     }
-    Ok(Canvas {
+    Canvas {
         layout,
         letters,
         wide: (letters.min(80) as u32) * 8 + 20,
         high: (layout.most as u32) * 2 * HALF_DOWN,
-    })
+    }
 }
 
-fn put_frame(out: &mut Html, shown: &Shown<'_>, canvas: &Canvas) -> Result<(), AllocError> {
+// Adds what is drawn, as SVG.
+fn put_svg(out: &mut Html, shown: &Shown, canvas: &Canvas, drawn: &Html) -> Result<(), AllocError> {
     let last = Spot {
         layer: canvas.layout.last,
         halves: 0,
@@ -97,24 +106,34 @@ fn put_frame(out: &mut Html, shown: &Shown<'_>, canvas: &Canvas) -> Result<(), A
         .x(last)
         .saturating_add(canvas.wide)
         .saturating_add(EDGE);
-    let flow = flow_text(out.allocator(), shown.course.policy, shown.course.number)?;
+    put_start(out, wide, canvas.high)?;
+    let flow = flow_name(&shown.course);
+    out.put(&[
+        Part::Mark(" role=\"img\" aria-labelledby=\"t d\"><title id=\"t\">The steps of "),
+        Part::Value(text_of(&flow)),
+        Part::Mark(PICTURE),
+    ])?;
+    out.join(drawn)?;
+    out.put(&[Part::Mark("</svg></div>\n")])
+}
+
+// Begins a picture of this size.
+fn put_start(out: &mut Html, wide: u32, high: u32) -> Result<(), AllocError> {
+    let class = if wide > FITS {
+        "\" class=\"big\""
+    } else {
+        "\""
+    };
     out.put(&[
         Part::Mark("<div class=\"wide\"><svg viewBox=\"0 0 "),
         Part::Number(wide),
         Part::Mark(" "),
-        Part::Number(canvas.high),
+        Part::Number(high),
         Part::Mark("\" width=\""),
         Part::Number(wide),
         Part::Mark("\" height=\""),
-        Part::Number(canvas.high),
-        Part::Mark(if wide > FITS {
-            "\" class=\"big\""
-        } else {
-            "\""
-        }),
-        Part::Mark(" role=\"img\" aria-labelledby=\"t d\"><title id=\"t\">The steps of "),
-        Part::Value(flow.as_str()),
-        Part::Mark(PICTURE),
+        Part::Number(high),
+        Part::Mark(class),
     ])
 }
 
@@ -149,20 +168,20 @@ fn put_arrow(out: &mut Html, canvas: &mut Canvas, start: Spot, to: Spot) -> Resu
         Part::Number(x.saturating_add(BEND)),
     ])?;
     if start.layer.saturating_add(1) < to.layer {
-        out.put(&[
-            Part::Mark("V"),
-            Part::Number(canvas.high),
-            Part::Mark("H"),
-            Part::Number(end.saturating_sub(BEND)),
-        ])?;
+        put_turn(out, canvas.high, end.saturating_sub(BEND))?;
         canvas.high = canvas.high.saturating_add(APART);
     }
+    put_turn(out, level.saturating_add(MIDDLE), end)?;
+    out.put(&[Part::Mark("\"/>\n")])
+}
+
+// Leads an arrow up or down to a level, and then to the side.
+fn put_turn(out: &mut Html, level: u32, end: u32) -> Result<(), AllocError> {
     out.put(&[
         Part::Mark("V"),
-        Part::Number(level.saturating_add(MIDDLE)),
+        Part::Number(level),
         Part::Mark("H"),
         Part::Number(end),
-        Part::Mark("\"/>\n"),
     ])
 }
 
@@ -172,37 +191,41 @@ fn put_box(
     canvas: &Canvas,
     s: StepId,
 ) -> Result<(), AllocError> {
-    let spot = canvas.layout.spot(s);
-    let alloc = out.allocator();
-    let step = shown.step(alloc, s)?;
-    let (roles, state) = (roles_text(alloc, shown, s)?, state_text(alloc, shown, s)?);
-    let (begun, dots) = beginning(roles.as_str(), canvas.letters);
+    let step = shown.step(s);
+    put_rectangle(out, canvas, canvas.layout.spot(s), class_of(shown, s))?;
+    out.put(&[
+        Part::Mark("<text x=\"10\" y=\"20\" class=\"s\">"),
+        Part::Number(s.0 as u32),
+        Part::Mark(" "),
+        Part::Value(text_of(&step)),
+        Part::Mark("</text><text x=\"10\" y=\"38\" class=\"r\">"),
+    ])?;
+    put_roles(out, shown, s, canvas.letters)?;
+    let (state, name) = state_of(shown, s);
+    out.put(&[
+        Part::Mark("</text><text x=\"10\" y=\"55\">"),
+        Part::Mark(state),
+        Part::Value(text_of(&name)),
+        Part::Mark("</text></g>\n"),
+    ])
+}
+
+// Begins a box of this class, with its edge.
+fn put_rectangle(
+    out: &mut Html,
+    canvas: &Canvas,
+    spot: Spot,
+    class: &'static str,
+) -> Result<(), AllocError> {
     out.put(&[
         Part::Mark("<g class=\""),
-        Part::Mark(class_of(shown, s)),
+        Part::Mark(class),
         Part::Mark("\" transform=\"translate("),
         Part::Number(canvas.x(spot)),
         Part::Mark(" "),
         Part::Number(canvas.y(spot)),
         Part::Mark(")\"><rect width=\""),
         Part::Number(canvas.wide),
-        Part::Mark("\" height=\"64\" rx=\"8\"/><text x=\"10\" y=\"20\" class=\"s\">"),
-        Part::Number(s.0 as u32),
-        Part::Mark(" "),
-        Part::Value(step.as_str()),
-        Part::Mark("</text><text x=\"10\" y=\"38\" class=\"r\">"),
-        Part::Value(begun),
-        Part::Mark(dots),
-        Part::Mark("</text><text x=\"10\" y=\"55\">"),
-        Part::Value(state.as_str()),
-        Part::Mark("</text></g>\n"),
+        Part::Mark("\" height=\"64\" rx=\"8\"/>"),
     ])
-}
-
-// As much of a text as fits, and dots where that is not all.
-fn beginning(text: &str, letters: usize) -> (&str, &'static str) {
-    match text.get(..letters) {
-        Some(shown) if letters < text.len() => (shown, ".."),
-        _ => (text, ""),
-    }
 }

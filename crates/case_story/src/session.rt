@@ -1,11 +1,14 @@
 //! The files of a session, and its audit.
-ghost use Rattle.std.specs.Prelude.{◌≡◌, IfErr, IfOk};
+ghost use Rattle.std.specs.Prelude.{◌≡◌, IfErr, IfOk, Ok};
 ghost use Rattle.transcript_audit.specs.Laws.{AreOfSession};
 ghost use Rattle.run_record.specs.Fault.{fault_in, CountsLoads};
-ghost use Rattle.wf_commands.specs.Load.{IsLoadEnding};
+ghost use Rattle.wf_commands.specs.Load.{GivesBytes, IsLoadEnding};
 ghost use Rattle.transcript_commands.specs.Run.{IsOnLanes};
 ghost use Rattle.transcript_commands.specs.Start.{names_in};
-ghost use Rattle.case_story.specs.Sessions.{GivesSession, IsServed, audit_in, cut_in};
+ghost use Rattle.case_story.specs.Sessions.{FailsRequests, GivesSession, IsServed, audit_in};
+ghost use Rattle.case_story.specs.Sessions.{cut_in};
+ghost use Rattle.case_story.specs.declared.session.TheConstants.{TRANSCRIPT_FILE_LIMIT};
+ghost use Rattle.wf_names.specs.declared.limits.TheConstants.{REQUESTS_FILE_LIMIT};
 
 use line_reader::jobs_of;
 use policy_book::Policy;
@@ -42,10 +45,12 @@ impl Session {
         ensures session { IfOk result (λ _. AreOfSession self.now.policy self.now.rounds
             (cut_in self.now).jobs (cut_in self.now).ends) }
     {
-        let policy = self.policy.copy()?;
         let batch = jobs_of(alloc, self.requests.as_bytes(), self.lanes)?;
-        know_session(&policy, self.rounds, &batch.jobs, &batch.ends);
-        Auditor::new(alloc, policy, batch.jobs, batch.ends, self.rounds)
+        know_session(&self.policy, self.rounds, &batch.jobs, &batch.ends);
+        match self.policy.copy() {
+            Ok(policy) => Auditor::new(alloc, policy, batch.jobs, batch.ends, self.rounds),
+            Err(e) => Err(e),
+        }
     }
 }
 
@@ -63,14 +68,42 @@ pub(crate) fn load_session<F: Shelf>(
     ensures ending { IfErr result IsLoadEnding }
     ensures loads { CountsLoads (fault_in result) (F.faults shelf.old) (F.faults shelf.new) }
 {
-    let policy = load_policy(alloc, shelf, files.policy)?;
-    let requests = load_file(alloc, shelf, files.requests, REQUESTS_FILE_LIMIT)?;
-    let transcript = load_file(alloc, shelf, files.transcript, TRANSCRIPT_FILE_LIMIT)?;
-    Ok(Session {
-        policy,
-        requests,
-        transcript,
-        lanes: files.lanes,
-        rounds: files.rounds,
-    })
+    match load_policy(alloc, shelf, files.policy) {
+        Ok(policy) => match load_texts(alloc, files, shelf) {
+            Ok((requests, transcript)) => Ok(Session {
+                policy,
+                requests,
+                transcript,
+                lanes: files.lanes,
+                rounds: files.rounds,
+            }),
+            Err(fault) => Err(fault),
+        },
+        Err(fault) => Err(fault),
+    }
+}
+
+// Loads the requests and the transcript of a session.
+fn load_texts<F: Shelf>(
+    alloc: Global,
+    files: Earlier,
+    shelf: &mut F,
+) -> Result<(Loaded, Loaded), RunFault>
+    ensures requests { IfOk result (λ t. GivesBytes REQUESTS_FILE_LIMIT
+        (F.file shelf.old files.entry.requests.now) (Ok t.0)) }
+    ensures transcript { IfOk result (λ t. GivesBytes TRANSCRIPT_FILE_LIMIT
+        (F.file shelf.old files.entry.transcript.now) (Ok t.1)) }
+    ensures fails { IfErr result (FailsRequests (F.file shelf.old) (names_in files.entry)) }
+    ensures ending { IfErr result IsLoadEnding }
+    ensures loads { CountsLoads (fault_in result) (F.faults shelf.old) (F.faults shelf.new) }
+{
+    match load_file(alloc, shelf, files.requests, REQUESTS_FILE_LIMIT) {
+        Ok(requests) => {
+            match load_file(alloc, shelf, files.transcript, TRANSCRIPT_FILE_LIMIT) {
+                Ok(transcript) => Ok((requests, transcript)),
+                Err(fault) => Err(fault),
+            }
+        }
+        Err(fault) => Err(fault),
+    }
 }

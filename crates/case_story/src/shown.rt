@@ -1,10 +1,9 @@
 //! A case that is shown.
 
 use case_record::Case;
-use plain_words::step_text;
+use plain_words::step_name;
 use policy_book::Course;
-use std::alloc::{AllocError, Global};
-use wf_names::StepId;
+use wf_names::{Name, StepId};
 
 /// A case with its workflow.
 #[derive(Clone, Copy)]
@@ -14,8 +13,8 @@ pub(crate) struct Shown<'a> {
 }
 
 impl Shown<'_> {
-    /// The name of a step.
-    pub(crate) fn step(&self, alloc: Global, s: StepId) -> Result<String, AllocError> {
-        step_text(alloc, &self.course, s)
+    /// The name of a step, if there is one.
+    pub(crate) fn step(&self, s: StepId) -> Option<Name> {
+        step_name(&self.course, s)
     }
 }

@@ -3,43 +3,22 @@
 use crate::html::{Html, Part};
 use crate::layout::led_from;
 use crate::shown::Shown;
-use plain_words::{group_text, name_text, push_gap};
-use policy_book::Policy;
-use std::alloc::{AllocError, Global};
-use wf_names::{RoleId, StepId, StepState, UserId};
+use plain_words::{group_text, name_of, push_gap, text_of};
+use std::alloc::AllocError;
+use wf_names::{Name, RoleId, StepId, StepState};
 
-/// How a step of a case stands: who has it, and of a free one what it waits for.
-pub(crate) fn state_text(
-    alloc: Global,
-    shown: &Shown<'_>,
-    s: StepId,
-) -> Result<String, AllocError> {
+/// How a step of a case stands, in words and with the name behind them: who has it, and of a free
+/// one what it waits for.
+pub(crate) fn state_of(shown: &Shown<'_>, s: StepId) -> (&'static str, Option<Name>) {
+    let users = shown.course.policy.roster().users();
     match shown.case.state(s) {
-        StepState::Held(u) => user_text(alloc, shown.course.policy, "held by ", u),
-        StepState::Finished(u) => user_text(alloc, shown.course.policy, "finished by ", u),
-        StepState::Free => free_text(alloc, shown, s),
-    }
-}
-
-fn user_text(alloc: Global, p: &Policy, word: &str, u: UserId) -> Result<String, AllocError> {
-    let mut text = String::from_str(alloc, word)?;
-    let user = name_text(alloc, p.roster().users(), u.0)?;
-    text.push_str(user.as_str())?;
-    Ok(text)
-}
-
-fn free_text(alloc: Global, shown: &Shown<'_>, s: StepId) -> Result<String, AllocError> {
-    if !shown.case.phase().is_live() {
-        return String::from_str(alloc, "free");
-    }
-    match awaited(shown, s) {
-        None => String::from_str(alloc, "free, can be claimed"),
-        Some(t) => {
-            let mut text = String::from_str(alloc, "free, waits for ")?;
-            let step = shown.step(alloc, t)?;
-            text.push_str(step.as_str())?;
-            Ok(text)
-        }
+        StepState::Held(u) => ("held by ", name_of(users, u.0)),
+        StepState::Finished(u) => ("finished by ", name_of(users, u.0)),
+        StepState::Free if !shown.case.phase().is_live() => ("free", None),
+        StepState::Free => match awaited(shown, s) {
+            None => ("free, can be claimed", None),
+            Some(t) => ("free, waits for ", shown.step(t)),
+        },
     }
 }
 
@@ -64,28 +43,44 @@ pub(crate) fn class_of(shown: &Shown<'_>, s: StepId) -> &'static str {
     }
 }
 
-/// The names of the roles to which a step is permitted.
-pub(crate) fn roles_text(
-    alloc: Global,
+/// Adds the names of the roles to which a step is permitted, as much of them as fits in this many
+/// letters.
+pub(crate) fn put_roles(
+    out: &mut Html,
     shown: &Shown<'_>,
     s: StepId,
-) -> Result<String, AllocError> {
-    let mut text = String::new(alloc);
+    letters: usize,
+) -> Result<(), AllocError> {
+    let mut roles = String::new(out.allocator());
+    push_roles(&mut roles, shown, s)?;
+    let (begun, dots) = beginning(roles.as_str(), letters);
+    out.put(&[Part::Value(begun), Part::Mark(dots)])
+}
+
+// As much of a text as fits, and dots where that is not all.
+fn beginning(text: &str, letters: usize) -> (&str, &'static str) {
+    match text.get(..letters) {
+        Some(shown) if letters < text.len() => (shown, ".."),
+        _ => (text, ""),
+    }
+}
+
+fn push_roles(text: &mut String, shown: &Shown<'_>, s: StepId) -> Result<(), AllocError> {
     let count = count_roles(shown, s);
+    if count == 0 {
+        return text.push_str("no role");
+    }
     let mut place = 0u32;
     let flow = shown.course.flow();
-    for r in 0..shown.course.policy.roster().roles().len().min(256) {
+    let roles = shown.course.policy.roster().roles();
+    for r in 0..roles.len().min(256) {
         if flow.permits(RoleId(r as u8), s) {
-            let role = name_text(alloc, shown.course.policy.roster().roles(), r)?;
-            push_gap(&mut text, place, count, "and")?;
-            text.push_str(role.as_str())?;
+            push_gap(text, place, count, "and")?;
+            text.push_str(text_of(&name_of(roles, r)))?;
             place = place.saturating_add(1);
         }
     }
-    if count == 0 {
-        text.push_str("no role")?;
-    }
-    Ok(text)
+    Ok(())
 }
 
 fn count_roles(shown: &Shown<'_>, s: StepId) -> u32 {
@@ -99,13 +94,14 @@ fn count_roles(shown: &Shown<'_>, s: StepId) -> u32 {
     count
 }
 
-// The names of the steps from which an arrow leads to a step.
-fn before_text(alloc: Global, shown: &Shown<'_>, s: StepId) -> Result<String, AllocError> {
+// Adds the names of the steps from which an arrow leads to a step.
+fn put_before(out: &mut Html, shown: &Shown<'_>, s: StepId) -> Result<(), AllocError> {
     let steps = led_from(shown.course.flow(), s);
     if steps.count() == 0 {
-        return String::from_str(alloc, "none");
+        return out.put(&[Part::Mark("none")]);
     }
-    group_text(alloc, &shown.course, &steps, "and")
+    let names = group_text(out.allocator(), &shown.course, &steps, "and")?;
+    out.put(&[Part::Value(names.as_str())])
 }
 
 /// Adds the table of the steps.
@@ -122,20 +118,22 @@ pub(crate) fn put_steps(out: &mut Html, shown: &Shown<'_>) -> Result<(), AllocEr
 }
 
 fn put_step(out: &mut Html, shown: &Shown<'_>, s: StepId) -> Result<(), AllocError> {
-    let alloc = out.allocator();
-    let (step, before) = (shown.step(alloc, s)?, before_text(alloc, shown, s)?);
-    let (roles, state) = (roles_text(alloc, shown, s)?, state_text(alloc, shown, s)?);
+    let step = shown.step(s);
     out.put(&[
         Part::Mark("<tr><th scope=\"row\">"),
         Part::Number(s.0 as u32),
         Part::Mark(" "),
-        Part::Value(step.as_str()),
+        Part::Value(text_of(&step)),
         Part::Mark("</th><td>"),
-        Part::Value(before.as_str()),
+    ])?;
+    put_before(out, shown, s)?;
+    out.put(&[Part::Mark("</td><td>")])?;
+    put_roles(out, shown, s, usize::MAX)?;
+    let (state, name) = state_of(shown, s);
+    out.put(&[
         Part::Mark("</td><td>"),
-        Part::Value(roles.as_str()),
-        Part::Mark("</td><td>"),
-        Part::Value(state.as_str()),
+        Part::Mark(state),
+        Part::Value(text_of(&name)),
         Part::Mark("</td></tr>\n"),
     ])
 }

@@ -70,8 +70,10 @@ fn find<F: Shelf>(
     ensures ending { IfErr result IsCommandEnding }
     ensures loads { CountsLoads (fault_in result) (F.faults shelf.old) (F.faults shelf.new) }
 {
-    let s = load_session(alloc, files, shelf)?;
-    tell(alloc, what, &s)
+    match load_session(alloc, files, shelf) {
+        Ok(s) => tell(alloc, what, &s),
+        Err(fault) => Err(fault),
+    }
 }
 
 fn tell(alloc: Global, what: What, s: &Session) -> Result<Answer, RunFault>

@@ -40,50 +40,38 @@ impl Verdict {
         }
     }
 
-    /// What is found, in words.
-    pub(crate) fn words(&self, alloc: Global) -> Result<String, AllocError>
-        ensures { IfOk result (λ text. string_bytes text ≡ verdict_words self.now) }
+    /// Adds what is found, in words.
+    pub(crate) fn push_words(&self, out: &mut String) -> Result<(), AllocError>
+        ensures { OnOk result (string_bytes out.new
+            ≡ string_bytes out.old ++ verdict_words self.now) }
     {
         match self {
-            Verdict::Legal(n) => legal_words(alloc, *n),
-            Verdict::Fault(n, kind) => wrong_words(alloc, *n, *kind),
-            Verdict::TooLong(_) => Ok(String::new(alloc)),
+            Verdict::Legal(n) => push_legal(out, *n),
+            Verdict::Fault(n, kind) => push_fault(out, *n, *kind),
+            Verdict::TooLong(_) => Ok(()),
         }
     }
 }
 
-fn legal_words(alloc: Global, n: u32) -> Result<String, AllocError>
-    ensures { IfOk result (λ text. string_bytes text ≡ legal_words n) }
+fn push_legal(out: &mut String, n: u32) -> Result<(), AllocError>
+    ensures { OnOk result (string_bytes out.new ≡ string_bytes out.old ++ legal_words n) }
 {
     if n == 1 {
-        String::from_str(alloc, "audited: legal, 1 entry")
+        out.push_str("audited: legal, 1 entry")
     } else {
-        format!(in alloc; "audited: legal, {n} entries")
+        write!(out, "audited: legal, {n} entries")
     }
 }
 
-fn wrong_words(alloc: Global, n: u32, kind: AuditKind) -> Result<String, AllocError>
-    ensures { IfOk result (λ text. string_bytes text ≡ fault_words n kind ++ up_to n) }
+fn push_fault(out: &mut String, n: u32, kind: AuditKind) -> Result<(), AllocError>
+    ensures { OnOk result (string_bytes out.new
+        ≡ string_bytes out.old ++ fault_words n kind ++ up_to n) }
 {
-    let mut text = fault_words(alloc, n, kind)?;
-    push_up_to(alloc, &mut text, n)?;
-    Ok(text)
-}
-
-fn fault_words(alloc: Global, n: u32, kind: AuditKind) -> Result<String, AllocError>
-    ensures { IfOk result (λ text. string_bytes text ≡ fault_words n kind) }
-{
-    let mut text = line_words(alloc, n)?;
-    text.push_str(state_words(kind))?;
-    text.push_str(kind_words(kind))?;
-    text.push_str(")")?;
-    Ok(text)
-}
-
-fn line_words(alloc: Global, n: u32) -> Result<String, AllocError>
-    ensures { IfOk result (λ text. string_bytes text ≡ codes "audited: line " ++ decimal n) }
-{
-    format!(in alloc; "audited: line {n}")
+    write!(out, "audited: line {n}")?;
+    out.push_str(state_words(kind))?;
+    out.push_str(kind_words(kind))?;
+    out.push_str(")")?;
+    push_up_to(out, n)
 }
 
 fn state_words(kind: AuditKind) -> &'static str
@@ -96,12 +84,12 @@ fn state_words(kind: AuditKind) -> &'static str
 }
 
 // Adds up to which line all is right, if there is one.
-fn push_up_to(alloc: Global, text: &mut String, n: u32) -> Result<(), AllocError>
-    ensures { OnOk result (string_bytes text.new ≡ string_bytes text.old ++ up_to n) }
+fn push_up_to(out: &mut String, n: u32) -> Result<(), AllocError>
+    ensures { OnOk result (string_bytes out.new ≡ string_bytes out.old ++ up_to n) }
 {
     if n > 0 {
-        let last = last_words(alloc, n - 1)?;
-        text.push_str(last.as_str())?;
+        let last = last_words(*out.allocator(), n - 1)?;
+        out.push_str(last.as_str())?;
     }
     Ok(())
 }

@@ -45,10 +45,12 @@ pub(crate) fn audit_whole<W: Watches>(
     let mut auditor = s.auditor(alloc)?;
     let mut place = Place::start();
     let text = s.transcript.as_bytes();
-    let verdict = follow_rest(alloc, &mut auditor, text, &mut place, watcher)?;
-    Ok(Audited {
-        verdict,
-        auditor,
-        place,
-    })
+    match follow_rest(alloc, &mut auditor, text, &mut place, watcher) {
+        Ok(verdict) => Ok(Audited {
+            verdict,
+            auditor,
+            place,
+        }),
+        Err(e) => Err(e),
+    }
 }
