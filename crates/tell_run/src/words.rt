@@ -4,9 +4,11 @@ ghost use Rattle.wf_names.specs.declared.limits.TheConstants.{LANE_LIMIT};
 ghost use Rattle.tell_run.specs.Words.{CanTell};
 
 use case_story::{Earlier, What};
+use clap::builder::ValueParser;
 use clap::error::ErrorKind;
 use clap::{Arg, ArgMatches, Command};
 use std::alloc::{AllocError, Global};
+use std::str::FromStr;
 use wf_names::{CaseId, LANE_LIMIT, ROUND_LIMIT};
 
 /// What the program is asked to tell.
@@ -31,11 +33,129 @@ pub(crate) enum Unread {
     NoMemory,
 }
 
-impl From<AllocError> for Unread {
-    fn from(_: AllocError) -> Self {
-        Unread::NoMemory
-    }
+// A word of a command, or an option.
+#[derive(Clone, Copy)]
+struct Word<'a> {
+    name: &'a str,
+    help: &'a str,
+    parser: ValueParser<'a>,
+    // Whether it has to be there.
+    wanted: bool,
+    // How an option is written where it is left out; none where this is no option.
+    usual: Option<&'a str>,
 }
+
+const POLICY: Word<'static> = Word {
+    name: "POLICY",
+    help: "A policy file",
+    parser: ValueParser::String,
+    wanted: true,
+    usual: None,
+};
+
+const FLOW: Word<'static> = Word {
+    name: "FLOW",
+    help: "The name of a workflow of the policy",
+    parser: ValueParser::String,
+    wanted: true,
+    usual: None,
+};
+
+const REQUESTS: Word<'static> = Word {
+    name: "REQUESTS",
+    help: "A file of requests",
+    parser: ValueParser::String,
+    wanted: true,
+    usual: None,
+};
+
+const TRANSCRIPT: Word<'static> = Word {
+    name: "TRANSCRIPT",
+    help: "The file of their transcript",
+    parser: ValueParser::String,
+    wanted: true,
+    usual: None,
+};
+
+const LANES: Word<'static> = Word {
+    name: "lanes",
+    help: "How many lanes there were",
+    parser: ValueParser::Signed(1, LANE_LIMIT as i64),
+    wanted: false,
+    usual: Some("1"),
+};
+
+const ROUNDS: Word<'static> = Word {
+    name: "rounds",
+    help: "After how many lost rounds a request was answered again",
+    parser: ValueParser::Signed(0, ROUND_LIMIT as i64),
+    wanted: false,
+    usual: Some("2"),
+};
+
+const ENTRY: Word<'static> = Word {
+    name: "N",
+    help: ENTRY_HELP,
+    parser: ValueParser::Signed(0, u32::MAX as i64),
+    wanted: true,
+    usual: None,
+};
+
+const LAST_ENTRY: Word<'static> = Word {
+    name: "N",
+    help: ENTRY_HELP,
+    parser: ValueParser::Signed(0, u32::MAX as i64),
+    wanted: false,
+    usual: None,
+};
+
+const ENTRY_HELP: &str = "The number of an entry, from 0";
+
+const CASE: Word<'static> = Word {
+    name: "CASE",
+    help: "The number of a case, from 0",
+    parser: ValueParser::Signed(0, u16::MAX as i64),
+    wanted: true,
+    usual: None,
+};
+
+// The name of a command, what it does, and its words.
+type Form<'a> = (&'a str, &'a str, &'a [Word<'a>]);
+
+// The commands: about a policy, about the entries of a transcript, and about what stands behind
+// them.
+const FORMS: [Form<'static>; 6] = [
+    (
+        "policy",
+        "The first fault of a policy file, with its place; else what is probably not meant",
+        &[POLICY],
+    ),
+    (
+        "why",
+        "A plan of a workflow, or which rules cannot be met together",
+        &[POLICY, FLOW],
+    ),
+    (
+        "log",
+        "The entries of a transcript, a line for each",
+        &[POLICY, REQUESTS, TRANSCRIPT, LANES, ROUNDS],
+    ),
+    (
+        "entry",
+        "An entry of a transcript: what the case was before it, and why it was answered so",
+        &[POLICY, REQUESTS, TRANSCRIPT, LANES, ROUNDS, ENTRY],
+    ),
+    (
+        "now",
+        "The policy after an entry of a transcript, or after all",
+        &[POLICY, REQUESTS, TRANSCRIPT, LANES, ROUNDS, LAST_ENTRY],
+    ),
+    (
+        "page",
+        "A case, as a page of HTML that stands alone",
+        &[POLICY, REQUESTS, TRANSCRIPT, LANES, ROUNDS, CASE],
+    ),
+];
 
 /// What the words ask for; they are those behind the program's name.
 pub(crate) fn read_words<'a>(alloc: Global, words: &'a [String]) -> Result<Asked<'a>, Unread>
@@ -43,7 +163,7 @@ pub(crate) fn read_words<'a>(alloc: Global, words: &'a [String]) -> Result<Asked
 {
     match form(alloc) {
         Ok(mut command) => read_by(alloc, &mut command, words),
-        Err(e) => Err(Unread::from(e)),
+        Err(_) => Err(Unread::NoMemory),
     }
 }
 
@@ -71,9 +191,11 @@ fn found_in<'a>(alloc: Global, matches: &ArgMatches<'a>) -> Result<Asked<'a>, Un
 }
 
 fn form<'a>(alloc: Global) -> Result<Command<'a>, AllocError> {
-    let mut forms = Vec::new(alloc);
-    push_forms(alloc, &mut forms)?;
-    bare_form(alloc)?.subcommands(forms)
+    let mut command = bare_form(alloc)?;
+    for form in &FORMS {
+        command = command.subcommand(command_of(alloc, form)?)?;
+    }
+    Ok(command)
 }
 
 // The form without the commands.
@@ -86,138 +208,51 @@ fn bare_form<'a>(alloc: Global) -> Result<Command<'a>, AllocError> {
         .bin_name("wftell")
 }
 
-// The forms of the commands: about a policy, about the entries of a transcript, and about what
-// stands behind them.
-fn push_forms<'a>(alloc: Global, forms: &mut Vec<Command<'a>>) -> Result<(), AllocError> {
-    push_form(forms, policy_form(alloc))?;
-    push_form(forms, why_form(alloc))?;
-    push_form(forms, log_form(alloc))?;
-    push_form(forms, entry_form(alloc))?;
-    push_form(forms, now_form(alloc))?;
-    push_form(forms, page_form(alloc))
+fn command_of<'a>(alloc: Global, form: &Form<'a>) -> Result<Command<'a>, AllocError> {
+    let (name, about, words) = *form;
+    let mut command = Command::new(alloc, name).about(about);
+    for word in words {
+        command = command.arg(argument(alloc, word))?;
+    }
+    Ok(command)
 }
 
-fn push_form<'a>(
-    forms: &mut Vec<Command<'a>>,
-    form: Result<Command<'a>, AllocError>,
-) -> Result<(), AllocError> {
-    forms.push(form?)?;
-    Ok(())
-}
-
-fn policy_form<'a>(alloc: Global) -> Result<Command<'a>, AllocError> {
-    let about = "The first fault of a policy file, with its place; else what is probably not meant";
-    Command::new(alloc, "policy")
-        .about(about)
-        .arg(file_word(alloc))
-}
-
-fn why_form<'a>(alloc: Global) -> Result<Command<'a>, AllocError> {
-    let about = "A plan of a workflow, or which rules cannot be met together";
-    let flow = "The name of a workflow of the policy";
-    Command::new(alloc, "why")
-        .about(about)
-        .arg(file_word(alloc))?
-        .arg(text_word(alloc, "FLOW", flow))
-}
-
-fn log_form<'a>(alloc: Global) -> Result<Command<'a>, AllocError> {
-    session_form(alloc, "log", "The entries of a transcript, a line for each")
-}
-
-fn entry_form<'a>(alloc: Global) -> Result<Command<'a>, AllocError> {
-    let about = "An entry of a transcript: what the case was before it, and why it was answered so";
-    session_form(alloc, "entry", about)?.arg(entry_word(alloc).required(true))
-}
-
-fn now_form<'a>(alloc: Global) -> Result<Command<'a>, AllocError> {
-    let about = "The policy after an entry of a transcript, or after all";
-    session_form(alloc, "now", about)?.arg(entry_word(alloc))
-}
-
-fn page_form<'a>(alloc: Global) -> Result<Command<'a>, AllocError> {
-    let about = "A case, as a page of HTML that stands alone";
-    session_form(alloc, "page", about)?.arg(case_word(alloc))
-}
-
-// A command over the files of a session.
-fn session_form<'a>(
-    alloc: Global,
-    name: &'a str,
-    about: &'a str,
-) -> Result<Command<'a>, AllocError> {
-    let words = session_words(alloc)?;
-    Command::new(alloc, name).about(about).args(words)
-}
-
-// The files of a session, and its options.
-fn session_words<'a>(alloc: Global) -> Result<Vec<Arg<'a>>, AllocError> {
-    let lanes = "How many lanes there were";
-    let rounds = "After how many lost rounds a request was answered again";
-    let words = vec![in alloc;
-        file_word(alloc),
-        text_word(alloc, "REQUESTS", "A file of requests"),
-        text_word(alloc, "TRANSCRIPT", "The file of their transcript"),
-        ranged(alloc, "lanes", 1, LANE_LIMIT, "1", lanes),
-        ranged(alloc, "rounds", 0, ROUND_LIMIT, "2", rounds),
-    ]?;
-    Ok(words)
-}
-
-fn file_word<'a>(alloc: Global) -> Arg<'a> {
-    text_word(alloc, "POLICY", "A policy file")
-}
-
-fn text_word<'a>(alloc: Global, name: &'a str, help: &'a str) -> Arg<'a> {
-    Arg::new(alloc, name).required(true).help(help)
-}
-
-fn entry_word<'a>(alloc: Global) -> Arg<'a> {
-    Arg::new(alloc, "N")
-        .value_parser(clap::value_parser!(u32))
-        .help("The number of an entry, from 0")
-}
-
-fn case_word<'a>(alloc: Global) -> Arg<'a> {
-    Arg::new(alloc, "CASE")
-        .required(true)
-        .value_parser(clap::value_parser!(u16))
-        .help("The number of a case, from 0")
-}
-
-// An option with a number, which is as `usual` writes it where the option is left out.
-fn ranged<'a>(
-    alloc: Global,
-    name: &'a str,
-    least: u8,
-    most: u8,
-    usual: &'a str,
-    help: &'a str,
-) -> Arg<'a> {
-    Arg::new(alloc, name)
-        .long(name)
-        .value_parser(clap::value_parser!(u8).range(i64::from(least)..=i64::from(most)))
-        .default_value(usual)
-        .help(help)
+fn argument<'a>(alloc: Global, word: &Word<'a>) -> Arg<'a> {
+    let arg = Arg::new(alloc, word.name)
+        .help(word.help)
+        .required(word.wanted)
+        .value_parser(word.parser);
+    match word.usual {
+        Some(usual) => arg.long(word.name).default_value(usual),
+        None => arg,
+    }
 }
 
 fn asked_in<'a>(matches: &ArgMatches<'a>) -> Option<Asked<'a>>
     ensures { IfSome result CanTell }
 {
     match matches.subcommand() {
-        Some(("policy", found)) => Some(Asked::Policy {
+        Some((name, found)) => asked_by(name, found),
+        None => None,
+    }
+}
+
+// What is asked by the command with this name.
+fn asked_by<'a>(name: &str, found: &ArgMatches<'a>) -> Option<Asked<'a>>
+    ensures { IfSome result CanTell }
+{
+    match name {
+        "policy" => Some(Asked::Policy {
             policy: found.get_str("POLICY")?,
         }),
-        Some(("why", found)) => Some(Asked::Why {
+        "why" => Some(Asked::Why {
             policy: found.get_str("POLICY")?,
             flow: found.get_str("FLOW")?,
         }),
-        Some((name, found)) => {
-            let what = what_in(name, found)?;
-            let session = files_in(found)?;
-            Some(Asked::Told { what, session })
-        }
-        None => None,
+        _ => Some(Asked::Told {
+            what: what_in(name, found)?,
+            session: files_in(found)?,
+        }),
     }
 }
 
@@ -226,49 +261,41 @@ fn what_in(name: &str, found: &ArgMatches<'_>) -> Option<What> {
     match name {
         "log" => Some(What::Log),
         "entry" => Some(What::Entry(number_in(found, "N")?)),
-        "now" => match found.get_str("N") {
-            Some(_) => Some(What::Now(Some(number_in(found, "N")?))),
-            None => Some(What::Now(None)),
-        },
-        "page" => {
-            let number = number_in(found, "CASE")?;
-            match u16::try_from(number) {
-                Ok(case) => Some(What::Page(CaseId(case))),
-                Err(_) => None,
-            }
-        }
+        "now" if found.get_str("N").is_none() => Some(What::Now(None)),
+        "now" => Some(What::Now(Some(number_in(found, "N")?))),
+        "page" => Some(What::Page(CaseId(number_in(found, "CASE")?))),
         _ => None,
     }
 }
 
 // The files of a session.
 fn files_in<'a>(found: &ArgMatches<'a>) -> Option<Earlier<'a>>
-    ensures some { IfSome result (λ s. 0 < s.lanes) }
-    ensures lanes { IfSome result (λ s. s.lanes ≤ LANE_LIMIT) }
+    ensures { IfSome result (λ s. (0 < s.lanes) × (s.lanes ≤ LANE_LIMIT)) }
 {
-    let lanes = small_in(found, "lanes")?;
-    let rounds = small_in(found, "rounds")?;
-    if lanes == 0 || lanes > LANE_LIMIT {
-        return None;
-    }
     Some(Earlier {
         policy: found.get_str("POLICY")?,
         requests: found.get_str("REQUESTS")?,
         transcript: found.get_str("TRANSCRIPT")?,
-        lanes,
-        rounds,
+        lanes: lanes_in(found)?,
+        rounds: number_in(found, "rounds")?,
     })
 }
 
-fn small_in(found: &ArgMatches<'_>, name: &str) -> Option<u8> {
-    match found.get_str(name)?.parse::<u8>() {
-        Ok(n) => Some(n),
-        Err(_) => None,
+fn lanes_in(found: &ArgMatches<'_>) -> Option<u8>
+    ensures { IfSome result (λ n. (0 < n) × (n ≤ LANE_LIMIT)) }
+{
+    match number_in(found, "lanes")? {
+        0 => None,
+        lanes if lanes > LANE_LIMIT => None,
+        lanes => Some(lanes),
     }
 }
 
-fn number_in(found: &ArgMatches<'_>, name: &str) -> Option<u32> {
-    match found.get_str(name)?.parse::<u32>() {
+fn number_in<T: FromStr>(found: &ArgMatches<'_>, name: &str) -> Option<T>
+where
+    T::Err: Drop,
+{
+    match found.get_str(name)?.parse() {
         Ok(n) => Some(n),
         Err(_) => None,
     }
