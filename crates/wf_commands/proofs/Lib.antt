@@ -6,6 +6,7 @@ pub mod Endings
 pub mod ItemsSaid
 pub mod CaseLaws
 pub mod StatesSaid
+pub mod PlanUsers
 pub mod Telling
 pub mod CnfRuns
 pub mod Plain

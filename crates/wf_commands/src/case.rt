@@ -1,10 +1,11 @@
 //! The state of a case, read from the input.
-ghost use Rattle.std.specs.Prelude.{◌≡◌, ◌<◌, ◌≤◌, ◌+◌, length, Some, IfErr, IfOk};
+ghost use Rattle.std.specs.Prelude.{◌≡◌, ◌<◌, ◌≤◌, ◌+◌, ℕ, List, length, Some, IfErr, IfOk};
 ghost use Rattle.std.specs.List.{list_all};
 ghost use Rattle.serde_json.specs.View.{view, items_view};
 ghost use Rattle.basics.specs.Laws.Reading.{Gives, each};
 ghost use Rattle.wf_names.specs.declared.limits.TheConstants.{STEP_LIMIT};
 ghost use Rattle.policy_book.specs.Course.{problem_in};
+ghost use Rattle.wire_json.specs.Values.{value_of};
 ghost use Rattle.run_record.specs.declared.fault.InputFault.TheVariants.{NoUser};
 ghost use Rattle.wf_commands.specs.Input.{input_fault, listed_items, IsOfInput};
 ghost use Rattle.wf_commands.specs.Cases.{case_of_array, case_of_input, is_said, next_said};
@@ -57,7 +58,7 @@ fn first_case() -> Case
 }
 
 // The case that an array is for a workflow with `steps` steps.
-#[tactic(auto, using(crate::proofs::Values::count), unfolding(crate::specs::Cases::case_of_array))]
+#[tactic(auto, unfolding(crate::specs::Cases::case_of_array))]
 fn read_array(alloc: Global, p: &Policy, steps: u8, input: &[u8]) -> Result<Case, InputError>
     requires { steps ≤ STEP_LIMIT }
     ensures case { Gives input_fault (λ c. c) result (case_of_array p.now steps input.now) }
@@ -66,6 +67,19 @@ fn read_array(alloc: Global, p: &Policy, steps: u8, input: &[u8]) -> Result<Case
     ensures sound { IfOk result (IsCaseSoFar (length p.now.roster.users)) }
 {
     let value = json_of(alloc, input)?;
+    read_steps(p, steps, &value)
+}
+
+// The same of an input that is this value.
+#[tactic(auto, using(crate::proofs::Values::count), unfolding(crate::specs::Cases::case_of_array))]
+fn read_steps(p: &Policy, steps: u8, value: &Value) -> Result<Case, InputError>
+    requires { steps ≤ STEP_LIMIT }
+    ensures case { (input : List ℕ) → value_of input ≡ Some (view value.now) →
+        Gives input_fault (λ c. c) result (case_of_array p.now steps input) }
+    ensures fault { IfErr result IsOfInput }
+    ensures said { IfOk result (λ c. c.said ≡ steps) }
+    ensures sound { IfOk result (IsCaseSoFar (length p.now.roster.users)) }
+{
     let Some(items) = value.as_array() else {
         return Err(InputError::Fault(InputFault::Syntax));
     };

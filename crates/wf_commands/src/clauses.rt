@@ -62,8 +62,10 @@ fn find_clauses<F: Shelf, S: Source>(
     ensures input { ReadsInput (Some LINE_LIMIT) (fault_in result) (S.left source.old)
         (S.left source.new) }
 {
-    let p = load_policy(alloc, shelf, policy)?;
-    clauses_under(alloc, &p, flow, source)
+    match load_policy(alloc, shelf, policy) {
+        Ok(p) => clauses_under(alloc, &p, flow, source),
+        Err(fault) => Err(fault),
+    }
 }
 
 // The same under a policy.

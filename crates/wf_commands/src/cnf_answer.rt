@@ -14,7 +14,7 @@ ghost use Rattle.wf_commands.specs.Cases.{IsCaseOf};
 ghost use Rattle.wf_commands.specs.CnfSteps.{GivesModel, IsLateEnding};
 
 use crate::case::Case;
-use crate::encoding::encode;
+use crate::encoding::count_variables;
 use crate::model_file::MODEL_FILE_LIMIT;
 use crate::{Answer, name_text};
 use basics::Fault;
@@ -38,8 +38,8 @@ pub(crate) fn answer_case(
         AnswersAs (UnlessLarge p f c.now (ReadsModel p f text.now c.now)) result }
     ensures ending { IfErr result IsLateEnding }
 {
-    let encoder = encode(alloc, course, c)?;
-    let m = model_in(alloc, text, encoder.variables())?;
+    let variables = count_variables(alloc, course, c)?;
+    let m = model_in(alloc, text, variables)?;
     answer_model(alloc, course, c, &m)
 }
 

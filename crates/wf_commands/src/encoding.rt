@@ -1,10 +1,14 @@
 //! The case in the input, and its clauses.
-ghost use Rattle.std.specs.Prelude.{◌≡◌, ◌<◌, length, Some, IfErr, IfOk, IfSome};
+ghost use Rattle.std.specs.Prelude.{◌≡◌, ◌<◌, ◌≤◌, length, Some, Err, IfErr, IfOk, IfSome};
 ghost use Rattle.wf_names.specs.declared.limits.TheConstants.{LINE_LIMIT};
 ghost use Rattle.policy_book.specs.Course.{problem_in};
+ghost use Rattle.policy_book.specs.Policies.{problem_of};
+ghost use Rattle.cnf_export.specs.Laws.Encodings.{literals, variables_of};
+ghost use Rattle.cnf_export.specs.declared.tally.TheConstants.{LITERAL_LIMIT};
 ghost use Rattle.run_record.specs.Fault.{fault_in, CountsReadsAlone};
 ghost use Rattle.wf_commands.specs.Once.{ReadsInput};
 ghost use Rattle.wf_commands.specs.Cases.{IsCaseOf};
+ghost use Rattle.wf_commands.specs.CnfAnswers.{clauses_for};
 ghost use Rattle.wf_commands.specs.CnfSteps.{GivesCase, GivesEncoder, IsCaseEnding, IsLateEnding};
 ghost use Rattle.wf_commands.specs.CnfSteps.{IsReadingEnding, ReadsCase};
 
@@ -32,8 +36,10 @@ pub(crate) fn take_case<S: Source>(
     ensures taken { ReadsInput (Some LINE_LIMIT) (fault_in result) (S.left source.old)
         (S.left source.new) }
 {
-    let input = take_input(alloc, source, LINE_LIMIT)?;
-    case_in(alloc, course, input.as_bytes())
+    match take_input(alloc, source, LINE_LIMIT) {
+        Ok(input) => case_in(alloc, course, input.as_bytes()),
+        Err(fault) => Err(fault),
+    }
 }
 
 // The same of an input that is there.
@@ -66,5 +72,21 @@ pub(crate) fn encode(alloc: Global, course: &Course, c: &Case) -> Result<Encoder
         Ok(encoder) => Ok(encoder),
         Err(Fault::Cause(TooLarge)) => Err(RunFault::TooLarge),
         Err(Fault::NoMemory) => Err(RunFault::NoMemory),
+    }
+}
+
+/// How many variables the clauses of a case have.
+pub(crate) fn count_variables(alloc: Global, course: &Course, c: &Case) -> Result<u32, RunFault>
+    requires sound { IsCaseOf (problem_in course.now) c.now }
+    ensures count { let p = course.now.policy.now in let f = course.now.number in
+        IfOk result (λ n. (literals (clauses_for p f c.now) ≤ LITERAL_LIMIT)
+        × (n ≡ variables_of (problem_of p f))) }
+    ensures refused { IfErr result (λ fault.
+        GivesEncoder course.now.policy.now course.now.number c.now (Err fault)) }
+    ensures ending { IfErr result IsLateEnding }
+{
+    match encode(alloc, course, c) {
+        Ok(encoder) => Ok(encoder.variables()),
+        Err(fault) => Err(fault),
     }
 }

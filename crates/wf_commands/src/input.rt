@@ -1,6 +1,6 @@
 //! The input as JSON, the users whom it names, and the input of `plan` read as a plan.
 ghost use Rattle.std.specs.Prelude.{◌≡◌, ◌<◌, ◌≤◌, ◌^◌, ◌==◌, ℕ, List, [], ◌∷◌, ◌++◌, length};
-ghost use Rattle.std.specs.Prelude.{option_and_then, IfErr, IfOk, IfSome, OnOk};
+ghost use Rattle.std.specs.Prelude.{option_and_then, Some, IfErr, IfOk, IfSome, OnOk};
 ghost use Rattle.std.specs.List.{list_all};
 ghost use Rattle.serde_json.specs.View.{view, items_view};
 ghost use Rattle.serde_json.specs.Find.{as_str};
@@ -30,7 +30,7 @@ pub enum InputError {
 }
 
 /// The plan that an input is for a workflow.
-#[tactic(auto, using(crate::proofs::Values::count), unfolding(crate::specs::Input::plan_of_input))]
+#[tactic(auto, unfolding(crate::specs::Input::plan_of_input))]
 pub(crate) fn read_plan(
     alloc: Global,
     p: &Policy,
@@ -44,6 +44,19 @@ pub(crate) fn read_plan(
     ensures users { IfOk result (λ plan. AreAmong (length p.now.roster.users) plan) }
 {
     let value = json_of(alloc, input)?;
+    read_names(alloc, p, steps, &value)
+}
+
+// The same of an input that is this value.
+#[tactic(auto, using(crate::proofs::Values::count), unfolding(crate::specs::Input::plan_of_input))]
+fn read_names(alloc: Global, p: &Policy, steps: u8, value: &Value) -> Result<Plan, InputError>
+    requires { steps ≤ STEP_LIMIT }
+    ensures plan { (input : List ℕ) → value_of input ≡ Some (view value.now) →
+        Gives input_fault (λ plan. plan) result (plan_of_input p.now steps input) }
+    ensures whole { IfOk result (λ plan. length plan ≡ steps) }
+    ensures fault { IfErr result IsOfInput }
+    ensures users { IfOk result (λ plan. AreAmong (length p.now.roster.users) plan) }
+{
     let Some(items) = value.as_array() else {
         return Err(InputError::Fault(InputFault::Syntax));
     };

@@ -62,8 +62,10 @@ fn find_reading<F: Shelf, S: Source>(
     ensures input { ReadsInput (Some LINE_LIMIT) (fault_in result) (S.left source.old)
         (S.left source.new) }
 {
-    let p = load_policy(alloc, shelf, policy)?;
-    read_under(alloc, &p, flow, model, shelf, source)
+    match load_policy(alloc, shelf, policy) {
+        Ok(p) => read_under(alloc, &p, flow, model, shelf, source),
+        Err(fault) => Err(fault),
+    }
 }
 
 // The same under a policy.

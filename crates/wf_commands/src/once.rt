@@ -54,6 +54,8 @@ fn find_answer<A: Answers, F: Shelf, S: Source>(
         (S.left source.new) }
     ensures untouched { A.limit command.now ≡ None → source.new ≡ source.old }
 {
-    let p = load_policy(alloc, shelf, policy)?;
-    command.answer(alloc, &p, source)
+    match load_policy(alloc, shelf, policy) {
+        Ok(p) => command.answer(alloc, &p, source),
+        Err(fault) => Err(fault),
+    }
 }

@@ -1,4 +1,4 @@
-use Rattle.std.proofs.Common.{Some, subst}
+use Rattle.std.proofs.Common.{Err, refl, Some, subst}
 use Rattle.wf_names.specs.declared.limits.TheConstants.{LINE_LIMIT}
 use Rattle.wf_outside.specs.Laws.Outside.{Filed}
 use Rattle.run_record.specs.Fault.{fault_in}
@@ -10,24 +10,24 @@ use Rattle.wf_commands.specs.Model.{EndsWithoutModel}
 use Rattle.wf_commands.proofs.Telling.{answers_no_policy}
 use Rattle.wf_commands.proofs.model.find_reading.Goals as goal
 
-pub returns-in_err-p-clause-answer : goal.returns-in_err-p-clause-answer
-returns-in_err-p-clause-answer g c =
+pub returns-in-Err-clause-answer : goal.returns-in-Err-clause-answer
+returns-in-Err-clause-answer g c =
     answers_no_policy (λ p. ModelAsked p c.args.flow.now (g.F.Shelf.file c.args.shelf.now c.args.model.now) (g.S.Source.left c.args.source.now))
-    (g.F.Shelf.file c.args.shelf.now c.args.policy.now) c.from_residual.result c.in_err-p.field-0.0 c.from_residual.ensures.1 c.in_err-p.ensures.policy
-    c.in_err-p.ensures.ending
+    (g.F.Shelf.file c.args.shelf.now c.args.policy.now) (Err c.in-Err.fault) c.in-Err.fault refl c.in-Err.ensures.policy
+    c.in-Err.ensures.ending
 
-pub returns-in_err-p-clause-input : goal.returns-in_err-p-clause-input
-returns-in_err-p-clause-input g c =
-    unread_after (Some LINE_LIMIT) c.from_residual.result c.in_err-p.field-0.0
-    (g.S.Source.left c.args.source.now) c.from_residual.ensures.1 c.in_err-p.ensures.ending
+pub returns-in-Err-clause-input : goal.returns-in-Err-clause-input
+returns-in-Err-clause-input g c =
+    unread_after (Some LINE_LIMIT) (Err c.in-Err.fault) c.in-Err.fault
+    (g.S.Source.left c.args.source.now) refl c.in-Err.ensures.ending
 
-pub returns-clause-answer : goal.returns-clause-answer
-returns-clause-answer g c =
+pub returns-in-Ok-clause-answer : goal.returns-in-Ok-clause-answer
+returns-in-Ok-clause-answer g c =
     answers_file (λ p. ModelAsked p c.args.flow.now (g.F.Shelf.file c.args.shelf.now c.args.model.now) (g.S.Source.left c.args.source.now))
-    (g.F.Shelf.file c.args.shelf.now c.args.policy.now) c.in_ok-p.p c.read_under.result c.in_ok-p.ensures.policy
-    (λ file read. subst (λ (x : Filed). AnswersAs (ModelAsked c.in_ok-p.p c.args.flow.now x (g.S.Source.left c.args.source.now)) c.read_under.result)
-    (c.in_ok-p.ensures.kept c.args.model.now) c.read_under.ensures.answer)
+    (g.F.Shelf.file c.args.shelf.now c.args.policy.now) c.in-Ok.p c.read_under.result c.in-Ok.ensures.policy
+    (λ file read. subst (λ (x : Filed). AnswersAs (ModelAsked c.in-Ok.p c.args.flow.now x (g.S.Source.left c.args.source.now)) c.read_under.result)
+    (c.in-Ok.ensures.kept c.args.model.now) c.read_under.ensures.answer)
 
-pub returns-clause-without : goal.returns-clause-without
-returns-clause-without g c =
-    subst (λ (x : Filed). EndsWithoutModel x (fault_in c.read_under.result)) (c.in_ok-p.ensures.kept c.args.model.now) c.read_under.ensures.without
+pub returns-in-Ok-clause-without : goal.returns-in-Ok-clause-without
+returns-in-Ok-clause-without g c =
+    subst (λ (x : Filed). EndsWithoutModel x (fault_in c.read_under.result)) (c.in-Ok.ensures.kept c.args.model.now) c.read_under.ensures.without
