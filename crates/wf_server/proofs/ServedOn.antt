@@ -1,10 +1,10 @@
 -- A desk that is served on, step by step.
-use Rattle.wf_server.proofs.Common.{◌≡◌, ◌<◌, List, length, take, refl, sym, subst, arith, drop_all, take_all, Entry, Job, Paused, BatchReaderShape}
-use Rattle.wf_server.proofs.Common.{AreAnsweredOnce, DeskShape, IsSoundDesk, Told, Answered, ending_after, told_of, setting_of}
+use Rattle.wf_server.proofs.Common.{◌≡◌, ◌<◌, List, [], length, take, refl, sym, subst, arith, drop_all, take_all, Entry, Job, Paused, BatchReaderShape}
+use Rattle.wf_server.proofs.Common.{AreAnsweredOnce, DeskShape, IsSoundDesk, Told, nothing_told, Answered, ending_after, told_of, setting_of}
 use Rattle.std.proofs.Common.{None, drop}
 use Rattle.line_reader.specs.declared.batch_reader.Paused.TheVariants as paused
 use Rattle.line_reader.specs.BatchReader.{GoesOnReading}
-use Rattle.wf_desk.specs.Desks.{AreOfLanes}
+use Rattle.wf_desk.specs.Desks.{AreOfLanes, desk_with}
 use Rattle.wf_server.specs.Batch.{CanBeServed, IsServedOn}
 use Rattle.wf_server.specs.GoingOn.{GoOnBehind}
 use Rattle.wf_server.specs.Session.{AreBehind}
@@ -31,6 +31,13 @@ behind_on Leaves d e on sound = grind arith
 pub told_behind : (Leaves : DeskShape → DeskShape → Type 0) (d e : DeskShape) (told : Told) (a : Answered) → told ≡ told_of e a → IsServedOn Leaves d e →
     IsSoundDesk e → AreBehind Leaves d told.entries
 told_behind Leaves d e told a is on sound = subst (λ (t : Told). AreBehind Leaves d t.entries) (sym is) (behind_on Leaves d e on sound)
+
+-- where there was no memory to begin at a new desk
+pub bare_behind : (Leaves : DeskShape → DeskShape → Type 0) (d : DeskShape) (told : Told) → d ≡ desk_with d.opening d.lanes d.rounds d.board [] d.spare →
+    told ≡ nothing_told → AreBehind Leaves d told.entries
+bare_behind Leaves d told new nothing =
+    subst (λ (t : Told). AreBehind Leaves d t.entries) (sym nothing)
+    (subst (λ (x : DeskShape). AreBehind Leaves x []) (sym new) (record { legal = tt; begins = refl; wants = tt; once = λ serves none. tt }))
 
 begins_behind : (b d : DeskShape) (es : List Entry) → b.restored ≡ length b.entries → d.restored ≡ b.restored →
     take d.restored es ≡ take d.restored d.entries

@@ -1,8 +1,8 @@
 //! The session: batch after batch is read, answered and written.
-ghost use Rattle.std.specs.Prelude.{◌≡◌, ◌<◌, None};
+ghost use Rattle.std.specs.Prelude.{◌≡◌, ◌<◌, [], None};
 ghost use Rattle.wf_board.specs.Laws.States.{opening_state};
 ghost use Rattle.wf_board.specs.Laws.Histories.{AreAnsweredOnce, AreRightful, IsLegal};
-ghost use Rattle.wf_desk.specs.Desks.{IsSoundDesk};
+ghost use Rattle.wf_desk.specs.Desks.{IsSoundDesk, desk_with};
 ghost use Rattle.line_reader.specs.Jobs.{Cut, start};
 ghost use Rattle.line_reader.specs.BatchReader.{CanReadOn, GoesOnReading};
 ghost use Rattle.run_record.specs.Fault.{status_of};
@@ -49,22 +49,42 @@ pub(crate) fn run_session<S: Source, K: Sink, W: Way>(
     ensures wants { AreRightful (told_by result).entries }
     ensures status { result.status ≡ status_of result.fault }
 {
-    let Ok(desk) = Desk::new(alloc, policy, options.lanes, options.rounds) else {
-        return bare_report(alloc, RunFault::NoMemory);
-    };
-    let Ok(mut reader) = BatchReader::new(alloc, options.lanes, 0, room) else {
-        return bare_report(alloc, RunFault::NoMemory);
-    };
-    jobs_are_in_order(options.lanes);
-    serve_batches(
-        alloc,
-        way,
-        &mut reader,
-        desk,
-        Answered::new(alloc),
-        source,
-        sink,
-    )
+    match Desk::new(alloc, policy, options.lanes, options.rounds) {
+        Ok(desk) => serve_desk(alloc, way, desk, room, source, sink),
+        Err(_) => bare_report(alloc, RunFault::NoMemory),
+    }
+}
+
+// The session at a new desk.
+fn serve_desk<S: Source, K: Sink, W: Way>(
+    alloc: Global,
+    way: &W,
+    desk: Desk,
+    room: usize,
+    source: &mut S,
+    sink: &mut K,
+) -> Report
+    requires lanes { 0 < desk.lanes }
+    requires new { desk
+        ≡ desk_with desk.opening desk.lanes desk.rounds desk.board [] desk.spare }
+    requires way { W.ready way.now }
+    requires room { 0 < room }
+    ensures serves { Serves (setting_of desk) (start desk.lanes) room
+        (streams_of S.left S.faults K.held K.faults source.old sink.old)
+        (streams_of S.left S.faults K.held K.faults source.new sink.new)
+        (told_by result) result.fault }
+    ensures behind { AreBehind (W.leaves way.now) desk (told_by result).entries }
+    ensures status { result.status ≡ status_of result.fault }
+{
+    let count = desk.lanes();
+    jobs_are_in_order(count);
+    match BatchReader::new(alloc, count, 0, room) {
+        Ok(mut reader) => {
+            let told = Answered::new(alloc);
+            serve_batches(alloc, way, &mut reader, desk, told, source, sink)
+        }
+        Err(_) => bare_report(alloc, RunFault::NoMemory),
+    }
 }
 
 /// Serves batch after batch of what is read, behind those that were answered before.
