@@ -10,7 +10,7 @@ use line_reader::jobs_of;
 use std::alloc::{AllocError, Global};
 use std::test::Fail;
 use wf_board::Verdict;
-use wf_desk::{Desk, Event, Mark, Outcome, solve_task};
+use wf_desk::{Desk, Event, Mark, Outcome, Task, solve_task};
 use wf_names::ROUND_LIMIT;
 use wf_talk::{Denial, Job, Reply};
 
@@ -27,7 +27,7 @@ enum Scene<'a> {
 
 /// Whether each schedule leaves the marks and the replies that it says.
 pub fn tasks_are_served_begun_and_committed(alloc: Global) -> Result<bool, Fail> {
-    for row in &ALL {
+    for row in ALL {
         if !is_right(alloc, row.policy, row.rounds, Scene::Turns(row))? {
             return Ok(false);
         }
@@ -48,17 +48,18 @@ pub fn a_checked_edit_is_never_lost(alloc: Global) -> Result<bool, Fail> {
 // Whether all is right at a desk over a policy.
 fn is_right(alloc: Global, policy: &str, rounds: u8, scene: Scene<'_>) -> Result<bool, Fail> {
     let mut desk = desk_of(alloc, policy, rounds)?;
-    Ok(plays(alloc, &mut desk, scene)?)
+    plays(alloc, &mut desk, scene)
 }
 
-fn plays(alloc: Global, desk: &mut Desk, scene: Scene<'_>) -> Result<bool, AllocError>
+fn plays(alloc: Global, desk: &mut Desk, scene: Scene<'_>) -> Result<bool, Fail>
     requires { IsDone desk.old }
 {
-    match scene {
+    let played = match scene {
         Scene::Turns(row) => follows(alloc, desk, row),
         Scene::Misses => misses(alloc, desk),
         Scene::Checked => is_decided_in_the_turn(alloc, desk),
-    }
+    };
+    Ok(played?)
 }
 
 fn follows(alloc: Global, desk: &mut Desk, row: &Schedule) -> Result<bool, AllocError>
@@ -184,34 +185,38 @@ fn reply_called(reply: &Reply) -> Called {
     }
 }
 
+// Turns and their marks, how lane 0 commits its next task behind them, and what comes of it.
+type Late = (&'static [Event], &'static str, How, Outcome);
+
 // Entries before a lane's last one lose no task, nor do those for which it was lost before.
+const MISSES: &[Late] = &[
+    (
+        &[S0, S0, S0],
+        "served 0, served 1, served 2",
+        How::After(1),
+        Outcome::Recorded(3),
+    ),
+    (
+        &[S1, S1],
+        "served 4, served 5",
+        How::After(4),
+        Outcome::Lost,
+    ),
+    (&[], "", How::After(4), Outcome::Recorded(6)),
+];
+
 fn misses(alloc: Global, desk: &mut Desk) -> Result<bool, AllocError>
     requires { IsDone desk.old }
 {
-    Ok(
-        load(alloc, desk, CLAIMS)?
-            && takes(alloc, desk, &[S0, S0, S0], "served 0, served 1, served 2")?
-            && commits(alloc, desk, 1)? == Outcome::Recorded(3)
-            && takes(alloc, desk, &[S1, S1], "served 4, served 5")?
-            && commits(alloc, desk, 4)? == Outcome::Lost
-            && commits(alloc, desk, 4)? == Outcome::Recorded(6),
-    )
-}
-
-// Commits the task of the next job of lane 0, as if it had been taken after `number` entries.
-fn commits(alloc: Global, desk: &mut Desk, number: u32) -> Result<Outcome, AllocError> {
-    let lanes = desk.lanes();
-    if lanes == 0 {
-        return Ok(Outcome::NotNext);
+    if !load(alloc, desk, CLAIMS)? {
+        return Ok(false);
     }
-    let Some(mut task) = desk.begin(alloc, 0)? else {
-        return Ok(Outcome::NotNext);
-    };
-    if task.lane >= lanes {
-        return Ok(Outcome::NotNext);
+    for (turns, marks, how, outcome) in MISSES {
+        if !takes(alloc, desk, turns, marks)? || commits(alloc, desk, *how)? != *outcome {
+            return Ok(false);
+        }
     }
-    task.number = number;
-    Ok(desk.commit(alloc, &PlainDecider, &task, Verdict::Nothing))
+    Ok(true)
 }
 
 // Lane 0 gives dan a role; lane 1 opens a case.
@@ -223,16 +228,52 @@ const EDITING: &str = r#"{"do":"enrol","by":"eve","user":"dan","role":"boss"}
 fn is_decided_in_the_turn(alloc: Global, desk: &mut Desk) -> Result<bool, AllocError>
     requires { IsDone desk.old }
 {
-    if !load(alloc, desk, EDITING)? || desk.lanes() != 2 {
-        return Ok(false);
+    Ok(
+        load(alloc, desk, EDITING)?
+            && commits(alloc, desk, How::Checked)? == Outcome::Recorded(1)
+            && has_replies(alloc, desk, "opened 0, edited 1")?,
+    )
+}
+
+/// How a task is committed.
+#[derive(Clone, Copy)]
+enum How {
+    /// As if it had been taken after this number of entries.
+    After(u32),
+    /// With its verdict, which is checked once more, behind a turn of lane 1.
+    Checked,
+}
+
+// Commits the task of the next job of lane 0.
+fn commits(alloc: Global, desk: &mut Desk, how: How) -> Result<Outcome, AllocError> {
+    if desk.lanes() != 2 {
+        return Ok(Outcome::NotNext);
     }
-    let Some(task) = desk.begin(alloc, 0)? else {
-        return Ok(false);
-    };
-    let verdict = solve_task(alloc, &PlainDecider, &task);
+    match desk.begin(alloc, 0)? {
+        Some(mut task) => Ok(commits_task(alloc, desk, &mut task, how)),
+        None => Ok(Outcome::NotNext),
+    }
+}
+
+fn commits_task(alloc: Global, desk: &mut Desk, task: &mut Task, how: How) -> Outcome
+    requires { desk.old.lanes ≡ 2 }
+{
+    match how {
+        How::Checked => checks(alloc, desk, task),
+        How::After(_) if task.lane >= desk.lanes() => Outcome::NotNext,
+        How::After(number) => {
+            task.number = number;
+            desk.commit(alloc, &PlainDecider, task, Verdict::Nothing)
+        }
+    }
+}
+
+fn checks(alloc: Global, desk: &mut Desk, task: &Task) -> Outcome
+    requires { desk.old.lanes ≡ 2 }
+{
+    let verdict = solve_task(alloc, &PlainDecider, task);
     if !desk.serve_next(alloc, &PlainDecider, 1) || task.lane >= desk.lanes() {
-        return Ok(false);
+        return Outcome::NotNext;
     }
-    let outcome = desk.commit_checked(alloc, &PlainDecider, &task, verdict);
-    Ok(outcome == Outcome::Recorded(1) && has_replies(alloc, desk, "opened 0, edited 1")?)
+    desk.commit_checked(alloc, &PlainDecider, task, verdict)
 }

@@ -2,14 +2,26 @@
 //! other lanes, that what comes too late is answered again, that every line is answered, and that
 //! lines which threads make are those of one thread.
 
-use fixtures::{PAY, STAFFED, shelf_of, sink_of, source_of, words_of};
+use crate::world::World;
+use fixtures::{PAY, STAFFED};
 use std::alloc::{AllocError, Global};
 use std::sync::Wait;
 use std::sync::atomic::{AtomicU64, Ordering};
 use std::thread::{Threads, yield_now};
-use wf_outside::{MemShelf, MemSink};
-use wf_server::{Gate, Report, run};
+use wf_outside::MemSink;
+use wf_server::{Gate, run};
 use wf_talk::{Entry, Reply};
+
+/// What has to come of a run that ends well.
+#[derive(Clone, Copy)]
+enum Trial<'a> {
+    /// With its lines held so, each of these parts stands in what it writes.
+    Held([Hold; 2], &'a [&'a str]),
+    /// Eight cases are opened, and ann and cyd get their steps in each, and nothing else is
+    /// answered: watched or not, and the searches outside the turns are from the first number to
+    /// the second.
+    Whole(bool, [u64; 2]),
+}
 
 // How often a gate looks whether what it waits for has come.
 const LOOKS: u32 = 1_000_000_000;
@@ -109,7 +121,8 @@ pub fn two_claims_solve_at_once<R: Threads + Wait + Sync>(
         r#""lane":0,"line":6,"reply":{"granted":{"plan":["ann","cyd","bob"]}}}"#,
         r#""lane":1,"line":8,"reply":{"granted":{"plan":["bob","cyd","ann"]}}}"#,
     ];
-    writes(rt, alloc, PAY, CLAIMS, holds, &parts)
+    let trial = Trial::Held(holds, &parts);
+    passes(rt, alloc, PAY, CLAIMS, "2", "1", trial)
 }
 
 // A case is prepared; then lane 0 claims its next step, while lane 1 dismisses dan and opens a
@@ -135,7 +148,8 @@ pub fn stale_task_meets_its_commit<R: Threads + Wait + Sync>(
         r#""lane":0,"line":4,"reply":{"again":{"at":3,"rounds":1}}}"#,
         r#""lane":1,"line":6,"reply":{"opened":{"case":1,"plan":["#,
     ];
-    writes(rt, alloc, STAFFED, STALE, holds, &parts)
+    let trial = Trial::Held(holds, &parts);
+    passes(rt, alloc, STAFFED, STALE, "2", "1", trial)
 }
 
 /// Whether in each of eight lanes a case is opened, prepared by ann, and claimed by cyd. The
@@ -144,12 +158,11 @@ pub fn eight_lanes_answer_each_line_once<R: Threads + Wait + Sync>(
     rt: &R,
     alloc: Global,
 ) -> Result<bool, AllocError> {
-    for (rounds, searches) in [("2", 24), ("0", 0)] {
-        if !is_whole(rt, alloc, rounds, searches)? {
-            return Ok(false);
-        }
-    }
-    Ok(true)
+    let (all, none) = (Trial::Whole(true, [24, 24]), Trial::Whole(true, [0, 0]));
+    Ok(
+        passes(rt, alloc, PAY, EIGHT_CASES, "8", "2", all)?
+            && passes(rt, alloc, PAY, EIGHT_CASES, "8", "0", none)?,
+    )
 }
 
 /// Whether they are where nobody watches, with one to eight searches: the first opening is searched
@@ -159,10 +172,8 @@ pub fn plans_at_hand_answer_on_eight_lanes<R: Threads + Wait + Sync>(
     rt: &R,
     alloc: Global,
 ) -> Result<bool, AllocError> {
-    let gate = TwoHolds::new(false, [FREE, FREE]);
-    let whole = answers_each(rt, alloc, "2", &gate)?;
-    let searches = gate.count.load(Ordering::SeqCst);
-    Ok(whole && 1 <= searches && searches <= 8)
+    let trial = Trial::Whole(false, [1, 8]);
+    passes(rt, alloc, PAY, EIGHT_CASES, "8", "2", trial)
 }
 
 // Each lane works on the case with its own number.
@@ -260,49 +271,71 @@ pub fn long_lines_are_written_alike<R: Threads + Wait + Sync>(
     rt: &R,
     alloc: Global,
 ) -> Result<bool, AllocError> {
-    let mut beside = sink_of(alloc)?;
-    Ok(denies_pacts(rt, alloc, "2", &mut beside)? && is_written_alone(rt, alloc, &beside)?)
+    let mut beside = world_of_pacts(alloc, "2")?;
+    is_written_alone(rt, alloc, &mut beside)
 }
 
 fn is_written_alone<R: Threads + Wait + Sync>(
     rt: &R,
     alloc: Global,
-    beside: &MemSink,
+    beside: &mut World,
 ) -> Result<bool, AllocError> {
-    let mut alone = sink_of(alloc)?;
-    Ok(denies_pacts(rt, alloc, "1", &mut alone)? && alone.bytes() == beside.bytes())
+    let mut alone = world_of_pacts(alloc, "1")?;
+    Ok(are_alike(rt, alloc, beside, &mut alone))
 }
 
-// Whether a run on these lanes ends well, and denies the first and the last opening for the rules:
-// a does not know a, and b does not know a.
-fn denies_pacts<R: Threads + Wait + Sync>(
+fn are_alike<R: Threads + Wait + Sync>(
     rt: &R,
     alloc: Global,
-    lanes: &str,
-    sink: &mut MemSink,
-) -> Result<bool, AllocError> {
-    let gate = TwoHolds::new(false, [FREE, FREE]);
-    let words = ["serve", "policy", "--lanes", lanes];
-    let status = report_of(rt, alloc, PACT, &words, PACTS, &gate, sink)?.status;
+    beside: &mut World,
+    alone: &mut World,
+) -> bool {
+    denies_pacts(rt, alloc, beside)
+        && denies_pacts(rt, alloc, alone)
+        && alone.sink.bytes() == beside.sink.bytes()
+}
+
+fn world_of_pacts(alloc: Global, lanes: &str) -> Result<World, AllocError> {
+    World::new(alloc, &["serve", "policy", "--lanes", lanes], PACT, PACTS)
+}
+
+// Whether a run ends well, and denies the first and the last opening for the rules: a does not know
+// a, and b does not know a.
+fn denies_pacts<R: Threads + Wait + Sync>(rt: &R, alloc: Global, world: &mut World) -> bool {
     let parts = [
         r#""at":0,"lane":0,"line":0,"reply":{"denied":{"unsatisfiable":{"step":"sign","#,
         r#""at":7,"lane":0,"line":7,"reply":{"denied":{"unsatisfiable":{"step":"sign","#,
         r#"["a",{"step":"seal","users":[["a",{"rule":0}],["b",{"rule":1}],["c",{"rule":0}],"#,
     ];
-    Ok(status == 0 && has_parts(sink, &parts))
+    let gate = TwoHolds::new(false, [FREE, FREE]);
+    ending_of(rt, alloc, &gate, world).0 == 0 && has_parts(&world.sink, &parts)
 }
 
-// Whether eight cases are opened, and ann and cyd get their steps in each, and nothing else is
-// answered, with `searches` searches outside the turns.
-fn is_whole<R: Threads + Wait + Sync>(
+// Whether a run on these lanes, with these rounds, passes a trial.
+fn passes<R: Threads + Wait + Sync>(
     rt: &R,
     alloc: Global,
+    policy: &str,
+    input: &str,
+    lanes: &str,
     rounds: &str,
-    searches: u64,
+    trial: Trial<'_>,
 ) -> Result<bool, AllocError> {
-    let gate = TwoHolds::new(true, [FREE, FREE]);
-    let whole = answers_each(rt, alloc, rounds, &gate)?;
-    Ok(whole && gate.count.load(Ordering::SeqCst) == searches)
+    let words = ["serve", "policy", "--lanes", lanes, "--rounds", rounds];
+    let mut world = World::new(alloc, &words, policy, input)?;
+    Ok(passes_in(rt, alloc, &mut world, trial))
+}
+
+fn passes_in<R: Threads + Wait + Sync>(
+    rt: &R,
+    alloc: Global,
+    world: &mut World,
+    trial: Trial<'_>,
+) -> bool {
+    match trial {
+        Trial::Held(holds, parts) => writes(rt, alloc, world, holds, parts),
+        Trial::Whole(watches, searches) => is_whole(rt, alloc, world, watches, searches),
+    }
 }
 
 // At which no line waits.
@@ -311,29 +344,39 @@ const FREE: Hold = Hold {
     until: 1_000_000,
 };
 
-fn answers_each<R: Threads + Wait + Sync>(
+fn is_whole<R: Threads + Wait + Sync>(
     rt: &R,
     alloc: Global,
-    rounds: &str,
-    gate: &TwoHolds,
-) -> Result<bool, AllocError> {
-    let mut sink = sink_of(alloc)?;
-    counts_rightly(rt, alloc, rounds, gate, &mut sink)
+    world: &mut World,
+    watches: bool,
+    searches: [u64; 2],
+) -> bool {
+    let gate = TwoHolds::new(watches, [FREE, FREE]);
+    let (status, counts) = ending_of(rt, alloc, &gate, world);
+    let count = gate.count.load(Ordering::SeqCst);
+    status == 0 && counts == [8, 16, 8, 0] && searches[0] <= count && count <= searches[1]
 }
 
-fn counts_rightly<R: Threads + Wait + Sync>(
+// The status of a run, and how often a case was opened, a step granted, one finished, and something
+// else answered.
+fn ending_of<R: Threads + Wait + Sync>(
     rt: &R,
     alloc: Global,
-    rounds: &str,
     gate: &TwoHolds,
-    sink: &mut MemSink,
-) -> Result<bool, AllocError> {
-    let words = ["serve", "policy", "--lanes", "8", "--rounds", rounds];
-    let report = report_of(rt, alloc, PAY, &words, EIGHT_CASES, gate, sink)?;
-    Ok(report.status == 0 && counts_of(report.entries.as_slice()) == [8, 16, 8, 0])
+    world: &mut World,
+) -> (u8, [u32; 4]) {
+    let report = run(
+        rt,
+        alloc,
+        &world.words,
+        gate,
+        &mut world.shelf,
+        &mut world.source,
+        &mut world.sink,
+    );
+    (report.status, counts_of(report.entries.as_slice()))
 }
 
-// How often a case was opened, a step granted, one finished, and something else answered.
 fn counts_of(entries: &[Entry]) -> [u32; 4] {
     let mut counts = [0u32; 4];
     for entry in entries {
@@ -348,92 +391,26 @@ fn counts_of(entries: &[Entry]) -> [u32; 4] {
     counts
 }
 
-// Whether a run on two lanes ends well with its lines held so, and each of these parts stands in
-// what it writes.
 fn writes<R: Threads + Wait + Sync>(
     rt: &R,
     alloc: Global,
-    policy: &str,
-    input: &str,
+    world: &mut World,
     holds: [Hold; 2],
     parts: &[&str],
-) -> Result<bool, AllocError> {
+) -> bool {
     let gate = TwoHolds::new(true, holds);
-    let written = writes_at(rt, alloc, policy, input, &gate, parts)?;
-    Ok(written && gate.is_kept())
-}
-
-fn writes_at<R: Threads + Wait + Sync>(
-    rt: &R,
-    alloc: Global,
-    policy: &str,
-    input: &str,
-    gate: &TwoHolds,
-    parts: &[&str],
-) -> Result<bool, AllocError> {
-    let mut sink = sink_of(alloc)?;
-    Ok(status_of(rt, alloc, policy, input, gate, &mut sink)? == 0 && has_parts(&sink, parts))
-}
-
-fn status_of<R: Threads + Wait + Sync>(
-    rt: &R,
-    alloc: Global,
-    policy: &str,
-    input: &str,
-    gate: &TwoHolds,
-    sink: &mut MemSink,
-) -> Result<u8, AllocError> {
-    let words = ["serve", "policy", "--lanes", "2", "--rounds", "1"];
-    Ok(report_of(rt, alloc, policy, &words, input, gate, sink)?.status)
+    let status = ending_of(rt, alloc, &gate, world).0;
+    status == 0 && has_parts(&world.sink, parts) && gate.is_kept()
 }
 
 fn has_parts(sink: &MemSink, parts: &[&str]) -> bool {
-    let text = text_of(sink);
-    parts.iter().all(|part| text.contains(*part))
-}
-
-fn text_of(sink: &MemSink) -> &str {
-    match str::from_utf8(sink.bytes()) {
-        Ok(text) => text,
-        Err(_) => "",
+    let Ok(text) = str::from_utf8(sink.bytes()) else {
+        return false;
+    };
+    for part in parts {
+        if !text.contains(*part) {
+            return false;
+        }
     }
-}
-
-fn report_of<R: Threads + Wait + Sync>(
-    rt: &R,
-    alloc: Global,
-    policy: &str,
-    given: &[&str],
-    input: &str,
-    gate: &TwoHolds,
-    sink: &mut MemSink,
-) -> Result<Report, AllocError> {
-    let mut shelf = shelf_of(alloc, policy)?;
-    report_from(rt, alloc, given, input, gate, &mut shelf, sink)
-}
-
-fn report_from<R: Threads + Wait + Sync>(
-    rt: &R,
-    alloc: Global,
-    given: &[&str],
-    input: &str,
-    gate: &TwoHolds,
-    shelf: &mut MemShelf,
-    sink: &mut MemSink,
-) -> Result<Report, AllocError> {
-    let words = words_of(alloc, given)?;
-    report_over(rt, alloc, &words, input, gate, shelf, sink)
-}
-
-fn report_over<R: Threads + Wait + Sync>(
-    rt: &R,
-    alloc: Global,
-    words: &[String],
-    input: &str,
-    gate: &TwoHolds,
-    shelf: &mut MemShelf,
-    sink: &mut MemSink,
-) -> Result<Report, AllocError> {
-    let mut source = source_of(alloc, input.as_bytes())?;
-    Ok(run(rt, alloc, words, gate, shelf, &mut source, sink))
+    true
 }

@@ -9,6 +9,7 @@ mod schedules;
 mod sessions;
 mod system;
 mod trials;
+mod world;
 
 pub use desks::{
     a_checked_edit_is_never_lost, some_entries_lose_no_task, tasks_are_served_begun_and_committed,

@@ -135,7 +135,7 @@ const LOST_TWICE: Schedule = Schedule {
 };
 
 /// All of the schedules.
-pub(crate) const ALL: [Schedule; 8] = [
+pub(crate) const ALL: &[Schedule] = &[
     FRESH,
     SERVED,
     ONE_ROUND,

@@ -1,9 +1,8 @@
 //! Sessions up to the most cases that there may be, and up to the most that may be open: no job is
 //! answered with want of memory.
 
-use fixtures::{shelf_of, sink_of, source_of, words_of};
+use crate::world::World;
 use std::alloc::{AllocError, Global};
-use wf_outside::{MemShelf, MemSink, MemSource};
 use wf_server::{Report, run_alone};
 use wf_talk::{Denial, Entry, Reply};
 
@@ -37,25 +36,29 @@ pub fn open_cases_are_limited(alloc: Global) -> Result<bool, AllocError> {
 }
 
 fn is_served(alloc: Global, cases: u16, in_turn: bool, told: Told) -> Result<bool, AllocError> {
-    let input = openings(alloc, cases, in_turn)?;
+    let mut input = String::new(alloc);
+    put_openings(alloc, cases, in_turn, &mut input)?;
     is_served_with(alloc, input.as_str(), told)
 }
 
 // Cases are opened and withdrawn in turn, or all are opened and one is withdrawn; then one is
 // opened.
-fn openings(alloc: Global, cases: u16, in_turn: bool) -> Result<String, AllocError> {
-    let mut all = String::new(alloc);
+fn put_openings(
+    alloc: Global,
+    cases: u16,
+    in_turn: bool,
+    all: &mut String,
+) -> Result<(), AllocError> {
     for case in 0..cases {
         all.push_str(OPEN)?;
         if in_turn {
-            put_withdrawal(alloc, case, &mut all)?;
+            put_withdrawal(alloc, case, all)?;
         }
     }
     if !in_turn {
-        put_withdrawal(alloc, 7, &mut all)?;
+        put_withdrawal(alloc, 7, all)?;
     }
-    all.push_str(OPEN)?;
-    Ok(all)
+    all.push_str(OPEN)
 }
 
 fn put_withdrawal(alloc: Global, case: u16, all: &mut String) -> Result<(), AllocError> {
@@ -64,39 +67,19 @@ fn put_withdrawal(alloc: Global, case: u16, all: &mut String) -> Result<(), Allo
 }
 
 fn is_served_with(alloc: Global, input: &str, told: Told) -> Result<bool, AllocError> {
-    let mut shelf = shelf_of(alloc, SMALL)?;
-    is_served_from(alloc, input, &mut shelf, told)
+    let mut world = World::new(alloc, &["serve", "policy"], SMALL, input)?;
+    Ok(is_served_in(alloc, &mut world, told))
 }
 
-fn is_served_from(
-    alloc: Global,
-    input: &str,
-    shelf: &mut MemShelf,
-    told: Told,
-) -> Result<bool, AllocError> {
-    let mut source = source_of(alloc, input.as_bytes())?;
-    is_served_over(alloc, shelf, &mut source, told)
-}
-
-fn is_served_over(
-    alloc: Global,
-    shelf: &mut MemShelf,
-    source: &mut MemSource,
-    told: Told,
-) -> Result<bool, AllocError> {
-    let mut sink = sink_of(alloc)?;
-    is_served_into(alloc, shelf, source, &mut sink, told)
-}
-
-fn is_served_into(
-    alloc: Global,
-    shelf: &mut MemShelf,
-    source: &mut MemSource,
-    sink: &mut MemSink,
-    told: Told,
-) -> Result<bool, AllocError> {
-    let words = words_of(alloc, &["serve", "policy"])?;
-    Ok(tells(&run_alone(alloc, &words, shelf, source, sink), told))
+fn is_served_in(alloc: Global, world: &mut World, told: Told) -> bool {
+    let report = run_alone(
+        alloc,
+        &world.words,
+        &mut world.shelf,
+        &mut world.source,
+        &mut world.sink,
+    );
+    tells(&report, told)
 }
 
 fn tells(report: &Report, told: Told) -> bool {

@@ -31,15 +31,16 @@ impl Decider for Idle {
 /// Whether a trial is served. No case is opened, so no step is granted or finished.
 pub fn a_trial_is_served(alloc: Global) -> Result<bool, AllocError> {
     let mut sink = MemSink::new(alloc, 200, 7, Vec::new(alloc))?;
-    Ok(tells(&run_trial(alloc, &Idle, 7, &mut sink)) && writes(&sink))
+    Ok(is_served(alloc, &mut sink))
+}
+
+fn is_served(alloc: Global, sink: &mut MemSink) -> bool {
+    tells(&run_trial(alloc, &Idle, 7, sink))
+        && sink.bytes().starts_with(b"trial 7 lines 1965 opened 0 granted 0 finished 0 edited ")
 }
 
 fn tells(report: &Report) -> bool {
     report.status == 0
         && report.entries.len() == 1_965
         && report.batch_ends.as_slice() == [40, 1_064, 1_965].as_slice()
-}
-
-fn writes(sink: &MemSink) -> bool {
-    sink.bytes().starts_with(b"trial 7 lines 1965 opened 0 granted 0 finished 0 edited ")
 }

@@ -18,7 +18,9 @@ use crate::trials::{LANES, PARTS, try_lanes, try_parts, try_sessions};
 use std::alloc::{AllocError, AllocGlobal, Global};
 use std::fs;
 use std::rt::Files;
+use std::sync::Wait;
 use std::test::Fail;
+use std::thread::Threads;
 use toml::{Table, Value};
 use wf_outside::{MemShelf, MemSink, MemSource};
 use wf_server::{Report, run_alone};
@@ -41,30 +43,50 @@ const FILES: [&str; 8] = [
 const SESSIONS: [&str; 2] = ["sessions.toml", "stories.toml"];
 
 fn main(rt: HostRuntime) -> Result<(), Fail> {
+    run_files(&rt)?;
+    run_trials(&rt)
+}
+
+// Runs the rows of all files, the loads of the disk, and the sessions.
+fn run_files(rt: &(impl Print + Files + AllocGlobal)) -> Result<(), Fail> {
     for file in FILES {
-        let rows = table_of(&rt, file)?;
-        let holding = count_rows(&rt, rt.alloc(), &rows)?;
+        let holding = rows_of(rt, file)?;
         println!(rt; "{file}: {holding} rows hold")?;
     }
-    println!(rt;
-        "the disk: {} loads are right",
-        count_loads(&rt, rt.alloc())
-    )?;
+    let right = count_loads(rt, rt.alloc());
+    println!(rt; "the disk: {right} loads are right")?;
     for file in SESSIONS {
-        let sessions = table_of(&rt, file)?;
-        let legal = count_sessions(&rt, rt.alloc(), &sessions)?;
+        let legal = sessions_of(rt, file)?;
         println!(rt; "{file}: {legal} sessions are legal")?;
     }
-    tell(&rt, &PARTS, &try_parts(&rt, rt.alloc())?)?;
-    tell(&rt, &trials::SESSIONS, &try_sessions(rt.alloc())?)?;
-    tell(&rt, &LANES, &try_lanes(&rt, rt.alloc())?)?;
+    Ok(())
+}
+
+// How many rows of a file hold.
+fn rows_of(rt: &(impl Print + Files + AllocGlobal), file: &str) -> anyhow::Result<u32> {
+    let rows = table_of(rt, file)?;
+    count_rows(rt, rt.alloc(), &rows)
+}
+
+// How many sessions of a file are legal.
+fn sessions_of(rt: &(impl Print + Files + AllocGlobal), file: &str) -> anyhow::Result<u32> {
+    let sessions = table_of(rt, file)?;
+    count_sessions(rt, rt.alloc(), &sessions)
+}
+
+// Runs the trials that no row can say.
+fn run_trials<R: Print + AllocGlobal + Threads + Wait + Sync>(rt: &R) -> Result<(), Fail> {
+    tell(rt, &PARTS, &try_parts(rt, rt.alloc())?)?;
+    tell(rt, &trials::SESSIONS, &try_sessions(rt.alloc())?)?;
+    tell(rt, &LANES, &try_lanes(rt, rt.alloc())?)?;
     Ok(())
 }
 
 // What was found by trials of these names.
 fn tell(rt: &impl Print, names: &[&str], found: &[bool]) -> anyhow::Result<()> {
-    for (name, right) in names.iter().zip(found.iter()) {
-        println!(rt; "{name}: {}", if *right { "right" } else { "WRONG" })?;
+    for i in 0..names.len().min(found.len()) {
+        let (name, right) = (names[i], if found[i] { "right" } else { "WRONG" });
+        println!(rt; "{name}: {right}")?;
     }
     Ok(())
 }
@@ -122,11 +144,10 @@ fn holds_over(
     source: &mut MemSource,
 ) -> Result<bool, AllocError> {
     let mut sink = sink_of(alloc, row)?;
-    Ok(ends_rightly(alloc, row, shelf, source, &mut sink)? && writes(alloc, row, sink.bytes())?)
+    holds_into(alloc, row, shelf, source, &mut sink)
 }
 
-// Whether the status is the row's, and the text of the fault where the row has one.
-fn ends_rightly(
+fn holds_into(
     alloc: Global,
     row: &Value,
     shelf: &mut MemShelf,
@@ -135,7 +156,22 @@ fn ends_rightly(
 ) -> Result<bool, AllocError> {
     let words = words_of(alloc, list(row.get("words")))?;
     let report = run_alone(alloc, &words, shelf, source, sink);
-    Ok(number(row.get("status")) == Some(report.status as u64) && tells(alloc, &report, row)?)
+    ends_rightly(alloc, row, &report, sink.bytes())
+}
+
+// Whether the status is the row's, and the text of the fault where the row has one, and this is all
+// that the row's command writes.
+fn ends_rightly(
+    alloc: Global,
+    row: &Value,
+    report: &Report,
+    written: &[u8],
+) -> Result<bool, AllocError> {
+    Ok(
+        number(row.get("status")) == Some(report.status as u64)
+            && tells(alloc, report, row)?
+            && writes(alloc, row, written)?,
+    )
 }
 
 fn tells(alloc: Global, report: &Report, row: &Value) -> Result<bool, AllocError> {
@@ -147,7 +183,6 @@ fn tells(alloc: Global, report: &Report, row: &Value) -> Result<bool, AllocError
     Ok(told.as_str() == fault)
 }
 
-// Whether this is all that the row's command writes.
 fn writes(alloc: Global, row: &Value, written: &[u8]) -> Result<bool, AllocError> {
     let wanted = with_pieces(alloc, text(row.get("output")), list(row.get("more_output")))?;
     Ok(written == wanted.as_slice())

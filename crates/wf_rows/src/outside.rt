@@ -8,6 +8,13 @@ use wf_outside::{MemFile, MemShelf, MemSink, MemSource};
 /// How many bytes go at once where a row does not say.
 const PIECE: u64 = 1_000_000;
 
+// The files of a row other than its policy, with the keys of the pieces behind them.
+const FILES: [(&str, &str); 3] = [
+    ("requests", "more_requests"),
+    ("transcript", "more_transcript"),
+    ("model", "more_model"),
+];
+
 /// The words of a list.
 pub fn words_of(alloc: Global, given: &[Value]) -> Result<Vec<String>, AllocError> {
     let mut words = Vec::new(alloc);
@@ -30,11 +37,11 @@ fn put_files(
     row: &Value,
     files: &mut Vec<MemFile>,
 ) -> Result<(), AllocError> {
-    let own = own_text(alloc, rows, row)?;
-    put_file(alloc, "here", &own, list(row.get("more_here")), files)?;
-    put_text(alloc, row, "requests", "more_requests", files)?;
-    put_text(alloc, row, "transcript", "more_transcript", files)?;
-    put_text(alloc, row, "model", "more_model", files)?;
+    let more = list(row.get("more_here"));
+    put_file(alloc, "here", &own_text(alloc, rows, row)?, more, files)?;
+    for (key, more) in FILES {
+        put_text(alloc, row, key, more, files)?;
+    }
     for policy in list(rows.get("policy")) {
         let (name, whole) = (text(policy.get("name")), text(policy.get("text")));
         put_file(alloc, name, whole, &[], files)?;
@@ -67,7 +74,7 @@ fn put_file(
     Ok(())
 }
 
-// The row's own policy.
+// The policies that the row's own stands behind, and its own.
 fn own_text(alloc: Global, rows: &Table, row: &Value) -> Result<String, AllocError> {
     let mut own = String::new(alloc);
     for name in list(row.get("after")) {

@@ -2,6 +2,31 @@
 
 use toml::Value;
 
+// The keys of a row whose values are texts, and those whose values are lists.
+const TEXTS: [&str; 9] = [
+    "name",
+    "here",
+    "requests",
+    "transcript",
+    "model",
+    "input",
+    "output",
+    "fault",
+    "told",
+];
+
+const LISTS: [&str; 9] = [
+    "words",
+    "tell",
+    "after",
+    "more_here",
+    "more_requests",
+    "more_transcript",
+    "more_model",
+    "more_input",
+    "more_output",
+];
+
 /// The text of a key.
 pub fn text(value: Option<&Value>) -> &str {
     match value {
@@ -56,25 +81,11 @@ pub fn is_row(row: &Value) -> bool {
 }
 
 fn is_of_row(key: &str, value: &Value) -> bool {
-    match key {
-        "name"
-        | "here"
-        | "requests"
-        | "transcript"
-        | "model"
-        | "input"
-        | "output"
-        | "fault"
-        | "told" => value.as_str().is_some(),
-        "words" | "tell" | "after" => value.as_array().is_some(),
-        "more_here"
-        | "more_requests"
-        | "more_transcript"
-        | "more_model"
-        | "more_input"
-        | "more_output" => value.as_array().is_some(),
-        "status" => value.as_integer().is_some(),
-        "outside" => value.as_table().is_some(),
+    match value {
+        Value::String(_) => TEXTS.contains(&key),
+        Value::Array(_) => LISTS.contains(&key),
+        Value::Integer(_) => key == "status",
+        Value::Table(_) => key == "outside",
         _ => false,
     }
 }

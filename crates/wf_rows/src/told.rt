@@ -34,13 +34,20 @@ pub fn is_fault_told(alloc: Global, row: &Value, shelf: &mut MemShelf) -> Result
     let Some(kind) = kind_of(text(row.get("fault"))) else {
         return Ok(true);
     };
+    let wanted = match row.get("told") {
+        Some(told) => Wanted::Whole(text(Some(told))),
+        None => Wanted::Kind(kind),
+    };
+    tells(alloc, &policy_words(alloc)?, shelf, 1, wanted)
+}
+
+// The words that have the row's policy file told.
+fn policy_words(alloc: Global) -> Result<Vec<String>, AllocError> {
     let mut words = Vec::new(alloc);
-    words.push(String::from_str(alloc, "policy")?)?;
-    words.push(String::from_str(alloc, "here")?)?;
-    match row.get("told") {
-        Some(told) => tells(alloc, &words, shelf, 1, Wanted::Whole(text(Some(told)))),
-        None => tells(alloc, &words, shelf, 1, Wanted::Kind(kind)),
+    for word in ["policy", "here"] {
+        words.push(String::from_str(alloc, word)?)?;
     }
+    Ok(words)
 }
 
 // The kind in the text of a policy's fault, as `wfserve: policy missing flows 0 steps`.
