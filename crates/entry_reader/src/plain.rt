@@ -61,9 +61,9 @@ pub fn read_plain<F: FlowOf>(
 
 // The place at the front of a line, and what follows up to the reply.
 fn guess_front(line: &[u8]) -> Option<(Place, &[u8])> {
-    let (at, rest) = guess_number(line.strip_prefix(b"{\"at\":")?)?;
-    let (lane, rest) = guess_number(rest.strip_prefix(b",\"lane\":")?)?;
-    let (number, rest) = guess_number(rest.strip_prefix(b",\"line\":")?)?;
+    let (at, rest) = guess_behind(line, b"{\"at\":")?;
+    let (lane, rest) = guess_behind(rest, b",\"lane\":")?;
+    let (number, rest) = guess_behind(rest, b",\"line\":")?;
     let rest = rest.strip_prefix(b",\"reply\":")?;
     if lane > 255 {
         return None;
@@ -76,6 +76,11 @@ fn guess_front(line: &[u8]) -> Option<(Place, &[u8])> {
         },
         rest,
     ))
+}
+
+// Some number, by the digits behind some bytes at the front of a text, and what follows.
+fn guess_behind<'t>(text: &'t [u8], front: &[u8]) -> Option<(u32, &'t [u8])> {
+    guess_number(text.strip_prefix(front)?)
 }
 
 // A reply that a line may tell, by its first bytes.

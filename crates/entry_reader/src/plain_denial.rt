@@ -46,7 +46,7 @@ fn guess_word(rest: &mut Rest<'_>) -> Result<Denial, TextFault>
 // Takes the key of a denial that tells more.
 fn take_kind(rest: &mut Rest<'_>) -> Result<DenialKind, TextFault> {
     let key = rest.take_name().ok_or(Fault::Cause(NotText))?;
-    rest.skip(b":")?;
+    rest.skip(b":");
     DenialKind::read(key.as_str()).ok_or(Fault::Cause(NotText))
 }
 
@@ -83,9 +83,9 @@ fn guess_strands<F: FlowOf>(p: &Policy, cases: &F, rest: &mut Rest<'_>) -> Resul
     ensures { (concerned : Option ℕ) →
         IfOk result (IsPlainDenial p.now (F.FlowOf.flows cases.now) concerned) }
 {
-    rest.skip(b"{\"case\":")?;
+    rest.skip(b"{\"case\":");
     let case = take_case(rest)?;
-    rest.skip(b",\"tree\":")?;
+    rest.skip(b",\"tree\":");
     let flow = flow_within(p, cases.flow_of(case))?;
     let tree = guess_over(p, flow, rest)?;
     Ok(Denial::Strands { case, flow, tree })
@@ -170,7 +170,7 @@ fn take_state(p: &Policy, rest: &mut Rest<'_>) -> Result<StepState, TextFault>
     } else if rest.has(b"{\"held\":") {
         Ok(StepState::Held(take_user(p, rest)?))
     } else {
-        rest.skip(b"{\"finished\":")?;
+        rest.skip(b"{\"finished\":");
         Ok(StepState::Finished(take_user(p, rest)?))
     }
 }

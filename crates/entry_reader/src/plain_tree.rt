@@ -44,19 +44,19 @@ fn guess_branches(
     ensures { IfOk result (AreLow course.now.policy.now course.now.number height) }
 {
     let mut branches = Branches::new(rest.alloc);
-    rest.skip(b",\"users\":[")?;
+    rest.skip(b",\"users\":[");
     'branches: for _ in 0..course.policy.roster().users().len() {
-        if rest.has(b"]}") {
-            return Ok(branches);
+        if !rest.has(b"[") {
+            break;
         }
         branches.push(guess_branch(course, height, rest)?)?;
         rest.has(b",");
     }
-    rest.skip(b"]}")?;
+    rest.skip(b"]}");
     Ok(branches)
 }
 
-// The branch that comes next.
+// The branch that comes next, behind its bracket.
 #[cycle(guess_tree)]
 fn guess_branch(
     course: &Course<'_>,
@@ -66,11 +66,10 @@ fn guess_branch(
     ensures { IfOk result (λ b. AreLow course.now.policy.now course.now.number height
         (branch_onto b no_kids)) }
 {
-    rest.skip(b"[")?;
     let user = take_user(course.policy, rest)?;
-    rest.skip(b",")?;
+    rest.skip(b",");
     let kid = guess_kid(course, height, rest)?;
-    rest.skip(b"]")?;
+    rest.skip(b"]");
     Ok(Branch { user, kid })
 }
 
@@ -82,7 +81,7 @@ fn guess_kid(course: &Course<'_>, height: usize, rest: &mut Rest<'_>) -> Result<
 {
     if rest.has(b"{\"twin\":") {
         let twin = take_user(course.policy, rest)?;
-        rest.skip(b"}")?;
+        rest.skip(b"}");
         return Ok(Kid::Twin(twin));
     }
     Ok(Kid::Tree(guess_tree(course, height, rest)?))
@@ -92,14 +91,15 @@ fn guess_kid(course: &Course<'_>, height: usize, rest: &mut Rest<'_>) -> Result<
 fn guess_leaf(course: &Course<'_>, height: usize, rest: &mut Rest<'_>) -> Result<Tree, TextFault>
     ensures { IfOk result (λ t. IsLow course.now.policy.now course.now.number height (shape_of t)) }
 {
-    let leaf = if rest.has(b"{\"rule\":") {
-        Tree::Rule(take_rule(rest)?)
-    } else {
-        rest.skip(b"{\"holder\":")?;
-        Tree::Holder(take_step(course, rest)?)
-    };
-    rest.skip(b"}")?;
-    Ok(leaf)
+    if rest.has(b"{\"rule\":") {
+        let k = take_rule(rest)?;
+        rest.skip(b"}");
+        return Ok(Tree::Rule(k));
+    }
+    rest.skip(b"{\"holder\":");
+    let step = take_step(course, rest)?;
+    rest.skip(b"}");
+    Ok(Tree::Holder(step))
 }
 
 /// Takes the number of a rule.

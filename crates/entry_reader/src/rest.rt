@@ -1,8 +1,6 @@
 //! A text that is guessed from its front. Nothing rests on what is taken from it, since the whole
 //! is written again and compared.
 
-use crate::{NotText, TextFault};
-use basics::Fault;
 use memchr::memchr;
 use std::alloc::Global;
 use wf_names::Name;
@@ -27,12 +25,10 @@ impl<'t> Rest<'t> {
         }
     }
 
-    /// Goes past some bytes that have to come next.
-    pub(crate) fn skip(&mut self, bytes: &[u8]) -> Result<(), TextFault> {
-        if self.has(bytes) {
-            Ok(())
-        } else {
-            Err(Fault::Cause(NotText))
+    /// Goes past some bytes that have to come next. Where they do not, nothing is left to be read.
+    pub(crate) fn skip(&mut self, bytes: &[u8]) {
+        if !self.has(bytes) {
+            self.text = b"";
         }
     }
 
