@@ -6,6 +6,7 @@ ghost use Rattle.refutation_tree.specs.Laws.Views.{shape_of};
 ghost use Rattle.wire_json.specs.Entries.{single, named, step_data, state_data};
 ghost use Rattle.wire_json.specs.Trees.{tree_data};
 ghost use Rattle.wire_json.specs.Replies.{denial_data, missing_data, strands_data};
+ghost use Rattle.wire_json.specs.Pieces.{denial_word};
 
 use crate::list::{Item, push_list_in};
 use crate::text::{push, push_case, push_name, push_name_in, push_number};
@@ -23,16 +24,9 @@ pub(crate) fn push_denial(out: &mut Vec<u8>, p: &Policy, denial: &Denial) -> Res
         (denial_data p.now denial.now)) }
 {
     match denial {
-        Denial::NoFlow => push(out, b"\"no_flow\""),
-        Denial::Retired => push(out, b"\"retired\""),
-        Denial::Full => push(out, b"\"full\""),
         Denial::Unsatisfiable { flow, tree } => {
             push_tree_in(out, b"{\"unsatisfiable\":", p, *flow, tree.get())
         }
-        Denial::NoCase => push(out, b"\"no_case\""),
-        Denial::Closed => push(out, b"\"closed\""),
-        Denial::NoStep => push(out, b"\"no_step\""),
-        Denial::NoUser => push(out, b"\"no_user\""),
         Denial::Taken(u) => push_name_in(out, b"{\"taken\":", p.roster().users(), u.0, b"}"),
         Denial::Order { flow, step } => push_step_in(out, b"{\"order\":", p, *flow, *step, b"}"),
         Denial::Role(roles) => push_list_in(out, b"{\"role\":", p, roles.as_slice()),
@@ -41,13 +35,30 @@ pub(crate) fn push_denial(out: &mut Vec<u8>, p: &Policy, denial: &Denial) -> Res
             push_tree_in(out, b"{\"stranded\":", p, *flow, tree.get())
         }
         Denial::NotHeld(state) => push_not_held(out, p, *state),
-        Denial::NotAdmin => push(out, b"\"not_admin\""),
         Denial::Unknown(missing) => push_unknown(out, *missing),
-        Denial::Fixed => push(out, b"\"fixed\""),
-        Denial::Already => push(out, b"\"already\""),
-        Denial::Absent => push(out, b"\"absent\""),
-        Denial::LastAdmin => push(out, b"\"last_admin\""),
         Denial::Strands { case, flow, tree } => push_strands(out, p, *case, *flow, tree.get()),
+        _ => push(out, denial_text(denial)),
+    }
+}
+
+// What is written for a denial that is a word alone; nothing for another.
+fn denial_text(denial: &Denial) -> &'static [u8]
+    ensures { result.now ≡ denial_word denial.now }
+{
+    match denial {
+        Denial::NoFlow => b"\"no_flow\"",
+        Denial::Retired => b"\"retired\"",
+        Denial::Full => b"\"full\"",
+        Denial::NoCase => b"\"no_case\"",
+        Denial::Closed => b"\"closed\"",
+        Denial::NoStep => b"\"no_step\"",
+        Denial::NoUser => b"\"no_user\"",
+        Denial::NotAdmin => b"\"not_admin\"",
+        Denial::Fixed => b"\"fixed\"",
+        Denial::Already => b"\"already\"",
+        Denial::Absent => b"\"absent\"",
+        Denial::LastAdmin => b"\"last_admin\"",
+        _ => b"",
     }
 }
 
