@@ -1,11 +1,15 @@
 -- How the steps of a run compose.
-use Rattle.std.proofs.Common.{◌≡◌, ℕ, List, Option, Some, Result, Ok, Err, arith, inl, inr}
-use Rattle.std.specs.Prelude.{IsErrAnd}
+use Rattle.std.proofs.Common.{◌≡◌, ℕ, List, Option, Some, Result, Ok, Err, arith, refl, inl, inr}
+use Rattle.std.specs.Prelude.{IsErrAnd, IsErrOf, OnOk}
+use Rattle.basics.specs.declared.fault.Fault.{Fault}
+use Rattle.basics.specs.declared.fault.Fault.TheVariants as fault
 use Rattle.wf_names.specs.declared.limits.TheConstants.{LINE_LIMIT, POLICY_FILE_LIMIT}
 use Rattle.wf_outside.specs.Laws.Outside.{Filed, told, missing, untold, HasPart, Rose, with_bytes}
+use Rattle.wf_outside.specs.declared.source.Failed.{Failed}
 use Rattle.policy_book.specs.Laws.Shapes.{PolicyShape}
 use Rattle.cnf_export.specs.Encoders.{EncoderShape}
 use Rattle.cnf_export.specs.Text.{dimacs_text}
+use Rattle.cnf_export.specs.Writing.{not_written, StaysUnlessUnwritten}
 use Rattle.run_record.specs.declared.fault.RunFault.{RunFault}
 use Rattle.run_record.specs.declared.fault.RunFault.TheVariants.{Nothing, Write, NoMemory}
 use Rattle.run_record.specs.Fault.{fault_in, CountsLoads, CountsReadsAlone}
@@ -15,8 +19,9 @@ use Rattle.wf_commands.specs.Answer.{AnswersFile, IsCommandEnding}
 use Rattle.wf_commands.specs.Once.{Ends, HasReadInput, OverPolicy, ReadsInput, RunsOnce}
 use Rattle.wf_commands.specs.Load.{EndsTooLong, IsLoadEnding}
 use Rattle.wf_commands.proofs.Runs.{loaded, unread, without_answer, WritesNothing}
-use Rattle.wf_commands.specs.Model.{BreaksOff, EndsEarly, EndsWithoutModel, HasWritten}
-use Rattle.wf_commands.specs.CnfSteps.{EncodesFile}
+use Rattle.wf_commands.specs.Model.{BreaksOff, EndsEarly, EndsWithoutModel, HasWritten, WritesClauses}
+use Rattle.wf_commands.specs.CnfAnswers.{ClausesAsked}
+use Rattle.wf_commands.specs.CnfSteps.{EncodesFile, ending_of}
 
 -- the text of clauses is an answer for the policy in a file
 abbrev AnswersWith : (PolicyShape → RunFault → List ℕ → Type 0) → Filed → List ℕ → Type 0
@@ -58,7 +63,7 @@ over_break A missing before after text h part = absurd h
 over_break A (told file) before after text h part = (text, h, part)
 
 -- all clauses are written
-pub all_written : (policy : List ℕ) (A : Option (List ℕ) → PolicyShape → RunFault → List ℕ → Type 0) (e : EncoderShape) (r : Run)
+all_written : (policy : List ℕ) (A : Option (List ℕ) → PolicyShape → RunFault → List ℕ → Type 0) (e : EncoderShape) (r : Run)
     → HasClauses policy (A r.before.input) e r → r.fault ≡ Nothing
     → r.after.output ≡ with_bytes r.before.output (dimacs_text e.variables e.all) → r.after.write_faults ≡ r.before.write_faults
     → RunsOnce (Some LINE_LIMIT) policy A r
@@ -76,7 +81,7 @@ all_written policy A e r has is wrote writes = record {
 }
 
 -- writing failed
-pub part_written : (policy : List ℕ) (A : Option (List ℕ) → PolicyShape → RunFault → List ℕ → Type 0) (e : EncoderShape) (r : Run)
+part_written : (policy : List ℕ) (A : Option (List ℕ) → PolicyShape → RunFault → List ℕ → Type 0) (e : EncoderShape) (r : Run)
     → HasClauses policy (A r.before.input) e r → r.fault ≡ Write
     → HasPart r.before.output r.after.output (dimacs_text e.variables e.all) → Rose r.before.write_faults r.after.write_faults
     → RunsOnce (Some LINE_LIMIT) policy A r
@@ -94,7 +99,7 @@ part_written policy A e r has is part rose = record {
 }
 
 -- memory was lacking while they were written
-pub broken_off : (policy : List ℕ) (A : PolicyShape → RunFault → List ℕ → Type 0) (e : EncoderShape) (r : Run) → HasClauses policy A e r → r.fault ≡ NoMemory
+broken_off : (policy : List ℕ) (A : PolicyShape → RunFault → List ℕ → Type 0) (e : EncoderShape) (r : Run) → HasClauses policy A e r → r.fault ≡ NoMemory
     → HasPart r.before.output r.after.output (dimacs_text e.variables e.all) → r.after.write_faults ≡ r.before.write_faults → BreaksOff policy A r
 broken_off policy A e r has is part writes = record {
   orderly = record { early = λ early. cc; loads = rw is has.loads; reads = rw is (let reads = has.reads in omega (arith, reads)); writes = rw is writes };
@@ -105,6 +110,20 @@ broken_off policy A e r has is part writes = record {
   reads = has.reads;
   input = has.input;
 }
+
+-- the clauses are written as far as they are
+pub written_so : (policy flow : List ℕ) (e : EncoderShape) (r : Run) (written : Result (Unit {0}) (Fault Failed))
+    → HasClauses policy (λ p. ClausesAsked p flow r.before.input) e r → r.fault ≡ ending_of written
+    → OnOk written (r.after.output ≡ with_bytes r.before.output (dimacs_text e.variables e.all))
+    → HasPart r.before.output r.after.output (dimacs_text e.variables e.all)
+    → (IsErrOf written not_written → Rose r.before.write_faults r.after.write_faults)
+    → StaysUnlessUnwritten written r.before.write_faults r.after.write_faults → WritesClauses policy flow r
+written_so policy flow e r (Ok done) has is all part rose stays =
+    inl (all_written policy (λ seen p. ClausesAsked p flow seen) e r has is all stays)
+written_so policy flow e r (Err (fault.Cause failed)) has is all part rose stays =
+    inl (part_written policy (λ seen p. ClausesAsked p flow seen) e r has is part (rose refl))
+written_so policy flow e r (Err fault.NoMemory) has is all part rose stays =
+    inr (broken_off policy (λ p. ClausesAsked p flow r.before.input) e r has is part stays)
 
 -- a run without clauses answers as one without an answer
 unencoded : (A : PolicyShape → RunFault → List ℕ → Type 0) (f : Filed) (fault : RunFault) → EncodesFile A f (Err fault) → AnswersFile A f (Err fault)

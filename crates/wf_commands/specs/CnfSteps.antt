@@ -1,7 +1,10 @@
 -- Inside: what the steps of a run give.
 use Rattle.std.specs.Prelude.{◌≡◌, ℕ, ◌<◌, ◌≤◌, Bool, List, length, Result, Ok, Err}
+use Rattle.basics.specs.declared.fault.Fault.{Fault}
+use Rattle.basics.specs.declared.fault.Fault.TheVariants as fault
 use Rattle.wf_names.specs.declared.limits.TheConstants.{LINE_LIMIT}
 use Rattle.wf_outside.specs.Laws.Outside.{Filed, told, missing, untold}
+use Rattle.wf_outside.specs.declared.source.Failed.{Failed}
 use Rattle.policy_book.specs.Laws.Shapes.{PolicyShape}
 use Rattle.policy_book.specs.Policies.{flow_at, problem_of}
 use Rattle.cnf_export.specs.Laws.Encodings.{literals, variables_of}
@@ -10,8 +13,9 @@ use Rattle.cnf_export.specs.declared.tally.TheConstants.{LITERAL_LIMIT}
 use Rattle.cnf_export.specs.ModelText.{model_of_text}
 use Rattle.cnf_export.specs.Text.{dimacs_text}
 use Rattle.run_record.specs.declared.fault.RunFault.{RunFault}
-use Rattle.run_record.specs.declared.fault.RunFault.TheVariants.{Nothing, Load, Read, NoMemory}
-use Rattle.run_record.specs.declared.fault.RunFault.TheVariants.{LineTooLong, BadInput, TooLarge}
+use Rattle.run_record.specs.declared.fault.RunFault.TheVariants.{Nothing, Load, Read, Write}
+use Rattle.run_record.specs.declared.fault.RunFault.TheVariants.{NoMemory, LineTooLong, BadInput}
+use Rattle.run_record.specs.declared.fault.RunFault.TheVariants.{TooLarge}
 use Rattle.run_record.specs.declared.fault.InputFault.TheVariants.{NoFlow, Model}
 use Rattle.wf_commands.specs.Answer.{AnswersAs}
 use Rattle.wf_commands.specs.Once.{OverPolicy}
@@ -92,3 +96,9 @@ abbrev pub EncodesFile : (PolicyShape → RunFault → List ℕ → Type 0) → 
 EncodesFile Answers untold result = (file : List ℕ) × EncodesAs (OverPolicy Answers file) result
 EncodesFile Answers missing result = result ≡ Err Load
 EncodesFile Answers (told file) result = EncodesAs (OverPolicy Answers file) result
+
+-- how a run ends whose clauses were written so
+abbrev pub ending_of : Result (Unit {0}) (Fault Failed) → RunFault
+ending_of (Ok done) = Nothing
+ending_of (Err (fault.Cause failed)) = Write
+ending_of (Err fault.NoMemory) = NoMemory

@@ -9,13 +9,13 @@ ghost use Rattle.wf_commands.specs.Load.{EndsTooLong};
 ghost use Rattle.wf_commands.specs.Once.{ReadsInput};
 ghost use Rattle.wf_commands.specs.CnfAnswers.{ClausesAsked};
 ghost use Rattle.wf_commands.specs.Model.{WritesClauses};
-ghost use Rattle.wf_commands.specs.CnfSteps.{EncodesAs, EncodesFile};
+ghost use Rattle.wf_commands.specs.CnfSteps.{EncodesAs, EncodesFile, ending_of};
 
 use crate::encoding::{encode, take_case};
 use crate::{find_flow, load_policy};
 use basics::Fault;
 use cnf_export::model_laws::satisfiable_is_completable;
-use cnf_export::{Encoder, write_clauses};
+use cnf_export::{Encoder, WriteFault, write_clauses};
 use policy_book::{Course, Policy};
 use run_record::{Outside, Report, RunFault, bare_report};
 use std::alloc::Global;
@@ -35,12 +35,22 @@ pub fn run_clauses<F: Shelf, S: Source, K: Sink>(
 {
     let alloc = outside.alloc;
     match find_clauses(alloc, policy, flow, outside.shelf, outside.source) {
-        Ok(mut encoder) => match write_clauses(alloc, &mut encoder, outside.sink) {
-            Ok(()) => bare_report(alloc, RunFault::Nothing),
-            Err(Fault::Cause(_)) => bare_report(alloc, RunFault::Write),
-            Err(Fault::NoMemory) => bare_report(alloc, RunFault::NoMemory),
-        },
+        Ok(mut encoder) => {
+            let written = write_clauses(alloc, &mut encoder, outside.sink);
+            bare_report(alloc, ending_of(&written))
+        }
         Err(fault) => bare_report(alloc, fault),
+    }
+}
+
+// How a run ends whose clauses were written so.
+fn ending_of(written: &Result<(), WriteFault>) -> RunFault
+    ensures { result ≡ ending_of written.now }
+{
+    match written {
+        Ok(()) => RunFault::Nothing,
+        Err(Fault::Cause(_)) => RunFault::Write,
+        Err(Fault::NoMemory) => RunFault::NoMemory,
     }
 }
 

@@ -1,5 +1,7 @@
 //! The command `resilience`: whether a workflow can be done whichever of its users are absent.
-ghost use Rattle.std.specs.Prelude.{IfOk};
+ghost use Rattle.std.specs.Prelude.{◌≡◌, ◌↔◌, ℕ, true, IfOk};
+ghost use Rattle.resilience_check.specs.Covering.{AnswersAbsence, holds};
+ghost use Rattle.resilience_check.specs.Left.{IsResilient};
 ghost use Rattle.wf_commands.specs.Answer.{ending_with};
 ghost use Rattle.wf_commands.specs.Resilience.{ChecksAbsences, ChecksFlow};
 
@@ -35,15 +37,32 @@ fn check_absences(alloc: Global, course: &Course, t: u8) -> Result<Answer, Alloc
     ensures { IfOk result (λ answer. ChecksAbsences course.now.policy.now course.now.number t
         (ending_with answer.found) answer.text.items) }
 {
-    let (p, f) = (course.policy, course.number);
-    match resilience(alloc, p, f, t)? {
+    match resilience(alloc, course.policy, course.number, t) {
+        Ok(found) => tell_absences(alloc, course, &found),
+        Err(fault) => Err(fault),
+    }
+}
+
+// The text of what was found.
+fn tell_absences(
+    alloc: Global,
+    course: &Course,
+    found: &AbsenceAnswer,
+) -> Result<Answer, AllocError>
+    ensures { (t : ℕ) → AnswersAbsence course.now.policy.now course.now.number t found.now →
+        ((holds found.now ≡ true) ↔ IsResilient course.now.policy.now course.now.number t) →
+        IfOk result (λ answer. ChecksAbsences course.now.policy.now course.now.number t
+        (ending_with answer.found) answer.text.items) }
+{
+    let p = course.policy;
+    match found {
         AbsenceAnswer::Holds(plans) => Ok(Answer {
             found: false,
             text: write_family(alloc, p, plans.as_slice())?,
         }),
         AbsenceAnswer::Breaks { absent, tree } => Ok(Answer {
             found: true,
-            text: write_absence(alloc, p, f, absent.as_slice(), &tree)?,
+            text: write_absence(alloc, p, course.number, absent.as_slice(), tree)?,
         }),
     }
 }
