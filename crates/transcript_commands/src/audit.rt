@@ -2,20 +2,26 @@
 ghost use Rattle.std.specs.Prelude.{◌≡◌, ◌<◌, ◌≤◌, ℕ, List, Ok, IfErr, IfOk, OnOk};
 ghost use Rattle.wf_names.specs.declared.limits.TheConstants.{LANE_LIMIT, POLICY_FILE_LIMIT};
 ghost use Rattle.wf_outside.specs.Laws.Outside.{with_bytes};
+ghost use Rattle.line_reader.specs.Laws.{AreInOrder, AreNamedJobs};
+ghost use Rattle.transcript_audit.specs.Auditor.{audit_of};
+ghost use Rattle.transcript_audit.specs.Laws.{AreOfSession};
 ghost use Rattle.run_record.specs.Fault.{fault_in, CountsLoads, CountsReadsAlone};
 ghost use Rattle.run_record.specs.Fault.{CountsWrites};
 ghost use Rattle.run_record.specs.Report.{HasEnded};
 ghost use Rattle.run_record.specs.Laws.Run.{run_over};
 ghost use Rattle.wf_commands.specs.Load.{EndsTooLong};
-ghost use Rattle.transcript_commands.specs.Finding.{finding_text};
+ghost use Rattle.transcript_commands.specs.Finding.{finding_text, HasFound};
 ghost use Rattle.transcript_commands.specs.Run.{EndsFinding, IsOnLanes};
 ghost use Rattle.transcript_commands.specs.Audit.{AuditsPolicy, AuditsRun, ReadsAsAudit};
-ghost use Rattle.transcript_commands.specs.Steps.{FailsAs, FindsFile};
+ghost use Rattle.transcript_commands.specs.Steps.{FailsAs, FindsFile, HasTakenSome};
+ghost use Rattle.transcript_commands.specs.Steps.{IsReadEnding};
 
 use crate::auditing::audit_input;
 use crate::finding::Finding;
 use crate::jobs_file::load_jobs;
 use crate::laws::legal_is_exact;
+use line_reader::Batch;
+use policy_book::Policy;
 use run_record::{Outside, Report, RunFault, bare_report};
 use std::alloc::Global;
 use transcript_audit::{Auditor, know_session};
@@ -83,11 +89,38 @@ fn find<V: Decider, F: Shelf, S: Source>(
     ensures input { ReadsAsAudit (fault_in result) (S.left source.old) (S.left source.new) }
 {
     let p = load_policy(alloc, shelf, session.policy)?;
-    let batch = load_jobs(alloc, shelf, session.requests, session.lanes)?;
-    know_session(&p, session.rounds, &batch.jobs, &batch.ends);
     legal_is_exact();
-    let auditor = Auditor::new(alloc, p, batch.jobs, batch.ends, session.rounds)?;
-    audit_input(alloc, decider, auditor, source)
+    match load_jobs(alloc, shelf, session.requests, session.lanes) {
+        Ok(batch) => audit_session(alloc, decider, p, batch, session.rounds, source),
+        Err(fault) => Err(fault),
+    }
+}
+
+// What the audit of a session finds, from its policy and its jobs.
+fn audit_session<V: Decider, S: Source>(
+    alloc: Global,
+    decider: &V,
+    policy: Policy,
+    batch: Batch,
+    rounds: u8,
+    source: &mut S,
+) -> Result<Finding, RunFault>
+    requires ready { V.ready decider.now }
+    requires order { AreInOrder LANE_LIMIT batch.jobs batch.ends }
+    requires named { AreNamedJobs batch.jobs }
+    ensures session { AreOfSession policy rounds batch.jobs batch.ends }
+    ensures found { IfOk result (λ f. HasFound (audit_of policy rounds batch.jobs batch.ends) f
+        (S.left source.old) (S.left source.new)) }
+    ensures ending { IfErr result IsReadEnding }
+    ensures reads { CountsReadsAlone (fault_in result) (S.faults source.old) (S.faults source.new) }
+    ensures input { HasTakenSome (S.left source.old) (S.left source.new) }
+{
+    let Batch { jobs, ends } = batch;
+    know_session(&policy, rounds, &jobs, &ends);
+    match Auditor::new(alloc, policy, jobs, ends, rounds) {
+        Ok(mut auditor) => audit_input(alloc, decider, &mut auditor, source),
+        Err(_) => Err(RunFault::NoMemory),
+    }
 }
 
 // Writes what is found, if it is something to write.

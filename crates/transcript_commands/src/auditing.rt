@@ -26,21 +26,22 @@ const PIECE: usize = 65_536;
 pub(crate) fn audit_input<V: Decider, S: Source>(
     alloc: Global,
     decider: &V,
-    mut auditor: Auditor,
+    auditor: &mut Auditor,
     source: &mut S,
 ) -> Result<Finding, RunFault>
     requires ready { V.ready decider.now }
-    requires going { auditor.fault ≡ None }
-    requires first { auditor.entries ≡ [] }
-    requires few { length auditor.jobs ≤ SESSION_LINE_LIMIT }
-    ensures found { IfOk result (λ f. HasFound auditor f (S.left source.old) (S.left source.new)) }
+    requires first { IsUnread auditor.old }
+    ensures found { IfOk result (λ f. HasFound auditor.old f (S.left source.old)
+        (S.left source.new)) }
     ensures taken { HasTakenSome (S.left source.old) (S.left source.new) }
     ensures ending { IfErr result IsReadEnding }
     ensures counts { CountsReadsAlone (fault_in result) (S.faults source.old)
         (S.faults source.new) }
 {
-    let mut reader = LineReader::new(alloc, PIECE, TRANSCRIPT_LINE_LIMIT)?;
-    audit_lines(alloc, decider, &mut auditor, &mut reader, source)
+    match LineReader::new(alloc, PIECE, TRANSCRIPT_LINE_LIMIT) {
+        Ok(mut reader) => audit_lines(alloc, decider, auditor, &mut reader, source),
+        Err(_) => Err(RunFault::NoMemory),
+    }
 }
 
 // Audits line after line.

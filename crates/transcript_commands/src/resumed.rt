@@ -1,10 +1,11 @@
 //! A session that goes on from a transcript.
-ghost use Rattle.std.specs.Prelude.{◌≡◌, IfErr, IfOk};
+ghost use Rattle.std.specs.Prelude.{◌≡◌, ◌<◌, length, IfErr, IfOk};
 ghost use Rattle.wf_names.specs.declared.limits.TheConstants.{LANE_LIMIT};
 ghost use Rattle.line_reader.specs.Laws.{AreInOrder, AreNamedJobs};
 ghost use Rattle.wf_board.specs.Boards.{state_on};
 ghost use Rattle.wf_board.specs.Laws.Histories.{IsLegal, state_after};
 ghost use Rattle.wf_board.specs.Laws.States.{opening_state};
+ghost use Rattle.wf_desk.specs.Desks.{desk_with};
 ghost use Rattle.wf_desk.specs.Laws.Parts.{FillsPart};
 ghost use Rattle.transcript_audit.specs.declared.fault.AuditFault.TheVariants.{NoMemory};
 ghost use Rattle.transcript_commands.specs.Resumed.{GoesOnAt, HasResumed, IsTakenUp, RefusesBy};
@@ -124,9 +125,35 @@ fn go_on(
     ensures { IfOk result (λ r. GoesOnAt (session_over policy.now lanes rounds batch.now)
         journal.entries r.1 r.0) }
 {
-    let mut desk = Desk::restore(alloc, policy.copy()?, board, journal, lanes, rounds)?;
-    let next = take_rest(alloc, &mut desk, batch)?;
-    Ok((desk, next))
+    match restore(alloc, policy, board, journal, lanes, rounds) {
+        Ok(mut desk) => match take_rest(alloc, &mut desk, batch) {
+            Ok(next) => Ok((desk, next)),
+            Err(fault) => Err(fault),
+        },
+        Err(fault) => Err(fault),
+    }
+}
+
+// The desk behind these entries.
+fn restore(
+    alloc: Global,
+    policy: &Policy,
+    board: Board,
+    journal: Journal,
+    lanes: u8,
+    rounds: u8,
+) -> Result<Desk, AllocError>
+    requires within { AreServedWithin lanes rounds }
+    requires state { state_on board ≡ state_after (opening_state policy.now) journal.entries }
+    requires few { length journal.entries < 4294967296 }
+    requires legal { IsLegal (opening_state policy.now) rounds journal.entries }
+    ensures { IfOk result (λ desk. desk ≡ desk_with policy.now lanes rounds board journal.entries
+        journal.spare) }
+{
+    match policy.copy() {
+        Ok(opening) => Desk::restore(alloc, opening, board, journal, lanes, rounds),
+        Err(fault) => Err(fault),
+    }
 }
 
 // Gives a desk at which only entries stand the jobs of the batch in which they stop, behind those
