@@ -16,7 +16,7 @@ ghost use Rattle.transcript_commands.specs.Audit.{AuditsPolicy, AuditsRun, Reads
 ghost use Rattle.transcript_commands.specs.Steps.{FailsAs, FindsFile, HasTakenSome};
 ghost use Rattle.transcript_commands.specs.Steps.{IsReadEnding};
 
-use crate::auditing::audit_input;
+use crate::auditing::{audit_input, open_audit};
 use crate::finding::Finding;
 use crate::jobs_file::load_jobs;
 use crate::laws::legal_is_exact;
@@ -24,7 +24,6 @@ use line_reader::Batch;
 use policy_book::Policy;
 use run_record::{Outside, Report, RunFault, bare_report};
 use std::alloc::Global;
-use transcript_audit::{Auditor, know_session};
 use wf_board::Decider;
 use wf_commands::load_policy;
 use wf_outside::{Shelf, Sink, Source, put_and_flush};
@@ -115,9 +114,7 @@ fn audit_session<V: Decider, S: Source>(
     ensures reads { CountsReadsAlone (fault_in result) (S.faults source.old) (S.faults source.new) }
     ensures input { HasTakenSome (S.left source.old) (S.left source.new) }
 {
-    let Batch { jobs, ends } = batch;
-    know_session(&policy, rounds, &jobs, &ends);
-    match Auditor::new(alloc, policy, jobs, ends, rounds) {
+    match open_audit(alloc, policy, batch, rounds) {
         Ok(mut auditor) => audit_input(alloc, decider, &mut auditor, source),
         Err(_) => Err(RunFault::NoMemory),
     }

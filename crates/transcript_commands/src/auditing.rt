@@ -1,26 +1,46 @@
 //! Auditing the lines of the input.
-ghost use Rattle.std.specs.Prelude.{◌≡◌, ◌<◌, ◌≤◌, ◌+◌, ℕ, List, [], length, Option, None, Some};
+ghost use Rattle.std.specs.Prelude.{◌≡◌, ◌+◌, ℕ, List, [], Option, None, Some};
 ghost use Rattle.std.specs.Prelude.{Ok, Err, IfErr, IfOk};
-ghost use Rattle.wf_names.specs.declared.limits.TheConstants.{SESSION_LINE_LIMIT};
+ghost use Rattle.wf_names.specs.declared.limits.TheConstants.{LANE_LIMIT};
+ghost use Rattle.line_reader.specs.Laws.{AreInOrder, AreNamedJobs};
 ghost use Rattle.line_reader.specs.Reader.{pending};
 ghost use Rattle.run_record.specs.Fault.{fault_in, CountsReadsAlone};
-ghost use Rattle.transcript_audit.specs.Auditor.{AuditShape};
+ghost use Rattle.transcript_audit.specs.Auditor.{AuditShape, audit_of};
+ghost use Rattle.transcript_audit.specs.Laws.{AreOfSession};
 ghost use Rattle.transcript_commands.specs.Finding.{EndsAs, HasFound};
 ghost use Rattle.transcript_commands.specs.Lines.{HasReadSome, IsUnread, IsAtLine, ReadsLines};
 ghost use Rattle.transcript_commands.specs.Steps.{HasAudited, HasOneMore, HasTakenSome};
 ghost use Rattle.transcript_commands.specs.Steps.{IsReadEnding, AuditStepsTo, TakesLine};
 
 use crate::finding::Finding;
-use line_reader::{LineReader, Read};
+use line_reader::{Batch, LineReader, Read};
+use policy_book::Policy;
 use run_record::RunFault;
-use std::alloc::Global;
-use transcript_audit::{AuditFault, Auditor};
+use std::alloc::{AllocError, Global};
+use transcript_audit::{AuditFault, Auditor, know_session};
 use wf_board::Decider;
 use wf_names::TRANSCRIPT_LINE_LIMIT;
 use wf_outside::Source;
 
 /// How many bytes of the input are taken at once.
 const PIECE: usize = 65_536;
+
+/// The audit of a session, before the first line.
+pub(crate) fn open_audit(
+    alloc: Global,
+    policy: Policy,
+    batch: Batch,
+    rounds: u8,
+) -> Result<Auditor, AllocError>
+    requires order { AreInOrder LANE_LIMIT batch.jobs batch.ends }
+    requires named { AreNamedJobs batch.jobs }
+    ensures session { AreOfSession policy rounds batch.jobs batch.ends }
+    ensures first { IfOk result (λ a. a ≡ audit_of policy rounds batch.jobs batch.ends) }
+{
+    let Batch { jobs, ends } = batch;
+    know_session(&policy, rounds, &jobs, &ends);
+    Auditor::new(alloc, policy, jobs, ends, rounds)
+}
 
 /// Audits the transcript in the input.
 pub(crate) fn audit_input<V: Decider, S: Source>(
@@ -31,12 +51,12 @@ pub(crate) fn audit_input<V: Decider, S: Source>(
 ) -> Result<Finding, RunFault>
     requires ready { V.ready decider.now }
     requires first { IsUnread auditor.old }
+    ensures ending { IfErr result IsReadEnding }
     ensures found { IfOk result (λ f. HasFound auditor.old f (S.left source.old)
         (S.left source.new)) }
-    ensures taken { HasTakenSome (S.left source.old) (S.left source.new) }
-    ensures ending { IfErr result IsReadEnding }
     ensures counts { CountsReadsAlone (fault_in result) (S.faults source.old)
         (S.faults source.new) }
+    ensures taken { HasTakenSome (S.left source.old) (S.left source.new) }
 {
     match LineReader::new(alloc, PIECE, TRANSCRIPT_LINE_LIMIT) {
         Ok(mut reader) => audit_lines(alloc, decider, auditor, &mut reader, source),

@@ -7,11 +7,13 @@ ghost use Rattle.wf_board.specs.Laws.Histories.{IsLegal, state_after};
 ghost use Rattle.wf_board.specs.Laws.States.{opening_state};
 ghost use Rattle.wf_desk.specs.Desks.{desk_with};
 ghost use Rattle.wf_desk.specs.Laws.Parts.{FillsPart};
+ghost use Rattle.transcript_audit.specs.Auditor.{state_now};
 ghost use Rattle.transcript_audit.specs.declared.fault.AuditFault.TheVariants.{NoMemory};
 ghost use Rattle.transcript_commands.specs.Resumed.{GoesOnAt, HasResumed, IsTakenUp, RefusesBy};
 ghost use Rattle.transcript_commands.specs.Sessions.{AreServedWithin, IsRestored, session_at};
 ghost use Rattle.transcript_commands.specs.Sessions.{session_over};
 
+use crate::auditing::open_audit;
 use crate::lines::whole_lines;
 use crate::taking::take_lines;
 use crate::unserved::rest;
@@ -19,7 +21,7 @@ use line_reader::Batch;
 use policy_book::Policy;
 use std::alloc::{AllocError, Global};
 use transcript_audit::laws::{faults_exclude, next_is_one, part_is_exact};
-use transcript_audit::{AuditFault, Auditor, know_session};
+use transcript_audit::{AuditFault, Auditor};
 use wf_board::{Board, Decider};
 use wf_desk::Desk;
 use wf_talk::Journal;
@@ -93,17 +95,27 @@ fn take_up<V: Decider>(
     ensures refused { IfErr result (RefusesBy (session_over policy lanes rounds batch)
         transcript.now) }
 {
-    let Batch { jobs, ends } = batch;
-    know_session(&policy, rounds, &jobs, &ends);
     part_is_exact();
     faults_exclude();
     next_is_one();
-    let Ok(mut auditor) = Auditor::new(alloc, policy, jobs, ends, rounds) else {
-        return Err(AuditFault::NoMemory);
-    };
-    take_lines(alloc, decider, &mut auditor, whole_lines(transcript))?;
+    match open_audit(alloc, policy, batch, rounds) {
+        Ok(mut auditor) => match take_lines(alloc, decider, &mut auditor, whole_lines(transcript)) {
+            Ok(()) => Ok(parts_of(auditor)),
+            Err(fault) => Err(fault),
+        },
+        Err(_) => Err(AuditFault::NoMemory),
+    }
+}
+
+// The board, the entries and the jobs of an audit that is let go.
+fn parts_of(auditor: Auditor) -> (Board, Journal, Batch)
+    ensures state { state_on result.0 ≡ state_now auditor }
+    ensures entries { result.1.entries ≡ auditor.entries }
+    ensures jobs { result.2.jobs ≡ auditor.jobs }
+    ensures ends { result.2.ends ≡ auditor.batch_ends }
+{
     let (board, journal, jobs, ends) = auditor.into_parts();
-    Ok((board, journal, Batch { jobs, ends }))
+    (board, journal, Batch { jobs, ends })
 }
 
 // The desk behind these entries, with the jobs of the batch in which they stop, behind those of
