@@ -54,16 +54,25 @@ pub fn plan_of(
         number: f,
     };
     let _ruled = course.rules();
-    let mut encoder = Encoder::new(alloc, p, f, a, done)?;
-    let mut one = Literals::new(alloc);
-    match first_unsatisfied(&mut encoder, &mut one, m)? {
+    let encoder = Encoder::new(alloc, p, f, a, done)?;
+    match first_unsatisfied(alloc, encoder, m)? {
         Some(i) => Ok(Reading::Clause(i)),
         None => Ok(Reading::Plan(plan_said(alloc, &course, m)?)),
     }
 }
 
-// The first clause that a model does not satisfy, if there is one.
-fn first_unsatisfied(
+// The first clause that a model does not satisfy, if there is one, by an encoder that is before the
+// first one.
+fn first_unsatisfied(alloc: Global, encoder: Encoder, m: &Model) -> Result<Option<u32>, AllocError>
+    requires { encoder.left ≡ encoder.all }
+    ensures { IfOk result (λ found. found ≡ first_false 0 (has_variable m.now) encoder.all) }
+{
+    let mut encoder = encoder;
+    unsatisfied_in(&mut encoder, &mut Literals::new(alloc), m)
+}
+
+// The same, with each clause made in `one`.
+fn unsatisfied_in(
     encoder: &mut Encoder,
     one: &mut Literals,
     m: &Model,

@@ -8,8 +8,8 @@ use Rattle.cnf_export.specs.Saying.{has_variable}
 use Rattle.cnf_export.proofs.Firsts.{all_true}
 use Rattle.cnf_export.proofs.reading.plan_of.Goals as goal
 
-pub returns-clause-reading : goal.returns-clause-reading
-returns-clause-reading c =
+pub returns-in_ok-plan_said-in-None-clause-reading : goal.returns-in_ok-plan_said-in-None-clause-reading
+returns-in_ok-plan_said-in-None-clause-reading c =
     let problem = problem_of c.args.p.now c.args.f in
     let m = has_variable c.args.m.now in
     let clauses = clauses_of problem c.args.a.now c.args.done.now in

@@ -1,7 +1,7 @@
 use Rattle.std.proofs.Common.{◌≡◌, ◌+◌, length}
 use Rattle.cnf_export.specs.Saying.{has_variable}
 use Rattle.cnf_export.specs.Readings.{first_false}
-use Rattle.cnf_export.proofs.reading.first_unsatisfied.Given as goal
+use Rattle.cnf_export.proofs.reading.unsatisfied_in.Given as goal
 
 -- no clause so far is false
 abbrev pub invariant-clauses : goal.invariant-clauses
