@@ -1,6 +1,6 @@
 //! What a line asks, with numbers in place of names.
-ghost use Rattle.std.specs.Prelude.{◌≡◌, ◌<◌, ℕ, length, Err, IfErr, IfOk, MatchResult, Ok, Some};
-ghost use Rattle.basics.specs.Laws.Reading.{check, or_fault};
+ghost use Rattle.std.specs.Prelude.{◌≡◌, ◌<◌, ℕ, length, Err, IfErr, IfOk, IfSome, MatchOption};
+ghost use Rattle.std.specs.Prelude.{MatchResult, None, Ok, Some};
 ghost use Rattle.policy_book.specs.Policies.{flow_at};
 ghost use Rattle.grant_table.specs.Cases.{case_in};
 ghost use Rattle.admin_edits.specs.declared.amendment.Amendment.{Amendment};
@@ -63,21 +63,22 @@ fn resolve_request(p: &Policy, cases: &Cases, request: &Request) -> Result<Deed,
             step,
         } => release(p, cases, by, *number, step),
         Request::Withdraw { by, case: number } => withdrawal(p, cases, by, *number),
-        Request::Change { by, edit } => {
-            let amendment = change(p, by, edit)?;
-            Ok(Deed::Change { amendment })
-        }
-        Request::Show { case: number } => Ok(Deed::Show {
-            case: *case_with(p, cases, *number)?,
-        }),
-        Request::Worklist { user } => {
-            let user = user_named(p, user)?;
-            Ok(Deed::Work { user })
-        }
-        Request::WhatIf { by, edit } => {
-            let amendment = change(p, by, edit)?;
-            Ok(Deed::WhatIf { amendment })
-        }
+        Request::Change { by, edit } => match change(p, by, edit) {
+            Ok(amendment) => Ok(Deed::Change { amendment }),
+            Err(denial) => Err(denial),
+        },
+        Request::Show { case: number } => match case_with(p, cases, *number) {
+            Some(case) => Ok(Deed::Show { case: *case }),
+            None => Err(Denial::NoCase),
+        },
+        Request::Worklist { user } => match user_named(p, user) {
+            Some(user) => Ok(Deed::Work { user }),
+            None => Err(Denial::NoUser),
+        },
+        Request::WhatIf { by, edit } => match change(p, by, edit) {
+            Ok(amendment) => Ok(Deed::WhatIf { amendment }),
+            Err(denial) => Err(denial),
+        },
     }
 }
 
@@ -88,14 +89,20 @@ fn release(p: &Policy, cases: &Cases, by: &Name, n: CaseId, step: &Name) -> Resu
         (requests.Release by.now n step.now) }
     ensures found { IfOk result (IsFound p.now cases.now.rows) }
 {
-    check_admin(p, by)?;
-    let case = open_case(p, cases, n)?;
-    let step = step_named(p, case, step)?;
-    Ok(Deed::Release {
-        number: n,
-        case: *case,
-        step,
-    })
+    if !is_admin(p, by) {
+        return Err(Denial::NotAdmin);
+    }
+    match open_case(p, cases, n) {
+        Ok(case) => match step_named(p, case, step) {
+            Some(step) => Ok(Deed::Release {
+                number: n,
+                case: *case,
+                step,
+            }),
+            None => Err(Denial::NoStep),
+        },
+        Err(denial) => Err(denial),
+    }
 }
 
 /// The end of an open case, if an administrator asks for it.
@@ -105,9 +112,13 @@ fn withdrawal(p: &Policy, cases: &Cases, by: &Name, n: CaseId) -> Result<Deed, D
         (requests.Withdraw by.now n) }
     ensures found { IfOk result (IsFound p.now cases.now.rows) }
 {
-    check_admin(p, by)?;
-    open_case(p, cases, n)?;
-    Ok(Deed::Withdraw { number: n })
+    if !is_admin(p, by) {
+        return Err(Denial::NotAdmin);
+    }
+    match open_case(p, cases, n) {
+        Ok(_) => Ok(Deed::Withdraw { number: n }),
+        Err(denial) => Err(denial),
+    }
 }
 
 /// A step of an open case, and a user.
@@ -119,9 +130,16 @@ fn on_step(p: &Policy, cases: &Cases, n: CaseId, step: &Name, user: &Name) -> Re
         → on_step deed (book_of p.now cases.now) n step.now user.now ≡ Err d) }
     ensures found { IfOk result (AreFound p.now cases.now.rows) }
 {
-    let case = open_case(p, cases, n)?;
-    let s = step_named(p, case, step)?;
-    let u = user_named(p, user)?;
+    let case = match open_case(p, cases, n) {
+        Ok(case) => case,
+        Err(denial) => return Err(denial),
+    };
+    let Some(s) = step_named(p, case, step) else {
+        return Err(Denial::NoStep);
+    };
+    let Some(u) = user_named(p, user) else {
+        return Err(Denial::NoUser);
+    };
     Ok(Duty {
         number: n,
         case: *case,
@@ -131,13 +149,13 @@ fn on_step(p: &Policy, cases: &Cases, n: CaseId, step: &Name, user: &Name) -> Re
 }
 
 /// The user with a name.
-fn user_named(p: &Policy, name: &Name) -> Result<UserId, Denial>
-    ensures user { result ≡ or_fault (place_of p.now.roster.users name.now) Denial.NoUser }
-    ensures within { IfOk result (λ u. u < length p.now.roster.users) }
+fn user_named(p: &Policy, name: &Name) -> Option<UserId>
+    ensures user { result ≡ place_of p.now.roster.users name.now }
+    ensures within { IfSome result (λ u. u < length p.now.roster.users) }
 {
     match p.roster().users().find(name) {
-        Some(u) => Ok(UserId(u)),
-        None => Err(Denial::NoUser),
+        Some(u) => Some(UserId(u)),
+        None => None,
     }
 }
 
@@ -148,7 +166,9 @@ fn open_case<'a>(p: &Policy, cases: &'a Cases, n: CaseId) -> Result<&'a Case, De
         (λ d. open_case_at (book_of p.now cases.now) n ≡ Err d) }
     ensures found { IfOk result (λ c. IsOpenAt p.now cases.now.rows n c.now) }
 {
-    let case = case_with(p, cases, n)?;
+    let Some(case) = case_with(p, cases, n) else {
+        return Err(Denial::NoCase);
+    };
     if case.phase().is_live() {
         Ok(case)
     } else {
@@ -157,31 +177,29 @@ fn open_case<'a>(p: &Policy, cases: &'a Cases, n: CaseId) -> Result<&'a Case, De
 }
 
 /// The case with a number.
-fn case_with<'a>(p: &Policy, cases: &'a Cases, n: CaseId) -> Result<&'a Case, Denial>
+fn case_with<'a>(p: &Policy, cases: &'a Cases, n: CaseId) -> Option<&'a Case>
     requires { ArePlanned p.now cases.now.rows }
-    ensures case { MatchResult result (λ c. or_fault (numbered_case (book_of p.now
-        cases.now).cases n) Denial.NoCase ≡ Ok c.now)
-        (λ d. or_fault (numbered_case (book_of p.now cases.now).cases n) Denial.NoCase ≡ Err d) }
-    ensures found { IfOk result (λ c. case_in n cases.now.rows ≡ Some c.now) }
-    ensures known { IfOk result (λ c. IsOfPolicy p.now c.now) }
+    ensures case { MatchOption result (numbered_case (book_of p.now cases.now).cases n ≡ None)
+        (λ c. numbered_case (book_of p.now cases.now).cases n ≡ Some c.now) }
+    ensures found { IfSome result (λ c. case_in n cases.now.rows ≡ Some c.now) }
+    ensures known { IfSome result (λ c. IsOfPolicy p.now c.now) }
 {
     let _ = p;
     match cases.case(n) {
-        Some(case) => Ok(case),
-        None => Err(Denial::NoCase),
+        Some(case) => Some(case),
+        None => None,
     }
 }
 
 /// The step with a name, of a case's workflow.
-fn step_named(p: &Policy, case: &Case, name: &Name) -> Result<StepId, Denial>
+fn step_named(p: &Policy, case: &Case, name: &Name) -> Option<StepId>
     requires { IsOfPolicy p.now case.now }
-    ensures step { result ≡ or_fault (place_of (flow_at p.now case.now.flow).flow.steps name.now)
-        Denial.NoStep }
-    ensures within { IfOk result (λ s. s < length case.now.states) }
+    ensures step { result ≡ place_of (flow_at p.now case.now.flow).flow.steps name.now }
+    ensures within { IfSome result (λ s. s < length case.now.states) }
 {
     match p.flow(case.flow()).steps().find(name) {
-        Some(s) => Ok(StepId(s as u8)),
-        None => Err(Denial::NoStep),
+        Some(s) => Some(StepId(s as u8)),
+        None => None,
     }
 }
 
@@ -213,12 +231,12 @@ fn edit_denial(fault: EditCause) -> Denial
     }
 }
 
-/// Denies who does not administer.
-fn check_admin(p: &Policy, by: &Name) -> Result<(), Denial>
-    ensures { result ≡ check (is_admin p.now by.now) Denial.NotAdmin }
+/// Whether a name is that of a user who administers.
+fn is_admin(p: &Policy, by: &Name) -> bool
+    ensures { result ≡ is_admin p.now by.now }
 {
     match p.roster().users().find(by) {
-        Some(u) if p.roster().has(UserId(u), p.admin()) => Ok(()),
-        _ => Err(Denial::NotAdmin),
+        Some(u) => p.roster().has(UserId(u), p.admin()),
+        None => false,
     }
 }
