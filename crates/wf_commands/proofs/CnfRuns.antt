@@ -21,7 +21,7 @@ use Rattle.wf_commands.specs.Load.{EndsTooLong, IsLoadEnding}
 use Rattle.wf_commands.proofs.Runs.{loaded, unread, without_answer, WritesNothing}
 use Rattle.wf_commands.specs.Model.{BreaksOff, EndsEarly, EndsWithoutModel, HasWritten, WritesClauses}
 use Rattle.wf_commands.specs.CnfAnswers.{ClausesAsked}
-use Rattle.wf_commands.specs.CnfSteps.{EncodesFile, ending_of}
+use Rattle.wf_commands.specs.CnfSteps.{EncodesFile, ending_written}
 
 -- the text of clauses is an answer for the policy in a file
 abbrev AnswersWith : (PolicyShape → RunFault → List ℕ → Type 0) → Filed → List ℕ → Type 0
@@ -113,7 +113,7 @@ broken_off policy A e r has is part writes = record {
 
 -- the clauses are written as far as they are
 pub written_so : (policy flow : List ℕ) (e : EncoderShape) (r : Run) (written : Result (Unit {0}) (Fault Failed))
-    → HasClauses policy (λ p. ClausesAsked p flow r.before.input) e r → r.fault ≡ ending_of written
+    → HasClauses policy (λ p. ClausesAsked p flow r.before.input) e r → r.fault ≡ ending_written written
     → OnOk written (r.after.output ≡ with_bytes r.before.output (dimacs_text e.variables e.all))
     → HasPart r.before.output r.after.output (dimacs_text e.variables e.all)
     → (IsErrOf written not_written → Rose r.before.write_faults r.after.write_faults)

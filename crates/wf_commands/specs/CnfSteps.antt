@@ -98,7 +98,7 @@ EncodesFile Answers missing result = result ≡ Err Load
 EncodesFile Answers (told file) result = EncodesAs (OverPolicy Answers file) result
 
 -- how a run ends whose clauses were written so
-abbrev pub ending_of : Result (Unit {0}) (Fault Failed) → RunFault
-ending_of (Ok done) = Nothing
-ending_of (Err (fault.Cause failed)) = Write
-ending_of (Err fault.NoMemory) = NoMemory
+abbrev pub ending_written : Result (Unit {0}) (Fault Failed) → RunFault
+ending_written (Ok done) = Nothing
+ending_written (Err (fault.Cause failed)) = Write
+ending_written (Err fault.NoMemory) = NoMemory

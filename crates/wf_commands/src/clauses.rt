@@ -9,7 +9,7 @@ ghost use Rattle.wf_commands.specs.Load.{EndsTooLong};
 ghost use Rattle.wf_commands.specs.Once.{ReadsInput};
 ghost use Rattle.wf_commands.specs.CnfAnswers.{ClausesAsked};
 ghost use Rattle.wf_commands.specs.Model.{WritesClauses};
-ghost use Rattle.wf_commands.specs.CnfSteps.{EncodesAs, EncodesFile, ending_of};
+ghost use Rattle.wf_commands.specs.CnfSteps.{EncodesAs, EncodesFile, ending_written};
 
 use crate::encoding::{encode, take_case};
 use crate::{find_flow, load_policy};
@@ -37,15 +37,15 @@ pub fn run_clauses<F: Shelf, S: Source, K: Sink>(
     match find_clauses(alloc, policy, flow, outside.shelf, outside.source) {
         Ok(mut encoder) => {
             let written = write_clauses(alloc, &mut encoder, outside.sink);
-            bare_report(alloc, ending_of(&written))
+            bare_report(alloc, ending_written(&written))
         }
         Err(fault) => bare_report(alloc, fault),
     }
 }
 
 // How a run ends whose clauses were written so.
-fn ending_of(written: &Result<(), WriteFault>) -> RunFault
-    ensures { result ≡ ending_of written.now }
+fn ending_written(written: &Result<(), WriteFault>) -> RunFault
+    ensures { result ≡ ending_written written.now }
 {
     match written {
         Ok(()) => RunFault::Nothing,

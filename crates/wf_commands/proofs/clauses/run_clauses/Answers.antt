@@ -14,7 +14,7 @@ returns-in-Ok-clause-writes g c =
       input = c.in-Ok.ensures.input;
       untold = c.bare_report.ensures.told;
     })
-    (c.bare_report.ensures.fault ∙ c.ending_of.ensures) c.write_clauses-written.ensures.all c.write_clauses-written.ensures.part
+    (c.bare_report.ensures.fault ∙ c.ending_written.ensures) c.write_clauses-written.ensures.all c.write_clauses-written.ensures.part
     c.write_clauses-written.ensures.rose c.write_clauses-written.ensures.stays
 
 pub returns-in-Err-clause-writes : goal.returns-in-Err-clause-writes
