@@ -43,8 +43,41 @@ enum Told {
     Other,
 }
 
-/// What is asked, what the reply is, and how many deeds are left to the decider below up to then.
-type Row = (Request, Told, u64);
+/// What is asked for: an opening, a deed with a step, or an edit by eve.
+#[derive(Clone, Copy)]
+enum Act {
+    Open,
+    Claim,
+    Finish,
+    GiveBack,
+    Enrol,
+    Dismiss,
+}
+
+/// What is asked for, of which case, with the name of the workflow, the step or the role, and of
+/// the user, who is not asked for in an opening; what the reply is, and how many deeds are left to
+/// the decider below up to then.
+type Row = (Act, u16, &'static str, &'static str, Told, u64);
+
+// Ann prepares two payments. Where bob approves, ann and bob alone could pay, and neither may; once
+// cyd is a clerk too, cyd can. (That a role is given breaks no plan, so no deed is left for it.)
+const ROWS: &[Row] = &[
+    (Act::Open, 0, "pay", "ann", Told::Done, 1),
+    (Act::Claim, 0, "prepare", "ann", Told::Done, 2),
+    (Act::Finish, 0, "prepare", "ann", Told::Done, 2),
+    (Act::Open, 1, "pay", "ann", Told::Done, 2),
+    (Act::Claim, 1, "prepare", "ann", Told::Done, 2),
+    (Act::Finish, 1, "prepare", "ann", Told::Done, 2),
+    (Act::Claim, 0, "approve", "bob", Told::Stranded, 3),
+    (Act::Claim, 1, "approve", "bob", Told::Stranded, 3),
+    (Act::Enrol, 0, "clerk", "cyd", Told::Done, 3),
+    (Act::Claim, 0, "approve", "bob", Told::Done, 4),
+    (Act::Claim, 1, "approve", "bob", Told::Done, 4),
+    (Act::GiveBack, 0, "approve", "bob", Told::Done, 4),
+    (Act::GiveBack, 1, "approve", "bob", Told::Done, 4),
+    (Act::Dismiss, 0, "clerk", "cyd", Told::Done, 5),
+    (Act::Claim, 1, "approve", "bob", Told::Stranded, 6),
+];
 
 /// Whether each row is answered as it says.
 pub fn what_was_found_serves_again_as_long_as_it_decides(alloc: Global) -> Result<bool, Fail> {
@@ -53,21 +86,37 @@ pub fn what_was_found_serves_again_as_long_as_it_decides(alloc: Global) -> Resul
 }
 
 fn are_answered(alloc: Global, board: &mut Board) -> bool {
-    let Some(rows) = rows() else {
-        return false;
-    };
     let below = Counted {
         deeds: AtomicU64::new(0),
     };
     let cache = VerdictCache::new(alloc);
-    let decider = CachingDecider::new(&below, &cache);
-    for (asked, told, deeds) in rows {
-        let reply = answer(alloc, &decider, board, asked);
-        if told_by(&reply) != told || below.deeds.load(Ordering::SeqCst) != deeds {
+    are_answered_over(alloc, &below, &cache, board)
+}
+
+fn are_answered_over(
+    alloc: Global,
+    below: &Counted,
+    cache: &VerdictCache,
+    board: &mut Board,
+) -> bool {
+    for row in ROWS {
+        if !is_answered(alloc, &CachingDecider::new(below, cache), board, row)
+            || below.deeds.load(Ordering::SeqCst) != row.5
+        {
             return false;
         }
     }
     true
+}
+
+// Whether the reply is the row's.
+fn is_answered<V: Decider>(alloc: Global, decider: &V, board: &mut Board, row: &Row) -> bool
+    requires { V.ready decider.now }
+{
+    match asked(row) {
+        Some(asked) => told_by(&answer(alloc, decider, board, asked)) == row.4,
+        None => false,
+    }
 }
 
 // What is answered to a request on a board with few edits.
@@ -80,59 +129,29 @@ fn answer<V: Decider>(alloc: Global, decider: &V, board: &mut Board, asked: Requ
     board.decide(alloc, decider, &Ask::Request(asked), Verdict::Nothing)
 }
 
-// Ann prepares two payments. Where bob approves, ann and bob alone could pay, and neither may; once
-// cyd is a clerk too, cyd can. (That a role is given breaks no plan, so no deed is left for it.)
-fn rows() -> Option<[Row; 15]> {
-    let (flow, clerk) = (Name::read("pay")?, Name::read("clerk")?);
-    let (prepare, approve) = (Name::read("prepare")?, Name::read("approve")?);
-    let (ann, bob) = (Name::read("ann")?, Name::read("bob")?);
-    let (cyd, eve) = (Name::read("cyd")?, Name::read("eve")?);
-    let (enrol, dismiss) = (
-        Edit::Enrol {
-            role: clerk,
-            user: cyd,
-        },
-        Edit::Dismiss {
-            role: clerk,
-            user: cyd,
-        },
-    );
-    Some([
-        (Request::OpenCase { flow }, Told::Done, 1),
-        (claim(0, prepare, ann), Told::Done, 2),
-        (finish(0, prepare, ann), Told::Done, 2),
-        (Request::OpenCase { flow }, Told::Done, 2),
-        (claim(1, prepare, ann), Told::Done, 2),
-        (finish(1, prepare, ann), Told::Done, 2),
-        (claim(0, approve, bob), Told::Stranded, 3),
-        (claim(1, approve, bob), Told::Stranded, 3),
-        (change(eve, enrol), Told::Done, 3),
-        (claim(0, approve, bob), Told::Done, 4),
-        (claim(1, approve, bob), Told::Done, 4),
-        (give_back(0, approve, bob), Told::Done, 4),
-        (give_back(1, approve, bob), Told::Done, 4),
-        (change(eve, dismiss), Told::Done, 5),
-        (claim(1, approve, bob), Told::Stranded, 6),
-    ])
+fn asked(row: &Row) -> Option<Request> {
+    let (act, number, name, user, _, _) = *row;
+    let (name, user) = (Name::read(name)?, Name::read(user)?);
+    request_of(act, CaseId(number), name, user)
 }
 
-fn claim(number: u16, step: Name, user: Name) -> Request {
-    let case = CaseId(number);
-    Request::Claim { case, step, user }
+fn request_of(act: Act, case: CaseId, name: Name, user: Name) -> Option<Request> {
+    let step = name;
+    match act {
+        Act::Open => Some(Request::OpenCase { flow: name }),
+        Act::Claim => Some(Request::Claim { case, step, user }),
+        Act::Finish => Some(Request::Finish { case, step, user }),
+        Act::GiveBack => Some(Request::GiveBack { case, step, user }),
+        Act::Enrol => change(Edit::Enrol { role: name, user }),
+        Act::Dismiss => change(Edit::Dismiss { role: name, user }),
+    }
 }
 
-fn finish(number: u16, step: Name, user: Name) -> Request {
-    let case = CaseId(number);
-    Request::Finish { case, step, user }
-}
-
-fn give_back(number: u16, step: Name, user: Name) -> Request {
-    let case = CaseId(number);
-    Request::GiveBack { case, step, user }
-}
-
-fn change(by: Name, edit: Edit) -> Request {
-    Request::Change { by, edit }
+fn change(edit: Edit) -> Option<Request> {
+    match Name::read("eve") {
+        Some(by) => Some(Request::Change { by, edit }),
+        None => None,
+    }
 }
 
 fn told_by(reply: &Reply) -> Told {

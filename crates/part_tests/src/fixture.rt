@@ -1,6 +1,7 @@
 //! The trio of clerks that several tests share, and the one place where a test reads a policy.
 
 use crate::{lines, rules, searches, trees, uncalled};
+use plain_words::say;
 use policy_book::Policy;
 use std::alloc::Global;
 use std::test::Fail;
@@ -48,14 +49,19 @@ pub(crate) enum Look {
 /// Whether all is right under the policy of three clerks with these rules over the steps a, b and
 /// c.
 pub(crate) fn is_right_in_trio(alloc: Global, rules: &str, look: Look) -> Result<bool, Fail> {
-    let text = format!(in alloc; "{TRIO}{rules}]\n")?;
-    is_right(alloc, text.as_str(), look)
+    let mut text = String::new(alloc);
+    match say(&mut text, &[TRIO, rules, "]\n"]) {
+        Ok(()) => is_right(alloc, text.as_str(), look),
+        Err(e) => Err(e.into()),
+    }
 }
 
 /// Whether all is right under a policy.
 pub(crate) fn is_right(alloc: Global, policy: &str, look: Look) -> Result<bool, Fail> {
-    let p = policy_reader::read(alloc, policy.as_bytes())?;
-    looks_right(alloc, &p, look)
+    match policy_reader::read(alloc, policy.as_bytes()) {
+        Ok(p) => looks_right(alloc, &p, look),
+        Err(fault) => Err(fault.into()),
+    }
 }
 
 fn looks_right(alloc: Global, p: &Policy, look: Look) -> Result<bool, Fail> {

@@ -5,6 +5,7 @@ use crate::fixture::{Look, is_right};
 use basics::Fault;
 use entry_reader::{NotText, Place, TextFault, guess_place, read_plain, read_reply};
 use fixtures::PAY;
+use plain_words::say;
 use policy_book::Policy;
 use std::alloc::{AllocError, Global};
 use std::test::Fail;
@@ -29,7 +30,10 @@ const PLACE: Place = Place {
     line: 7,
 };
 
-const LINES: [&str; 4] = [
+// What all lines are replies to.
+const ASK: Ask = Ask::Request(Request::Show { case: CaseId(0) });
+
+const LINES: &[&str] = &[
     "{\"at\":4,\"lane\":1,\"line\":7,\
     \"reply\":{\"granted\":{\"plan\":[\"ann\",\"cyd\",\"bob\"]}}}\n",
     "{\"at\":4,\"lane\":1,\"line\":7,\"reply\":{\"finished\":{\"done\":true}}}\n",
@@ -39,7 +43,7 @@ const LINES: [&str; 4] = [
 ];
 
 // Denials in the first workflow. Whether a tree shows anything is not looked at here.
-const DENIALS: [&str; 10] = [
+const DENIALS: &[&str] = &[
     r#""no_case""#,
     r#"{"taken":"bob"}"#,
     r#"{"order":"approve"}"#,
@@ -55,7 +59,7 @@ const DENIALS: [&str; 10] = [
 // What is no denial as it is written: a comma is missing or one too many, a twin is no user, there
 // is a blank, a step is not the workflow's, a number is no rule's or begins with a zero, a bracket
 // is missing, or a leaf or the denial has one more key.
-const OTHERS: [&str; 10] = [
+const OTHERS: &[&str] = &[
     r#"{"stranded":{"step":"pay","users":[["bob",{"rule":0}]["cyd",{"twin":"bob"}]]}}"#,
     r#"{"stranded":{"step":"pay","users":[["bob",{"rule":0}],["cyd",{"twin":"bob"}],]}}"#,
     r#"{"stranded":{"step":"pay","users":[["bob",{"rule":0}],["cyd",{"twin":"bib"}]]}}"#,
@@ -74,50 +78,52 @@ pub fn plain_lines_are_read(alloc: Global) -> Result<bool, Fail> {
 }
 
 pub(crate) fn are_read(alloc: Global, p: &Policy) -> Result<bool, Fail> {
+    Ok(are_lines(alloc, p)? && are_denials(alloc, p)?)
+}
+
+// Whether each of the lines is read the fast way, at its place.
+fn are_lines(alloc: Global, p: &Policy) -> Result<bool, AllocError> {
     for line in LINES {
         if guess_place(line.as_bytes()) != Some(PLACE) || !is_plain(alloc, p, line)? {
             return Ok(false);
         }
     }
-    Ok(are_denials(alloc, p)? && are_no_denials(alloc, p)? && are_low_trees_plain(alloc, p)?)
+    Ok(true)
 }
 
-// Whether each of the denials is read, the fast way and the slow way.
+// Whether each of the denials is read, the fast way and the slow way, and each of the others is
+// refused both ways; and whether a tree with as many nodes one below the other as a workflow may
+// have steps is read the fast way too, and one with one more the slow way alone.
 fn are_denials(alloc: Global, p: &Policy) -> Result<bool, AllocError> {
-    for denial in DENIALS {
-        let line = line_of(alloc, denial)?;
-        if !is_plain(alloc, p, line.as_str())? || !is_line(alloc, p, line.as_str())? {
+    Ok(
+        are_told(alloc, p, DENIALS, true)?
+            && are_told(alloc, p, OTHERS, false)?
+            && is_tower(alloc, p, 24, true)?
+            && is_tower(alloc, p, 25, false)?,
+    )
+}
+
+// Whether each of these denials is read both ways, or is refused both ways.
+fn are_told(alloc: Global, p: &Policy, denials: &[&str], read: bool) -> Result<bool, AllocError> {
+    for denial in denials {
+        if !is_denial(alloc, p, denial, read, read)? {
             return Ok(false);
         }
     }
     Ok(true)
 }
 
-// Whether each of the others is refused, the fast way and the slow way.
-fn are_no_denials(alloc: Global, p: &Policy) -> Result<bool, AllocError> {
-    for other in OTHERS {
-        let line = line_of(alloc, other)?;
-        if is_plain(alloc, p, line.as_str())? || is_line(alloc, p, line.as_str())? {
-            return Ok(false);
-        }
-    }
-    Ok(true)
-}
-
-// Whether a tree with as many nodes one below the other as a workflow may have steps is read the
-// fast way too, and one with one more the slow way alone.
-fn are_low_trees_plain(alloc: Global, p: &Policy) -> Result<bool, AllocError> {
-    let low = line_of(alloc, tower(alloc, 24)?.as_str())?;
-    let high = line_of(alloc, tower(alloc, 25)?.as_str())?;
-    if !is_plain(alloc, p, low.as_str())? || !is_line(alloc, p, low.as_str())? {
-        return Ok(false);
-    }
-    Ok(!is_plain(alloc, p, high.as_str())? && is_line(alloc, p, high.as_str())?)
-}
-
-// A denial by a tree of `nodes` nodes, each with one branch.
-fn tower(alloc: Global, nodes: usize) -> Result<String, AllocError> {
+// Whether a denial by a tree of `nodes` nodes, each with one branch, is read the slow way, and the
+// fast way or not.
+fn is_tower(alloc: Global, p: &Policy, nodes: usize, fast: bool) -> Result<bool, AllocError> {
     let mut text = String::new(alloc);
+    match push_tower(&mut text, nodes) {
+        Ok(()) => is_denial(alloc, p, text.as_str(), fast, true),
+        Err(e) => Err(e),
+    }
+}
+
+fn push_tower(text: &mut String, nodes: usize) -> Result<(), AllocError> {
     text.push_str(r#"{"stranded":"#)?;
     for _ in 0..nodes {
         text.push_str(r#"{"step":"pay","users":[["ann","#)?;
@@ -126,34 +132,48 @@ fn tower(alloc: Global, nodes: usize) -> Result<String, AllocError> {
     for _ in 0..nodes {
         text.push_str("]]}")?;
     }
-    text.push_str("}")?;
-    Ok(text)
+    text.push_str("}")
 }
 
-// The line of a denial.
-fn line_of(alloc: Global, denial: &str) -> Result<String, AllocError> {
+// Whether a denial is read the fast way and the slow way, or not, as these say.
+fn is_denial(
+    alloc: Global,
+    p: &Policy,
+    denial: &str,
+    fast: bool,
+    slow: bool,
+) -> Result<bool, AllocError> {
+    let front = r#"{"at":4,"lane":1,"line":7,"reply":{"denied":"#;
     let mut line = String::new(alloc);
-    line.push_str(r#"{"at":4,"lane":1,"line":7,"reply":{"denied":"#)?;
-    line.push_str(denial)?;
-    line.push_str("}}\n")?;
-    Ok(line)
+    match say(&mut line, &[front, denial, "}}\n"]) {
+        Ok(()) => is_read(alloc, p, line.as_str(), fast, slow),
+        Err(e) => Err(e),
+    }
+}
+
+fn is_read(
+    alloc: Global,
+    p: &Policy,
+    line: &str,
+    fast: bool,
+    slow: bool,
+) -> Result<bool, AllocError> {
+    Ok(is_plain(alloc, p, line)? == fast && is_line(alloc, p, line)? == slow)
 }
 
 // Whether a line is read the fast way.
 fn is_plain(alloc: Global, p: &Policy, line: &str) -> Result<bool, AllocError> {
-    let read = read_plain(alloc, p, &OneFlow, &ask(), PLACE, line.as_bytes())?;
-    Ok(read.is_some())
+    match read_plain(alloc, p, &OneFlow, &ASK, PLACE, line.as_bytes()) {
+        Ok(read) => Ok(read.is_some()),
+        Err(e) => Err(e),
+    }
 }
 
 // Whether a line is read the slow way.
 fn is_line(alloc: Global, p: &Policy, line: &str) -> Result<bool, AllocError> {
-    match read_reply(alloc, p, &OneFlow, &ask(), line.as_bytes()) {
+    match read_reply(alloc, p, &OneFlow, &ASK, line.as_bytes()) {
         Ok(_) => Ok(true),
         Err(Fault::Cause(NotText)) => Ok(false),
         Err(Fault::NoMemory) => Err(AllocError),
     }
-}
-
-fn ask() -> Ask {
-    Ask::Request(Request::Show { case: CaseId(0) })
 }

@@ -1,6 +1,6 @@
 //! Sentences of rules, worked out by hand.
 
-use constraint_forms::Rules;
+use constraint_forms::{Rule, Rules};
 use plain_words::rule_text;
 use policy_book::{Course, Policy};
 use policy_reader::read;
@@ -66,10 +66,21 @@ fn count_right(alloc: Global, p: &Policy) -> Result<u32, AllocError> {
     };
     let rules: &Rules = course.rules();
     for k in 0..rules.len().min(13) {
-        let text = rule_text(alloc, &course, rules.get(k))?;
-        if text.as_str() == SENTENCES[k] {
+        if reads_as(alloc, &course, rules.get(k), SENTENCES[k])? {
             count = count.saturating_add(1);
         }
     }
     Ok(count)
+}
+
+fn reads_as(
+    alloc: Global,
+    course: &Course<'_>,
+    rule: &Rule,
+    sentence: &str,
+) -> Result<bool, AllocError> {
+    match rule_text(alloc, course, rule) {
+        Ok(text) => Ok(text.as_str() == sentence),
+        Err(e) => Err(e),
+    }
 }

@@ -43,12 +43,16 @@ pub fn a_step_that_is_not_mentioned_goes_and_makes_twins(alloc: Global) -> Resul
 }
 
 pub(crate) fn is_trimmed(alloc: Global, p: &Policy) -> Result<bool, Fail> {
-    if p.flows().len() == 0 {
-        return Ok(false);
+    match Value::from_str(alloc, TREE) {
+        Ok(value) => Ok(is_trimmed_in(alloc, p, &value)?),
+        Err(e) => Err(e.into()),
     }
-    let value = Value::from_str(alloc, TREE)?;
-    match tree_of(alloc, p, FLOW, &value) {
-        Ok(tree) => Ok(has_lean_text(alloc, p, tree)?),
+}
+
+// The same of the tree of a value.
+fn is_trimmed_in(alloc: Global, p: &Policy, value: &Value) -> Result<bool, AllocError> {
+    match tree_of(alloc, p, FLOW, value) {
+        Ok(tree) => has_lean_text(alloc, p, tree),
         Err(_) => Ok(false),
     }
 }
@@ -59,13 +63,22 @@ fn has_lean_text(alloc: Global, p: &Policy, tree: Tree) -> Result<bool, AllocErr
     if p.flows().len() == 0 || !check_tree(p, FLOW, &a, &done, &tree) {
         return Ok(false);
     }
-    is_lean(alloc, p, &trim(alloc, p, FLOW, &a, &done, tree)?)
+    match trim(alloc, p, FLOW, &a, &done, tree) {
+        Ok(lean) => is_lean(alloc, p, &lean),
+        Err(e) => Err(e),
+    }
 }
 
 fn is_lean(alloc: Global, p: &Policy, tree: &Tree) -> Result<bool, AllocError> {
-    if p.flows().len() == 0 {
-        return Ok(false);
+    match tree_value(alloc, p, FLOW, tree) {
+        Ok(value) => is_lean_value(alloc, &value),
+        Err(e) => Err(e),
     }
-    let text = tree_value(alloc, p, FLOW, tree)?.to_string(alloc)?;
-    Ok(text.as_str() == LEAN)
+}
+
+fn is_lean_value(alloc: Global, value: &Value) -> Result<bool, AllocError> {
+    match value.to_string(alloc) {
+        Ok(text) => Ok(text.as_str() == LEAN),
+        Err(e) => Err(e),
+    }
 }

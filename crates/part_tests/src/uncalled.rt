@@ -3,7 +3,7 @@
 use crate::fixture::{FLOW, Look, is_right};
 use admin_edits::{EditCause, apply, edit_cause};
 use basics::{Fault, Log};
-use cnf_export::{Reading, model_of, plan_of};
+use cnf_export::{Model, Reading, model_of, plan_of};
 use constraint_forms::{Assign, Plan, StepSet};
 use fixtures::PAY;
 use policy_book::Policy;
@@ -20,13 +20,15 @@ pub fn calls_succeed(alloc: Global) -> Result<bool, Fail> {
 }
 
 pub(crate) fn succeed(alloc: Global, p: &Policy) -> Result<bool, Fail> {
+    Ok(copies_succeed(alloc)? && a_user_leaves(p) && a_model_is_made(alloc, p)?)
+}
+
+fn copies_succeed(alloc: Global) -> Result<bool, AllocError> {
     Ok(
         a_journal_is_copied(alloc)?
             && a_log_is_copied(alloc)?
             && a_relation_is_declared(alloc)?
-            && a_line_is_read(alloc)?
-            && a_user_leaves(p)
-            && a_model_is_made(alloc, p)?,
+            && a_line_is_read(alloc)?,
     )
 }
 
@@ -37,20 +39,24 @@ fn a_journal_is_copied(alloc: Global) -> Result<bool, AllocError> {
 
 fn keeps_the_entry(alloc: Global, journal: &mut Journal) -> Result<bool, AllocError> {
     journal.push(denied_entry(alloc)?)?;
-    let copy = journal.copy_each()?;
-    Ok(is_of_the_role(copy.as_slice()))
+    match journal.copy_each() {
+        Ok(copy) => Ok(is_of_the_role(copy.as_slice())),
+        Err(e) => Err(e),
+    }
 }
 
 fn denied_entry(alloc: Global) -> Result<Entry, AllocError> {
     let mut roles = RoleList::new(alloc);
-    roles.add(&RoleId(4))?;
-    Ok(Entry {
-        at: 0,
-        lane: 0,
-        line: 7,
-        ask: Ask::Bad(Bad::Syntax),
-        reply: Reply::Denied(Denial::Role(roles)),
-    })
+    match roles.add(&RoleId(4)) {
+        Ok(()) => Ok(Entry {
+            at: 0,
+            lane: 0,
+            line: 7,
+            ask: Ask::Bad(Bad::Syntax),
+            reply: Reply::Denied(Denial::Role(roles)),
+        }),
+        Err(e) => Err(e),
+    }
 }
 
 fn is_of_the_role(entries: &[Entry]) -> bool {
@@ -113,7 +119,18 @@ fn a_model_is_made(alloc: Global, p: &Policy) -> Result<bool, Fail> {
         return Ok(false);
     }
     let plan = Plan::of(&[UserId(0), UserId(2), UserId(1)]);
-    let model = model_of(alloc, p, FLOW, &plan)?;
-    let read = plan_of(alloc, p, FLOW, &Assign::empty(), &StepSet::empty(), &model)?;
-    Ok(read == Reading::Plan(plan))
+    match model_of(alloc, p, FLOW, &plan) {
+        Ok(model) => is_plan_of(alloc, p, &plan, &model),
+        Err(e) => Err(e.into()),
+    }
+}
+
+fn is_plan_of(alloc: Global, p: &Policy, plan: &Plan, model: &Model) -> Result<bool, Fail> {
+    if p.flows().len() == 0 {
+        return Ok(false);
+    }
+    match plan_of(alloc, p, FLOW, &Assign::empty(), &StepSet::empty(), model) {
+        Ok(read) => Ok(read == Reading::Plan(*plan)),
+        Err(fault) => Err(fault.into()),
+    }
 }
